@@ -36,7 +36,7 @@ def ask(port: int, burst: int, bursts: int, begin: Barrier, results: "multiproce
 
 
 def time_clients(port: int, burst: int, bursts: int) -> tuple[float, Optional[bytes]]:
-    """How long all clients take, and the one reply that all of them got."""
+    """How many seconds all clients take, and the one reply that all of them got; None where they got several."""
     begin = multiprocessing.Barrier(CONNECTIONS + 1)
     results: "multiprocessing.Queue[set[bytes]]" = multiprocessing.Queue()
     words = (port, burst, bursts, begin, results)

@@ -22,7 +22,7 @@ def refuse(why: str) -> NoReturn:
 
 
 def built(program: Path) -> Path:
-    """A program that is there."""
+    """The path of a program that is built; where it isn't, the measurement ends."""
     return program if program.exists() else refuse(f"{program} isn't built: bench/README.md says how")
 
 
@@ -36,7 +36,7 @@ def built_in(sessions: int = 4, events: int = 100) -> str:
 
 
 def stripped(program: Path, path: Path) -> Path:
-    """A program without what it holds for a debugger, which valgrind may not read."""
+    """Writes to a path a program without what it holds for a debugger, which valgrind may not read; gives the path."""
     subprocess.run(["strip", "--strip-debug", "-o", path, built(program)], check=True)
     return path
 
@@ -49,7 +49,7 @@ def needs_valgrind() -> None:
 
 
 def replies(words: Words, stdin: Path) -> bytes:
-    """What a program writes."""
+    """What a program writes to standard output."""
     with stdin.open("rb") as lines:
         return subprocess.run(words, stdin=lines, stdout=subprocess.PIPE, check=True).stdout
 

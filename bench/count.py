@@ -55,7 +55,8 @@ class Counter:
         self.lab, self.text = folder / "lab", folder / "text"
 
     def call(self, row: Row, index: int) -> Words:
-        """The words of a call. Through a pipe this program takes none, over the lab that is built in."""
+        """The words of a call: 0 is this program, 1 the one by hand. Through a pipe this program takes none, over the
+        lab that is built in."""
         program = self.programs[index]
         if row.words == PIPED:
             return [program] if index == 0 else [program, "script", self.lab, "/dev/stdin"]
@@ -69,7 +70,7 @@ class Counter:
         return len(lines)
 
     def count(self, row: Row) -> list[float]:
-        """What a row takes in each program."""
+        """How many instructions a line of a row takes in this program, and in the one by hand."""
         self.lab.write_text(row.lab(), encoding="ascii")
         less = self.write(row, row.few)
         before = [counted(self.call(row, index), self.text) for index in range(2)]

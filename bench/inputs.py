@@ -38,13 +38,14 @@ def all_links() -> str:
 
 
 def sees(turns: int) -> Iterable[str]:
+    """The teacher sees three nodes in turn."""
     yield TESS
     for turn in range(turns):
         yield f'1 {{"do":"see","node":{turn % 3 + 1}}}'
 
 
 def sees_and_more(turns: int) -> Iterable[str]:
-    """The teacher sees three nodes in turn, each time with a member of another kind than a request's."""
+    """The teacher sees three nodes in turn, each time with a key that no request has."""
     yield TESS
     for turn in range(turns):
         yield f'1 {{"do":"see","node":{turn % 3 + 1},"x":[]}}'
@@ -71,6 +72,7 @@ def granted(turns: int) -> Iterable[str]:
 
 
 def greetings(turns: int) -> Iterable[str]:
+    """A student's hello and bye, over and over."""
     for _ in range(turns):
         yield BEN
         yield '1 {"do":"bye"}'
@@ -84,6 +86,7 @@ def looks(turns: int) -> Iterable[str]:
 
 
 def reports(turns: int) -> Iterable[str]:
+    """The teacher asks for the report, over and over."""
     yield TESS
     for _ in range(turns):
         yield '1 {"do":"report"}'

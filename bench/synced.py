@@ -24,7 +24,7 @@ ACTS = [b'{"a":1,"b":2,"do":"cut"}\n', b'{"a":1,"b":2,"do":"link"}\n']
 
 
 def ask_on(port: int, over: threading.Event, times: list[float]) -> None:
-    """Sees a node until it is over."""
+    """Sees a node over and over until `over` is set; adds the seconds that each view took."""
     with socket.create_connection(("127.0.0.1", port)) as it, it.makefile("rb") as replies:
         it.setsockopt(socket.IPPROTO_TCP, socket.TCP_NODELAY, 1)
         it.sendall(ANA)
@@ -37,7 +37,7 @@ def ask_on(port: int, over: threading.Event, times: list[float]) -> None:
 
 
 def grant_all(desk: int) -> list[float]:
-    """How long each act takes; a bye at the end."""
+    """How many seconds each act takes; a bye at the end."""
     times = []
     with socket.create_connection(("127.0.0.1", desk)) as it, it.makefile("rb") as replies:
         it.setsockopt(socket.IPPROTO_TCP, socket.TCP_NODELAY, 1)

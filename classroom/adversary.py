@@ -1,4 +1,5 @@
-"""The adversary: a daemon that closes steps in an order which makes the run long. It tries a few steps over the program."""
+"""The adversary: a daemon that closes steps in an order which makes the run long. To find it, it tries a few steps over
+a program of its own."""
 from __future__ import annotations
 
 import random
@@ -10,12 +11,12 @@ from classroom.bench import TEACHER, Bench
 
 STEPS = 3  # that are tried, one after another
 FIRST, NEXT = 8, 3  # of the nodes that may move so many are tried at the first step, and at each later one
-END = 1000  # moves that no end is worth
+END = 1000  # by how much a way is worth less that ends the run
 USED = labs.MOST_EVENTS // 2  # events of a program, after which another one is begun
 
 
 class Adversary:
-    """A search over a program of its own."""
+    """Searches for the moves by which a run gets long, over a program of its own."""
 
     def __init__(self, seed: str) -> None:
         self.chance = random.Random(f"{seed} adversary")
@@ -23,8 +24,8 @@ class Adversary:
         self.registers: dict[int, tuple[int | None, bool]] = {}
 
     def choose(self, made: labs.Lab, chosen: Sequence[int]) -> list[int]:
-        """Of the nodes with a chosen move those whose moves a close applies, over a network with these registers: one
-        of them, or all at once."""
+        """Of the nodes with a chosen move those whose moves a close is to apply, over the network `made` with its
+        registers: one of them, or all at once."""
         if len(chosen) < 2:
             return list(chosen)
         bench = self.bench_over(made)
@@ -36,19 +37,22 @@ class Adversary:
         return ways[max(worth, key=lambda place: worth[place])] if worth else list(chosen)
 
     def bench_over(self, made: labs.Lab) -> Bench:
-        """A program over the network, with room for a search."""
+        """A program over the network, with room for a search: the one at hand, or a new one where that has other links
+        or few events left."""
         if self.bench is None or self.bench.made.links != made.links or self.bench.events > USED:
             self.close()
             self.bench = Bench(made)
         return self.bench
 
     def some(self, nodes: Sequence[int], most: int) -> list[int]:
-        """At most so many of the nodes."""
+        """The nodes, or where they are more, so many of them, drawn."""
         return list(nodes) if len(nodes) <= most else self.chance.sample(list(nodes), most)
 
     def tried(self, bench: Bench, report: dict[str, Any], nodes: list[int], steps: int) -> int:
-        """What comes of it if these move now and further steps follow, at its best: the moves, and after them who is privileged
-        and which links are open. Then all is undone, but for the number of the configuration."""
+        """How much it is worth that these nodes move now, and that further steps of one node each follow, `steps` in
+        all: the moves, and after them how many nodes are privileged and links open, at the best of the ways that are
+        tried; END less where nobody is privileged any more. Then all is undone, but for the number of the
+        configuration."""
         before = {node: self.registers[node] for node in nodes}
         after = bench.step(report, nodes, self.chance)
         for it in bench.asked(TEACHER, [{"do": "see", "node": node} for node in nodes]):

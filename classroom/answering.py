@@ -14,11 +14,11 @@ from classroom.program import Fault, host, is_clone
 
 AT_ONCE = 16_000  # bytes of lines that are sent before their replies are read; a pipe takes more
 MOST_SCRIPT = 1_000_000  # bytes of a script that is kept; the program takes 1,048,576
-SOME = 24  # lines of the same
+SOME = 24  # lines, at most, that are sent before their replies are read
 
 
 def answerer() -> Path:
-    """The program that answers."""
+    """The host's program, which has the word `answer`; a fault where it isn't built."""
     found = host()
     if found is None:
         how = "`./mml build` builds it (with the toolchain's rt on the path)" if is_clone() else "this release has none"
@@ -27,7 +27,7 @@ def answerer() -> Path:
 
 
 def started(lab: labs.Lab) -> subprocess.Popen[bytes]:
-    """The program over a lab, whose file has no name: who is tested finds none."""
+    """The program, started over a lab. The lab's file has no name, so that a program under test can't find it."""
     program = answerer()
     file = os.memfd_create("lab")
     try:
@@ -53,7 +53,7 @@ def all_of(lab: labs.Lab, script: list[str]) -> str:
 
 
 class Answering:
-    """A lab that is answered over."""
+    """A lab, and a program that answers lines over it."""
 
     def __init__(self, lab: labs.Lab) -> None:
         self.lab = lab
@@ -87,7 +87,8 @@ class Answering:
         return replies
 
     def ended(self) -> Fault:
-        """What the program said as it ended."""
+        """The fault to be raised where the program has ended, or answers no longer: its status and what it said. The
+        program is killed."""
         assert self.process.stderr is not None
         self.process.kill()
         said = self.process.stderr.read().decode(errors="replace").strip()
@@ -101,13 +102,14 @@ class Answering:
         return reply
 
     def keep(self, connection: int, line: bytes, reply: dict[str, Any]) -> None:
-        """Keeps a line of the script that does again what was granted."""
+        """Keeps a line for the script that does again what was granted, where its reply says that it was: a hello, a
+        bye or an event. A full script takes no more."""
         if (reply.get("ok") in ("hello", "bye") or "place" in reply) and self.size + len(line) < MOST_SCRIPT:
             self.granted.append(b"%d %s\n" % (connection, line))
             self.size += len(self.granted[-1])
 
     def ask(self, connection: int, **request: object) -> dict[str, Any]:
-        """Sends a request, and gives its reply where it was answered by `ok`."""
+        """Sends a request, and gives its reply where it was answered by `ok`; else raises the denial or the refusal."""
         reply = self.answer(connection, json.dumps(request, separators=(",", ":")).encode())
         if "deny" in reply:
             raise Denied(reply["clause"], reply["deny"], reply["text"], reply.get("at"))

@@ -27,7 +27,8 @@ def add_words(words: argparse.ArgumentParser) -> None:
 
 
 def free(folder: Path, record: Record) -> None:
-    """Wants the desk free: who has lost its terminal lets go of it."""
+    """Wants the desk free. A `run` that has lost its terminal is told to let go of it, and waited for; any other
+    process that holds it is a fault."""
     holder = record.run
     if holder.lives() and not record.left:
         raise Fault(f"{folder}: process {holder.number} holds its desk")

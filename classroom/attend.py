@@ -26,7 +26,7 @@ LINE = 101  # bytes of a journal's line at most
 
 
 def pause(how: Closing) -> float:
-    """How long to wait for what is typed."""
+    """How many seconds to wait for a typed line before it is looked again whether to close a step."""
     return min(TICK, max(how.value / 4, 0.01)) if how.kind in ("every", "when-idle") else TICK
 
 
@@ -35,8 +35,8 @@ AGAIN_ROOM = ("the disk has room again: if moves are refused as `journal`, which
 
 
 def told_of(left: int, why: str) -> tuple[str, str]:
-    """How a disk is called with so many free bytes, on which nothing can be written for that reason, if any; and the line
-    that tells it."""
+    """How much room a disk has with so many free bytes, `little`, `full` or neither, and the line that tells it. `why`
+    says why nothing can be written to it; it is empty where something can."""
     if left > 0 and not why:
         return ("little", f"the disk has little room: {left} bytes are left") if left < LITTLE else ("", "")
     what = f"takes nothing ({why})" if why else "is full"
@@ -45,7 +45,8 @@ def told_of(left: int, why: str) -> tuple[str, str]:
 
 
 def limit_of(process: int) -> int | None:
-    """How many bytes a file of a process may have, where it has such a limit (ulimit -f)."""
+    """How many bytes a file of a process may have (ulimit -f); None where there is no such limit, or it can't be
+    read."""
     try:
         limit = resource.prlimit(process, resource.RLIMIT_FSIZE)[0]
     except (OSError, ValueError):
@@ -54,7 +55,8 @@ def limit_of(process: int) -> int | None:
 
 
 def told_of_limit(left: int, folder: Path) -> tuple[str, str]:
-    """How much room a journal has that may grow by so many bytes, `little`, `full` or neither, and the line that tells it."""
+    """How much room a journal has that may grow by so many bytes, `little`, `full` or neither, and the line that tells
+    it."""
     how = f"(ulimit -f): end, and go on with {CLASS} run --resume {folder} where there is no such limit"
     if left >= LITTLE:
         return "", ""
@@ -72,7 +74,8 @@ def nameless(folder: Path) -> IO[bytes] | None:
 
 
 class Room:
-    """Whether the disk of a folder has room for a journal's lines, and the limit on the files of the server that writes it."""
+    """Whether the disk of a folder has room for a journal's lines, and the limit on the files of the server that writes
+    it."""
 
     def __init__(self, folder: Path, server: int | None = None) -> None:
         self.folder, self.server = folder, server
@@ -80,7 +83,7 @@ class Room:
         self.file = nameless(folder)
 
     def close(self) -> None:
-        """Lets go of the disk."""
+        """Closes the file by which writing is tried."""
         if self.file is not None:
             self.file.close()
 
@@ -101,7 +104,8 @@ class Room:
         return ""
 
     def news(self) -> list[str]:
-        """A line where there is little room, or none, and it wasn't told yet."""
+        """The lines that tell that disk or limit have come to leave little room or none, or that the disk has room
+        again. It looks once a second at most."""
         now = time.monotonic()
         if now < self.due:
             return []
@@ -109,7 +113,8 @@ class Room:
         return [*self.of_disk(), *self.of_limit()]
 
     def of_disk(self) -> list[str]:
-        """What is new of the disk."""
+        """A line where the disk has come to have little room or none since the last look, or has room again after it
+        was full."""
         left = self.left()
         kind, line = told_of(left, self.why() if left >= LITTLE else "")
         before, self.told = self.told, kind
@@ -118,7 +123,7 @@ class Room:
         return [line] if line else [AGAIN_ROOM] if before == "full" else []
 
     def of_limit(self) -> list[str]:
-        """What is new of the limit."""
+        """A line where the limit on files has come to leave the journal little room or none since the last look."""
         limit = limit_of(self.server) if self.server is not None else None
         journal = self.folder / "journal"
         left = LITTLE if limit is None or not journal.exists() else limit - journal.stat().st_size
@@ -128,7 +133,8 @@ class Room:
 
 
 def turn(desk: Desk, room: Room, until_stable: bool) -> str:
-    """Tells what is new; says why the run ends, where it does."""
+    """Reads what is new, lets the house play, and tells each piece of news as a line; a lost desk is greeted again
+    first. Gives why the run ends, or nothing where it goes on."""
     if not desk.again():
         return ""
     desk.read()
@@ -153,7 +159,7 @@ def next_typed(typed: Typed, seconds: float) -> str | None:
 
 
 def obeys(desk: Desk, line: str | None, hung: Callable[[], None]) -> str:
-    """Does what was typed; says why it ends the run, where it does."""
+    """Does what was typed, if anything; gives why that ends the run, or nothing where the run goes on."""
     if line is None:
         return ""
     if line == HUNG:
@@ -170,7 +176,8 @@ def obeys(desk: Desk, line: str | None, hung: Callable[[], None]) -> str:
 
 
 def attend(desk: Desk, it: Server, until_stable: bool, typed: Typed, room: Room, hung: Callable[[], None]) -> str:
-    """Closes steps and does what is typed, until the run ends; says by what. `hung` is done where the terminal went away."""
+    """Closes steps and does what is typed, until the run ends; gives by what: `stable`, `full`, `journal`, `end`,
+    `left` or `died`. `hung` is called where the terminal went away."""
     with contextlib.closing(Striker()) as striker:
         while not it.ended():
             try:

@@ -32,7 +32,7 @@ class Bench:
         self.before = 0  # the number at which it begins
 
     def has_room(self, made: labs.Lab) -> bool:
-        """Whether a run over that network fits in."""
+        """Whether a run over that network can follow: it has the program's links, and enough events are left for it."""
         most = ROOM * bounds.of_lab(made).moves + 2 * len(made.nodes)
         return made.links == self.made.links and self.events + most < labs.MOST_EVENTS
 
@@ -72,7 +72,7 @@ class Bench:
         return "".join(f"{who} {json.dumps(request)}\n" for who, request in [*hello, *own]).encode()
 
     def step(self, report: dict[str, Any], nodes: list[int], chance: random.Random) -> dict[str, Any]:
-        """Lets these nodes move at once; gives the report."""
+        """Lets these nodes move in one step, each by its enabled rule; gives the report after it."""
         rules = dict(report["privileged"])
         suited = [node for node in nodes if rules[node] == "marriage"]
         looks = self.asked(STUDENT, [{"do": "look", "node": node} for node in suited])

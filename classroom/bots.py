@@ -1,4 +1,5 @@
-"""A student's program under test: a process with limits, in a folder of its own, that is ended with all that it started."""
+"""A student's program under test: a process with limits, in a folder of its own, that is ended with all that it
+started."""
 from __future__ import annotations
 
 import os
@@ -29,8 +30,9 @@ class Bot:
 
     @staticmethod
     def of(word: str) -> Bot:
-        """The command of a word as a shell would take it, whose first word may also be a file here; of a file alone whose name
-        ends so, and that doesn't say itself what runs it, Python's, Java's or JavaScript's."""
+        """The command that a word is, split as a shell does it; its first word may also be a file here. A file alone
+        whose name ends in .py, .java or .js, and that can't be run as it is, is run by Python, Java or Node. What can't
+        be run has a fault."""
         try:
             words = shlex.split(word)
         except ValueError as error:
@@ -53,7 +55,8 @@ class Bot:
 
 
 def runs_itself(file: Path) -> bool:
-    """Whether a file may be run, and of a source says by which program."""
+    """Whether a file can be run as it is: it is executable, and begins with `#!` where its name is a source's and it
+    can be read."""
     if not os.access(file, os.X_OK):
         return False
     if file.suffix not in RUN_BY or not os.access(file, os.R_OK):
@@ -63,7 +66,7 @@ def runs_itself(file: Path) -> bool:
 
 
 def end_strays(folder: Path) -> None:
-    """Ends the processes whose home is that folder."""
+    """Kills the processes that have that folder as HOME in their environment, until none is left."""
     mark = f"HOME={folder}".encode()
     while True:
         found = False
@@ -83,8 +86,8 @@ class Kept:
     """A bot that runs, kept within limits."""
 
     def __init__(self, bot: Bot, slip: Path, folder: Path, seconds: float | None, megabytes: int) -> None:
-        """It runs in `folder`, where its slip and its output are; without a limit of seconds it is at home: its output is
-        this process's."""
+        """It runs in `folder`, and what it prints goes to a file there. Without a limit of seconds it is its student's
+        own, at home: it has this process's environment, and prints to this process's standard error."""
         self.folder, self.output = folder, folder / "output.txt"
         self.how = ""
         at_home = seconds is None
@@ -101,7 +104,7 @@ class Kept:
             raise Fault(f"{error.filename or folder}: {error.strerror}", 4) from None
 
     def ended(self) -> str:
-        """How the bot has ended, where it has: `ended STATUS`, or `killed REASON`."""
+        """How the bot has ended, `ended STATUS` or `killed REASON`; empty while it runs."""
         if self.process.poll() is None:
             return ""
         assert self.process.stdout is not None
@@ -114,7 +117,7 @@ class Kept:
         return self.how
 
     def stop(self) -> str:
-        """Ends the bot with all that it started."""
+        """Ends the bot with all that it started; gives how it ended."""
         assert self.process.stdin is not None
         try:
             self.process.stdin.close()
@@ -124,7 +127,7 @@ class Kept:
         return self.ended()
 
     def printed(self) -> str:
-        """The last line that the bot printed."""
+        """The last line that the bot printed into its file; empty where there is none."""
         try:
             with self.output.open("rb") as it:
                 it.seek(max(0, self.output.stat().st_size - SHOWN))

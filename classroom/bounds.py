@@ -17,8 +17,8 @@ NAME = "teacher", "teacher"
 
 @functools.cache
 def of(nodes: int, links: int) -> Bounds:
-    """The bounds for a network of so many nodes and links: which links they are doesn't matter. Its lab is a file without a
-    name, so that a full disk keeps nobody from them."""
+    """The bounds for a network of so many nodes and links: which links they are doesn't matter. Its lab is a file
+    without a name, so that a full disk keeps nobody from them."""
     file = os.memfd_create("lab")
     try:
         with open(file, "wb", closefd=False) as it:

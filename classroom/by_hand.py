@@ -1,5 +1,5 @@
-"""The page at which a student plays by hand. It comes to the server as a program of the student's would, by name and key,
-and what it shows is what that connection was told.
+"""The page at which a student plays by hand. It comes to the server as a program of the student's would, by name and
+key, and what it shows is what that connection was told.
 
 A page that nobody has greeted at has no connection; one that went away gives its seat back.
 """
@@ -66,7 +66,7 @@ class Hands(Web):
                 self.turn.notify_all()
 
     def seat(self, token: object) -> Seat | None:
-        """The seat of a token."""
+        """The seat of the page that has this token; None where there is none, or the token is no text."""
         with self.turn:
             return next((seat for known, seat in self.seats.items()
                          if isinstance(token, str) and hmac.compare_digest(known.encode(), token.encode(errors="replace"))), None)
@@ -110,11 +110,11 @@ class Hand(Asked):
         does(asked)
 
     def say(self, status: int, **told: Any) -> None:
-        """An answer in words."""
+        """Answers with a status, and with these values as JSON."""
         self.answer(status, "application/json", json.dumps(told).encode())
 
     def put(self, row: dict[str, Any]) -> None:
-        """A line of news."""
+        """Sends a line of news to the page, as JSON."""
         self.wfile.write(json.dumps(row).encode() + b"\n")
 
     def enter(self, asked: dict[str, Any]) -> None:

@@ -42,16 +42,17 @@ class Scale:
         self.least, self.most, self.high = least, max(most, least + 1), max(high, 1)
 
     def x(self, nodes: float) -> float:
-        """Where a number of nodes is."""
+        """How far from the left a number of nodes stands."""
         return LEFT + (nodes - self.least) / (self.most - self.least) * (WIDE - LEFT - RIGHT)
 
     def y(self, count: float) -> float:
-        """Where a count is."""
+        """How far from the top a count stands."""
         return HIGH - BELOW - count / self.high * (HIGH - ABOVE - BELOW)
 
 
 def nice(high: int, parts: int = 5) -> int:
-    """A round distance of so many ticks."""
+    """How far apart the numbers on an axis of that length are: the first of 1, 2, 5, 10, 20, 50 and so on by which the
+    axis has at most so many parts."""
     step = 1
     while True:
         for factor in (1, 2, 5):
@@ -61,7 +62,7 @@ def nice(high: int, parts: int = 5) -> int:
 
 
 def line(points: Sequence[tuple[float, float]], kind: str, colour: str = "") -> str:
-    """A line through points; a short one through a single point."""
+    """The path through points; a short line through a single point."""
     if len(points) == 1:
         points = [(points[0][0] - 8, points[0][1]), (points[0][0] + 8, points[0][1])]
     path = " ".join(f"{'M' if place == 0 else 'L'}{x:.1f} {y:.1f}" for place, (x, y) in enumerate(points))
@@ -84,7 +85,8 @@ def axes(scale: Scale) -> list[str]:
 
 
 def panel(title: str, rows: list[Row]) -> str:
-    """One family under one daemon."""
+    """The drawing of one family under one daemon: the bounds, and of each measure the runs, the greatest and the
+    median."""
     sizes = sorted({row.nodes for row in rows})
     links = {size: max(row.links for row in rows if row.nodes == size) for size in sizes}
     most = {size: bounds.of(size, links[size]) for size in sizes}
@@ -104,7 +106,7 @@ def panel(title: str, rows: list[Row]) -> str:
 
 
 def key(runs: int) -> str:
-    """What the lines are."""
+    """What the lines and points of all panels stand for, to be drawn below them."""
     parts = []
     for place, (name, colour, _) in enumerate(MEASURES):
         x = 12 + 84 * place

@@ -29,7 +29,8 @@ GUESSES = 100_000  # a second, over one machine's loopback
 
 
 def refused(path: Path, error: str) -> Iterator[str]:
-    """The program's error line, with the identifier, the line and its text, and the key that was meant."""
+    """What is told of a lab that the program refuses: its error line, where it stands and with what text, and which
+    keys may be meant by those that the format doesn't name."""
     text = path.read_bytes().decode("utf-8-sig", errors="replace")
     yield f"{path}: {error}"
     line, what = standing(text, error)
@@ -41,8 +42,8 @@ def refused(path: Path, error: str) -> Iterator[str]:
 
 
 def standing(text: str, error: str) -> tuple[int | None, str]:
-    """The line that an error is about, where there is one, and what is told behind its number: what the document's reader
-    says, or the identifier of its node."""
+    """The line that an error is about, where there is one, and what is told behind its number: what the document's
+    reader says, or the identifier of its node."""
     if error == "lab: not a TOML document":
         try:
             tomllib.loads(text)
@@ -69,21 +70,24 @@ def standing(text: str, error: str) -> tuple[int | None, str]:
 
 
 def identifier(text: str, table: places.Table) -> str:
-    """The identifier of a node, as its line has it."""
+    """What is told of a node behind its line: its identifier as the file has it, in brackets; nothing where that isn't
+    found."""
     line = table.keys.get("id")
     found = re.search(r"\bid\s*=\s*([-+\w]+)", text.splitlines()[line - 1]) if line else None
     return f" (the node with identifier {found[1]})" if found else ""
 
 
 def place_of_key(text: str, key: str) -> tuple[int | None, str]:
-    """The first line in which a key of that name stands, where it is only one."""
+    """The line of the key that an error names, as `teacher.name`, where a single table of that name has it, else none;
+    behind it nothing is told."""
     table, _, word = key.rpartition(".")
     lines = [each.keys[word] for each in places.tables(text) if each.name == table and word in each.keys]
     return (lines[0], "") if len(lines) == 1 else (None, "")
 
 
 def strange(text: str) -> Iterator[tuple[int, str, str | None]]:
-    """Keys that the format doesn't name: the line, the key, and the nearest one that may be meant."""
+    """Keys and tables that the format doesn't name: the line, the key, and the nearest one that may be meant, if
+    any."""
     for table in places.tables(text):
         known = KNOWN.get(table.name)
         if known is None:
@@ -98,20 +102,21 @@ def strange(text: str) -> Iterator[tuple[int, str, str | None]]:
 
 
 def nearest(key: str, known: Iterable[str]) -> str | None:
-    """The key that is spelled most like it."""
+    """The key that is spelled most like it; None where none is much like it."""
     found = difflib.get_close_matches(key, list(known), 1, 0.6)
     return found[0] if found else None
 
 
 def bits(key: str) -> float:
-    """What a key of its length and letters has at most."""
+    """How many bits a key is taken to have at most, by its length, the kinds of its letters, and how many of them
+    differ: one of few different letters wasn't drawn from many."""
     kinds = (string.ascii_lowercase, string.ascii_uppercase, string.digits, string.punctuation)
     letters = sum(len(kind) for kind in kinds if set(kind) & set(key))
     return len(key) * math.log2(max(2, min(letters, 2 * len(set(key)))) if len(set(key)) > 1 else 1.01)
 
 
 def effort(key: str) -> str:
-    """How long guessing would take at most."""
+    """How long it would take at most to guess a key, as text."""
     seconds = 2 ** bits(key) / GUESSES
     for size, word in ((86400 * 365, "years"), (86400, "days"), (3600, "hours"), (60, "minutes")):
         if seconds >= size:
@@ -217,7 +222,8 @@ def sized(path: Path, told: str) -> str:
 
 
 def check(words: argparse.Namespace) -> int:
-    """Status 0, 5 for warnings alone, and the program's own where it refuses the lab."""
+    """Tells what the program says of a lab, and warnings. The status is 0, 5 for warnings alone, or the program's own
+    where it refuses the lab."""
     path = Path(words.lab)
     answer: Answer = call("check", path)
     if answer.status != 0:

@@ -36,7 +36,8 @@ class Denied(Exception):
 
 
 class Refused(Exception):
-    """`malformed`, `full`, `journal`, `memory`, or `busy` where no seat was free."""
+    """A line is refused, by this word: `malformed`, `full`, `journal`, `memory`, or `busy` where no seat was free, or a
+    newcomer needed this one."""
 
     def __init__(self, word: str) -> None:
         super().__init__("busy: all seats are taken; come again later" if word == "busy" else word)
@@ -201,14 +202,14 @@ def key_of(word: str) -> str:
 
 
 def port_of(word: str) -> int:
-    """A port's number."""
+    """The port whose number a word is; it raises NoSlip where it is none."""
     if not (word.isascii() and word.isdecimal() and 1 <= int(word) <= 65535):
         raise NoSlip(f"{word} is no port: 1 to 65535")
     return int(word)
 
 
 def nodes_of(word: str = "") -> tuple[int, ...]:
-    """Nodes with commas between them."""
+    """The nodes whose numbers a word has, with commas or spaces between them; it raises NoSlip for anything else."""
     words = word.replace(",", " ").split()
     if not all(node.isascii() and node.isdecimal() for node in words):
         raise NoSlip(f"nodes {word}: no numbers with commas between them")
@@ -283,7 +284,8 @@ class Client:
         return line
 
     def ask(self, **request: object) -> dict[str, Any]:
-        """Sends a request, and gives its reply as it came, where it was answered by `ok`."""
+        """Sends a request, and gives its reply as it came, where it was answered by `ok`; else raises Denied, Refused
+        or Closed."""
         try:
             self._socket.settimeout(self.limit)
             self._socket.sendall(json.dumps(request).encode() + b"\n")
@@ -355,6 +357,8 @@ class Client:
         return self._edit(do="release", node=node)
 
     def _edit(self, **request: object) -> Edit:
+        """Asks for a fault, a link, a cut or a release. The reply to a release doesn't say how many moves were dropped:
+        it is one."""
         it = self.ask(**request)
         return Edit(it["at"], it["place"], it.get("dropped", 1))
 
@@ -366,14 +370,15 @@ class Client:
 
 
 def no_server(port: int, error: BaseException) -> NoServer | None:
-    """What an error says of a port where a hello isn't answered as a class's server does it."""
+    """The error to raise instead of one that a hello met, where that shows that no class's server is at the port; None
+    where it doesn't."""
     if isinstance(error, NotReply):
         return NoServer(f"at port {port} is another program: it answers {error}")
     return NoServer(f"no server at port {port} answers a hello: {error}") if isinstance(error, Silent) else None
 
 
 def reply_of(line: bytes) -> dict[str, Any]:
-    """The reply of a line."""
+    """The reply that a line is; it raises NotReply where it is none."""
     try:
         reply = json.loads(line)
     except ValueError:
@@ -412,7 +417,8 @@ def stop(error: Exception) -> tuple[int, str]:
 
 
 def goes_on(error: Denied | Refused) -> bool:
-    """Whether a denial is one of those that a bot meets, or memory was short: it looks again."""
+    """Whether a bot looks again after this denial or refusal: a right bot meets it too, or memory was short. Else it
+    stops."""
     return (error.name if isinstance(error, Denied) else error.word) not in STOPS
 
 
@@ -440,8 +446,8 @@ def enter(slip: Slip, patience: float = 60.0) -> Client:
 
 
 def again(slip: Slip, lost: Closed | Refused, patience: float = 60.0) -> Client:
-    """Greets again where a connection was lost, each second, for so many seconds, whether a seat is lacking or a server;
-    raises what was lost where that is in vain, or the class is over."""
+    """Greets again after a connection was lost, each second for so many seconds, while no seat is free or no server is
+    there. Where that is in vain it raises `lost`; that the class is over, or any other refusal, it raises at once."""
     end = time.monotonic() + patience
     while not isinstance(lost, Over) and time.monotonic() < end:
         time.sleep(1)
@@ -458,7 +464,8 @@ def again(slip: Slip, lost: Closed | Refused, patience: float = 60.0) -> Client:
 
 
 def run(program: Callable[[list[str]], None], usage: str) -> None:
-    """Runs a program with its words; what ends it is a line, and a status."""
+    """Runs a program with the words of the command line; without any, or where help is asked for, tells the usage. An
+    error ends it with a line and an exit status."""
     words = sys.argv[1:]
     if not words or words[0] in ("-h", "--help"):
         print(usage, file=sys.stderr)
@@ -497,14 +504,15 @@ def is_a(kind: str, value: object) -> bool:
 
 
 def said(value: object) -> str:
-    """What a value is, in a word or two."""
+    """What a value of the wrong kind is, in a word or two. Any integer is told as out of range."""
     kinds = {bool: "true or false", str: "a string", type(None): "null", dict: "an object", list: "a list",
              float: "no whole number"}
     return kinds.get(type(value), "out of range")
 
 
 def wrong(line: str) -> str | None:
-    """What is wrong with a line as a request, for which the server has one word; None where nothing is."""
+    """What is wrong with a line as a request, for which the server has a word alone; also that a key stands twice, of
+    which the server takes the last. None where there is nothing to tell."""
     if len(sent(line)) >= MOST:
         return f"more than {MOST} bytes: the server ends the connection"
     if line.startswith("\ufeff"):
@@ -518,6 +526,7 @@ def wrong(line: str) -> str | None:
     strange: list[str] = []
 
     def once(pairs: list[tuple[str, Any]]) -> dict[str, Any]:
+        """An object's values; of a name that stands twice the last one, and the name is noted."""
         names = [name for name, _ in pairs]
         doubled.extend(name for name in names if names.count(name) > 1)
         return dict(pairs)
@@ -546,12 +555,13 @@ def byte(line: str, at: int) -> int:
 
 
 def whole(text: str) -> int | float:
-    """An integer; one with a sign is out of range, and so is one past the greatest double."""
+    """The integer of a text. One with a sign is -1, since each of them is out of range; one past the greatest double is
+    infinite."""
     return -1 if text.startswith("-") else int(text) if float(text) < float("inf") else float("inf")
 
 
 def wrong_value(value: object, deep: int = 1) -> str | None:
-    """What is wrong with a value under whatever key it stands."""
+    """What is wrong with a value under whatever key it stands; None where nothing is."""
     if isinstance(value, str) and any("\ud800" <= char <= "\udfff" for char in value):
         return "half of a surrogate pair"
     if isinstance(value, float) and abs(value) == float("inf"):
@@ -565,7 +575,7 @@ def wrong_value(value: object, deep: int = 1) -> str | None:
 
 
 def wrong_keys(asked: object) -> str | None:
-    """What is wrong with the keys of a request."""
+    """What is wrong with the keys of a request; None where nothing is."""
     if not isinstance(asked, dict):
         return f"{said(asked)}, not an object"
     if "do" not in asked:
@@ -617,7 +627,8 @@ class ByHand:
         print(f"client: {text}", file=sys.stderr, flush=True)
 
     def send(self, line: str, shown: bool = True) -> None:
-        """Sends a line, and shows what answers it. A key isn't kept in the log."""
+        """Sends a line, and shows what answers it; with `shown`, what is wrong with the line is told before. A key
+        isn't kept in the log."""
         note = wrong(line) if shown else None
         if note:
             self.note(note)
@@ -638,14 +649,16 @@ class ByHand:
         self.greeted = self.greeted or '"ok":"hello"' in answer
 
     def last(self, answer: str) -> str | None:
-        """Why the connection ended, where the server says it by this answer."""
+        """Why the connection ended, where the server says it by this answer; None where it doesn't. An answer that is
+        no reply is raised as an error."""
         try:
             return LAST.get(reply_of(answer.encode()).get("refuse", ""))
         except NotReply as error:
             raise (no_server(self.port, error) if not self.greeted else None) or error from None
 
     def why(self, line: str, waited: float) -> str:
-        """Why it ended, as far as that can be known here."""
+        """Why the connection ended without an answer to a line, as far as that can be known here; `waited` is how many
+        seconds before it no line was sent. Before a hello was granted it may raise NoServer."""
         if len(sent(line)) >= MOST:
             return f"a line has at most {MOST} bytes"
         if not self.greeted and waited >= 10:

@@ -20,7 +20,7 @@ mode = daemon
 
 
 def closing(word: str) -> Closing:
-    """The daemon of a word."""
+    """The daemon that a word names, with so many SECONDS where it names none."""
     return Daemon.of(word, SECONDS)
 
 
@@ -38,8 +38,9 @@ class Striker:
         self.closed = 0.0
 
     def strike(self, desk: Desk) -> None:
-        """Closes a step where it is time for one; of the moves that it doesn't apply each is taken back before. Who keeps
-        the class waiting is told."""
+        """Closes a step where it is time for one; the chosen moves that it isn't to apply are taken back before. Where
+        it isn't time, and nothing has come for SECONDS, it is told whom the class waits for, unless steps are closed by
+        hand. A search that fails changes the daemon to when-idle."""
         now = time.monotonic()
         if desk.closing != self.how:
             self.how, self.closed = desk.closing, now
@@ -61,19 +62,20 @@ class Striker:
             desk.tell_waiting()
 
     def by_clock(self, desk: Desk, now: float) -> None:
-        """Closes by the clock, where there is nothing to close too: then it is told for whom the class waits."""
+        """Closes a step where its time has come, also where no node is chosen: then the desk tells whom the class waits
+        for."""
         seconds = desk.closing.value
         if now - self.closed >= seconds and not (desk.closing.kind == "when-idle" and now - desk.news < seconds):
             self.closed = now
             desk.close()
 
     def close(self) -> None:
-        """Ends what it searches with."""
+        """Ends the adversary's program."""
         self.adversary.close()
 
     def take_back(self, desk: Desk, but: set[int]) -> None:
-        """Releases the other chosen moves, and those that are granted meanwhile. One that is granted after the last look is
-        applied too: nobody but the server could keep it out."""
+        """Releases the other chosen moves, and those that are granted meanwhile. One that is granted after the last
+        look is applied too: nobody but the server could keep it out."""
         for _ in range(LOOKS):
             others = sorted(desk.book.chosen.keys() - but)
             for node in others:

@@ -22,7 +22,7 @@ class Comeback:
         self.hurt = self.missed = False
 
     def edit(self, event: Event) -> None:
-        """A fault, a link or a cut: the network as it is from now on, and the count anew."""
+        """Takes a fault, a link or a cut: from now on the network is as it made it, and the count begins anew."""
         if event.kind == "link":
             self.links.add(frozenset(event.nodes))
         elif event.kind == "cut":
@@ -30,11 +30,13 @@ class Comeback:
         self.recovery, self.hurt, self.missed = None, True, False
 
     def miss(self) -> None:
-        """A close of which it isn't known who was privileged before or after it."""
+        """Notes that there was a close of which it isn't known who was privileged before or after it, so that the
+        counts can't be told."""
         self.missed = True
 
     def close(self, moved: Collection[int], before: Collection[int], after: Collection[int]) -> str:
-        """A close, and who was privileged before and after it; what there is to tell where the class has come back."""
+        """Counts a close, by who moved and who was privileged before and after it; gives what there is to tell where
+        the class has come back, and else nothing."""
         if self.recovery is None:
             self.recovery = Recovery(before)
         self.recovery.step(moved, after)
@@ -58,15 +60,18 @@ class Recount(Replay):
         self.lines: list[str] = []
 
     def ask(self, script: Script, event: Event | None, named: set[int]) -> None:
+        """Asks for the report, at the beginning and after each event that made a configuration."""
         if event is None or event.makes_configuration:
             script.ask(REPORT, self.taking(event))
 
     def took(self, event: Event, reply: dict[str, Any]) -> None:
+        """Keeps who moved."""
         self.moved = reply.get("moved", [])
 
     def taking(self, event: Event | None) -> Callable[[dict[str, Any]], None]:
-        """Takes the report after an event."""
+        """What takes the report after an event, or at the beginning."""
         def takes(report: dict[str, Any]) -> None:
+            """Keeps who is privileged by the report, and counts the event, if there is one."""
             before, self.before = self.before, {node for node, _ in report["privileged"]}
             if event is None or event.kind in EDITS:
                 if event is not None:

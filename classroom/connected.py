@@ -16,14 +16,14 @@ Row = tuple[int, int, str, str]
 
 
 def rows() -> Iterator[Row]:
-    """Each of the system's TCP connections: its own port, the other one, its state, its number."""
+    """Each of the system's TCP sockets over IPv4: its own port, the other end's, its state, its number."""
     for line in (PROC / "net/tcp").read_text(encoding="ascii").splitlines()[1:]:
         _, own, other, state, *_, = words = line.split()
         yield int(own.rpartition(":")[2], 16), int(other.rpartition(":")[2], 16), state, words[9]
 
 
 def leads_to(end: Path, wanted: str) -> bool:
-    """Whether a descriptor is that, while its process opens and closes others."""
+    """Whether a process's descriptor is the wanted socket; not, where it was closed meanwhile."""
     try:
         return os.readlink(end) == wanted
     except FileNotFoundError:
@@ -31,8 +31,8 @@ def leads_to(end: Path, wanted: str) -> bool:
 
 
 def owner(number: str) -> str:
-    """Which process has the client's end of a connection. Of one that this may not look into, or of another
-    machine's, nothing is known; and whose it is stands in no process."""
+    """Which process has the client's end of a connection, by its socket's number. Of another user's process, or another
+    machine's, that isn't known: it is someone from elsewhere."""
     wanted = f"socket:[{number}]"
     for process in PROC.iterdir():
         if not process.name.isdecimal():
@@ -49,8 +49,9 @@ class Connected:
     """What there is to tell of who comes and goes at the students' port."""
 
     def __init__(self, port: int, places: int, but: int, names: dict[int, str] | None = None, tells: bool = True) -> None:
-        """`but` is the port of the desk's own end; `names` tells, by the same, who is known otherwise than by a process.
-        Where a record tells who they are, processes aren't told."""
+        """`places` is how many seats there are; `but` is the port of the desk's own end, which isn't counted; `names`
+        has who is known otherwise than by a process, by the port of the client's end. `tells` is false where a record
+        tells who comes and goes: then nothing is told here but that the seats are taken."""
         self.port, self.places, self.but, self.tells = port, places, but, tells
         self.names = {} if names is None else names
         self.known: dict[int, str] = {}
@@ -69,8 +70,8 @@ class Connected:
             return []
 
     def look(self) -> list[Row]:
-        """The system's connections. Its list isn't of one moment: it is read again while a newcomer's own end isn't in it,
-        a few times, since who comes from another machine has none here."""
+        """The system's connections. Its list isn't of one moment: it is read again while a newcomer's own end isn't in
+        it, a few times, since who comes from another machine has none here."""
         for _ in range(READINGS):
             found = list(rows())
             if not self.tells or self.served(found) <= self.ends(found).keys() | self.known.keys():
@@ -79,7 +80,7 @@ class Connected:
         return found
 
     def ends(self, found: list[Row]) -> dict[int, str]:
-        """The clients' ends on this machine, with the number of each."""
+        """The clients' ends on this machine: the number of each one's socket by its port."""
         return {own: number for own, other, state, number in found if other == self.port and state == ESTABLISHED}
 
     def served(self, found: list[Row]) -> set[int]:
@@ -87,7 +88,8 @@ class Connected:
         return {other for own, other, state, _ in found if own == self.port and state == ESTABLISHED} - {self.but}
 
     def compared(self, found: list[Row]) -> list[str]:
-        """Lines of who has come and gone between what was seen before and these connections, and whether all seats are taken."""
+        """Lines of who has come and gone between what was seen before and these connections, and whether all seats are
+        taken."""
         ends, here = self.ends(found), self.served(found)
         gone = [self.known.pop(port) for port in sorted(self.known.keys() - here)]
         come = sorted(here - self.known.keys())
@@ -101,11 +103,12 @@ class Connected:
         return lines
 
     def process(self, number: str | None) -> str:
-        """Whose a connection is, where that is told."""
+        """Which process has a connection, by its socket's number; someone from elsewhere, where that isn't known or
+        isn't told."""
         return owner(number) if self.tells and number is not None else ELSEWHERE
 
     def count(self) -> int:
-        """How many of the seats are taken now."""
+        """How many of the seats are taken now; 0 where the system doesn't say."""
         try:
             return len(self.served(list(rows())))
         except OSError:

@@ -64,14 +64,15 @@ class Sight:
 
 
 def heads(nodes: Sequence[int], probability: float, chance: random.Random) -> list[int]:
-    """A coin for each node; where all show tails, one node."""
+    """The nodes whose coins, which have this probability, show heads; where all show tails, one node."""
     found = [node for node in nodes if chance.random() < probability]
     return found or [chance.choice(list(nodes))]
 
 
 def applied(how: Daemon, sight: Sight, chance: random.Random, patience: float, search: Search = list) -> list[int]:
     """The nodes whose moves a close applies now, or none: the other chosen moves are released before it. The random
-    daemon tosses, and the adversary searches, where each privileged node has a move, or none came for `patience` seconds."""
+    daemon tosses, and the adversary searches, where each privileged node has a move, or none came for `patience`
+    seconds."""
     if not sight.chosen:
         return []
     if how.kind == "central":
@@ -89,7 +90,8 @@ def applied(how: Daemon, sight: Sight, chance: random.Random, patience: float, s
 
 
 def movers(how: Daemon, privileged: Sequence[int], chance: random.Random, search: Search = list) -> list[int]:
-    """Where who plays is patient: the nodes that move in the next step."""
+    """The nodes that move in the next step, of those that are privileged, where each of them would: nobody is waited
+    for, as in an experiment."""
     if how.kind == "central":
         return [chance.choice(list(privileged))]
     if how.kind == "random":
@@ -100,8 +102,8 @@ def movers(how: Daemon, privileged: Sequence[int], chance: random.Random, search
 
 
 def in_time(how: Daemon, nodes: Sequence[int], chance: random.Random) -> list[int]:
-    """Whose moves the next close finds that applies any, where each node asks after a time that is drawn, a second on average:
-    a close by the clock, or one after so long without a move."""
+    """The nodes that move in the next step, where each asks after a time that is drawn, a second on average: those that
+    have asked by the clock's first close with a move, or, when-idle, before so many seconds pass in which none asks."""
     asks = sorted((chance.expovariate(1.0), node) for node in nodes)
     first = end = asks[0][0]
     if how.kind == "every" and how.value:

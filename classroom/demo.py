@@ -19,7 +19,7 @@ SIGNALS = (signal.SIGINT, signal.SIGTERM)
 
 
 def bots_of(lab: labs.Lab, port: int, room: Path) -> list[subprocess.Popen[bytes]]:
-    """A bot for each student."""
+    """Writes the slips of a lab, and starts a bot for each student."""
     slips.write_all(lab, port, room / "slips")
     return [
         subprocess.Popen([sys.executable, TOP / "examples/bot.py", room / "slips" / f"{name}.slip"],

@@ -81,7 +81,7 @@ class Desk:
         self.comeback = Comeback(lab)
 
     def again(self) -> bool:
-        """Greets again at the desk where its connection was lost; says whether it is held."""
+        """Greets again at the desk where its connection was lost; gives whether the desk is held."""
         if not self.lost:
             return True
         try:
@@ -98,7 +98,7 @@ class Desk:
         return True
 
     def catch_up(self) -> None:
-        """Counts what the journal has already, and tells nothing of it."""
+        """Counts what the journal has already, and tells none of its events, but from where the class goes on."""
         whole, found, self.rest = self.journal.read().rpartition(b"\n")
         self.past = events((whole + found).decode("ascii"))
         for event in self.past:
@@ -114,7 +114,8 @@ class Desk:
             self.end_by("full")
 
     def recount(self) -> None:
-        """Counts what has passed."""
+        """Counts how the class came back within the events that have passed. Where the program can't be asked, that is
+        told, and the next time that the class is stable has no counts."""
         try:
             Recount(self.lab, self.past, self.comeback).counts()
         except Fault as fault:
@@ -125,13 +126,15 @@ class Desk:
             self.comeback.miss()
 
     def lose(self, error: Closed) -> None:
-        """The connection has ended, or an answer is late: it is made again while the server lives."""
+        """Gives up a connection that has ended, or on which an answer is late: it is made again while the server
+        lives."""
         self.lost = str(error)
         self.client.hang_up()
         self.tell(f"the desk: {error}; it is greeted again")
 
     def read(self) -> None:
-        """Reads what the journal has got, and tells each step as a line."""
+        """Reads what the journal has got, tells each event but a grant as a line, and has the pages show it; ends the
+        run where the journal is halted."""
         if self.is_old:
             self.ask_report()
         more = self.journal.read()
@@ -148,13 +151,14 @@ class Desk:
             self.end_by("journal")
 
     def is_halted(self) -> bool:
-        """Whether a line couldn't be written, or not synced: half of it stays, since a line is written at once, or it was
-        taken back."""
+        """Whether a line couldn't be written, or not synced. A line is written at once, so a part of one that stays
+        alone for seconds is all that was written; a line that wasn't synced was taken back, and the file is shorter."""
         is_torn = self.rest != b"" and time.monotonic() - self.torn_since > TORN
         return is_torn or os.fstat(self.journal.fileno()).st_size < self.journal.tell()
 
     def take(self, event: Event) -> None:
-        """Counts an event, and tells it where it is a step."""
+        """Counts an event, and tells it unless it is a grant. Where the lab has few events left, tells that too; after
+        the last one ends the run."""
         moved = self.book.add(event)
         self.news = time.monotonic()
         self.count = event.place
@@ -191,19 +195,20 @@ class Desk:
             self.is_old = True
 
     def wait_for_memory(self, refused: Refused) -> None:
-        """Another refusal than for memory is none that passes."""
+        """Raises a refusal, unless it is for memory: that one passes."""
         if refused.word != "memory":
             raise refused
 
     def watched(self) -> Watch:
-        """What pages are shown, which is looked at from now on."""
+        """What the pages are shown, beginning with what the run has done; from now on the desk keeps it up to date."""
         self.watch = Watch(self.lab, self.client, self.report, spelled(self.closing))
         for event in self.past:
             self.watch.note(event)
         return self.watch
 
     def step(self, at: int, what: str) -> None:
-        """The line of a step: configuration, who moved, how many are privileged, moves beside the bound, and events."""
+        """Tells the line of an event: the number after it, what was done, how many are privileged then, if the report
+        is of that number, moves beside the bound, and events. It asks for the report first."""
         self.ask_report()
         most = bounds.told(len(self.lab.nodes), len(self.lab.links) + self.book.links)
         limit = f" of at most {most.moves}" if most else ""
@@ -212,7 +217,7 @@ class Desk:
         self.tell(f"configuration {at}: {what}; {now}{self.book.since}{limit} moves; {self.counted()}")
 
     def come_back(self, event: Event, moved: list[int], before: Report) -> None:
-        """Tells how the class came back, where a close was the last that it took."""
+        """Counts a close; where it was the last that the class took to come back, tells how it came."""
         if (before.at, self.report.at) != (event.at, event.at + 1):
             self.comeback.miss()
         if self.report.at != event.at + 1 or self.is_old:
@@ -238,14 +243,15 @@ class Desk:
         self.house.turn(waiting, len(waiting) if not is_central else 0 if self.book.chosen else 1)
 
     def tell_waiting(self) -> None:
-        """Tells it where it is new."""
+        """Tells whom the class waits for, where that has changed since it was looked at last."""
         now = self.waiting()
         if now and now != self.told_waiting:
             self.tell(f"waiting for {now}")
         self.told_waiting = now
 
     def close(self) -> None:
-        """Closes a step, if a node is chosen."""
+        """Closes a step; where no node is chosen, tells whom the class waits for. Where nothing is granted any longer
+        it ends the run."""
         try:
             self.client.close()
         except Denied as denied:
@@ -293,7 +299,8 @@ class Desk:
         return True
 
     def may_end(self, asked: bool) -> bool:
-        """False where the run ends: where it isn't stable, it is asked for twice."""
+        """Whether the run goes on though `end` was typed: where it isn't stable it ends only if the line before was
+        `end` too, and else that is told."""
         self.ask_report()
         if asked or self.report.stable:
             return False
@@ -333,8 +340,8 @@ class Desk:
             self.edit(word, rest)
 
     def tell_who(self) -> None:
-        """Who is connected and who asks in vain, as the record tells it (without one the system tells processes), and who
-        hasn't moved, as the journal tells it."""
+        """Who is connected and who asks in vain, as the record tells it (without one the system tells processes), and
+        who hasn't moved, as the journal tells it."""
         if self.connected and self.heard:
             self.heard.read()
             self.heard.since(self.last_step)
@@ -348,7 +355,8 @@ class Desk:
             self.tell(self.house.told())
 
     def housed(self, word: str, name: str) -> str:
-        """The house plays for a student, or stops."""
+        """Lets the house play for a student, or stop, by the word `play` or `stop`; gives the line that tells it. An
+        error says why the house can't."""
         if self.house is None and self.lab.held():
             raise ValueError("the house plays where the server is a host: without --serve")
         if self.house is None:
@@ -361,7 +369,7 @@ class Desk:
         return network([labs.Node(it.node, [], it.p, it.m) for it in seen], pairs_of(self.comeback.links))
 
     def renew_page(self) -> None:
-        """Acts at the page are taken back to another address."""
+        """Gives the page to act at another address; the one before acts no more."""
         if self.another_page is None:
             raise ValueError("there is no page: --page")
         self.another_page()
@@ -374,13 +382,13 @@ class Desk:
             self.watch.present.put(closing=spelled(self.closing))
 
     def set_all(self, registers: list[Registers]) -> None:
-        """Faults at several nodes in one breath."""
+        """Sets the registers of several nodes, by one fault after another."""
         for node, p, m in registers:
             self.client.fault(node, p, m)
         self.tell(f"the registers of {len(registers)} nodes were set")
 
     def edit(self, word: str, rest: list[str]) -> None:
-        """A fault, a link, a cut or a release."""
+        """Asks for a fault, a link, a cut or a release, by the words that were typed."""
         if word == "fault":
             self.client.fault(int(rest[0]), None if rest[1] in ("-", "null") else int(rest[1]), rest[2] == "true")
         elif word == "release":

@@ -51,7 +51,8 @@ class Drawing:
 
     @cached_property
     def witnesses(self) -> Witnesses | None:
-        """Where witnesses stand, with words where these have room and else with letters; None: in the middle of links."""
+        """Where witnesses stand, with words where these have room and else with letters; None: in the middle of
+        links."""
         if self.small or len(self.lab.nodes) > labels.MOST_NODES or len(self.lab.links) > labels.MOST_LINKS:
             return None
         boxes = [box for of_node in self.boxes(self.form).values() for box in of_node]
@@ -86,7 +87,7 @@ class Drawing:
         }
 
     def hue(self, student: str) -> int:
-        """A colour for each student, as an angle; neighbours in the list are far apart."""
+        """The hue of a student's colour, in degrees; neighbours in the list are far apart."""
         return round(list(self.lab.students).index(student) * 137.508) % 360
 
     def style(self) -> str:
@@ -94,7 +95,7 @@ class Drawing:
         return "".join(f".h{hue}{{--hue:{hue}}}" for hue in sorted({self.hue(student) for student in self.lab.students}))
 
     def svg(self, state: State, event: Event | None) -> str:
-        """The whole element."""
+        """The whole element of a state; `event` is the one that led to it."""
         open_links = state.open if len(state.open) <= OPEN_MOST else []
         return "\n".join([
             f'<svg xmlns="http://www.w3.org/2000/svg" id="drawing" viewBox="0 0 {WIDTH:g} {HEIGHT:g}" role="group"'
@@ -128,7 +129,8 @@ class Drawing:
         return max(6.0, 0.8 * self.layout.radius) if self.small else 15.0
 
     def faint(self, links: int) -> float:
-        """How much is seen of each line of so many links: what lies over a whole field of them can be read."""
+        """How opaque the line of each of so many links is: where there are many, fainter, so that what lies over them
+        can be read."""
         return min(1.0, FAINT_ABOVE * len(self.lab.nodes) / max(links, 1))
 
     def rows(self, name: str, drawn: list[tuple[int, str]], opacity: float = 1.0) -> list[str]:
@@ -140,6 +142,7 @@ class Drawing:
         return [f'<g class="{name}" stroke-opacity="{opacity:.2g}">', *paths, "</g>"]
 
     def line(self, a: int, b: int) -> str:
+        """The line of a link, as a path has it."""
         (x, y), (u, v) = self.layout.points[a], self.layout.points[b]
         return f"M{x:g} {y:g}L{u:g} {v:g}"
 
@@ -176,6 +179,7 @@ class Drawing:
         return f"M{at(start, along, near)}L{at(start, along, far)}"
 
     def node(self, node: int, owners: list[str], state: State) -> str:
+        """A node's element: its values, its owners' colours, and the texts around it."""
         x, y = self.layout.points[node]
         radius = self.layout.radius
         pointer, rule = state.pointers[node], state.privileged.get(node, "")
@@ -207,7 +211,7 @@ class Drawing:
         return [" ".join(self.signs[owner] for owner in owners)] if form.signed else owners
 
     def below(self, line: int) -> float:
-        """Where a line below a node stands, from 0."""
+        """How far below a node's middle the line of that number, from 0, stands."""
         return self.layout.radius + (1 + 0.9 * self.size if self.small else 16 + labels.LINE * line)
 
     def rule_at(self, line: int) -> str:
@@ -217,10 +221,13 @@ class Drawing:
         return f'x="{x:g}" y="{y:g}"' if x else f'y="{y:g}"'
 
     def chosen_at(self) -> str:
+        """Where the rule of a node's chosen move stands: above the node, and at its upper left where nodes are
+        small."""
         radius = self.layout.radius
         return f'x="{-radius:g}" y="{-0.6 * radius:g}"' if self.small else f'y="{self.form.chosen_at(radius)[1]:g}"'
 
     def word(self, rule: str) -> str:
+        """How a rule is written: by its first letter where words have no room."""
         return rule[:1].upper() if self.form.short else rule
 
     def key(self) -> tuple[str, float]:
@@ -266,14 +273,17 @@ def told_node(node: int, owners: list[str], pointer: int | None, m: bool, partne
 
 
 def told(value: bool) -> str:
+    """A truth value as the page's elements have it."""
     return "true" if value else "false"
 
 
 def at(start: Point, along: Point, far: float) -> str:
+    """The point that is so far from a start along a direction, as a path has it."""
     return f"{start[0] + along[0] * far:.1f} {start[1] + along[1] * far:.1f}"
 
 
 def path(name: str, drawn: str) -> str:
+    """A path's element, with its class."""
     return f'<path class="{name}" d="{drawn}"/>'
 
 

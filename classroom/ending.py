@@ -9,7 +9,7 @@ from classroom.program import Fault, call
 
 
 def whole_lines(journal: Path) -> None:
-    """Takes the torn end of a journal away into a file beside it."""
+    """Takes the torn end of a journal away into a file beside it; makes an empty journal where there is none."""
     content = journal.read_bytes() if journal.exists() else b""
     whole, found, torn = content.rpartition(b"\n")
     if torn or not journal.exists():
@@ -20,7 +20,8 @@ def whole_lines(journal: Path) -> None:
 
 
 def finish(folder: Path, tell: Callable[[str], None]) -> int:
-    """Leaves a journal of whole lines, its audit, the page that shows it, and its marks."""
+    """Leaves a journal of whole lines, its audit, the page that shows it, and its marks. The status is 0, or that of
+    what failed, which is told."""
     try:
         whole_lines(folder / "journal")
         answer = call("audit", folder / "lab.toml", folder / "journal")

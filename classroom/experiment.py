@@ -35,7 +35,7 @@ Key = tuple[str, int, str, str, int]
 
 
 def sizes(word: str) -> range:
-    """`A..B`, or one number."""
+    """The numbers of nodes that a word names: `A..B`, `A..B/STEP`, or one number."""
     found = re.fullmatch(r"(\d+)(?:\.\.(\d+))?(?:/(\d+))?", word)
     if not found or not 1 <= int(found[1]) <= int(found[2] or found[1]) <= networks.MOST_NODES or found[3] == "0":
         raise argparse.ArgumentTypeError(f"{word} is no A..B within 1..{networks.MOST_NODES}, or A..B/STEP")
@@ -60,7 +60,7 @@ def add_words(words: argparse.ArgumentParser) -> None:
 
 
 def settings(words: argparse.Namespace) -> list[Setting]:
-    """Each family at each size under each daemon."""
+    """Each family at each size under each daemon; a size at which a family has no network is left out."""
     for how in words.daemon:
         if how.kind == "by-hand":
             raise Fault("--daemon by-hand: nobody is here to close a step")
@@ -81,12 +81,12 @@ def settings(words: argparse.Namespace) -> list[Setting]:
 
 
 def links_of(nodes: int) -> int:
-    """How many links a random network gets: three for two nodes, as far as it can."""
+    """How many links a random network gets: three for two nodes, but at least those of a tree, and at most all."""
     return max(nodes - 1, min(3 * nodes // 2, nodes * (nodes - 1) // 2))
 
 
 def row_of(words: dict[str, str]) -> Row:
-    """A row as the table has it."""
+    """The run's row that the cells of a line tell, by their heads."""
     numbers = {name: int(words[name]) for name in ("nodes", "links", "seed", "moves", "closes", "rounds")}
     return Row(family=words["family"], daemon=words["daemon"], start=words["start"], stable=words["stable"] == "true", **numbers)
 
@@ -121,13 +121,13 @@ def line_of(row: Row) -> str:
 
 
 def ends_with_parent() -> None:
-    """A process of this ends with it, and an interrupt is its parent's."""
+    """Has this worker process end with its parent, and leave an interrupt to the parent."""
     ctypes.CDLL(None).prctl(DIES, signal.SIGKILL, 0, 0, 0)
     signal.signal(signal.SIGINT, signal.SIG_IGN)
 
 
 def measured(tasks: list[tuple[Setting, list[int]]], at_once: int) -> Iterator[tuple[Row, bytes]]:
-    """Each run as it is done."""
+    """Each run with its script, when its task is done, by so many processes, which are killed where this ends early."""
     context = multiprocessing.get_context("fork")
     with concurrent.futures.ProcessPoolExecutor(at_once, context, ends_with_parent) as pool:
         going = [pool.submit(runs, *task) for task in tasks]
@@ -142,7 +142,7 @@ def measured(tasks: list[tuple[Setting, list[int]]], at_once: int) -> Iterator[t
 
 
 def keep_news(path: Path, row: Row, script: bytes) -> Path:
-    """Keeps a run that breaks what is proved, whole."""
+    """Keeps a run that breaks what is proved, whole: its lab, script and row. Gives the folder."""
     folder = path.with_name(f"{path.stem}-broken") / f"{row.family.replace(':', '-')}-{row.nodes}-{row.daemon.replace(':', '-')}-{row.seed}"
     folder.mkdir(parents=True, exist_ok=True)
     how = Daemon.of(row.daemon)
@@ -160,7 +160,7 @@ class Progress:
         self.shown = sys.stderr.isatty()
 
     def one(self) -> None:
-        """One more run."""
+        """Counts one more run, and shows on a terminal how far it is, twice a second at most and at the end."""
         self.done += 1
         now = time.monotonic()
         if self.shown and (now >= self.due or self.done == self.of):
@@ -187,7 +187,7 @@ def table(rows: list[Row]) -> str:
 
 
 def new_file(path: Path) -> None:
-    """A table without rows, where there is none."""
+    """Writes a table without rows, where there is none."""
     if not path.exists() or path.stat().st_size == 0:
         path.write_text(",".join(COLUMNS) + "\n", encoding="utf-8")
 
@@ -202,7 +202,7 @@ def left(every: list[Setting], seeds: range, done: set[Key]) -> list[tuple[Setti
 
 
 def told(own: list[Row], asked: int, words: argparse.Namespace, broken: list[Path]) -> None:
-    """The table, the chart, and whether all is within what is proved."""
+    """Prints the table, and whether all is within what is proved; writes the chart, where one is asked for."""
     if own:
         print(table(own))
     print(f"NEWS: {len(broken)} runs break what is proved; kept whole: {', '.join(map(str, broken))}" if broken else
@@ -215,7 +215,7 @@ def told(own: list[Row], asked: int, words: argparse.Namespace, broken: list[Pat
 
 @contextlib.contextmanager
 def named(file: str, remedy: str) -> Iterator[None]:
-    """Tells which file couldn't be written, and what helps."""
+    """Where a file couldn't be written, raises a fault that tells which, and what helps."""
     try:
         yield
     except OSError as error:

@@ -14,7 +14,7 @@ RECORD = "run.json"
 
 
 def new_folder(into: Path, lab: Path) -> Path:
-    """A folder that wasn't there, which nobody else reads."""
+    """Makes a folder that wasn't there, which nobody else reads, named by the minute and the lab."""
     stamp = f"{datetime.now():%Y-%m-%dT%H%M}-{lab.stem}"
     for number in range(1, 1000):
         folder = into / (stamp if number == 1 else f"{stamp}-{number}")
@@ -63,7 +63,7 @@ class Process:
 
     @staticmethod
     def of(number: int) -> Process:
-        """The process that has the number now."""
+        """The process that has the number now, with an empty start where none has it or it has ended."""
         try:
             stat = Path(f"/proc/{number}/stat").read_text(encoding="utf-8", errors="replace")
         except OSError:
@@ -124,7 +124,8 @@ class Record:
 
 
 def going(into: Path, lab: Path) -> tuple[Path, Record] | None:
-    """Folder and record of a run of that lab which goes on, where there is one; else those of its last run, where it didn't end."""
+    """Folder and record of a run of that lab which goes on, where there is one; else those of its last run, where it
+    didn't end."""
     files = sorted(into.glob(f"*/{RECORD}"), key=lambda file: file.parent.stat().st_mtime)
     records = [(file.parent, Record.read(file.parent)) for file in files]
     same = [(folder, record) for folder, record in records if record is not None and record.lab == str(lab.resolve())]

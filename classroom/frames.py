@@ -63,6 +63,8 @@ class Looking(Replay):
             self.frames.clear()
 
     def ask(self, script: Script, event: Event | None, named: set[int]) -> None:
+        """Looks at the nodes that an event may have changed, and asks for the report where it made a configuration. The
+        last reply makes the frame whole."""
         if event is None or event.makes_configuration:
             for node in sorted(named if event else self.registers):
                 script.ask(look(node), self.take_look)
@@ -72,8 +74,9 @@ class Looking(Replay):
         script.takes.append(self.showing(event, script.takes.pop()))
 
     def showing(self, event: Event | None, take: Take | None) -> Take:
-        """Takes the last reply of a frame, which is whole then."""
+        """What takes the last reply of a frame, as `take` does, and then shows the frame, which is whole."""
         def takes(reply: dict[str, Any]) -> None:
+            """Takes the last reply, and adds the frame."""
             if take is not None:
                 take(reply)
             self.frames.append(Frame(event, self.state))
@@ -81,7 +84,7 @@ class Looking(Replay):
         return takes
 
     def take_look(self, reply: dict[str, Any]) -> None:
-        """What a node has."""
+        """Takes the registers and the chosen move that a look tells."""
         node, state = reply["node"], self.state
         state.pointers[node], state.ms[node] = reply["p"], reply["m"]
         state.chosen.pop(node, None)
@@ -89,7 +92,7 @@ class Looking(Replay):
             state.chosen[node] = reply["chosen"]
 
     def take_report(self, reply: dict[str, Any]) -> None:
-        """What the report tells, whose numbers begin anew with each part."""
+        """Takes what a report tells; its numbers begin anew with each part of the replay."""
         state = self.state
         state.number = reply["at"] + self.number
         state.privileged = {node: rule for node, rule in reply["privileged"]}
@@ -98,6 +101,7 @@ class Looking(Replay):
         state.stable = reply["stable"]
 
     def took(self, event: Event, reply: dict[str, Any]) -> None:
+        """Counts the moves of a close, and takes the event's place and its links."""
         state = self.state
         state.place = event.place
         if event.kind == "close":

@@ -64,11 +64,12 @@ def folder_of(top: Path, bot: Bot, case: Case) -> Path:
 
 
 def results_of(bots: list[Bot], cases: list[Case], words: argparse.Namespace, top: Path, stop: threading.Event) -> Iterator[Result]:
-    """Each case of each bot as it ends."""
+    """The result of each case of each bot as it ends; of a case that was interrupted there is none."""
     limits = Limits(words.timeout, words.memory)
     at_once = words.at_once or min(MOST_AT_ONCE, 3 * (os.cpu_count() or 1))
 
     def one(bot: Bot, case: Case) -> Result | None:
+        """How a bot does in a case, failed where no folder can be made for it; None where it was interrupted."""
         if stop.is_set():
             return None
         try:
@@ -87,7 +88,7 @@ def results_of(bots: list[Bot], cases: list[Case], words: argparse.Namespace, to
 
 
 def write_all(words: argparse.Namespace, results: list[Result]) -> list[str]:
-    """The forms that were asked for; why one can't be written."""
+    """Writes the forms that were asked for; gives a line for each that couldn't be written."""
     faults = []
     for form in graded.FORMS:
         if getattr(words, form):
@@ -99,7 +100,7 @@ def write_all(words: argparse.Namespace, results: list[Result]) -> list[str]:
 
 
 def numbered(bots: list[Bot]) -> list[Bot]:
-    """Bots of one name are told apart by the command or a number."""
+    """The bots, of which all but the first of a name have a number behind it."""
     names: dict[str, int] = {}
     found = []
     for bot in bots:

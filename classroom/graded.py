@@ -17,12 +17,12 @@ ABOUT = ("bot", "lab", "daemon", "seed", "passed", "why", "moves", "denied")
 
 
 def named(result: Result) -> str:
-    """A case's name."""
+    """A case's name, as `Case.name` has it."""
     return f"{result.lab} {result.daemon} {result.seed}"
 
 
 def as_json(results: list[Result]) -> str:
-    """A list of cases."""
+    """The results as JSON, a list of cases."""
     cases = [{key: value for key, value in asdict(result).items() if key in ABOUT} for result in results]
     return json.dumps(cases, indent=1, ensure_ascii=False) + "\n"
 
@@ -67,7 +67,7 @@ def write(form: str, path: Path, results: list[Result]) -> None:
 
 
 def told(result: Result) -> str:
-    """A case as a line."""
+    """A case as a line, and below it why it isn't passed."""
     denied = ", ".join(f"{count} {word}" for word, count in result.denied.items())
     tail = "".join(f"; {it}" for it in (f"{result.moves} moves", denied) if it)
     return printable(f"{'passed' if result.passed else 'FAILED'}  {result.bot}: {named(result)}{tail}"

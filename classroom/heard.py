@@ -30,7 +30,7 @@ class Seat:
     name: str | None = None  # Who is known there.
 
     def grown(self, path: Path) -> bytes:
-        """What came since it was read last, up to a most."""
+        """What came to the file since it was read last, at most MOST bytes; nothing where it can't be read."""
         try:
             with path.open("rb") as it:
                 it.seek(self.at)
@@ -42,7 +42,7 @@ class Seat:
 
 
 def counted(count: int, what: str) -> str:
-    """So many of them."""
+    """A count with the word for what is counted, in the plural but for one."""
     return f"{count} {what}{'' if count == 1 else 's'}"
 
 
@@ -82,7 +82,8 @@ class Heard:
         self.over = ""
 
     def begin(self) -> None:
-        """Of a server that begins, those who came to the one before it haven't come."""
+        """Notes whether a student has come to a server that begins: who came to the one before counts only if still
+        connected."""
         self.came = not self.students.isdisjoint(self.connected())
 
     def news(self, step: int) -> list[str]:
@@ -99,7 +100,7 @@ class Heard:
         return [*self.come_and_gone(), *self.wrong_keys(), *self.in_vain(), *self.flooding(seconds), *self.cut_short()]
 
     def read(self) -> bool:
-        """Takes what the files have got; whether there may be more."""
+        """Takes what the files have got; gives whether there may be more."""
         more = False
         for path in seats(self.folder):
             seat = self.seats.setdefault(path, Seat())
@@ -131,7 +132,7 @@ class Heard:
                     self.vain[who, word][entry.place] += 1
 
     def guess(self, name: str | None) -> None:
-        """A wrong key."""
+        """Counts a wrong key, by the name that was given; those that the lab hasn't are counted together."""
         known = name is not None and (name in self.lab.students or name == self.lab.teacher[0])
         self.wrong[name if known and name else OTHERS] += 1
 
@@ -158,7 +159,8 @@ class Heard:
                        for name in sorted(before) if now[name] < before[name]]
 
     def is_news(self, key: tuple[str, str], count: int, least: int) -> bool:
-        """Whether a count is to be told: it is so many, and twice what was told."""
+        """Whether a count is to be told: it is `least` or more, and twice what was told or more. It counts as told
+        then."""
         if count < max(least, 2 * self.told[key]):
             return False
         self.told[key] = count
@@ -170,11 +172,11 @@ class Heard:
                 if self.is_news(("wrong", name), count, 1)]
 
     def denied(self) -> list[tuple[str, str, int]]:
-        """Who asked in vain since the last step: whom, what was told, how often."""
+        """Who asked in vain since the last step: the name, the word of the denial or refusal, how often."""
         return [(name, word, at.total()) for (name, word), at in self.vain.items() if at.total()]
 
     def in_vain(self) -> list[str]:
-        """The same as lines, as often as the number has doubled."""
+        """Who asked in vain since the last step, as lines, from VAIN times on as often as the number has doubled."""
         return [f"{name}: {told_so(word)} {counted(count, 'time')} since the last step"
                 for name, word, count in self.denied() if self.is_news((name, word), count, VAIN)]
 
@@ -194,7 +196,8 @@ class Heard:
         return [f"the rest of what {name} sends isn't recorded: {why}" for name in dict.fromkeys(names)]
 
     def who(self, count: int, places: int, otherwise: Iterable[str] = ()) -> str:
-        """Who is connected at how many of the seats; of some it is told how, after a comma."""
+        """Who is connected, and how many of the seats are taken: `count`, as the system tells it. `otherwise` are texts
+        of some of them: a name, a comma, and how they are connected."""
         known, every = self.connected(), self.connected().total()
         how = [text for text in otherwise if known[text.partition(",")[0]]]
         known.subtract(text.partition(",")[0] for text in how)
@@ -204,7 +207,7 @@ class Heard:
         return f"{max(count, every)} of {places} seats: {', '.join(names) or 'nobody'}"
 
     def amiss(self) -> list[str]:
-        """What there is to list of those who do otherwise than they should."""
+        """Lines of wrong keys, of who asked in vain since the last step, and of who floods."""
         wrong = ", ".join(f"{count} for {name}" for name, count in self.wrong.items())
         vain = [f"{name}: {told_so(word)} {counted(count, 'time')}" for name, word, count in self.denied()]
         floods = ", ".join(f"{name}, {rate} lines a second" for name, rate in self.floods.items())

@@ -23,7 +23,8 @@ class Hider:
         self.shown = WORDS | set(names)
 
     def line(self, line: bytes) -> str:
-        """A line as it came, in which `***` stands for a key; of one that is no object and may have a key, its beginning."""
+        """A line as it came, in which `***` stands for a key; of one that is no object and may have a key, its
+        beginning."""
         text = line.decode(errors="backslashreplace")
         return printable(self.without(text) if is_object(text) else self.beginning(text))
 
@@ -43,7 +44,7 @@ class Hider:
         return "".join(pieces) + (":***, and more" if hides else text[at:])
 
     def tells(self, word: str) -> bool:
-        """Whether a text has somebody's key in it, but a word of the protocol or a name."""
+        """Whether a text has somebody's key in it; a word of the protocol or a name is never taken for one."""
         return word not in self.shown and any(key in word for key in self.keys)
 
     def beginning(self, text: str) -> str:

@@ -74,7 +74,8 @@ def is_of(said: Session, name: str) -> bool:
 
 
 def rows_of(parts: list[Vouched], name: str, hider: Hider) -> list[Row]:
-    """What the connections sent and were answered, in the order of the places, and at one place seat by seat."""
+    """What the connections of that name sent and were answered, in the order of the places, and at one place seat by
+    seat."""
     found, number = [], 0
     for part in parts:
         for said in sessions(part):
@@ -85,7 +86,8 @@ def rows_of(parts: list[Vouched], name: str, hider: Hider) -> list[Row]:
 
 
 def left_open(part: Vouched, said: Session, session: int) -> list[Row]:
-    """What is told of a session without an end, which stands after all events so far: whether it goes on."""
+    """A row, behind all events so far, for a session that hasn't ended: it goes on where the server does, and else its
+    rest isn't recorded. No row where its last entry says that already, or that the session has ended."""
     if said[-1].mark == ENDED or said[-1].mark == CUT and not part.goes_on:
         return []
     events = part.journal.read_bytes().count(b"\n")
@@ -151,7 +153,7 @@ def times(count: int) -> str:
 
 
 def cells(row: Row) -> list[str]:
-    """The cells of a table; none is a formula."""
+    """A row's cells; before one that a spreadsheet would take for a formula stands an apostrophe."""
     every = [str(row.place), str(row.seat or ""), str(row.session or ""), row.asked, row.reply, row.denied, row.event]
     return [f"'{cell}" if cell.startswith(FORMULA) else cell for cell in every]
 
@@ -166,7 +168,7 @@ def section(title: str, told: list[str], rows: list[Row]) -> str:
 
 
 def item(row: Row, count: int) -> str:
-    """A row's words."""
+    """A row's words, as HTML."""
     if row.event:
         return escape(row.event if not row.seat else f"seat {row.seat}: {row.event}")
     reply = f"<strong>{escape(row.reply)}</strong>" if row.denied else escape(row.reply)
@@ -174,7 +176,7 @@ def item(row: Row, count: int) -> str:
 
 
 def hider_of(run: Path, parts: list[Vouched], lab: labs.Lab) -> Hider:
-    """Knows the keys of the lab, and those that were others before."""
+    """What hides the keys of the lab, and those that were others before."""
     every = [lab, *(labs.read(part.lab) for part in parts)]
     keys = {key for each in every for key in (*each.students.values(), each.teacher[1])}
     return Hider(keys, [*lab.students, lab.teacher[0]])

@@ -63,7 +63,7 @@ class Running:
                       Process.of(os.getpid()), it.process, play, stand_in=self.stand_in, looks=looks, played=self.played)
 
     def keep(self, **other: Any) -> None:
-        """Keeps something of it otherwise from now on."""
+        """Changes something of the record in its folder, where there is one."""
         record = Record.read(self.folder)
         if record is not None:
             replace(record, **other).write(self.folder)
@@ -80,7 +80,8 @@ class Running:
 
 
 def open_desk(it: server.Server, run: Running) -> Desk:
-    """Greets at the desk, which is kept in the folder."""
+    """Writes the record into the run's folder, greets at the desk, and sets up the house and what watches connections;
+    a run that goes on is caught up with."""
     run.record(it).write(run.folder)
     desk = Desk(run.lab, run.folder / "journal", Client(it.desk, *run.lab.teacher), run.close, run.tell)
     recorded = (run.folder / record.FOLDER / "begun").is_file()
@@ -101,17 +102,19 @@ def open_desk(it: server.Server, run: Running) -> Desk:
 
 
 def show(pages: projector.Pages, desk: Desk, tell: Teller, typed: bool) -> None:
-    """Opens the page, and tells it what is told from now on. Where to act is told to the terminal alone, or to a program that
-    types in its place."""
+    """Opens the page, and tells it what is told from now on. Where to act is told to the terminal alone, or to a
+    program that types in its place."""
     watch = desk.watched()
 
     def act() -> None:
+        """Tells the address to act at, to who may act; else that it is told at a terminal alone."""
         if is_private(typed):
             tell.alone(f"page to act {pages.address_to_act}")
         else:
             tell("page to act: its address is told at a terminal alone")
 
     def renew() -> None:
+        """Changes the address to act at, and tells it."""
         pages.renew()
         act()
 
@@ -136,7 +139,7 @@ def listen(run: Running) -> None:
 
 
 def obey_signals(typed: Typed) -> None:
-    """Each signal is a word."""
+    """Puts a word among what is typed for each signal that comes from now on."""
     for number in SIGNALS:
         signal.signal(number, lambda number, _: typed.put(SIGNALS[signal.Signals(number)]))
 
@@ -163,7 +166,8 @@ def hold(run: Running, it: server.Server) -> int | None:
 
 
 def take_leave(it: server.Server, desk: Desk, why: str, run: Running) -> int | None:
-    """Says bye, and waits for the server's end, which may be late."""
+    """Says bye, and waits for the server's end, which may be late; `why` is what ended the run. Gives the status; None
+    where the desk or the server is left to go on."""
     tell = run.tell
     if why == "left":
         desk.client.hang_up()

@@ -16,18 +16,19 @@ HOW = "./class new .. --stand-in makes a lab in which each node has it"
 
 
 def wanted(lab: Lab, file: object) -> None:
-    """Wants a lab with a house."""
+    """Raises a fault, which names the file, where a lab has no house."""
     if not lab.held():
         raise Fault(f"{file}: no node has the second owner `{HOUSE}`, who could stand in: {HOW}")
 
 
 class House:
-    """Asks for moves of nodes for which the class waits, as a look shows them. It takes a seat for a moment each time."""
+    """Asks for moves of nodes for which the class waits, as a look shows them. It takes a seat for a moment each
+    time."""
 
     def __init__(self, lab: Lab, port: int, seconds: float | None, tell: Callable[[str], None], played: Collection[str] = (),
                  keep: Callable[[list[str]], None] = lambda names: None) -> None:
-        """The house plays by itself where a node has waited for so many seconds, if any; and at once for the students that
-        are named in `played`. `keep` keeps their names where they become others."""
+        """The house plays by itself where a node has waited for so many seconds, if any; and at once for the students
+        that are named in `played`. `keep` keeps their names where they become others."""
         self.port, self.seconds, self.tell = port, seconds, tell
         self.key = lab.students[HOUSE]
         self.held = set(lab.held())
@@ -39,13 +40,13 @@ class House:
         self.told_busy = False
 
     def play(self, name: str) -> str:
-        """Plays a student's nodes from now on, without waiting; says so."""
+        """Plays a student's nodes from now on, without waiting; gives the line that tells it."""
         self.played.add(self.student(name))
         self.keep(sorted(self.played))
         return f"the house plays for {name}: {', '.join(map(str, sorted(self.students[name])))}"
 
     def stop(self, name: str) -> str:
-        """Leaves a student's nodes to the student again."""
+        """Leaves a student's nodes to the student again; gives the line that tells it."""
         if self.student(name) not in self.played:
             raise ValueError(f"the house doesn't play for {name}")
         self.played.discard(name)
@@ -53,13 +54,13 @@ class House:
         return f"the house doesn't play for {name} any longer"
 
     def student(self, name: str) -> str:
-        """A student with nodes that the house shares."""
+        """The name, where it is that of a student with nodes; an error for any other."""
         if name not in self.students:
             raise ValueError(f"no student {name} has a node here; there are {', '.join(self.students)}")
         return name
 
     def told(self) -> str:
-        """For whom the house plays."""
+        """For whom the house plays, as a line."""
         names = ", ".join(name for name in self.students if name in self.played) or "nobody"
         late = f", and each node that has waited for {self.seconds:g} seconds" if self.seconds is not None else ""
         return f"the house plays for {names}{late}{f'; {WAITS}' if self.waits() else ''}"
@@ -69,13 +70,13 @@ class House:
         return self.seconds is not None and not self.begun
 
     def note(self, event: Event) -> None:
-        """A node whose move was granted isn't waited for."""
+        """Takes an event: a node whose move was granted isn't waited for any longer."""
         if event.kind == "grant":
             self.since.pop(event.nodes[0], None)
 
     def due(self, waiting: Collection[int], now: float) -> list[int]:
-        """The nodes that are the house's to play now, of those for which the class waits; the one that has waited longest
-        comes first. Before a first student has come no time passes."""
+        """The nodes that are the house's to play now, of those for which the class waits; the one that has waited
+        longest comes first. Before a first student has come no time passes."""
         before = self.since if self.begun else {}
         self.since = {node: before.get(node, now) for node in waiting if node in self.held}
         at_once = set[int]().union(*(self.students[name] for name in self.played))

@@ -2,7 +2,8 @@
 """Keeps a program within limits: keeper.py MEGABYTES SECONDS PROGRAM WORD.. (0 seconds: no limit)
 
 All that the program starts, whatever session it goes to, is this process's to end: it is ended when the program ends,
-when it is larger than that in all, or when standard input ends, which is where whoever started this has gone.
+when it takes more memory than that in all or is more than 64 processes, or when standard input ends, which is where
+whoever started this has gone.
 Then a line tells how it was: `ended STATUS`, or `killed REASON`.
 """
 import ctypes
@@ -34,7 +35,7 @@ def parents() -> dict[int, int]:
 
 
 def below(top: int) -> list[int]:
-    """All that descend from a process."""
+    """The numbers of all processes that descend from one."""
     found, known = parents(), {top}
     while True:
         more = {child for child, parent in found.items() if parent in known} - known
@@ -44,7 +45,7 @@ def below(top: int) -> list[int]:
 
 
 def resident(process: int) -> int:
-    """How many bytes a process has in memory."""
+    """How many bytes a process has in memory; 0 where it has ended."""
     try:
         with open(f"/proc/{process}/statm", "rb") as it:
             return int(it.read().split()[1]) * resource.getpagesize()
@@ -71,7 +72,8 @@ def end_all() -> None:
 
 
 def limits(seconds: int) -> None:
-    """What each process of it may use."""
+    """Limits what the program's process, and each that it starts, may use, and begins a session for them; without
+    seconds there is no limit but on core files."""
     resource.setrlimit(resource.RLIMIT_CORE, (0, 0))
     if seconds:
         resource.setrlimit(resource.RLIMIT_CPU, (seconds, seconds + 1))
@@ -80,7 +82,7 @@ def limits(seconds: int) -> None:
 
 
 def watched(process: "subprocess.Popen[bytes]", megabytes: int) -> str:
-    """Waits for its end, or for a reason to end it."""
+    """Waits for its end, or for a reason to end it; gives `ended STATUS`, or `killed REASON`."""
     while True:
         if select.select([sys.stdin], [], [], PAUSE)[0] and not os.read(0, 4096):
             return "killed asked"

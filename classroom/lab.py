@@ -48,12 +48,13 @@ class Lab:
         return [node.id for node in self.nodes if name in node.owners]
 
     def held(self) -> list[int]:
-        """The nodes at which the house may play: those of the student `house`, who owns none alone."""
+        """The nodes at which the house may play: those of the student `house`, or none where that one owns a node
+        alone."""
         nodes = [node for node in self.nodes if HOUSE in node.owners]
         return [node.id for node in nodes] if all(len(node.owners) == 2 for node in nodes) else []
 
     def without_house(self) -> Lab:
-        """The students and their nodes alone."""
+        """The lab without the house, as a student and as an owner; as it is where the house may play nowhere."""
         if not self.held():
             return self
         students = {name: key for name, key in self.students.items() if name != HOUSE}

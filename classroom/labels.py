@@ -1,4 +1,5 @@
-"""Which texts of a drawing have room, and where the witness of each open link stands: by boxes, before anything is drawn."""
+"""Which texts of a drawing have room, and where the witness of each open link stands: by boxes, before anything is
+drawn."""
 from __future__ import annotations
 
 import math
@@ -30,14 +31,15 @@ class Box:
     bottom: float
 
     def shared(self, other: Box) -> float:
-        """The area of what both have."""
+        """The area of what both have, with GAP added to its width and height; 0 where they are at least that far
+        apart."""
         wide = min(self.right, other.right) - max(self.left, other.left) + GAP
         high = min(self.bottom, other.bottom) - max(self.top, other.top) + GAP
         return wide * high if wide > 0 and high > 0 else 0.0
 
 
 def written(letters: int, size: float, middle: float, baseline: float) -> Box:
-    """The box of a text with its middle there."""
+    """The box of a text of so many letters, from the middle of its baseline."""
     half = WIDE * size * letters / 2
     return Box(middle - half, baseline - 0.95 * size, middle + half, baseline + (HIGH - 0.95) * size)
 
@@ -103,7 +105,7 @@ class Witnesses:
         return self.spots[a, b]
 
     def found(self, a: int, b: int) -> Point:
-        """The first place where nothing stands, or else the one where the least does."""
+        """The first place where nothing stands, or else the one where the least does; it is taken from then on."""
         best, least = (0.0, 0.0), math.inf
         for x, y in self.places(a, b):
             box = written(self.letters, WITNESS_SIZE, x, y)

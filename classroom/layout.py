@@ -17,7 +17,7 @@ ROOM_X, ROOM_Y = WIDTH - 2 * MARGIN, HEIGHT - 2 * MARGIN
 PATIENCE = 5.0  # seconds for Graphviz
 SMALL_BELOW = 24.0  # radius under which rules are told by a letter
 TIGHT_BELOW = 9.0  # radius under which such letters run into each other
-ROOMY = 220.0  # between the nearest two nodes, from which on the field may be half as wide: all is drawn at twice the size
+ROOMY = 220.0  # between the nearest two nodes, from which on the field may be half as wide: all is drawn twice as large
 TURNS = 1200  # parts of an ellipse by which it is measured
 
 
@@ -64,7 +64,8 @@ def less_tangled(rings: Layout, sprung: Layout, links: Links) -> Layout:
 
 
 def by_graphviz(nodes: list[int], links: Links) -> dict[int, Point] | None:
-    """What neato says, where it is there and answers in time."""
+    """Where Graphviz's neato puts each node; None where it isn't there or doesn't answer in time, and for a single node
+    or many links, for which it isn't asked."""
     neato = shutil.which("neato")
     if neato is None or len(nodes) < 2 or len(links) > 4 * len(nodes):
         return None

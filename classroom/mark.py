@@ -90,7 +90,7 @@ class Run:
 
 
 def by_node(shared: dict[int, dict[str, Counter[str]]]) -> dict[str, dict[str, dict[str, int]]]:
-    """The numbers of each owner at each node."""
+    """The numbers of each owner at each node, as JSON has them."""
     return {str(node): {name: dict(moves) for name, moves in owners.items()} for node, owners in shared.items()}
 
 
@@ -121,7 +121,8 @@ def recorded(journal: Path) -> list[Recorded]:
 
 
 def asked_in(part: Vouched) -> Asked | None:
-    """What the lines of a record asked, if it passes; where its server hasn't ended it counts as one that isn't whole."""
+    """What the lines of a record asked, if it passes; where its server hasn't ended it counts as one that isn't
+    whole."""
     asked = tally.of(part.lab, part.journal, record=part.copy).asked if part.status == 0 else None
     return None if asked is None else replace(asked, whole=asked.whole and part.has_ended)
 

@@ -77,7 +77,7 @@ def run(bench: Bench, setting: Setting, made: labs.Lab, seed: int) -> Row:
 
 
 def runs(setting: Setting, seeds: list[int]) -> list[tuple[Row, bytes]]:
-    """A row a seed, and of one that would be news the lab and the script that tell it."""
+    """A row a seed, each with the script that tells the run where it would be news, and else with nothing."""
     bench: Bench | None = None
     rows: list[tuple[Row, bytes]] = []
     try:

@@ -34,7 +34,7 @@ SYLLABLES = ("DEVANAGARI", "BENGALI", "GURMUKHI", "GUJARATI", "TAMIL", "TELUGU",
 
 
 def letters(char: str) -> str:
-    """The letters a to z and digits of a character, as it is written alone."""
+    """A character, whatever stands beside it, in letters a to z and digits; empty where it isn't known how."""
     if char in SPELLED:
         return SPELLED[char]
     named = unicodedata.name(char, "")

@@ -36,7 +36,8 @@ def random_links(count: int, links: int, chance: random.Random) -> Links:
 
 
 def family(word: str, count: int | None, students: int, chance: random.Random) -> tuple[int, Links]:
-    """How many nodes a family's network has, from 1 on, and its links."""
+    """How many nodes a family's network has, from 1 on, and its links. Where the word has no size there are `count`
+    nodes, or as many as students."""
     sized = re.fullmatch(r"grid:(\d{1,3})x(\d{1,3})|random:(\d{1,3}):(\d{1,5})", word)
     if sized and sized[1]:
         width, height = int(sized[1]), int(sized[2])
@@ -63,7 +64,7 @@ def within(nodes: int) -> int:
 
 
 def plain(word: str, nodes: int) -> Links:
-    """The links of a family that has a size alone."""
+    """The links of a family's network of so many nodes, where the word has no size."""
     row = [(node, node + 1) for node in range(1, nodes)]
     if word == "path":
         return row
@@ -85,7 +86,7 @@ def plain(word: str, nodes: int) -> Links:
 
 
 def from_file(path: Path, count: int | None) -> tuple[list[int], Links]:
-    """The identifiers and links of a file with a link a line: `1 2`; with a count also 1 to that."""
+    """The identifiers and links of a file with a link a line: `1 2`; with a count also the identifiers from 1 to it."""
     links: Links = []
     seen: dict[frozenset[int], int] = {}
     try:
@@ -111,7 +112,7 @@ def from_file(path: Path, count: int | None) -> tuple[list[int], Links]:
 
 
 def wrong_link(words: list[str], seen: dict[frozenset[int], int]) -> str | None:
-    """What is wrong with the words of a link, after those that were seen in other lines."""
+    """What is wrong with the words of a link, after those that were seen in other lines; None where nothing is."""
     if len(words) != 2 or not all(word.isascii() and word.isdecimal() for word in words):
         return "not two numbers"
     a, b = map(int, words)

@@ -25,7 +25,8 @@ def deal(identifiers: list[int], students: list[str], each: int) -> list[labs.No
 
 
 def start(made: labs.Lab, word: str, chance: random.Random) -> None:
-    """Registers at the beginning: all clean; at random at every node; hurt at one node in three; or the worst that is known."""
+    """Registers at the beginning: all clean; at random at every node; hurt at one node in three; or the worst that is
+    known."""
     if word == "worst":
         registers = {node: (p, m) for node, p, m in shaking.broken([node.id for node in made.nodes], made.links)}
         for node in made.nodes:
@@ -113,7 +114,8 @@ def new(words: argparse.Namespace) -> int:
 
 
 def tell_few(made: labs.Lab) -> None:
-    """Where the lab may be full before it comes to rest. The most events that a lab may have suffice for each network."""
+    """Tells where the lab may be full before it comes to rest. The most events that a lab may have suffice for each
+    network."""
     if made.events == labs.MOST_EVENTS:
         return
     least = bounds.of_lab(made).events
@@ -122,7 +124,7 @@ def tell_few(made: labs.Lab) -> None:
 
 
 def tell_idle(made: labs.Lab, words: argparse.Namespace) -> None:
-    """Who has no node, and which network has enough."""
+    """Tells who has no node, if anybody, and which network has enough."""
     idle = [name for name in made.students if not made.nodes_of(name)]
     if not idle:
         return

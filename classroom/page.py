@@ -38,6 +38,7 @@ class Frames:
         self.open: dict[int, tuple[int, int]] = {}
 
     def add(self, frame: Frame, links: int) -> None:
+        """Adds a row of what a frame has changed; `links` is how many the network has then."""
         state, event = frame.state, frame.event
         before = self.before or State(0, 0, frozenset())
         most = bounds.told(len(self.order), links)
@@ -59,6 +60,8 @@ class Frames:
         self.before = state.copy()
 
     def registers(self, before: State, state: State) -> list[list[int]]:
+        """The nodes whose registers changed: each with the node that it points at, or -1, and with m as 0 or 1. The
+        arrow of a pointer that wasn't seen before is kept."""
         rows: list[list[int]] = []
         if (before.pointers, before.ms) == (state.pointers, state.ms):
             return rows
@@ -72,10 +75,12 @@ class Frames:
         return rows
 
     def rules(self, before: dict[int, str], now: dict[int, str]) -> list[list[int]]:
+        """The nodes whose rule changed, each with the rule's place in RULES, 0 where it has none."""
         changed = {node for node, _ in before.items() ^ now.items()}
         return [[self.order[node], RULES.index(now.get(node, ""))] for node in sorted(changed)]
 
     def partners(self, before: list[Link], now: list[Link]) -> list[list[int]]:
+        """The nodes that were parted, each with -1, and then those that were paired, each with its partner."""
         gone, come = set(before) - set(now), set(now) - set(before)
         rows = [[self.order[node], -1] for pair in sorted(gone) for node in pair]
         return rows + [
@@ -83,9 +88,11 @@ class Frames:
         ]
 
     def changed_links(self, before: frozenset[Link], now: frozenset[Link]) -> list[list[int]]:
+        """The links that came, each with 1, or went, with 0."""
         return [[self.place_of(link), int(link in now)] for link in sorted(before ^ now)]
 
     def place_of(self, link: Link) -> int:
+        """The place of a link in the list, at whose end it is put where it is new."""
         if link not in self.index:
             self.index[link] = len(self.links)
             self.links.append(link)
@@ -131,7 +138,7 @@ def page_of(title: str, lab: Lab, frames: Iterable[Frame], history: str = "") ->
 
 
 def live_page(title: str, drawing: Drawing, state: State, acts: bool) -> tuple[str, str]:
-    """The page of a run that is going on, and what it may do: its program asks for what to draw."""
+    """The page of a run that is going on, whose program asks for what to draw; and the policy that it is sent with."""
     return filled("live", title, drawing, drawing.svg(state, None), what_stays(drawing) | {"links": [], "arrows": [], "acts": acts})
 
 
@@ -146,7 +153,7 @@ def what_stays(drawing: Drawing) -> dict[str, Any]:
 
 
 def filled(name: str, title: str, drawing: Drawing, picture: str, data: dict[str, Any], more: str = "") -> tuple[str, str]:
-    """A page of a drawing by its form."""
+    """A page of a drawing by its form, and the policy that it is sent with."""
     closing = '<dt>steps are closed</dt><dd id="closing"></dd>\n' if name == "live" else ""
     told = form("told", {"CLOSING": closing, "STUDENTS": legend(drawing), "MOST": f"{OPEN_MOST:,}"})
     parts = {
@@ -182,6 +189,7 @@ def legend(drawing: Drawing) -> str:
 
 
 def legend_row(drawing: Drawing, student: str) -> str:
+    """A student's colour, sign where signs are drawn, name and nodes."""
     nodes = [str(node) for node in drawing.lab.nodes_of(student)]
     swatch = f'<svg width="14" height="14"><circle class="owned h{drawing.hue(student)}" cx="7" cy="7" r="6"/></svg>'
     sign = f"<strong>{drawing.signs[student]}</strong> " if drawing.form.signed else ""

@@ -46,25 +46,26 @@ def tables(text: str) -> list[Table]:
             if line.strip() in ("]", "],") or line.rstrip().endswith("}]"):
                 array = ""
             elif key and array == "teacher":
-                array = ""
+                array = ""  # It is a table in braces, not an array, and ends with its line.
     return found
 
 
 def inline_tables(found: list[Table], name: str, number: int, line: str) -> None:
-    """The tables in braces of a line."""
+    """Adds the tables in braces of a line."""
     for part in line.split("{")[1:]:
         keys = {key: number for key in INLINE.findall(part.partition("}")[0])}
         found.append(Table(name, number, keys))
 
 
 def table(text: str, name: str, index: int) -> Table | None:
-    """The table of that name and index, from 0."""
+    """The table of that name and index, from 0; None where there are fewer."""
     named = [each for each in tables(text) if each.name == name]
     return named[index] if index < len(named) else None
 
 
 def link(text: str, index: int) -> int | None:
-    """The line of that link, from 0."""
+    """The line in which the link of that index, from 0, begins, found by counting brackets; None where there aren't so
+    many."""
     inside, seen = False, 0
     for number, whole in enumerate(text.splitlines(), 1):
         line = without_texts(whole)

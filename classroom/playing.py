@@ -1,4 +1,5 @@
-"""A class without a server: programs of students play some nodes, the house plays the others, and a daemon closes steps.
+"""A class without a server: programs of students play some nodes, the house plays the others, and a daemon closes
+steps.
 
 What is granted, denied, shown and reported is the program's answer, line by line.
 """
@@ -46,7 +47,8 @@ class Heard:
     repeats: Counter[tuple[int, int]] = field(default_factory=Counter)  # `chosen` by node and number
 
     def floods(self, nodes: int) -> bool:
-        """Whether the last lines came without pauses: a bot of so many nodes waits when it has looked at all."""
+        """Whether the last lines came almost without pauses: a bot of so many nodes waits when it has looked at all, so
+        one pause in four lines a node and four more is enough."""
         return len(self.pauses) == FLOOD and sum(self.pauses) * (4 * nodes + 4) < FLOOD
 
 
@@ -70,12 +72,12 @@ class Step:
 
 
 def number_of(value: object) -> int:
-    """A number of a request, or 0 where it has none."""
+    """A value of a request, if it is an integer; else 0."""
     return value if isinstance(value, int) and not isinstance(value, bool) else 0
 
 
 def request_of(line: bytes) -> dict[str, Any]:
-    """What a line asks, as far as it can be read."""
+    """The values of the request that a line is; none where it is no object."""
     try:
         asked = json.loads(line)
     except (ValueError, RecursionError):
@@ -167,7 +169,7 @@ class Playing:
         return f"{text}; {look['rule'] or 'nothing'} would be granted there"
 
     def silence(self, who: str) -> str:
-        """Why nothing comes from a program, as far as its port can tell, after a semicolon."""
+        """Why nothing comes from a program, as far as its port can tell, after a semicolon; empty where it can't."""
         if self.relay.has_unended():
             return "; a line came that has no newline at its end"
         if self.heard[who].greeted:
@@ -176,19 +178,19 @@ class Playing:
         return "; it connected, but no hello was granted" if strangers else f"; it never connected to port {self.relay.port}"
 
     def part(self, connection: int) -> None:
-        """A connection has ended."""
+        """Says bye for a connection that has ended."""
         self.program.ask(connection, do="bye")
         self.names.pop(connection, None)
 
     # What is granted.
 
     def grant(self, node: int, who: str, rule: str) -> None:
-        """A move was granted."""
+        """Notes a move that was granted: its node is chosen."""
         self.chosen[node] = (who, rule)
         self.news = time.monotonic()
 
     def changed(self) -> None:
-        """The configuration is another one."""
+        """Takes a new configuration: nothing is chosen, and the report is asked for."""
         self.chosen.clear()
         self.report = self.program.ask(TEACHER, do="report")
 
@@ -216,11 +218,12 @@ class Playing:
     # Who plays.
 
     def house_owner(self, node: int) -> str | None:
-        """The owner in whose name the house asks."""
+        """The owner in whose name the house asks; None where programs play for all owners."""
         return next((name for name in self.lab.owners(node) if name not in self.programs), None)
 
     def house(self) -> None:
-        """The house asks for its nodes: for one where a close applies one, and else for all."""
+        """The house asks for its nodes: for one where a close applies one, and else for all; but only now and then for
+        a node that a program plays too."""
         nodes = [node for node, _ in self.report["privileged"] if node not in self.chosen and self.house_owner(node)]
         own = [node for node in nodes if len(self.lab.owners(node)) == 1 or not set(self.lab.owners(node)) & set(self.programs)]
         shared = [node for node in nodes if node not in own and self.pace_chance.random() < SHARED]
@@ -280,7 +283,7 @@ class Playing:
         (folder / "conversation.txt").write_text("".join(f"{line}\n" for line in self.conversation), encoding="utf-8")
 
     def end(self) -> None:
-        """Ends it."""
+        """Closes the port, and ends the program and the adversary."""
         self.relay.close()
         self.program.close()
         self.adversary.close()

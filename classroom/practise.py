@@ -54,7 +54,7 @@ def add_words(words: argparse.ArgumentParser) -> None:
 
 
 def own_nodes(word: str | None, identifiers: list[int], bots: int, chance: random.Random) -> list[int]:
-    """The nodes that are the student's."""
+    """The nodes that are the student's: those that the word names, or two for each bot, drawn."""
     if word is None:
         return sorted(chance.sample(identifiers, min(2 * bots, len(identifiers))))
     try:
@@ -87,6 +87,7 @@ def made(words: argparse.Namespace, names: list[str]) -> labs.Lab:
 def opened(lab: labs.Lab, names: list[str], words: argparse.Namespace) -> Playing:
     """The class at a port: the one that is named, or the next that is free."""
     def at(port: int) -> Playing | None:
+        """The class at that port; None where the port is taken."""
         try:
             return Playing(lab, names, words.daemon, f"practise {words.seed}", port)
         except OSError:
@@ -113,11 +114,12 @@ class Practice:
 
     def __post_init__(self) -> None:
         self.recovery = Recovery(node for node, _ in self.playing.report["privileged"])
-        self.most = bounds.of_lab(self.playing.lab).moves  # asked for before the first step, which nothing is to hold up
+        self.most = bounds.of_lab(self.playing.lab).moves  # asked for now, so that it holds up no step
         self.playing.on_no, self.playing.on_step = self.no, self.step
 
     def no(self, no: No) -> None:
-        """A line that wasn't granted is explained; of more of its kind no more is told than how many they are by now."""
+        """Explains a line that wasn't granted. Of its kind only the first is explained; at the tenth, the hundredth and
+        so on it is told how many they are."""
         self.times[no.who, no.kind] += 1
         times = self.times[no.who, no.kind]
         if times == 1:
@@ -157,7 +159,7 @@ class Practice:
         return "".join(f"; {name}: {hint}" for name, hint in hints.items() if hint)
 
     def run(self) -> bool:
-        """To the stable end, or to where it hangs."""
+        """Plays to the stable end, or to where the class hangs or is stopped; gives whether it is stable."""
         playing, news = self.playing, self.playing.news
         while not playing.is_stable() and not self.stop:
             self.turn()
@@ -210,7 +212,7 @@ def practise(words: argparse.Namespace) -> int:
 
 
 def for_its_owner(path: str, flags: int) -> int:
-    """A new file that nobody else reads."""
+    """Opens a file; one that it makes nobody else reads."""
     return os.open(path, flags, 0o600)
 
 
@@ -245,7 +247,7 @@ def played(it: Closing, bots: list[Bot], words: argparse.Namespace, folder: Path
 
 @dataclass
 class Closing:
-    """What is ended at the end."""
+    """The class and its programs, which are ended together."""
 
     playing: Playing
     kept: list[Kept] = field(default_factory=list)

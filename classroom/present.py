@@ -29,7 +29,7 @@ class Book:
         return self.step(word)
 
     def step(self, word: str) -> list[tuple[int, str, str]]:
-        """Takes what makes a configuration."""
+        """Takes an event that makes a configuration; gives who moved by a close, and else nobody."""
         moved = [(node, name, rule) for node, (name, rule) in sorted(self.chosen.items())] if word == "close" else []
         self.links += (word == "link") - (word == "cut")
         self.moves += len(moved)

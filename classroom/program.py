@@ -46,7 +46,8 @@ def is_clone() -> bool:
 
 
 def built(crate: str) -> Path:
-    """Where a crate's program stands: as it is built here, or in a release."""
+    """Where a crate's program stands: as it is built here, or in a release; a fault where the release wants a later C
+    library."""
     here = TOP / "crates" / crate
     if here.is_dir():
         return here / "out" / crate
@@ -57,7 +58,8 @@ def built(crate: str) -> Path:
 
 @cache
 def old_library() -> str:
-    """What `mml` says where a release wants a C library from a later version on, if so: the loader's own words are no help."""
+    """The line that `mml` has too, where a release wants a later C library than is here: the loader's own words are no
+    help. Empty where it doesn't."""
     proved = TOP / "PROVED"
     wanted = re.search(r"(?m)^# wants glibc ([0-9.]+)$", proved.read_text(encoding="utf-8")) if proved.exists() else None
     here = library() if wanted else ""
@@ -95,7 +97,8 @@ def host() -> Path | None:
 
 
 def first_free(port: int, opened: Callable[[int], Opened | None], what: str = "") -> Opened:
-    """What opens at that port, or at the next that is free."""
+    """What opens at that port, or at the next that is free: `opened` gives None for one that is taken. A fault after so
+    many PORTS."""
     last = min(port + PORTS, 65536) - 1
     for number in range(port, last + 1):
         it = opened(number)

@@ -69,7 +69,7 @@ class Pages(Web):
         self.close()
 
     def count(self, present: Present, more: int) -> None:
-        """A page begins to be told the news, or ends."""
+        """Notes that a page begins to be told the news, by 1, or ends, by -1."""
         with present.turn:
             self.told += more
             present.turn.notify_all()
@@ -81,7 +81,7 @@ class Page(Asked):
     server: Pages
 
     def asked(self) -> tuple[str, str]:
-        """The token, where it is one of the two, and what is asked for below it."""
+        """The token, where it is one of the two, and what is asked for below it; else both are empty."""
         beginning, slash, rest = self.path[1:].partition("/")
         known = [token for token in (self.server.looks, self.server.acts) if hmac.compare_digest(beginning.encode(), token.encode())]
         return (known[0], rest) if known and slash else ("", "")
@@ -141,5 +141,6 @@ def message(rows: Frames, present: Present, before: Now | None, now: Now) -> dic
 
 
 def open_pages(port: int, title: str, lab: Lab, typed: queue.SimpleQueue[str], looks: str | None = None) -> Pages:
-    """The pages at a port, or at the next that is free; with the token of the address to look at, where it had one before."""
+    """The pages at a port, or at the next that is free; with the token of the address to look at, where it had one
+    before."""
     return opened(port, lambda number: Pages(number, title, lab, typed, looks))

@@ -59,7 +59,8 @@ class Reader:
                 yield entry
 
     def entry(self, line: bytes) -> Entry | None:
-        """The entry that ends with a line, where one does."""
+        """The entry that ends with a line; None where none does, as with the first of an entry's two lines, which is
+        kept."""
         words = line.split(b" ", 3)
         if len(words) < 3 or not (words[0].isdigit() and words[1].isdigit()):
             return None

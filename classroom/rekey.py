@@ -88,7 +88,7 @@ def rekey(words: argparse.Namespace) -> int:
 
 
 def port_of(slip: Path) -> int:
-    """The port of the slip that is there."""
+    """The port of the slip that is there, or the usual one."""
     try:
         return Slip.read(slip).port
     except NoSlip:

@@ -26,7 +26,8 @@ class Relay:
     """A listener, and who called."""
 
     def __init__(self, answer: Answer, left: Callable[[int], None], numbers: range, port: int = 0) -> None:
-        """`answer` gives the reply to a line of a connection, which came after a pause or not; `left` is told which has ended."""
+        """`answer` gives the reply to a line of a connection, and is told whether it came after a pause; `left` is told
+        the number of a connection that has ended."""
         self.answer, self.left = answer, left
         self.free = list(numbers)
         self.callers: list[Caller] = []
@@ -39,7 +40,7 @@ class Relay:
         self.selector.register(self.listener, selectors.EVENT_READ)
 
     def turn(self, seconds: float) -> None:
-        """Answers what comes in that time, or what is there."""
+        """Answers what is there; where nothing is, waits for it so many seconds at most."""
         for each in self.callers:
             each.quiet += 1
         for key, events in self.selector.select(seconds):
@@ -55,7 +56,7 @@ class Relay:
                 self.end(caller)
 
     def accept(self) -> None:
-        """Lets one in, where there is a place."""
+        """Lets one in where a number is free, and else says `busy`."""
         try:
             its, _ = self.listener.accept()
         except OSError:
@@ -74,7 +75,7 @@ class Relay:
         self.selector.register(its, selectors.EVENT_READ, caller)
 
     def read(self, caller: Caller) -> None:
-        """Answers the lines that came."""
+        """Answers the lines that came; after a bye, a line that is too long, or its end, a caller parts."""
         more = caller.socket.recv(MOST_WAITING)
         *lines, caller.rest = (caller.rest + more).split(b"\n")
         for line in lines:
@@ -89,7 +90,8 @@ class Relay:
         caller.parts = caller.parts or not more or len(caller.rest) > LONGEST
 
     def follow(self, caller: Caller) -> None:
-        """Waits for what it needs next; ends it where it is over."""
+        """Sends what a caller takes of its replies, and chooses what to wait for next; hangs up where it parts and has
+        taken all."""
         if caller.out:
             try:
                 caller.out = caller.out[caller.socket.send(caller.out):]
@@ -107,7 +109,7 @@ class Relay:
         return self.overlong or any(caller.rest for caller in self.callers)
 
     def end(self, caller: Caller) -> None:
-        """Hangs up."""
+        """Hangs up on a caller, frees its number and tells that it has left."""
         self.selector.unregister(caller.socket)
         caller.socket.close()
         self.callers.remove(caller)
@@ -120,7 +122,7 @@ class Relay:
             self.end(caller)
 
     def close(self) -> None:
-        """Ends it."""
+        """Hangs up on everybody, without telling that they have left, and lets go of the port."""
         for caller in list(self.callers):
             self.selector.unregister(caller.socket)
             caller.socket.close()

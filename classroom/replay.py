@@ -72,7 +72,7 @@ class Replay:
         self.links = {labs.ordered(link) for link in lab.links}
         self.registers = {node.id: (node.p, node.m) for node in lab.nodes}
         self.place = self.number = 0  # at which the part at hand begins
-        self.now = (0, 0)  # the same after the last event that was answered
+        self.now = (0, 0)  # place and number after the last event that was answered
 
     def ask(self, script: Script, event: Event | None, named: set[int]) -> None:
         """What is asked after an event, or at the beginning, where `named` are the nodes of the events since a

@@ -7,8 +7,8 @@ from classroom import bounds
 
 
 class Recovery:
-    """Counts from a configuration on. A round is over when each node has had its turn within it: at some point it wasn't
-    privileged, or a close applied its move (docs/SELF-STABILISATION.md)."""
+    """Counts from a configuration on. A round is over when each node has had its turn within it: at some point it
+    wasn't privileged, or a close applied its move (docs/SELF-STABILISATION.md)."""
 
     def __init__(self, privileged: Iterable[int]) -> None:
         """`privileged` are the nodes that the report names at the beginning."""
@@ -16,7 +16,7 @@ class Recovery:
         self.left = set(privileged)  # whose turn in this round hasn't come
 
     def step(self, moved: Collection[int], privileged: Collection[int]) -> None:
-        """A close, and who is privileged after it."""
+        """Counts a close, by who moved and who is privileged after it."""
         self.moves, self.closes = self.moves + len(moved), self.closes + 1
         self.left -= set(moved)
         self.left &= set(privileged)

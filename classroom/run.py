@@ -83,7 +83,7 @@ def one(words: argparse.Namespace) -> int:
 
 
 def may_stand_in(words: argparse.Namespace, lab: labs.Lab, file: Path) -> None:
-    """Wants that somebody can stand in, where that is asked for."""
+    """Where --stand-in is asked for, wants a lab with a house, and no --serve."""
     if words.stand_in is not None:
         house.wanted(lab, file)
         if getattr(words, "serve", False):
@@ -110,7 +110,7 @@ def resumed(words: argparse.Namespace) -> int:
 
 
 def refuse_beside(into: Path, lab_file: Path) -> None:
-    """Where a run of the lab goes on, or the last one didn't end, says where."""
+    """Raises a fault where a run of the lab goes on, or the last one didn't end, and says where."""
     found = going(into, lab_file)
     if found is None:
         return

@@ -20,7 +20,8 @@ Looks = dict[int, Look]
 
 @dataclass(frozen=True)
 class Seen(Drawing):
-    """The part of the network that a student is shown. Of a node beyond it no more is known than that one points at it."""
+    """The part of the network that a student is shown. Of a node beyond it no more is known than that one points at
+    it."""
 
     beyond: frozenset[int] = frozenset()
     times: int = 1  # how much larger it is drawn
@@ -128,5 +129,5 @@ def told(look: Look) -> dict[str, Any]:
 
 
 def style(name: str = NEIGHBOUR) -> str:
-    """The colours of each such picture."""
+    """The colours that every student's picture has: the student's own and the neighbours'."""
     return Drawing(replace(shown_part("", {}), students={"": "", name: ""}), Layout({}, 1.0)).style()

@@ -61,7 +61,7 @@ class Server:
         return lines[-1:] == ["record fault"] and any(line.startswith("done: ") for line in lines)
 
     def stop(self) -> int:
-        """Ends it, where it doesn't end by a bye; gives the status."""
+        """Ends the server by a signal where it hasn't ended, and waits for that; gives the status."""
         if not self.ended():
             os.kill(self.process.number, signal.SIGTERM)
         while not self.ended(AGAIN):
@@ -131,8 +131,9 @@ class Call:
 
 def start(folder: Path, lab: Path, port: int, journal: Path, by_number: int | None = None,
           resumed: Record | None = None) -> Server:
-    """Starts a host over a lab, with its record in the folder, at the first free port from that on, or one that goes on with a class, at its own ports
-    where they are free; or, by number, a server for so many connections, of which the teacher's desk is one."""
+    """Starts a host over a lab, with its record in the folder, at the first free port from that on; or with `resumed`
+    one that goes on with a class, at its own ports where they are free; or by number a server for so many connections,
+    of which the teacher's desk is one."""
     ready(by_number is not None)
     call = Call(folder, lab, journal, by_number, resumed is not None, folder / record.FOLDER)
     again = call.at(resumed.port, resumed.desk) if resumed is not None else None

@@ -21,7 +21,7 @@ Child = subprocess.Popen[str]
 
 
 def prefixed(words: argparse.Namespace, index: int) -> Child:
-    """A run of its own, in a process of its own."""
+    """Starts the run of one lab, in a process of its own and at ports of its own."""
     more = ["--until", words.until] if words.until else []
     more += ["--page", str(words.page + index)] if words.page is not None else []
     more += ["--play", str(words.play + index)] if words.play is not None else []
@@ -56,7 +56,8 @@ class Several:
                 pass  # The terminal went away; each run keeps its lines.
 
     def follow(self, index: int) -> None:
-        """Shows a run's lines with the lab's name before them; where its page acts at a terminal alone."""
+        """Shows a run's lines with the lab's name before them, but neither the words that can be typed nor, to who may
+        not act, the page's address to act at."""
         hidden = ("words: ",) if is_private(self.typed) else ("words: ", "page to act http")
         for line in self.children[index].stdout or ():
             if not line.startswith(hidden):

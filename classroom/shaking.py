@@ -1,4 +1,5 @@
-"""Transient faults that show what the course is about: registers that are drawn, and a start from which it takes long."""
+"""Transient faults that show what the course is about: registers that are drawn, and a start from which it takes
+long."""
 from __future__ import annotations
 
 import random
@@ -12,7 +13,7 @@ LEAST = {"crowd": 4, "halves": 2}  # nodes
 
 
 def pairs_of(links: Iterable[Collection[int]]) -> list[tuple[int, int]]:
-    """Links as pairs."""
+    """The links in order, each with its lower end first."""
     found = []
     for link in links:
         a, b = sorted(link)
@@ -32,9 +33,9 @@ def shaken(nodes: list[int], links: Iterable[Collection[int]], word: str, seed: 
 
 
 def broken(nodes: list[int], links: Iterable[Collection[int]]) -> list[Registers]:
-    """The start from which a crowd may take the most moves, and halves the most rounds (docs/SELF-STABILISATION.md). In another
-    network each node claims to be married, and points at a higher neighbour, which doesn't point back; one without such points
-    at a lower one that doesn't point at it, or at none: no start has a greater potential."""
+    """The start from which a crowd may take the most moves, and halves the most rounds (docs/SELF-STABILISATION.md). In
+    another network each node claims to be married, and points at a higher neighbour, which doesn't point back; one
+    without such points at a lower one that doesn't point at it, or at none: no start has a greater potential."""
     pairs, order = pairs_of(links), sorted(nodes)
     for word, pointers in (("crowd", of_crowd), ("halves", of_halves)):
         placed = [(order[a - 1], order[b - 1]) for a, b in plain(word, len(order))]
@@ -50,10 +51,11 @@ def broken(nodes: list[int], links: Iterable[Collection[int]]) -> list[Registers
 
 
 def of_crowd(count: int) -> list[int | None]:
-    """The first half points at the last, first at last; the others each at the next, and the last at the second."""
+    """The pointers of a crowd's nodes: those of the first half point at the last ones, the first at the last; the
+    others each at the next, and the last at the second."""
     return [count + 1 - node if 2 * node <= count else node + 1 if node < count else 2 for node in range(1, count + 1)]
 
 
 def of_halves(count: int) -> list[int | None]:
-    """Nobody points at anyone."""
+    """The pointers of the nodes of halves: each is null."""
     return [None] * count

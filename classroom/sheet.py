@@ -34,7 +34,7 @@ def sheet(drawing: Drawing, frames: list[Frame]) -> str:
 
 
 def cell(drawing: Drawing, frame: Frame, place: int, times: int) -> str:
-    """One of them under its title."""
+    """One of the configurations, at its place in the rows, below its title."""
     x, y = place % ACROSS * WIDE, place // ACROSS * (HIGH + TITLE)
     state = frame.state
     left = f"{len(state.privileged)} privileged" if state.privileged else "stable"

@@ -53,7 +53,8 @@ def distances(nodes: list[int], links: Links) -> Rows:
 
 
 def plane(far: Rows, axes: Rows) -> Rows:
-    """The two coordinates that tell most of the distances, found from these axes."""
+    """The two coordinates that tell most of the distances, a row each, found by the power method, which begins at these
+    axes."""
     squares = [[each * each for each in row] for row in far]
     means = [sum(row) / len(row) for row in squares]
     mean = sum(means) / len(means)
@@ -76,7 +77,8 @@ def plane(far: Rows, axes: Rows) -> Rows:
 
 
 def pulled(points: list[Point], far: list[float], place: int) -> Point:
-    """Where a node comes to lie: in the middle of where each other one wants it, the near ones more than the far ones."""
+    """Where a node comes to lie: in the middle of where each other one wants it, the near ones more than the far
+    ones."""
     x, y = points[place]
     sum_x = sum_y = weights = 0.0
     for (other_x, other_y), apart in zip(points, far):

@@ -113,13 +113,15 @@ def own_lab(path: Path, seed: int, how: Daemon) -> Case:
 
 
 def of_suite(name: str, how: list[Daemon] | None, seeds: int) -> list[Case]:
-    """The cases of a suite that comes with the release."""
+    """The cases of a suite that comes with the release, with the seeds 1 to `seeds`; each plan has its own daemon where
+    none are named."""
     plans = SUITES[name]
     return [planned(plan, seed, each) for seed in range(1, seeds + 1) for plan in plans for each in how or [plan.daemon]]
 
 
 def of_folder(folder: Path, how: list[Daemon] | None, seeds: int) -> tuple[list[Case], list[str]]:
-    """The cases of a folder's labs, and a line for each file that is no lab."""
+    """The cases of a folder's labs, with the seeds 1 to `seeds`, under the usual daemons where none are named; and a
+    line for each file that is no lab."""
     try:
         files = sorted(each for each in folder.iterdir() if each.suffix == ".toml")
     except OSError as error:

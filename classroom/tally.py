@@ -43,7 +43,7 @@ class Asked:
     whole: bool = True
 
     def add(self, other: Asked) -> None:
-        """Adds those of the run's next record."""
+        """Adds what the run's next record tells."""
         for name, counts in other.denied.items():
             self.denied.setdefault(name, Counter()).update(counts)
         for node, owners in other.moves.items():
@@ -72,8 +72,8 @@ class Tally:
 
 
 def of(lab: Path, journal: Path, files: tuple[int, ...] = (), record: Path | None = None) -> Tally:
-    """The tally of a journal that the audit passes, and of its record where one is given; these are open files that the
-    program has."""
+    """The tally of a journal that the audit passes, and of its record where one is given; `files` are open files that
+    the program gets."""
     answer = host_call("tally", lab, journal, *([] if record is None else [record]), files=files)
     if answer.status != 0:
         raise Fault(answer.error, answer.status)

@@ -12,8 +12,8 @@ from classroom.printable import printable
 
 
 def is_private(typed: bool) -> bool:
-    """Whether who reads what is printed may act: at a terminal, or a program that holds both ends; or where a service prints,
-    which is the system's journal. A file has other readers."""
+    """Whether who reads what is printed may act: at a terminal, or a program that holds both ends; or where a service
+    prints, which is the system's journal. A file has other readers."""
     try:
         mode = os.fstat(sys.stdout.fileno()).st_mode
         return sys.stdout.isatty() or stat.S_ISSOCK(mode) or typed and not stat.S_ISREG(mode)
@@ -30,6 +30,7 @@ class Teller:
         self.around: Callable[[str], str] = str  # What a terminal shows instead while a line is typed there.
 
     def __call__(self, line: str) -> None:
+        """Tells a line to all that hear it, keeps it and prints it."""
         line = printable(line)
         for hear in self.also:
             hear(line)
@@ -47,7 +48,7 @@ class Teller:
             pass
 
     def say(self, line: str) -> None:
-        """Prints it; where nobody reads any more, nothing is printed from then on."""
+        """Prints a line; where nobody reads any more, nothing is printed from then on."""
         try:
             print(self.around(line + "\n"), end="", flush=True)
         except OSError:

@@ -27,7 +27,7 @@ class Total:
     recorded: int = 0  # of how many runs a whole record tells what was denied
 
     def add(self, marks: Marks, denied: Counter[str], is_whole: bool) -> None:
-        """Adds those of a run."""
+        """Adds the marks of a run, and what its record tells."""
         self.granted += marks.granted.total()
         self.applied += marks.applied
         self.steps += marks.steps

@@ -78,7 +78,7 @@ class Trial:
             raise
 
     def denied(self, no: No) -> None:
-        """The first line that a right bot wouldn't have sent."""
+        """Keeps what is wrong with the first line that a right bot wouldn't have sent."""
         if no.word not in ALLOWED and not self.wrong:
             self.wrong = no.text
 
@@ -101,7 +101,7 @@ class Trial:
         self.rests()
 
     def turn(self, may_end: bool = False) -> None:
-        """Lets the class go on, and looks at what the bot did."""
+        """Lets the class go on, and looks at what the bot did; raises what is wrong."""
         self.playing.turn()
         if self.stop.is_set():
             raise Stopped
@@ -137,7 +137,7 @@ class Trial:
             self.turn()
 
     def until_greeted(self, before: int = 0) -> None:
-        """Waits for its hello."""
+        """Waits until a hello is granted, where so many were before."""
         end = time.monotonic() + self.limits.seconds
         while self.heard.greeted == before:
             if time.monotonic() > end:
@@ -146,8 +146,8 @@ class Trial:
             self.turn()
 
     def rests(self) -> None:
-        """Wants that a bot for which there is nothing to ask asks for nothing, but for what it saw before: a move for each
-        of its nodes."""
+        """Wants that a bot for which there is nothing to ask asks for nothing, but for what it saw before: a move for
+        each of its nodes."""
         self.watch(LATE)
         before = self.heard.asked
         self.watch(QUIET)

@@ -41,7 +41,8 @@ PATTERNS = {"NODE": r"\d+", "NEIGHBOUR|null": r"\d+|null|-", "true|false": "true
 
 
 def understood(line: str) -> list[str]:
-    """The words of a line, where it has the form of its first; else an error that says what it should be."""
+    """The words of a line, where it has the form of its first; an empty line is `wait`. Else an error that says what it
+    should be."""
     word, *rest = line.split() or ["wait"]
     if word not in FORMS:
         near = difflib.get_close_matches(word, WORDS, 1)
@@ -76,9 +77,9 @@ class Terminal:
         readline.parse_and_bind("tab: complete")
 
     def complete(self, text: str, state: int) -> str | None:
-        """The next word that begins so."""
+        """Of the words that begin so the one at that place, from 0; None after the last."""
         before = self.readline.get_line_buffer()[:self.readline.get_begidx()]
-        first = re.fullmatch(r"\s*(\d+\s*:\s*)?", before) is not None  # Of several runs the number of one stands before.
+        first = re.fullmatch(r"\s*(\d+\s*:\s*)?", before) is not None  # A run's number may stand before it.
         found = [f"{word} " for word in (WORDS if first else self.words) if word.startswith(text)]
         return found[state] if state < len(found) else None
 

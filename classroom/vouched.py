@@ -76,7 +76,8 @@ def goes_on(run: Path) -> bool:
 
 
 def copied(record: Path, into: Path, journal: bytes) -> None:
-    """A copy of a record up to so many events."""
+    """Copies a record's whole entries, as far as the journal goes, its lab and where it began, and the journal into a
+    folder."""
     events = journal.count(b"\n")
     for file in seats(record):
         (into / file.name).write_bytes(front(file.read_bytes(), events))
@@ -92,7 +93,8 @@ def is_open(seat: Path) -> bool:
 
 
 def mark(into: Path) -> None:
-    """Marks a copy as one that may lack entries, by a session that isn't whole, in a seat where none is open if there is one."""
+    """Marks a copy as one that may lack entries, by a session that isn't whole, in a seat where none is open if there
+    is one."""
     events = (into / "journal").read_bytes().count(b"\n")
     for file in sorted(seats(into), key=is_open)[:1]:
         seat = file.name.partition(".")[0]

@@ -26,8 +26,8 @@ class Now:
 
 
 class Present:
-    """The newest `Now`, and all events and lines, which only grow. Who shows it waits for another one; who makes it waits
-    for nobody."""
+    """The newest `Now`, and all events and lines, which only grow. Who shows it waits for another one; who makes it
+    waits for nobody."""
 
     def __init__(self, state: State, closing: str) -> None:
         self.turn = threading.Condition()
@@ -49,7 +49,7 @@ class Present:
             self.turn.notify_all()
 
     def after(self, version: int, seconds: float) -> Now:
-        """The newest one, as soon as it is another than that version."""
+        """The newest one, as soon as it is another than that version, or after so many seconds."""
         with self.turn:
             self.turn.wait_for(lambda: self.now.version != version, seconds)
             return self.now

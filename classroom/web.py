@@ -77,9 +77,11 @@ class InTime(io.RawIOBase):
         self.connection, self.end = connection, time.monotonic() + seconds
 
     def readable(self) -> bool:
+        """Yes: it is for reading alone."""
         return True
 
     def readinto(self, buffer: Any) -> int:
+        """Reads what comes within the time that is left; gives how many bytes."""
         left = self.end - time.monotonic()
         if left <= 0:
             raise TimeoutError
@@ -110,17 +112,17 @@ class Asked(BaseHTTPRequestHandler):
         return True
 
     def body(self, most: int) -> bytes | None:
-        """What a request carries; None where that is more than so many bytes."""
+        """What a request carries; None where that is more than so many bytes, or its size is no number."""
         size = self.headers.get("Content-Length") or "0"
         return self.rfile.read(int(size)) if size.isascii() and size.isdecimal() and int(size) <= most else None
 
     def answer(self, status: int, kind: str = "", content: bytes = b"", policy: str = "") -> None:
-        """An answer that is whole."""
+        """Sends an answer that is whole."""
         self.head(status, kind, len(content), policy)
         self.wfile.write(content)
 
     def head(self, status: int, kind: str = "", size: int | None = 0, policy: str = "") -> None:
-        """The head of an answer."""
+        """Sends the head of an answer; without a size the answer ends with the connection."""
         self.connection.settimeout(TAKING)
         self.send_response_only(status)
         for name, value in (("Cache-Control", "no-store"), ("Referrer-Policy", "no-referrer"),
@@ -136,6 +138,7 @@ class Asked(BaseHTTPRequestHandler):
 def opened(port: int, make: Callable[[int], Opened]) -> Opened:
     """A server at that port, or the next that is free."""
     def at(number: int) -> Opened | None:
+        """The server at that port; None where the port is taken."""
         try:
             return make(number)
         except OSError:

@@ -19,7 +19,7 @@ class Parser(argparse.ArgumentParser):
     """Words that aren't understood have the status of usage, and statuses stand below all words."""
 
     def error(self, message: str) -> NoReturn:
-        """A line, and the status."""
+        """Ends the program with a line and the status of usage."""
         self.exit(USAGE, f"{self.prog}: {printable(message)}; {self.prog} --help tells the words\n")
 
 
@@ -122,6 +122,7 @@ def add_play(words: argparse.ArgumentParser) -> None:
 def of(module: str) -> Callable[[argparse.ArgumentParser], None]:
     """What adds the words of a module, which is loaded then."""
     def add(words: argparse.ArgumentParser) -> None:
+        """Loads the module, and adds its words."""
         import_module(f"classroom.{module}").add_words(words)
 
     return add
