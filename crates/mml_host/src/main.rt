@@ -1,4 +1,5 @@
-//! The host: it serves a class at two ports until the teacher says bye at the desk, and judges what a class left.
+//! The host: it serves a class at two ports until the teacher says bye at the desk, judges what a class left, and
+//! answers a script as its lines come.
 #![tactic(auto)]
 
 use mml_host_program::is_of_class;
@@ -6,8 +7,8 @@ use mml_program::begin_program;
 use std::fmt::Display;
 use std::process::ExitCode;
 
-// Serves a class, or judges what one left, as the first of the words asks for, and gives the exit status: 0, or that of
-// the error, whose line is printed.
+// Does what the word behind the program's name asks for: serves a class, or else judges what one left or answers a
+// script. Gives the exit status: 0, or that of the error, whose line is printed.
 fn main(rt: HostRuntime) -> ExitCode {
     let words = match begin_program(&rt) {
         Ok(words) => words,

@@ -1,4 +1,4 @@
--- The errors of the host that those of the crates below are.
+-- As which error of the host an error of the crates below is told.
 use Rattle.std.specs.Prelude.{◌≡◌}
 use Rattle.mml_files.specs.declared.file_fault.FileFault.{FileFault}
 use Rattle.mml_files.specs.declared.file_fault.FileFault.TheVariants as file
@@ -24,7 +24,8 @@ abbrev pub of_record : FileFault → Fault
 of_record file.Refused = fault.Unrecorded
 of_record file.Memory = fault.Common program.Memory
 
--- the error of going on is told as this: a file that can't be cut as one that can't be made; which words the audit has is tested
+-- as which error of the host an error of going on is told: a file that can't be cut as one that can't be made; which
+-- error a journal has that the audit refuses isn't said here
 abbrev pub IsToldAs : ResumeFault → Fault → Type 0
 IsToldAs (resuming.Refused why) told = Unit {0}
 IsToldAs resuming.Memory told = told ≡ fault.Common program.Memory

@@ -26,7 +26,7 @@ pub enum Fault {
     /// The places that were told aren't those of the events, each once.
     #[error("host: the tally does not fit")]
     Astray,
-    /// There was no reader's slot for a window.
+    /// There was no window for the desk's seat. It doesn't arise: a lab has at least one session.
     #[error("host: no place for a window")]
     Place,
     /// The system lets the program have too few files open for a class.
@@ -44,9 +44,9 @@ pub enum Fault {
 }
 
 impl Fault {
-    /// The exit status that goes with the error: 2 where the lab is another, 4 where ports, places or the record
-    /// failed, 5 where a reader's slot, files or threads are lacking; of an error that `mml_server` has too, the same
-    /// as there.
+    /// The exit status that goes with the error: 2 where the lab is another, 4 where a port or the record failed, or
+    /// the places that were told don't fit the events, 5 where a window, files or threads are lacking; of an error that
+    /// `mml_server` has too, the same as there.
     pub fn status(&self) -> u8 {
         match self {
             Fault::Common(fault) => fault.status(),

@@ -9,11 +9,11 @@ use std::sync::{Mutex, Wait};
 use std::thread::Threads;
 use std::{fs, thread};
 
-// How many files more are open at least: the journal, two ports and a spare one, a connection at each
-// port, and one that is turned away.
+// How many files more a class has open at least: the journal, two ports and a spare one, a connection at each port, and
+// one that is turned away.
 const FILES: usize = 7;
 
-// How many threads there are more at least: the students' port's own, and one for a connection at each.
+// How many threads more a class has at least: that of the students' port, and one for a connection at each port.
 const THREADS: usize = 3;
 
 /// Tries whether the files that a class needs at least may be open at once, and then whether its threads may be there

@@ -14,9 +14,9 @@ use Rattle.mml_hosting.specs.declared.seat.ServedSession.{ServedSession}
 use Rattle.mml_hosting.specs.declared.seat.Seat.{Seat}
 use Rattle.mml_hosting.specs.declared.seat.SeatRecord.{SeatRecord}
 
--- by what the contracts of a house tell: its lab, the events that came before it was opened, and what the recorder of each number was
--- given; what a connection's ends have left to read and were written; what a recorder has kept; and the session that is shown by what is
--- kept of it
+-- the parameters of a house's contracts: its lab, the events that came before it was opened, and what the recorder of
+-- the seat with each number had kept then; what a connection's reader has still to give, and what its writer was given;
+-- what a recorder has kept; and the session that is shown by what is kept of it
 pub record Terms (K C R W : Type 0) : Type 0 where
   pub lab : LabValue
   pub begun : List Event
@@ -82,8 +82,8 @@ abbrev pub IsDismissed : {R W : Type 0} → List (ServedSession R W) → Type 0
 IsDismissed {R} {W} ss =
     (before : List (ServedSession R W)) × (s : ServedSession R W) × (ss ≡ before ++ s ∷ []) × (is_teachers_bye s.ending ≡ true) × AreGoingOn before
 
--- the sessions of a seat led a window from having seen what came before the house to this one, and its recorder from what that of its
--- number was given to where it is
+-- the sessions of a seat led its window from having seen the events before the house to this window, and its recorder
+-- from what the recorder of its number had kept before the house to what it has kept now
 abbrev pub Led : {K C R W : Type 0} → Terms K C R W → SeatRecord K C → WindowValue → Type 0
 Led t r w = Chain (Leads t r.number) (stand (window t.begun []) (t.given r.number)) (sessions_of t.shows r) (stand w (t.recorded r.recorder))
 

@@ -9,7 +9,7 @@ use std::io::{Read, Write};
 pub enum Accepted<R: Drop, W: Drop, U: Drop> {
     /// A connection: its two ends, and what ends it from elsewhere.
     Came((R, W), U),
-    /// Nobody. Those that have ended are to be let go of before the next accept.
+    /// Nobody. Connections whose sessions have ended are to be let go of before the next accept.
     Nobody,
     /// No more are to be served.
     Over,

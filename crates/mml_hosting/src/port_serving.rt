@@ -51,6 +51,7 @@ struct Busy<
     U: Drop,
 > {
     number: u8,
+    // What ends the connection from this thread.
     line: U,
     handle: PromisedHandle<Seat<H, K, C>, SeatPledge<H, K, C, R, W>>,
 }
@@ -63,7 +64,8 @@ impl<
     W: Write + Drop,
     U: Drop,
 > Busy<H, K, C, R, W, U> {
-    // The index of the first busy seat whose thread has come to its end by the marks, if one has.
+    // The index of the first busy seat of which the marks say that its thread has come to its end; none where they say
+    // it of no seat.
     fn first_done(busy: &Vec<Self>, marks: &[AtomicU64]) -> Option<usize>
         ensures { IfSome result (λ index. index < vec_len busy.now) }
     {
@@ -76,7 +78,8 @@ impl<
         None
     }
 
-    // Waits for the thread of the busy seat at this index, and gives back the seat, which is busy no longer.
+    // Lets go of what ends the connection of the busy seat at this index, waits for the seat's thread, and gives back
+    // the seat, which is busy no longer.
     fn join_one<Rt: Threads>(rt: &Rt, busy: &mut Vec<Self>, index: usize) -> Seat<H, K, C>
         requires { index < vec_len busy.old }
         ensures seat { IsSeat (terms H.lab H.begun H.given R.remaining W.contents C.kept K.shows) result }
@@ -95,8 +98,8 @@ impl<
         seat
     }
 
-    // The index of the busy seat to wait for next: by the marks the first whose thread has come to its end, and
-    // without marks any. None where there is no such seat.
+    // The index of the busy seat to wait for next: the first of which the marks say that its thread has come to its
+    // end; without marks the first of all. None where there is no such seat.
     fn next_to_join(busy: &Vec<Self>, marks: Option<&[AtomicU64]>) -> Option<usize>
         ensures some { IfSome result (λ index. index < vec_len busy.now) }
         ensures none { IfNone result (IfNone marks.entry (busy.now.items ≡ [])) }
@@ -108,8 +111,8 @@ impl<
         }
     }
 
-    // Takes back the seats whose threads have come to their end by the marks. Without marks it waits for all
-    // threads, and takes back all seats.
+    // Takes back the seats of which the marks say that their threads have come to their end. Without marks it waits for
+    // all threads, and takes back all seats.
     fn gather<Rt: Threads>(
         rt: &Rt,
         free: &mut Vec<Seat<H, K, C>>,
@@ -132,7 +135,7 @@ impl<
 }
 
 // Takes a free seat in which one session more may be served. None, and all stay free, where no seat is free, or the
-// one that was looked at is dismissed or has no room for what is kept.
+// last of the free ones, which alone is looked at, is dismissed or gets no room for what is kept of a session.
 fn next_free<H: Begun, K: Keep<R, W> + Drop, C: Recorder + Drop, R: Read + Drop, W: Write + Drop>(
     free: &mut Vec<Seat<H, K, C>>,
 ) -> Option<Seat<H, K, C>>
@@ -155,7 +158,8 @@ fn next_free<H: Begun, K: Keep<R, W> + Drop, C: Recorder + Drop, R: Read + Drop,
     Some(seat)
 }
 
-// Whether one session more may be served in the seat. Where it may, there is room for what is kept of it.
+// Takes room in the seat for what is kept of one session more, and tells whether that session may be served there:
+// false where the seat is dismissed, for which no room is taken, or where memory for the room is refused.
 fn is_made_ready<
     H: Begun,
     K: Keep<R, W> + Drop,
@@ -226,9 +230,9 @@ impl<
     G: Gate + Sync + 's,
     B: Bell + Sync + 's,
 > Shared<'s, Rt, S, H, G, B> {
-    // Serves a connection in a seat in a thread of its own, whose handle comes back. Where no thread can be made
-    // the connection is served at once, and the seat comes back; a connection that isn't at the desk is ended by `line`
-    // before it is served so, for nobody behind is to wait for it.
+    // Serves a connection in a seat, in a thread of its own, whose handle is given; when the session has ended the bell
+    // is rung. Where no thread can be made, the error is the seat, in which the connection was served at once. One that
+    // isn't at the desk is ended by `line` before that, so that who comes later needn't wait for it.
     fn serve_apart<
         E,
         K: Keep<R, W> + Send + Drop + 's,
@@ -345,7 +349,7 @@ impl<
         let mut arrivals = arrivals;
         let mut free = seats;
         let mut busy = Vec::with_capacity(self.alloc, free.len())?;
-        // There is room for all that are in it.
+        // This takes nothing: it tells the proof that there is room for each seat that comes back.
         free.reserve(0)?;
         for _ in self.rt.forever() {
             match arrivals.accept_next() {

@@ -47,7 +47,7 @@ impl<R: Drop, W: Drop> Keep<R, W> for ServedSession<R, W> {
     }
 }
 
-/// Nothing but what a contract says of it, so that any number can be kept.
+/// Keeps of a session nothing but what contracts say of it, so that any number can be kept.
 impl<R: Drop, W: Drop> Keep<R, W> for Snapshot<ServedSession<R, W>> {
     ghost shows = { λ s. s.value };
 
@@ -65,7 +65,7 @@ pub struct SeatRecord<K: Drop, C: Drop> {
     pub number: u8,
     /// What is kept of the sessions that were served in it, in order.
     pub sessions: Vec<K>,
-    /// What recorded them.
+    /// What records the sessions.
     pub recorder: C,
 }
 

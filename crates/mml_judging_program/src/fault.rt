@@ -1,4 +1,4 @@
-//! What ends a word early: one line on standard error and a status.
+//! What ends a subcommand early: one line on standard error and a status.
 ghost use Rattle.std.specs.Prelude.{◌≡◌};
 
 use crate::record_refusal::RecordRefusal;
@@ -6,7 +6,7 @@ use mml_ids::Memory;
 use mml_program::Fault as ProgramFault;
 use thiserror::Error;
 
-/// Why a word ended before its work was done.
+/// Why a subcommand ended before its work was done.
 #[derive(Debug, Drop, PartialEq, Eq, Error)]
 pub enum Fault {
     /// What `mml_server` tells in the same words: of command line, lab, journal, script, output and memory.

@@ -29,8 +29,8 @@ pub enum RecordRefusal {
 }
 
 impl RecordRefusal {
-    /// What the first bad entry of a seat is told as. Where it isn't the journal's event, its place is that of this
-    /// event, one behind the events at which it says that it was judged.
+    /// The refusal of a record for the first bad entry of a seat. Where an entry grants another event than the journal
+    /// has, the place is that of the journal's event: one more than how many events the entry says had been seen.
     pub fn of(seat: u8, bad: BadEntry) -> RecordRefusal {
         let BadEntry { line, place, .. } = bad;
         match bad.why {
@@ -44,7 +44,7 @@ impl RecordRefusal {
         }
     }
 
-    /// What is amiss with the places that all records grant is told as.
+    /// The refusal of a record for what is amiss with the places that all seats' records grant.
     pub fn of_places(amiss: Misgranted) -> RecordRefusal {
         match amiss {
             Misgranted::Early(place) => RecordRefusal::Early(place),

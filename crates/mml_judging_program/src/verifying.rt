@@ -161,7 +161,8 @@ fn decimal_in(digits: &[u8]) -> Option<u64> {
     Some(number)
 }
 
-// What the records that come to a, and those that come to b, come to together.
+// What two parts of a record come to together: the sum of their sessions and of their lines, and whether both are
+// whole.
 pub(crate) fn together(a: Findings, b: Findings) -> Findings {
     Findings {
         sessions: a.sessions.saturating_add(b.sessions),
@@ -244,7 +245,8 @@ fn open_part<R: Files<File = File> + AllocGlobal>(rt: &R, path: &str) -> Result<
     }
 }
 
-/// Writes the line that tells what a record that passed comes to, and how many events its journal has.
+/// Writes the line that tells what a record that passed comes to, and how many events its journal has; the error is
+/// that the write failed, or want of memory.
 pub fn write_verified<W: Write>(
     alloc: Global,
     found: Findings,

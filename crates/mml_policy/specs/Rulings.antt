@@ -28,7 +28,7 @@ abbrev pub ruled : ℕ → Bool → World → Result Leave Denial → Ruling
 ruled limit is_halted w (Ok l) = ruling_on_leave limit is_halted w l
 ruled limit is_halted w (Err d) = Denied d
 
--- the denial of the first clause that doesn't hold, or what is shown, or the event that takes place with what it
+-- the denial of the first clause that doesn't hold, or what is shown, or the event that happens with what it
 -- does, or why none does: the limit is reached, or else the journal is halted
 abbrev pub ruling : List ℕ → RosterValue → ℕ → Bool → World → Who → Command → Ruling
 ruling ids r limit is_halted w x c = ruled limit is_halted w (clauses ids r w x c)

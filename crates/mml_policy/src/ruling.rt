@@ -51,7 +51,7 @@ impl Ruling {
 
 /// What comes of a command: the denial of the first clause that doesn't hold; where all hold, what the command asks
 /// to be shown (`Reported` for a report, which the caller makes), or the event that it asks for, with what that does.
-/// No event takes place where the limit of events is reached, which is `Full`, nor else where the journal is halted,
+/// No event happens where the limit of events is reached, which is `Full`, nor else where the journal is halted,
 /// which is `Journal`. The error says that memory was refused, which only a look takes.
 // Inlined into its caller, it took other steps for a hidden node than for one that isn't there.
 #[inline(never)]

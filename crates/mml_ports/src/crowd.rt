@@ -16,8 +16,8 @@ const STRANGERS: usize = 3;
 // How many seats a name may have where others wait for one.
 const SEATS_OF_A_NAME: usize = 4;
 
-// After how many milliseconds of a newcomer's wait a name that has more seats gives one up: a seat that is being
-// given back is free sooner.
+// After how many milliseconds of a newcomer's wait a name that has more than `PLACES_OF_A_NAME` gives a place up: a
+// place that is being given back is free sooner.
 const MOMENT: u64 = 250;
 
 // How many milliseconds one who hasn't greeted, nor was answered, may stay, whoever waits.
@@ -85,7 +85,8 @@ impl Crowd {
         }
     }
 
-    /// Notes that a connection is served from now on, since this instant. Without memory it isn't counted.
+    /// Notes that a connection is served from the instant `since` on; `Memory`, and the connection isn't counted, where
+    /// there is none for it.
     pub fn note_served<Rt: Wait>(
         &self,
         rt: &Rt,
@@ -169,14 +170,14 @@ impl Crowd {
     /// Whether a guest is leaving, or one who has left is still owed a denial, or the time to take it.
     pub fn is_parting<Rt: Wait>(&self, rt: &Rt) -> bool {
         let is_leaving = is_one_leaving(&self.guests.lock(rt));
-        // Who has left meanwhile is among these.
+        // The guests are looked at first: one who is owed a denial joins the partings before it stops being a guest.
         is_leaving || !self.partings.is_empty(rt)
     }
 
-    /// Whether there is a seat for a newcomer, who has waited for the time `waited`: one is free, and those who
-    /// haven't greeted don't have their share. Else a guest who has to leave is sent away: where they have it, the
-    /// first of them who has had its time; or after a moment, unless one is leaving, the last of a name that has too
-    /// many seats.
+    /// Whether there is a place for a newcomer, who has waited for the time `waited`: one is free, and those who
+    /// haven't greeted don't have their share. Where these have their share, the first of them who has had its time is
+    /// sent away; where no place is free, after a moment and unless a guest is leaving, the last of a name that has too
+    /// many places.
     pub fn finds_room<Rt: Wait>(&self, rt: &Rt, now: Instant, waited: Duration) -> bool {
         let mut guests = self.guests.lock(rt);
         if self.let_stranger_go_if_full(rt, &mut guests, now) {

@@ -8,7 +8,7 @@ pub enum EndReason {
     Busy,
     /// A line, or a granted hello, wasn't there in time.
     Late,
-    /// A line was longer than there may be.
+    /// A line was longer than a request may be.
     Long,
     /// The class has ended.
     Over,

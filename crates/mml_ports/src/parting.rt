@@ -59,8 +59,8 @@ pub(crate) fn tell(stream: &TcpStream, line: &[u8]) {
     let _ = stream.write(line);
 }
 
-/// Reads and drops what the other side sent, up to 4096 bytes: a socket that is closed over bytes which nobody took
-/// throws away what it has still to send.
+/// Reads and drops what the other side sent, up to 4096 bytes in one read, which waits as long as the stream's own time
+/// limit lets it: a socket that is closed over bytes which nobody took throws away what it has still to send.
 pub(crate) fn take_unwanted(stream: &TcpStream) {
     let mut stream = stream;
     let mut unwanted = [0; PARTING_SIZE];

@@ -39,7 +39,7 @@ struct Newcomer<'a, Rt> {
 }
 
 impl<'a, Rt: Clock + Wait + Eprint> Newcomer<'a, Rt> {
-    // Hangs up on the newcomer, which is told why, unless it has another reason already.
+    // Hangs up on the newcomer, which is told the reason: `why`, unless one is kept already.
     fn turn_away(self, why: EndReason) {
         let mut newcomer = self;
         newcomer.connection.note_end_reason(why);
@@ -140,8 +140,9 @@ impl<'a, Rt: Clock + Wait + Eprint> Port<'a, Rt> {
         }
     }
 
-    // Gives one of those who wait, to be served, if there is a seat. Else none, and the first is turned away once it
-    // has waited for half a second.
+    // Gives one of those who wait, to be served, if there is a place. Else none: a guest who has to leave is sent away,
+    // and the first who waits is turned away once it has waited for half a second. The crowd is told whether a newcomer
+    // waits for a place. None too where nobody waits, or, with nothing else done, where the clock fails.
     fn let_in(&mut self) -> Option<Brought<'a, Rt>> {
         let Some(first) = self.waiting.front() else {
             self.crowd.note_wanted(false);
@@ -267,21 +268,21 @@ impl<'a, Rt: Clock + Wait + Eprint> Accept<
     }
 }
 
-/// Tells of each session that has ended. Where it was the last, the accepts that wait are woken, each by
-/// a connection to its port.
+/// Notes in the host's state that a session has ended. Where the host is over by that, or since a port couldn't be
+/// served, the accepts that wait are woken, each by a connection to its port.
 #[derive(Drop)]
 pub struct EndBell<'a, Rt> {
     pub rt: &'a Rt,
     pub state: &'a HostState,
     pub ports: [SocketAddr; 2],
-    /// A descriptor that is given back at the end, so that there is one for a connection.
+    /// A descriptor that is given back at the end, so that one is free for the connection that wakes an accept.
     pub spare: Mutex<Option<TcpListener>>,
 }
 
 impl<'a, Rt: Net<Listener = TcpListener, Stream = TcpStream> + Clock + Wait> Bell
     for EndBell<'a, Rt> {
-    // Notes that a session has ended. Where the teacher ended the class with it, the spare descriptor is given back,
-    // and the accepts at both ports are woken.
+    // Notes that a session has ended. Where `is_dismissed`, by the teacher's bye or since a port couldn't be served,
+    // notes that the host is over, gives the spare descriptor back, and wakes the accepts at both ports.
     fn ring(&self, is_dismissed: bool) {
         self.state.note_end(self.rt, is_dismissed);
         if is_dismissed {

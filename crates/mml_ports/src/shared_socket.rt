@@ -8,10 +8,11 @@ use std::time::{Clock, Duration};
 // How many hellos of a connection may be denied before it is ended.
 const DENIALS: u64 = 3;
 
-// How much is looked at of what a newcomer has sent.
+// How many bytes are looked at of what a newcomer has sent.
 const GLANCE: usize = 512;
 
-/// A socket until it is given back. Then each use of it fails.
+/// A socket, until it is given back, and what the threads that share it note of its connection. Once it was given back,
+/// each read and each write fails.
 #[derive(Drop)]
 pub struct SharedSocket {
     /// By which it is known among those of its port.

@@ -27,8 +27,8 @@ enum FirstLine {
     Other,
 }
 
-/// The end from which lines are read. It fails where one takes too long, however its bytes come. Until a
-/// hello is granted it gives one line at a time, and whatever is said, it fails after ten seconds.
+/// The end from which lines are read. A read fails where a line takes too long, however its bytes come. Until a hello
+/// is granted a read gives one line at most, and whatever is said, it fails after ten seconds.
 #[derive(Drop)]
 pub struct SocketReader<'a, Rt> {
     pub(crate) connection: SharedConnection<'a, Rt>,
@@ -36,8 +36,11 @@ pub struct SocketReader<'a, Rt> {
     deadline: Option<Instant>,
     // How long each line after the hello may take, where there is an end to it.
     patience: Option<Duration>,
+    // Whether a hello was granted, as the last read found it.
     has_greeted: bool,
+    // How the first line begins.
     first: FirstLine,
+    // Whether the first line was read to its end.
     is_first_read: bool,
     // How many bytes of the line that is being read have come.
     size: usize,
@@ -49,7 +52,7 @@ pub struct SocketReader<'a, Rt> {
 pub type Incoming<'a, Rt> = Retrying<SocketReader<'a, Rt>>;
 
 impl<'a, Rt: Clock + Wait> SocketReader<'a, Rt> {
-    /// A reader of the connection's socket. The time for its hello begins now.
+    /// A reader of the connection's socket. The time for its hello begins now; the error is the clock's.
     pub fn new(connection: SharedConnection<'a, Rt>) -> io::Result<Incoming<'a, Rt>> {
         let now = Instant::now(connection.rt)?;
         let patience = if connection.is_desk {
@@ -136,7 +139,7 @@ impl<'a, Rt: Clock + Wait> SocketReader<'a, Rt> {
 
     // Takes note of bytes that were read: how long the line is, which is kept as the reason of the end where it is too
     // long; how the first line begins; and, after a granted hello, that the time of the next line begins where one
-    // ends.
+    // ends. The error is the clock's.
     fn note_bytes(&mut self, bytes: &[u8]) -> io::Result<()> {
         let mut has_line = false;
         let mut is_long = false;

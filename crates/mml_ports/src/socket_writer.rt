@@ -21,19 +21,20 @@ use std::{io, thread};
 /// How many seconds a write may wait until the other side takes a byte.
 pub const WRITE_LIMIT: u64 = 10;
 
-// A seat may be left for a newcomer before the turn of its denial where that comes within so many milliseconds.
+// In the last so many milliseconds before the turn of its denial a connection that is being ended doesn't wait for it.
 const NEAR: u64 = 500;
 
-// How the reply begins to a hello that is granted, and how it ends.
+// How the reply to a hello that is granted begins, before the name.
 const GREETED: &[u8] = b"{\"ok\":\"hello\",\"who\":\"";
 
+// How the reply to a hello that is granted ends, behind the name.
 const GREETED_END: &[u8] = b"\"}\n";
 
 // The reply to a bye.
 const BID: &[u8] = b"{\"ok\":\"bye\"}\n";
 
-/// The end to which replies are written. It takes note of each before it goes out, and holds back denials of a
-/// name and key.
+/// The end to which replies are written. Until a hello is granted it takes note of each reply before that goes out, and
+/// holds back denials of a name and key.
 #[derive(Drop)]
 pub struct SocketWriter<'a, Rt> {
     connection: SharedConnection<'a, Rt>,
@@ -48,8 +49,10 @@ pub struct SocketWriter<'a, Rt> {
 }
 
 impl<'a, Rt: Clock + Wait + Eprint> SocketWriter<'a, Rt> {
-    // Takes note of a reply before it goes out, until a hello is granted. Gives the turn of a denial of a name and key,
-    // once that has come, or is near and the connection is being ended; none for any other reply.
+    // Takes note of a reply before it goes out, until a hello is granted. A denial of a name and key is counted, and
+    // standard error tells how many there were where `HostState::note_denial` gives that. Gives the turn of such a
+    // denial, once that has come, or is near and the connection is being ended; none for any other reply. The error is
+    // the clock's.
     fn note_reply(&mut self, reply: &[u8]) -> io::Result<Option<Instant>> {
         let SharedConnection {
             rt,

@@ -30,7 +30,7 @@ struct News {
     next_denial: Option<Instant>,
     // How many names and keys were denied.
     denials: u64,
-    // At which number of them that is told next.
+    // At which number of denials the host tells next how many there were.
     told: u64,
 }
 
@@ -49,7 +49,8 @@ pub struct HostState {
 }
 
 impl HostState {
-    /// The state of a host of the lab, where nothing was told yet. One of the lab's sessions is the desk's.
+    /// The state of a host of the lab, where nothing was told yet; `Memory` where there is none for the teacher's name.
+    /// One of the lab's sessions is the desk's.
     pub fn new(alloc: Global, lab: &Lab) -> Result<HostState, Memory> {
         let mut teacher = Vec::new(alloc);
         let name = lab.roster().name_of(Who::Teacher);

@@ -1,4 +1,4 @@
--- The errors of the program that those of the crates below are.
+-- As which error of the program an error of the crates below is told.
 use Rattle.mml_hall.specs.declared.script.ScriptFault.{ScriptFault}
 use Rattle.mml_hall.specs.declared.script.ScriptFault.TheVariants as script
 use Rattle.mml_serving.specs.declared.serving.ServeFault.{ServeFault}

@@ -49,7 +49,7 @@ pub enum Fault {
     /// The places that were told aren't those of the events, each once.
     #[error("serve: the tally does not fit")]
     Astray,
-    /// There was no reader's slot for a window.
+    /// There was no reader's slot for a window. It doesn't arise: slots are taken when a house is started.
     #[error("serve: no place for a window")]
     Place,
     /// The journal's file can't be made, locked or kept, or a line of the journal wasn't taken whole.
@@ -64,9 +64,9 @@ pub enum Fault {
 }
 
 impl Fault {
-    /// The exit status that goes with the error: 1 where the words aren't understood, 2 where lab,
-    /// script or number of connections is refused, 3 where an audit says no, 4 where a read, a write,
-    /// the journal or the network failed, 5 where memory or a reader's slot is lacking.
+    /// The exit status that goes with the error: 1 where the words aren't understood, 2 where lab, script or number of
+    /// connections is refused, 3 where an audit says no, 4 where a read, a write, the journal or the network failed, or
+    /// the places that were told don't fit the events, 5 where memory or a reader's slot is lacking.
     pub fn status(&self) -> u8 {
         match self {
             Fault::CommandLine => 1,

@@ -4,7 +4,8 @@ use mml_ids::IdFault;
 use mml_lab::{Key, LabFault};
 use thiserror::Error;
 
-/// Why a file spells no lab. The numbers are the indices of the error, and the texts the keys' names.
+/// Why a file spells no lab. Nodes and links are numbered from 0, in the order of the file; of the principals the
+/// teacher has 0, and the students have the numbers from 1. The texts are the keys' names.
 #[derive(Clone, Copy, Debug, Drop, PartialEq, Eq, Error)]
 pub enum LabRefusal {
     #[error("not a TOML document")]

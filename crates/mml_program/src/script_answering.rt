@@ -18,7 +18,7 @@ use mml_lab::Lab;
 use std::alloc::Global;
 use std::io::{Read, Write};
 
-/// Writes how many nodes, links and students a lab has.
+/// Writes how many nodes, links and students a lab has; the error is that the write failed, or want of memory.
 pub fn write_size<W: Write>(alloc: Global, lab: &Lab, writer: &mut W) -> Result<(), Fault>
     ensures { OnOk result
         (Appends (W.contents writer.old) (W.contents writer.new) (lab_line lab.now)) }

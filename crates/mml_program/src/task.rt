@@ -240,7 +240,8 @@ pub fn begin_program<R: Env + Files<File = File> + AllocGlobal>(
     command_words(rt)
 }
 
-/// The words of the command line, the program's name first; one that isn't UTF-8 is not understood.
+/// The words of the command line, the program's name first. The error is that the command line isn't understood, since
+/// a word isn't UTF-8, or want of memory.
 pub fn command_words<R: Env + AllocGlobal>(rt: &R) -> Result<Vec<String>, Fault> {
     let words = env::args(rt).map_err(|error| memory_or(&error, Fault::CommandLine))?;
     Ok(words.collect(rt.alloc())?)
@@ -252,7 +253,7 @@ pub fn lab_of<R: Files + AllocGlobal>(rt: &R, path: &str) -> Result<Lab, Fault> 
     lab_in(rt.alloc(), bytes.as_slice())
 }
 
-/// The lab that the bytes of a lab file spell; the error is why they spell none.
+/// The lab that the bytes of a lab file spell; the error is why they spell none, or want of memory.
 pub fn lab_in(alloc: Global, bytes: &[u8]) -> Result<Lab, Fault> {
     Ok(read_lab(alloc, bytes)?)
 }

@@ -30,7 +30,8 @@ pub struct ScriptTask<'a> {
     pub journal: Option<&'a str>,
 }
 
-/// So many connections on a port. The lines of the granted events go to the journal, where one is named.
+/// A lab's file, a port, and how many connections are served there. The lines of the granted events go to the journal,
+/// where one is named.
 #[derive(Clone, Copy, Debug, PartialEq, Eq, Drop)]
 pub struct ServeTask<'a> {
     pub lab: &'a str,
@@ -104,7 +105,7 @@ fn command_line<'a>(alloc: Global) -> Result<Command<'a>, AllocError> {
         )?)
 }
 
-/// A command or subcommand whose values are all wanted, by their places.
+/// A command or subcommand of this name, with these values in this order, each of which is required.
 pub fn subcommand_of<'a>(
     alloc: Global,
     name: &'a str,
@@ -117,7 +118,7 @@ pub fn subcommand_of<'a>(
     Ok(command)
 }
 
-/// The command with one value more, behind its others, which may be left out.
+/// The command with one value more behind its others: this one may be left out.
 pub fn with_optional<'a>(
     alloc: Global,
     command: Command<'a>,

@@ -41,7 +41,7 @@ EndsEarly lab remaining contents to_come count fault.Accept = Unit {0}
 EndsEarly lab remaining contents to_come count fault.Astray = EndsAstray lab remaining contents to_come count
 EndsEarly lab remaining contents to_come count _ = ⊥
 
--- the house left a log, of which this holds
+-- the connections were served, and the house left a log, of which `Holds` is true
 pub record EndsLogged {S R W : Type 0} (lab : LabValue) (sink : S → Option (List ℕ)) (remaining : R → Option (List ℕ)) (contents : W → Option (List ℕ))
     (to_come : Option (List (R × W))) (count : ℕ) (Holds : Log S → Type 0) : Type 0 where
   pub sessions : List (EndedSession R W)

@@ -1,7 +1,7 @@
 -- Numbers in words.
 use Rattle.std.specs.Prelude.{◌≡◌, ◌<◌, ◌≤◌, ℕ, List, Option, decimal, MatchOption}
 
--- the text is the decimal one of n, which is from 1 to the most
+-- the text is n in decimal, and n is from 1 to the most
 abbrev pub Spells : ℕ → List ℕ → ℕ → Type 0
 Spells most text n = (0 < n) × (n ≤ most) × (text ≡ decimal n)
 

@@ -12,7 +12,7 @@ use Rattle.mml_serving.specs.declared.connection.EndedSession.{EndedSession}
 use Rattle.mml_serving.specs.declared.socket.Socket.{Socket}
 use Rattle.mml_serving.specs.Arriving.{Takes}
 
--- the lists are as long, and it holds of those that stand at one index
+-- the three lists have one length, and P is true of the elements at each index
 abbrev pub Each : {A B C : Type 0} → (A → B → C → Type 0) → List A → List B → List C → Type 0
 Each P [] [] [] = Unit {0}
 Each P (x ∷ xs) (y ∷ ys) (z ∷ zs) = P x y z × Each P xs ys zs
@@ -28,7 +28,7 @@ IsServed lab remaining contents c s w =
 abbrev pub ends_of : {R W : Type 0} → Connection R W → R × W
 ends_of c = (c.reader, c.writer)
 
--- their numbers are n, and one more from each to the next
+-- the first connection has the number n, and each other one the number after that of the one before
 abbrev pub Numbered : {R W : Type 0} → ℕ → List (Connection R W) → Type 0
 Numbered n [] = ⊤
 Numbered n (c ∷ cs) = (c.number ≡ n) × Numbered (n + 1) cs
@@ -44,8 +44,8 @@ pub record ServesAll {R W : Type 0} (lab : LabValue) (remaining : R → Option (
   pub numbered : Numbered 1 connections
   pub served : Each (IsServed lab remaining contents) connections sessions windows
 
--- the connections were served, as ServesAll says, through windows of the house; with those through which nobody was served, and which have seen nothing, these are
--- all: as many as the lab has sessions
+-- the connections were served, as `ServesAll` says, through the first windows of the house; through the others nobody
+-- was served, and they have seen nothing; all together are as many as the lab has sessions
 pub record ServesWindows {R W : Type 0} (lab : LabValue) (remaining : R → Option (List ℕ)) (contents : W → Option (List ℕ))
     (to_come : Option (List (R × W))) (count : ℕ)
     (sessions : List (EndedSession R W)) (windows : List WindowValue) : Type 0 where
@@ -56,8 +56,8 @@ pub record ServesWindows {R W : Type 0} (lab : LabValue) (remaining : R → Opti
   pub idle : All (λ w. w ≡ window [] []) unused
   pub each : ServesAll lab remaining contents to_come count sessions used
 
--- the connections were served, as ServesWindows says, and the house left the log: the lab's legal list of events, of which each window has seen a beginning, and whose places are those
--- that all windows were told, each once
+-- the connections were served, as `ServesWindows` says, and the house left the log: a legal list of the lab's events,
+-- of which each window has seen a beginning, and whose places are those that all windows were told, each once
 pub record ServesHouse {S R W : Type 0} (lab : LabValue) (sink : S → Option (List ℕ)) (remaining : R → Option (List ℕ)) (contents : W → Option (List ℕ))
     (to_come : Option (List (R × W))) (count : ℕ) (sessions : List (EndedSession R W)) (log : Log S) : Type 0 where
   pub windows : List WindowValue

@@ -11,8 +11,8 @@ use mml_window::Log;
 use std::alloc::Global;
 use std::io::Write;
 
-/// Writes a server's first line, which names the port on which it listens. The fault is `Memory` where none of it is
-/// written, or `Write`.
+/// Writes a server's first line, which names the port on which it listens. The fault is `Memory`, and nothing is
+/// written; or `Write`, where the writer failed.
 pub fn write_listening<W: Write>(alloc: Global, port: u16, writer: &mut W) -> Result<(), ServeFault>
     ensures { OnOk result
         (Appends (W.contents writer.old) (W.contents writer.new) (listening_line port)) }
@@ -46,7 +46,7 @@ pub fn write_last<S, W: Write>(
 }
 
 // Writes the line that ends a server's output: `events` events, which led to configuration `number`. The fault is
-// `Memory` where none of it is written, or `Write`.
+// `Memory`, and nothing is written; or `Write`, where the writer failed.
 fn write_done<W: Write>(
     alloc: Global,
     events: u64,
@@ -68,7 +68,8 @@ fn write_done<W: Write>(
     write_pieces(alloc, &pieces, writer)
 }
 
-// Writes the text of these pieces in one go. The fault is `Memory` where none of it is written, or `Write`.
+// Writes the text of these pieces in one go. The fault is `Memory`, and nothing is written; or `Write`, where the
+// writer failed.
 fn write_pieces<W: Write>(alloc: Global, pieces: &[Piece], writer: &mut W) -> Result<(), ServeFault>
     ensures told { OnOk result
         (Appends (W.contents writer.old) (W.contents writer.new) (joined pieces.now)) }

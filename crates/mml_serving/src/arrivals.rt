@@ -52,7 +52,7 @@ impl Arrivals<Socket, Socket> for TcpListener {
 impl<R: Read + Drop, W: Write + Drop> Arrivals<R, W> for IntoIter<(R, W)> {
     ghost to_come = { λ ends. Some (into_iter_items ends) };
 
-    // The two ends of the next of them; the error `NotConnected` behind the last.
+    // The two ends of the next connection that has come; the error `NotConnected` behind the last one.
     fn accept_next(&mut self) -> io::Result<(R, W)>
         ensures { MatchResult result
             (λ ends. Takes (Some (into_iter_items self.old)) (Some (into_iter_items self.new))

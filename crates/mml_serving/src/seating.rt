@@ -159,8 +159,9 @@ fn accept_fault(kind: ErrorKind) -> SeatingFault
     }
 }
 
-// Serves the connection of a seat and hangs up, so that neither the other side nor the system waits for other
-// connections. Gives back the seat's window, and how the session ended with what is left of its connection.
+// Serves the connection of a seat, hangs up and lets go of it, so that neither the other side nor the system waits
+// until other connections have ended. Gives the seat's window, and how the session ended with what is left of the
+// connection.
 fn serve_apart<Rt: Wait, S: Sink + Drop, H: House, R: LetGo + Drop, W: HangUp + Drop, G: Gate>(
     rt: &Rt,
     alloc: Global,
@@ -201,7 +202,7 @@ fn serve_apart<Rt: Wait, S: Sink + Drop, H: House, R: LetGo + Drop, W: HangUp + 
 }
 
 // Waits for all threads, and gives back their windows, and their sessions, both in the order of the threads; `Memory`,
-// without waiting, where it is refused to the lists of these.
+// without waiting, where memory for the two lists is refused.
 fn join_all<Rt: Threads, H: House, R: Read + Drop, W: Write + Drop>(
     rt: &Rt,
     alloc: Global,

@@ -36,7 +36,7 @@ pub struct ServedHouse<S: Drop, R: Drop, W: Drop> {
 pub enum ServeFault {
     /// A growth was refused, or no thread could be made.
     Memory,
-    /// There was no reader's slot for a window.
+    /// There was no reader's slot for a window. It doesn't arise: slots are taken when a house is started.
     Place,
     /// A connection couldn't be accepted.
     Accept,
@@ -48,10 +48,11 @@ pub enum ServeFault {
     Write,
 }
 
-/// Serves the next `connections` connections of a listener in a house of the lab, and then writes how many events
-/// there were and to which configuration they led. Those that came before an error of accepting are served to their
-/// ends all the same. Where memory ran out in a session or a socket, the fault is `Memory` behind that line. What the
-/// connections are answered is what `serve_arrivals` says; but what a socket gives and takes no contract knows.
+/// Serves the next `connections` connections of a listener in a house of the lab, and then writes the last line: how
+/// many events there were and to which configuration they led. Those that came before an error of accepting are served
+/// to their ends all the same. Where memory ran out in a session or a socket, the fault is `Memory`, though the last
+/// line was written. What the connections are answered is what `serve_arrivals` says; but what a socket gives and takes
+/// no contract knows.
 pub fn serve_on<Rt: Threads + Wait + Sync, S: Sink + Send + Drop, G: Gate + Sync, W: Write>(
     rt: &Rt,
     alloc: Global,

@@ -7,16 +7,16 @@ use std::net::{Shutdown, TcpStream};
 use std::sync::atomic::{AtomicBool, Ordering};
 use std::time::Duration;
 
-// What still comes is waited for, and taken, so many times.
+// The most turns of `linger`, in each of which what still comes is waited for, and taken.
 const TURNS: u32 = 64;
 
-// The most milliseconds of a turn, so that all together are less than a second.
+// The most milliseconds of a turn of `linger`, so that all together are less than a second.
 const TURN: u64 = 15;
 
-// The most bytes of a turn, so that 64 kB is the most of all.
+// The most bytes that a turn of `linger` takes, so that all together take 64 kB at most.
 const TURN_SIZE: usize = 1024;
 
-/// A handle of a connected socket, until it is given back. Then each use of it fails.
+/// A handle of a connected socket, until it is given back. Then each read and each write fails.
 #[derive(Drop)]
 pub struct Socket {
     pub(crate) end: Retrying<Handle>,
@@ -67,9 +67,10 @@ impl HangUp for Socket {
     }
 }
 
-/// Says that nothing more comes, and takes for a while what the other side still sends, since a socket that is closed
-/// over bytes which nobody took throws away what it has still to send. Then the handle is given back. Once `is_hurried`
-/// is set, no further turn begins.
+/// Says that nothing more comes, and takes what the other side still sends, in at most 64 turns of 15 milliseconds and
+/// 1024 bytes, since a socket that is closed over bytes which nobody took throws away what it has still to send. Then
+/// the handle is given back. No further turn begins where the other side has ended or is gone, or once `is_hurried` is
+/// set.
 pub fn linger(stream: TcpStream, is_hurried: &AtomicBool) {
     let mut stream = stream;
     let turn = Some(Duration::from_millis(TURN));
@@ -99,7 +100,7 @@ fn is_passing(kind: ErrorKind) -> bool {
     matches!(kind, ErrorKind::WouldBlock | ErrorKind::Interrupted)
 }
 
-// The handle alone.
+// The handle of a `Socket`; none once it was given back.
 #[derive(Drop)]
 pub(crate) struct Handle(Option<TcpStream>);
 

@@ -6,7 +6,7 @@ use Rattle.mml_policy.specs.Acts.{is_act}
 use Rattle.mml_codec.specs.declared.request.Request.{Request}
 use Rattle.mml_codec.specs.declared.request.Request.TheVariants.{Do}
 
--- it is the command of one who is known, and asks only to be shown something
+-- the request is a command of one who is known, and asks only to be shown something
 pub record AsksToSee (known : Option Who) (request : Request) : Type 0 where
   pub who : Who
   pub command : Command

@@ -18,7 +18,7 @@ use Rattle.mml_session.specs.declared.session.SessionEnd.TheVariants as end
 use Rattle.mml_session.specs.Turns.{Standing}
 use Rattle.mml_session.specs.Talks.{Talk, LineTurn, nobody_known, bytes_read, bytes_written, line_read, line_written}
 
--- the line asks of one who is known only to be shown something
+-- the line is a command of one who is known, and asks only to be shown something
 pub record IsView (st : Standing) (line : List ℕ) : Type 0 where
   pub who : Who
   pub command : Command
@@ -33,7 +33,8 @@ pub record AllAnswered (lab : LabValue) (old new : WindowValue) (input left wrot
   pub consumed : Consumes input left (bytes_read talk)
   pub appended : Appends wrote wrote' (bytes_written talk)
 
--- the lines that were taken from the input were answered, of which the last is told apart, and so much is out of all their replies' lines
+-- the lines that were taken from the input were answered, of which the last is told apart; of the bytes of all their
+-- replies' lines those are out that `sent` gives
 pub record LastAnswered (sent : List ℕ → List ℕ) (lab : LabValue) (old new : WindowValue) (input left wrote wrote' : Option (List ℕ)) : Type 0 where
   pub talk : Talk lab (nobody_known old)
   pub after : Standing

@@ -52,8 +52,9 @@ next_after (Ok said.Bye) = next.Ended end.Bye
 next_after (Ok (said.Unwritten n)) = next.Ended end.WriteFault
 next_after (Err closed) = next.Ended end.Closed
 
--- what came of the next line says of where the session stands, of the bytes to come, of which those held are first, of the
--- replies that aren't out and of the bytes written. What isn't out at an end is so where nothing was read since it was held
+-- what the outcome of the next line says of where the session stands, of the bytes to come, of which those held are
+-- first, of the replies that aren't out and of the bytes written. Where replies aren't out at an end, nothing was read
+-- since they were held
 abbrev pub ServesNext : Next → ℕ → LabValue → Standing → Standing → Option (List ℕ) → List ℕ → Option (List ℕ) → List ℕ → List ℕ → Option (List ℕ)
     → Option (List ℕ) → Option Kept → Option Kept → Type 0
 ServesNext next.Served number lab st after input held left unsent unsent' wrote wrote' given given' =

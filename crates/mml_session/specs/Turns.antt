@@ -45,8 +45,8 @@ entered l (Some e) = l ++ e ∷ []
 abbrev pub places_in : Reply → List ℕ
 places_in r = as_list (place_in r)
 
--- which refusals may stand instead of what was ruled: memory may be refused to what has a list; a grant is refused for the
--- cause that the window keeps
+-- which refusals may stand instead of a ruling: `memory` in that of a look or a report, which have lists, and in
+-- that of a grant `memory` or `journal`, whichever cause the window keeps; none in that of any other
 abbrev pub MayRefuse : Ruling → Refused → Option Refusal → Type 0
 MayRefuse (Looked l) refused.Memory kept = Unit {0}
 MayRefuse Reported refused.Memory kept = Unit {0}
@@ -70,7 +70,7 @@ pub record Told (lab : LabValue) (old : WindowValue) (who : Who) (c : Command) (
   pub says : Plainly lab list old.places (ruling_at lab (world_in lab list) who c) r new
       ⊎ Refuses list old.places (ruling_at lab (world_in lab list) who c) r new
 
--- what comes of a request: it greets or says bye, or the window replies to its command
+-- what comes of a request: its greeting has the reply, and the window stays, or the window replies to its command
 abbrev pub Settles : LabValue → Standing → Greeting → Reply → Standing → Type 0
 Settles lab st (Answered r x) r' next = (r' ≡ r) × (next ≡ standing x st.window)
 Settles lab st (LeftToJudge who c) r' next = (next.known ≡ st.known) × Told lab st.window who c r' next.window

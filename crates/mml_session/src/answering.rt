@@ -1,4 +1,4 @@
-//! What comes of a line: who is known, and the window, go on.
+//! The answer to a line: its reply, who is known afterwards, and what the window has seen then.
 ghost use Rattle.std.specs.Prelude.{◌≡◌, false, true, IfErr, IfSome, OnOk};
 ghost use Rattle.mml_lab.specs.Rosters.{IsPrincipal};
 ghost use Rattle.mml_policy.specs.declared.command.Command.TheVariants as command;
@@ -20,9 +20,9 @@ use mml_window::{Answer, Closed, House, SightFault, Window};
 use std::alloc::Global;
 use std::sync::Wait;
 
-/// Answers a line on a connection that is known as `known`, which becomes who is known then. The reply is put where it
-/// stays, since it is large to hand on. `Closed`, and no reply, where one who is known asks for a view of a window that
-/// shows nothing any more.
+/// Answers a line on a connection where `known` is known, or nobody yet, and sets `known` to who is known afterwards.
+/// The reply is put into `reply`, where it stays, since it is large to give back. `Closed`, and no reply, where one who
+/// is known asks for a view of a window that shows nothing any more.
 pub(crate) fn answer_into<Rt: Wait, S: Sink + Drop, H: House>(
     setting: &Setting<'_, Rt, S, H>,
     window: &mut Window<H>,
@@ -51,9 +51,10 @@ pub(crate) fn answer_into<Rt: Wait, S: Sink + Drop, H: House>(
     }
 }
 
-// Answers any request: by `greet` a hello, a bye, and a command where nobody is known, and by the window a command of
-// one who is known; `Closed` where that is a view, and the window shows nothing any more. It is large, and is kept out
-// of the way of the commands of one who is known, which needn't come here.
+// Puts the reply to any request, and sets `known` to who is known afterwards: `greet` answers a hello, a bye, and a
+// command where nobody is known, the window a command of one who is known. `Closed`, and no reply, where that asks for
+// a view of a window that shows nothing any more. This function is large, and isn't inlined: `answer_into` has a
+// command of one who is known answered without it.
 #[inline(never)]
 fn settle<Rt: Wait, S: Sink + Drop, H: House>(
     setting: &Setting<'_, Rt, S, H>,
@@ -83,8 +84,8 @@ fn settle<Rt: Wait, S: Sink + Drop, H: House>(
     }
 }
 
-/// Puts the window's reply to the command of `who`: views are asked of what is published, and acts of the desk, for
-/// which alone the lock is taken. `Closed`, and no reply, where a view is asked of a window that shows nothing more.
+// Puts the window's reply to the command of `who`: views are asked of what is published, without the lock, and acts of
+// the desk. `Closed`, and no reply, where a view is asked of a window that shows nothing any more.
 fn obey<Rt: Wait, S: Sink + Drop, H: House>(
     setting: &Setting<'_, Rt, S, H>,
     window: &mut Window<H>,
@@ -126,7 +127,7 @@ fn obey<Rt: Wait, S: Sink + Drop, H: House>(
 }
 
 // Puts the reply to one who asks what a node shows to those who may see it. `Closed`, and no reply, where the window
-// shows nothing any more.
+// shows nothing any more. What `Window::see` gives takes no memory, so that none can be refused.
 fn see<H: House>(
     window: &mut Window<H>,
     who: Who,

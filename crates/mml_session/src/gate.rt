@@ -13,7 +13,7 @@ pub trait Gate {
     fn pass(&self, connection: u8, point: Point);
 }
 
-/// Holds nobody.
+/// A gate that holds no session.
 #[derive(Clone, Copy, Debug)]
 pub struct NoGate;
 

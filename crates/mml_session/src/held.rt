@@ -9,14 +9,14 @@ use mml_lines::{WriteFault, put_all, put_both};
 use std::alloc::Global;
 use std::io::Write;
 
-// The most bytes that are held.
+// The most bytes that stay held from one reply to the next: where there are more, all are written.
 const HELD_BYTES: usize = 8192;
 
 // Lines of replies that aren't written yet, so that one write takes many.
 #[derive(Drop)]
 pub(crate) struct Held {
     pub(crate) bytes: Vec<u8>,
-    // How many replies they are, or were, for which the session hasn't stood at its gate yet.
+    // For how many replies, held or written, the session has yet to stand at its gate.
     pub(crate) replies: u32,
 }
 
@@ -31,8 +31,9 @@ impl Held {
         })
     }
 
-    // Takes a line after those that are held. Where it has no room, and where `at_once` says so, all go out. A fault
-    // has how many of all their bytes went out, and nothing is held then.
+    // Holds a line behind the others; but where there is no room for it, or `at_once` says so, all are written, and
+    // nothing is held then. A fault has how many bytes went out of what was held and of the line, and nothing is held
+    // after it either.
     pub(crate) fn put<W: Write>(
         &mut self,
         line: &[u8],
@@ -59,8 +60,8 @@ impl Held {
         came
     }
 
-    // Writes all that is held where `at_once` says so, or where that is more than `HELD_BYTES`. A fault has how many
-    // of these bytes went out, and nothing is held then.
+    // Where `at_once` says so, or more than `HELD_BYTES` are held, writes all that is held, and nothing is held then. A
+    // fault has how many bytes went out, and nothing is held after it either.
     pub(crate) fn let_out_when_due<W: Write>(
         &mut self,
         at_once: bool,

@@ -33,7 +33,7 @@ pub enum SessionEnd {
     Bye,
     /// The reader is at its end.
     End,
-    /// A read failed, or one more was needed after the most that there may be.
+    /// A read failed, or one more was needed after as many reads as a session may make.
     ReadFault,
     /// A write failed, or took nothing.
     WriteFault,
@@ -76,9 +76,9 @@ pub fn serve_one<Rt: Wait, S: Sink + Drop, H: House, R: Read, W: Write, G: Gate>
     serve_recorded(&setting, window, reader, writer, gate, connection, recorder).end
 }
 
-/// Answers the lines of a reader one by one, as `serve_one` does, and gives a recorder each line that is answered,
-/// before its reply goes out, unless that shows what was asked for, and at last the end of a session that had memory
-/// to begin. It tells how the session ended, and who was known then.
+/// Answers the lines of a reader one by one, as `serve_one` does. A recorder is given each line that is answered,
+/// before its reply goes out, unless the reply shows what was asked for; and at last the session's end, unless the
+/// session had no memory to begin. It tells how the session ended, and who was known then.
 pub fn serve_recorded<Rt: Wait, S: Sink + Drop, H: House, R: Read, W: Write, G: Gate, K: Recorder>(
     setting: &Setting<'_, Rt, S, H>,
     window: &mut Window<H>,
@@ -217,8 +217,8 @@ fn serve_next<Rt: Wait, S: Sink + Drop, H: House, R: Read, W: Write, G: Gate, K:
     }
 }
 
-// By what came of a line: where its reply is out or held, counts it, and lets the session stand at its gate if none is
-// held any longer; where a write failed, none counts any longer. Tells whether the session goes on or how it ended.
+// Does what follows from what came of a line: where its reply is out or held, counts the reply, and lets the session
+// stand at its gate if no reply is held any longer. Tells whether the session goes on or how it ended.
 fn go_on<G: Gate>(said: Result<Said, Closed>, held: &mut Held, gate: &G, connection: u8) -> Next
     ensures next { result ≡ next_after said }
     ensures held { held.new.bytes.items ≡ held.old.bytes.items }
@@ -255,8 +255,9 @@ fn pass_told<G: Gate>(held: &mut Held, gate: &G, connection: u8)
     }
 }
 
-// Lets out what is held at the end of a session, and hands on how it ended. Where the write fails, that is its end, and
-// it has `before`: who was known before the line that was answered last.
+// Lets out what is held at the end of a session, lets the session stand at its gate for the replies that went out, and
+// gives `ending`. Where the write fails, the session ends by that, and its ending has `before`: who was known before
+// the line that was answered last.
 fn let_out<W: Write, G: Gate>(
     session: &mut Session,
     ending: Ending,
@@ -284,9 +285,9 @@ fn let_out<W: Write, G: Gate>(
 enum Said {
     // Its line is out, or held.
     Told,
-    // That of a bye is out.
+    // Its line is out, and it is the reply to a bye.
     Bye,
-    // So many bytes of what was held and of its line are out.
+    // A write failed after so many bytes of what was held and of its line.
     Unwritten(usize),
 }
 
@@ -347,7 +348,7 @@ fn serve_line<Rt: Wait, S: Sink + Drop, H: House, W: Write, K: Recorder>(
 // A line that was answered.
 #[derive(Clone, Copy)]
 struct Judged<'a> {
-    // The number of the seat that it came in.
+    // The number of the seat in which it came.
     number: u8,
     // How many events the window had seen afterwards.
     seen: u64,
@@ -356,9 +357,9 @@ struct Judged<'a> {
     is_next_unknown: bool,
 }
 
-// Gives the recorder a line and its reply, unless that shows what was asked for, and lets the reply go out or holds it:
-// a short one is written behind what is held, any other, or `memory` instead, into `out`. Tells what came of the
-// reply.
+// Gives the recorder a line and its reply, unless the reply shows what was asked for, and lets the reply go out or
+// holds it: a short one is put behind what is held, any other, or `memory` in its place, into `out` first. Tells what
+// came of the reply.
 fn tell<H: House, W: Write, K: Recorder>(
     alloc: Global,
     window: &Window<H>,
