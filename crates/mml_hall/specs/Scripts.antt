@@ -40,8 +40,8 @@ pub record CutShort (written : ℕ) (lab : LabValue) (input left wrote wrote' : 
   pub consumed : Consumes input left (bytes_read transcript)
   pub cut : BreaksOff (record { written = written }) wrote wrote' (lines_written transcript)
 
--- all lines of the input were answered, the hall is where they lead, its sink is left so, and after the lines came the
--- front of a script line
+-- all lines of the input were answered, the hall is where they lead, its sink is left as `Leaves` says, and after the
+-- lines came the front of a script line
 abbrev pub Finished : {S : Type 0} → (S → State → Type 0) → HallValue S → LabValue → Option (List ℕ) → Option (List ℕ) → Option (List ℕ)
     → Option (List ℕ) → Type 0
 Finished Leaves hall lab input left wrote wrote' =

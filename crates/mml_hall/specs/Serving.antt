@@ -22,14 +22,15 @@ abbrev pub told_of : Reply → Bool → Reply
 told_of reply true = reply
 told_of reply false = replies.Refuse refused.Memory
 
--- the line of a reply, or of out of memory instead of one that isn't short, comes behind its front after those that aren't
--- written, of which the first are out
+-- an output line, of the reply or of `memory` instead of one that isn't short, comes behind the lines that were
+-- held. Of all these lines the first went out and the others are held, or a write failed after some of their bytes
 abbrev pub Tells : Result ⊤ WriteFault → LabValue → Reply → List ℕ → List (List ℕ) → List (List ℕ) → Option (List ℕ) → Option (List ℕ) → Type 0
 Tells r lab reply front unsent unsent' wrote wrote' = (told : Reply) × TellsFor reply told
     × OnOk r (Sends wrote wrote' (unsent ++ (front ++ reply_line lab.ids lab.roster told) ∷ []) unsent')
     × IfErr r (λ fault. BreaksOff fault wrote wrote' (unsent ++ (front ++ reply_line lab.ids lab.roster told) ∷ []))
 
--- the line had its turn; its output line comes after those that aren't written, of which the first are out
+-- the line had its turn, and its output line comes behind the lines that were held. Of all these lines the first went
+-- out and the others are held, or a write failed after some of their bytes
 abbrev pub ServesLine : Result ⊤ WriteFault → LabValue → State → State → RequestLine → List (List ℕ) → List (List ℕ) → Option (List ℕ)
     → Option (List ℕ) → Type 0
 ServesLine (Ok done) lab st after line unsent unsent' wrote wrote' =

@@ -67,7 +67,7 @@ entered st (Some e) = with_event st e
 abbrev pub outcome_of : State → Ruling → Outcome
 outcome_of st r = let after = entered st (event_of r) in record { reply = reply_of after.world r; state = after }
 
--- what comes of a request: it greets or says bye, or its command is ruled on
+-- what comes of a request: a reply at once, and who is known then; or what the ruling on its command leads to
 abbrev pub settled : LabValue → State → ℕ → Greeting → Outcome
 settled lab st k (Answered r x) = record { reply = r; state = with_known st k x }
 settled lab st k (LeftToJudge x c) = outcome_of st (ruling lab.ids lab.roster lab.events st.halted st.world x c)
@@ -102,7 +102,7 @@ pub data Mishap : Type 0 where
   nothing : Mishap
   -- a growth was refused while the line was read
   while_read : Mishap
-  -- a growth was refused later
+  -- a growth was refused after the line was read
   later : Mishap
   -- a put of the line of the journal failed
   sink_failed : Mishap

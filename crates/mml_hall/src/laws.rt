@@ -47,7 +47,7 @@ pub fn events_grow_by_grants()
 {}
 
 /// A put that failed halts the journal, instead of a grant, and nothing else does; a journal that is
-/// halted stays so. The refusal `journal` comes only where the journal is halted then.
+/// halted stays so. Where the reply is the refusal `journal`, the journal is halted after the turn.
 pub fn failed_puts_halt_for_good()
     ensures failed { (lab : LabValue) (st : State) (connection : ℕ) (line : List ℕ)
         → is_grant (plain_turn lab st connection line).reply ≡ true

@@ -177,7 +177,7 @@ fn answer_lines<R: Read, W: Write, S: Sink>(
     }
 }
 
-// The fault that the line behind so many that were answered is no script line, with its number. Lines count from 1.
+// The fault of a line that is no script line, with the line's number, from 1: `answered` lines came before it.
 fn bad_line_after(answered: u64) -> ScriptFault
     requires { answered < 2 ^ 64 - 1 }
     ensures { result ≡ ScriptFault.BadLine (answered + 1) }
@@ -341,7 +341,8 @@ impl LineRest for ReplyRest<'_> {
 
     ghost is_short = { λ t. is_short t.reply.now };
 
-    // Puts the reply's line behind what the vector holds, if it is short, no look's and no report's; tells whether.
+    // Puts the reply's line behind what the vector holds, unless the reply is a look or a report, or there is too
+    // little room. Whether it did.
     fn append_to(&self, out: &mut Vec<u8>) -> bool {
         append_reply(self.lab.ids(), self.lab.roster(), self.reply, out)
     }

@@ -16,8 +16,8 @@ const STRANGERS: usize = 3;
 // How many seats a name may have where others wait for one.
 const SEATS_OF_A_NAME: usize = 4;
 
-// After how many milliseconds of a newcomer's wait a name that has more than `PLACES_OF_A_NAME` gives a place up: a
-// place that is being given back is free sooner.
+// After how many milliseconds of a newcomer's wait a name that has more than `SEATS_OF_A_NAME` gives a seat up: a
+// seat that is being given back is free sooner.
 const MOMENT: u64 = 250;
 
 // How many milliseconds one who hasn't greeted, nor was answered, may stay, whoever waits.
@@ -174,10 +174,10 @@ impl Crowd {
         is_leaving || !self.partings.is_empty(rt)
     }
 
-    /// Whether there is a place for a newcomer, who has waited for the time `waited`: one is free, and those who
+    /// Whether there is a seat for a newcomer, who has waited for the time `waited`: one is free, and those who
     /// haven't greeted don't have their share. Where these have their share, the first of them who has had its time is
-    /// sent away; where no place is free, after a moment and unless a guest is leaving, the last of a name that has too
-    /// many places.
+    /// sent away; where no seat is free, after a moment and unless a guest is leaving, the last of a name that has too
+    /// many seats.
     pub fn finds_room<Rt: Wait>(&self, rt: &Rt, now: Instant, waited: Duration) -> bool {
         let mut guests = self.guests.lock(rt);
         if self.let_stranger_go_if_full(rt, &mut guests, now) {

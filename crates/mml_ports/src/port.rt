@@ -140,9 +140,9 @@ impl<'a, Rt: Clock + Wait + Eprint> Port<'a, Rt> {
         }
     }
 
-    // Gives one of those who wait, to be served, if there is a place. Else none: a guest who has to leave is sent away,
+    // Gives one of those who wait, to be served, if there is a seat. Else none: a guest who has to leave is sent away,
     // and the first who waits is turned away once it has waited for half a second. The crowd is told whether a newcomer
-    // waits for a place. None too where nobody waits, or, with nothing else done, where the clock fails.
+    // waits for a seat. None too where nobody waits, or, with nothing else done, where the clock fails.
     fn let_in(&mut self) -> Option<Brought<'a, Rt>> {
         let Some(first) = self.waiting.front() else {
             self.crowd.note_wanted(false);

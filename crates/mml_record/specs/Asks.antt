@@ -69,7 +69,7 @@ line_of (Err fault) = lines.Malformed
 abbrev pub unended : List ℕ → List ℕ
 unended out = take (length out - 1) out
 
--- the first byte of the rest, if there is one, less that of 0: the digit, where it is one
+-- the first byte of the rest, if there is one, less the byte of `0`: the value of a digit
 abbrev pub digit_first : Option (List ℕ) → Option ℕ
 digit_first rest = do
   bytes ← rest
@@ -80,7 +80,7 @@ digit_first rest = do
 unfoldable pub clause_first : List ℕ → Option ℕ
 clause_first members = if is_word (codes "\"clause\"") (split_at_byte 58 members).0 then digit_first (split_at_byte 58 members).1 else None
 
--- the number of a clause, where the member `clause` is the second of the members of a reply
+-- the number of a clause, where the member `clause` stands behind the first comma of the members of a reply
 unfoldable pub clause_second : List ℕ → Option ℕ
 clause_second members = do
   rest ← (split_at_byte 44 members).1

@@ -57,7 +57,8 @@ fn line_of_request(request: &Request) -> Line
     }
 }
 
-// The first of the bytes, less the byte `0`: the digit, where it is one. None where there is no byte.
+// The value of the digit that `rest` begins with; of another byte, how far it is above the byte `0`, or 0. None where
+// there is no `rest`, or it is empty.
 fn digit_first(rest: Option<&[u8]>) -> Option<u8>
     ensures { result ≡ digit_first (seen rest.entry) }
 {
@@ -66,7 +67,8 @@ fn digit_first(rest: Option<&[u8]>) -> Option<u8>
     Some(digit.saturating_sub(b'0'))
 }
 
-// The number of a clause, where the member `clause` is the first of the members of a reply; none where it isn't.
+// The number of a clause, where the members of a reply, its text behind the `{`, begin with the member `clause`; none
+// where they begin otherwise, or it has no value.
 #[tactic(auto, unfolding(crate::specs::Asks::clause_first))]
 fn clause_first(members: &[u8]) -> Option<u8>
     ensures { result ≡ clause_first members.now }
@@ -79,7 +81,8 @@ fn clause_first(members: &[u8]) -> Option<u8>
     }
 }
 
-// The number of a clause, where the member `clause` is the second of the members of a reply; none where it isn't.
+// The number of a clause, where the member `clause` stands behind the first comma of the members of a reply, its text
+// behind the `{`; none where it doesn't, or has no value.
 #[tactic(auto, unfolding(crate::specs::Asks::clause_second))]
 fn clause_second(members: &[u8]) -> Option<u8>
     ensures { result ≡ clause_second members.now }
@@ -138,7 +141,7 @@ fn known_by(known: Option<Who>, greeting: Greeting) -> Option<Who>
 }
 
 // What the tally takes the line for (a move, something else, or no request), and who is known behind it, where `known`
-// was known before it.
+// was known before it. An error means that memory was refused.
 fn told_by(
     alloc: Global,
     roster: &Roster,
@@ -181,8 +184,8 @@ fn student_of(known: Option<Who>) -> Option<Student>
     }
 }
 
-// What a line asked that was answered by this text, and who is known behind it: whoever was known before it, where the
-// text says that memory was refused.
+// What a line asked that was answered by this text, and who is known behind it: where the text says that memory was
+// refused, whoever was known before it. An error means that memory was refused to this call.
 #[tactic(auto, unfolding(crate::specs::Asks::known_after))]
 fn ask_of(
     alloc: Global,
@@ -212,7 +215,7 @@ fn ask_of(
 }
 
 // Puts what an entry's line asked behind `asks`, and gives who is known behind the entry; an entry that has no line
-// asks nothing, and nobody is known behind it.
+// asks nothing, and nobody is known behind it. An error means that memory was refused to this call.
 fn read_ask(
     alloc: Global,
     lab: &Lab,
@@ -237,8 +240,10 @@ fn read_ask(
     }
 }
 
-/// Puts what the lines of the seat with this number asked, and which clause denied each, behind `asks`. The text is
-/// that of a record, beside the list of events of a journal of the lab; of another text nothing is said.
+/// Puts behind `asks` what each line of the seat with this number asked, which student was known then, if one was, and
+/// which clause denied it, if one did. The text is that of a record beside the events of a journal of the lab: `events`
+/// is for the contract alone. Any other text is read up to the first bytes that are no entry. An error means that
+/// memory was refused.
 pub fn read_asks(
     alloc: Global,
     lab: &Lab,
@@ -252,6 +257,7 @@ pub fn read_asks(
         text.now ≡ record_text number es →
         asks.new.items ≡ asks.old.items ++ asks_in lab.now.roster es) }
 {
+    // By what these readers ensure, the lab is lawful, and the number of events is one of 64 bits.
     let _nodes = lab.node_count();
     let _count = events.len();
     let mut known = None;

@@ -1,6 +1,6 @@
 //! How much of what is said is recorded.
 
-/// What says how much may be recorded, by who says it. A session goes on whether or not it is recorded.
+/// What limits how much may be recorded of whoever is known in a seat. A session goes on whether or not it is recorded.
 pub trait Budget {
     /// Takes note that a line was answered with this reply: one that grants a hello tells who is known from then on.
     fn hear(&mut self, reply: &[u8]);

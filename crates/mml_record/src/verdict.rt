@@ -4,9 +4,9 @@ use mml_tally::Findings;
 /// What a text is found to be.
 #[derive(Clone, Copy, Debug, PartialEq, Eq, Drop)]
 pub enum Verdict {
-    /// A record.
+    /// A record, which comes to these findings.
     Passed(Findings),
-    /// None.
+    /// No record, because of this entry.
     Refused(BadEntry),
 }
 
@@ -17,7 +17,7 @@ pub struct BadEntry {
     pub front: u64,
     /// The number of its line, from 1.
     pub line: u64,
-    /// At how many events it says that it was judged; 0 where it tells nothing.
+    /// How many events it says had been seen; 0 where no entry can be read.
     pub place: u64,
     pub why: Why,
 }
@@ -27,16 +27,16 @@ pub struct BadEntry {
 pub enum Why {
     /// The text breaks off within it.
     Torn,
-    /// It is spelled otherwise.
+    /// It isn't spelled as an entry, or is of another seat.
     NoEntry,
-    /// Fewer events had been seen than before.
+    /// It says that fewer events had been seen than the entries before it lead to.
     GoesBack,
-    /// More events had been seen than the journal has.
+    /// It says that more events had been seen than the journal has.
     PastEnd,
     /// Something is said after a bye, or after a mark that the rest of the session isn't recorded.
     NoEnd,
     /// The reply tells of an event that the rules grant there, and that isn't the next of the journal.
     OtherEvent,
-    /// The rules answer otherwise there.
+    /// The rules answer otherwise there, or the line is longer than a request may be.
     OtherReply,
 }

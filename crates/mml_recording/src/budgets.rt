@@ -6,8 +6,8 @@ use std::alloc::Global;
 use std::sync::Arc;
 use std::sync::atomic::{AtomicU64, Ordering};
 
-/// How many bytes of entries each account has in the files of all seats, and all together have who aren't
-/// known.
+/// How many bytes of entries may be put of each account while a class runs, in the files of all seats, and how many of
+/// all together who aren't known.
 pub const BUDGET: u64 = 8 << 20;
 
 // How many bytes more there may be of the ends of sessions.
@@ -31,7 +31,8 @@ pub struct Budgets {
 }
 
 impl Budgets {
-    /// The budgets of a class of the lab, where nothing was put yet of any account.
+    /// The budgets of a class of the lab, where nothing was put yet of any account. An error means that memory was
+    /// refused.
     pub fn new(alloc: Global, lab: &Lab) -> Result<Budgets, FileFault> {
         let roster = lab.roster();
         let mut accounts = Vec::new(alloc);
@@ -67,7 +68,7 @@ impl Budgets {
     }
 }
 
-// An account with this name, of which nothing was put yet.
+// An account with this name, of which nothing was put yet. An error means that memory was refused.
 fn new_account(alloc: Global, name: &str) -> Result<Spending, FileFault> {
     Ok(Spending {
         name: String::from_str(alloc, name)?,
@@ -91,8 +92,8 @@ impl SeatBudget {
         }
     }
 
-    // Charges whoever is known, or else all together who aren't, with this many `bytes`, unless more than `most` were
-    // put of that account then. Whether it did.
+    // Charges whoever is known, or else all together who aren't, with this many `bytes`, unless more than `most` would
+    // then be put of that account. False where more would, and nothing is charged.
     fn charge(&self, bytes: u64, most: u64) -> bool {
         let spent = self.budgets.spent_by(self.account);
         spent

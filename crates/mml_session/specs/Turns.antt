@@ -45,8 +45,8 @@ entered l (Some e) = l ++ e ∷ []
 abbrev pub places_in : Reply → List ℕ
 places_in r = as_list (place_in r)
 
--- which refusals may stand instead of a ruling: `memory` in that of a look or a report, which have lists, and in
--- that of a grant `memory` or `journal`, whichever cause the window keeps; none in that of any other
+-- which refusals may be told instead of a ruling: `memory` instead of a look or a report, which have lists; `memory` or
+-- `journal` instead of a grant, whichever cause the window keeps; none instead of any other ruling
 abbrev pub MayRefuse : Ruling → Refused → Option Refusal → Type 0
 MayRefuse (Looked l) refused.Memory kept = Unit {0}
 MayRefuse Reported refused.Memory kept = Unit {0}

@@ -9,6 +9,7 @@ use Rattle.mml_window.specs.declared.published.Common.{Common}
 abbrev pub common : World → ℕ → List Event → Common
 common board limit events = record { board = board; limit = limit; events = events }
 
--- the event behind the others, where there is room and it may happen, else nothing
+-- the copy after the event, which stands behind the others; the copy as it was where there is no room or the event may
+-- not happen
 abbrev pub absorbs : Common → Event → Common
 absorbs s e = if (nat_lt (length s.events) s.limit && can_absorb s.board e) then common (after s.board e) s.limit (s.events ++ e ∷ []) else s

@@ -5,7 +5,7 @@ use Rattle.mml_lab.specs.Labs.{LabValue}
 use Rattle.mml_lab.specs.Rosters.{no_account}
 use Rattle.mml_board.specs.declared.event.Event.{Event}
 
--- a name, and a lab
+-- a house: its name and its lab
 pub record HouseValue : Type 0 where
   pub name : Ptr
   pub lab : LabValue
@@ -14,7 +14,7 @@ pub record HouseValue : Type 0 where
 abbrev pub house_of : Ptr → LabValue → HouseValue
 house_of name lab = record { name = name; lab = lab }
 
--- a house that goes on: the events that came before it was opened
+-- a house that goes on: its name, its lab, and the events that came before it was opened
 pub record ResumedValue : Type 0 where
   pub name : Ptr
   pub lab : LabValue

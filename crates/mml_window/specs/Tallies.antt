@@ -7,7 +7,7 @@ abbrev pub times : ℕ → List ℕ → ℕ
 times p [] = 0
 times p (q ∷ qs) = if p == q then suc (times p qs) else times p qs
 
--- once for what is above first and at most n, else never
+-- 1 for a number above first and at most n, else 0
 abbrev pub once_from : ℕ → ℕ → ℕ → ℕ
 once_from first n p = if (nat_lt first p && nat_le p n) then 1 else 0
 

@@ -21,7 +21,7 @@ window_with seen places refused = record { seen = seen; places = places; refused
 abbrev pub window : List Event → List ℕ → WindowValue
 window seen places = window_with seen places None
 
--- these events it has seen, and these places it was granted
+-- the window has seen these events, and was granted these places
 abbrev pub HasSeen : List Event → List ℕ → WindowValue → Type 0
 HasSeen seen places w = (w.seen ≡ seen) × (w.places ≡ places)
 

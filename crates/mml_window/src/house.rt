@@ -5,15 +5,15 @@ use left_right::writer::Writer;
 use mml_board::Event;
 pub use std::marker::Brand;
 
-/// Names one house, for contracts alone: a type of it ties a desk, its book and its windows.
+/// Names one house, for contracts alone: a type that implements it ties a desk, its book and its windows.
 pub trait House {
     ghost use denote.RawPtr.{Ptr};
     ghost use Rattle.mml_lab.specs.Labs.{LabValue};
 
-    // What no other house has while it stands.
+    // A name that no other house has while the house stands.
     ghost name: { Ptr };
 
-    // Its identifiers, roster, links and registers at the beginning, and limits.
+    // The lab of the house: identifiers, roster, links and registers at the beginning, and limits.
     ghost lab: { LabValue };
 }
 

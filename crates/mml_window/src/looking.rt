@@ -70,7 +70,8 @@ pub(crate) fn enter<H: House>(reader: &mut Option<Reader<H>>) -> Option<Entered<
     }
 }
 
-/// Lets a reader leave what it has entered, and so has seen whole: it comes back with how many events that has.
+/// Lets a reader leave what it has entered, and gives the reader back: it has seen all events of that, and has their
+/// count.
 pub(crate) fn leave<H: House>(reading: Entered<H>) -> Reader<H>
     requires { view reading.place ≡ viewer reading.part.value.events.items }
     ensures { result ≡ view reading.place }
@@ -82,8 +83,9 @@ pub(crate) fn leave<H: House>(reading: Entered<H>) -> Reader<H>
     }
 }
 
-/// Lets a reader look until it finds what is sought, with a slot of its own where it had none. While `press` is lent
-/// nothing is published, so the first look finds it; that it does is what `is_sought` shows.
+/// Lets a reader look until `is_sought` says that it sees what is sought; where there is no reader, one is made first,
+/// as soon as a slot is free. While `press` is lent nothing is published, so where what is sought is what `press`
+/// shows, the first look finds it.
 pub(crate) fn look_for<H: House, R: Wait, F: Fn(&Published) -> bool>(
     rt: &R,
     press: &Press<H>,

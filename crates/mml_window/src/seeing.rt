@@ -24,7 +24,8 @@ impl<H: House> Protocol<Published, View> for Publishing<H> {
     ghost first = { nothing_seen };
 }
 
-/// The writer publishes, or a reader enters: a list that begins with all that it had seen.
+/// What a publishing or an entering leads to: the writer, or the reader, sees a list that begins with all that it had
+/// seen.
 pub struct Seeing<H: House> {
     of: PhantomData<H>,
 }

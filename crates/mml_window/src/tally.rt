@@ -7,7 +7,8 @@ ghost use Rattle.mml_window.specs.inside.Cursors.{left_of, IsStuck};
 use crate::house::House;
 use crate::window::Window;
 
-/// For each window, how many of its places were counted off.
+/// For each window, how many of its places were counted off. There are at most 16 windows, as many as a lab may have
+/// sessions.
 type Cursors = [usize; 16];
 
 /// How many places the windows have in all.

@@ -29,8 +29,8 @@ use std::alloc::Global;
 use std::marker::{Model, PhantomData};
 use std::sync::{Arc, Wait};
 
-/// A reader of what a house publishes, with the places that its asker was granted. No public call of it takes the
-/// runtime, so none of these can wait for the lock.
+/// A reader of what a house publishes, with the places that its asker was granted. No public call of a window takes the
+/// runtime, so none of its public calls can wait for the lock.
 #[derive(Drop)]
 pub struct Window<H: House> {
     // None while a call of this crate is at work, and where there was no reader's slot at the start:
@@ -93,7 +93,7 @@ impl<H: House> Window<H> {
         }
     }
 
-    /// Why its last act was refused, if it was.
+    /// Why the window's last act was refused; none where it was granted or denied, and before any act.
     pub fn refused(&self) -> Option<Refusal>
         ensures { result ≡ self.now.refused }
     {
