@@ -88,7 +88,7 @@ pub fn moves_are_reached()
 /// to a higher one. A student who owns each node has a legal list of grants and closes that applies one move less
 /// than 3 for each node and 2 for each link, and two less where the number of nodes is odd. That no tree takes
 /// more isn't stated.
-pub fn trees_reach_their_moves()
+pub fn a_comb_takes_nearly_the_most_moves()
     ensures world { (n : ℕ) → 4 ≤ n → n ≤ MAX_NODES →
         IsWorld (comb_world n) × (size (comb_world n) ≡ n) }
     ensures tree { (n : ℕ) → 4 ≤ n → n ≤ MAX_NODES →

@@ -10,7 +10,7 @@ use mml_policy::{Asked, Command};
 pub const ACTS: u64 = 10;
 
 /// The command of a move by this rule, of the node with this identifier, in the configuration with the number `at`.
-fn play(node: u64, rule: Asked, at: u64) -> Command
+fn move_by(node: u64, rule: Asked, at: u64) -> Command
     ensures { is_act result ≡ true }
 {
     Command::Move { node, rule, at }
@@ -22,12 +22,12 @@ pub fn act(place: u64) -> Command
     ensures { is_act result ≡ true }
 {
     match place {
-        1 => play(1, Asked::Seduction, 0),
-        2 => play(2, Asked::Seduction, 0),
-        4 => play(3, Asked::Marriage(2), 1),
-        6 => play(2, Asked::Update, 2),
-        7 => play(3, Asked::Update, 2),
-        9 => play(1, Asked::Abandonment, 3),
+        1 => move_by(1, Asked::Seduction, 0),
+        2 => move_by(2, Asked::Seduction, 0),
+        4 => move_by(3, Asked::Marriage(2), 1),
+        6 => move_by(2, Asked::Update, 2),
+        7 => move_by(3, Asked::Update, 2),
+        9 => move_by(1, Asked::Abandonment, 3),
         _ => Command::Close,
     }
 }

@@ -10,7 +10,7 @@ use mml_hosting::{Recorders, no_recorders};
 use mml_journal::{FileSink, NullSink};
 use mml_lab::Lab;
 use mml_ports::Ports;
-use mml_program::or_memory;
+use mml_program::memory_if_lacked;
 use mml_recording::{RecordFolder, RecordState, Seats, end_syncing, sync_until_done};
 use mml_session::Recorder;
 use std::fs::File;
@@ -136,7 +136,7 @@ fn serve_ports<
     let mut writer = Retrying::new(io::writer(rt));
     match serve_journaled(rt, class, recorders, &mut writer) {
         Ok(()) => Ok(()),
-        Err(fault) => Err(or_memory(fault, writer.lacked_memory)),
+        Err(fault) => Err(memory_if_lacked(fault, writer.lacked_memory)),
     }
 }
 

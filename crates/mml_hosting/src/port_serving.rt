@@ -52,7 +52,7 @@ struct Busy<
 > {
     number: u8,
     // What ends the connection from this thread.
-    line: U,
+    cut_off: U,
     handle: PromisedHandle<Seat<H, K, C>, SeatPledge<H, K, C, R, W>>,
 }
 
@@ -90,10 +90,10 @@ impl<
     {
         let Busy {
             number: _,
-            line,
+            cut_off,
             handle,
         } = busy.swap_remove(index);
-        drop(line);
+        drop(cut_off);
         let seat = handle.join(rt);
         seat
     }
@@ -151,7 +151,7 @@ fn next_free<H: Begun, K: Keep<R, W> + Drop, C: Recorder + Drop, R: Read + Drop,
     ensures capacity { vec_capacity free.new ≡ vec_capacity free.old }
 {
     let mut seat = free.pop()?;
-    if !is_made_ready(&mut seat) {
+    if !make_ready(&mut seat) {
         free.push_reserved(seat);
         return None;
     }
@@ -160,13 +160,9 @@ fn next_free<H: Begun, K: Keep<R, W> + Drop, C: Recorder + Drop, R: Read + Drop,
 
 // Takes room in the seat for what is kept of one session more, and tells whether that session may be served there:
 // false where the seat is dismissed, for which no room is taken, or where memory for the room is refused.
-fn is_made_ready<
-    H: Begun,
-    K: Keep<R, W> + Drop,
-    C: Recorder + Drop,
-    R: Read + Drop,
-    W: Write + Drop,
->(seat: &mut Seat<H, K, C>) -> bool
+fn make_ready<H: Begun, K: Keep<R, W> + Drop, C: Recorder + Drop, R: Read + Drop, W: Write + Drop>(
+    seat: &mut Seat<H, K, C>,
+) -> bool
     requires seat { IsSeat (terms H.lab H.begun H.given R.remaining W.contents C.kept K.shows) seat.old }
     ensures seat { IsSeat (terms H.lab H.begun H.given R.remaining W.contents C.kept K.shows) seat.new }
     ensures came { came_to K.shows seat.new.record ≡ came_to K.shows seat.old.record }
@@ -194,7 +190,7 @@ fn cut_off_all<
     U: CutOff + Drop,
 >(busy: &Vec<Busy<H, K, C, R, W, U>>) {
     for index in 0..busy.len() {
-        busy[index].line.cut_off();
+        busy[index].cut_off.cut_off();
     }
 }
 
@@ -232,7 +228,7 @@ impl<
 > Shared<'s, Rt, S, H, G, B> {
     // Serves a connection in a seat, in a thread of its own, whose handle is given; when the session has ended the bell
     // is rung. Where no thread can be made, the error is the seat, in which the connection was served at once. One that
-    // isn't at the desk is ended by `line` before that, so that who comes later needn't wait for it.
+    // isn't at the desk is ended by `cut_off` before that, so that who comes later needn't wait for it.
     fn serve_apart<
         E,
         K: Keep<R, W> + Send + Drop + 's,
@@ -245,7 +241,7 @@ impl<
         scope: &Scope<'s, E>,
         seat: Seat<H, K, C>,
         ends: (R, W),
-        line: &U,
+        cut_off: &U,
     ) -> Result<PromisedHandle<Seat<H, K, C>, SeatPledge<H, K, C, R, W>>, Seat<H, K, C>>
         requires { IsReady (terms H.lab H.begun H.given R.remaining W.contents C.kept K.shows) seat }
         ensures pledged { IfOk result (λ handle. (handle.promise.0.value ≡ seat)
@@ -276,7 +272,7 @@ impl<
             Ok(handle) => Ok(handle),
             Err(refused) => {
                 if !is_desk {
-                    line.cut_off();
+                    cut_off.cut_off();
                 }
                 Err((refused.value)())
             }
@@ -284,7 +280,7 @@ impl<
     }
 
     // Takes back the seats whose threads have come to their end, and serves a connection in a seat that is free then;
-    // it is turned away where none can serve it. `line` is what ends the connection from here.
+    // it is turned away where none can serve it. `cut_off` is what ends the connection from here.
     fn take_in<
         E,
         K: Keep<R, W> + Send + Drop + 's,
@@ -298,7 +294,7 @@ impl<
         free: &mut Vec<Seat<H, K, C>>,
         busy: &mut Vec<Busy<H, K, C, R, W, U>>,
         ends: (R, W),
-        line: U,
+        cut_off: U,
     )
         requires seats { All (IsSeat (terms H.lab H.begun H.given R.remaining W.contents C.kept K.shows)) free.old.items }
         requires room { vec_len free.old + vec_len busy.old ≤ vec_capacity free.old }
@@ -316,10 +312,10 @@ impl<
             return;
         };
         let number = seat.record.number;
-        match self.serve_apart(scope, seat, ends, &line) {
+        match self.serve_apart(scope, seat, ends, &cut_off) {
             Ok(handle) => busy.push_reserved(Busy {
                 number,
-                line,
+                cut_off,
                 handle,
             }),
             Err(seat) => free.push_reserved(seat),
@@ -353,7 +349,9 @@ impl<
         free.reserve(0)?;
         for _ in self.rt.forever() {
             match arrivals.accept_next() {
-                Accepted::Came(ends, line) => self.take_in(scope, &mut free, &mut busy, ends, line),
+                Accepted::Came(ends, cut_off) => self.take_in(
+                    scope, &mut free, &mut busy, ends, cut_off,
+                ),
                 Accepted::Nobody => Busy::gather(self.rt, &mut free, &mut busy, Some(self.marks)),
                 Accepted::Over => break,
             }

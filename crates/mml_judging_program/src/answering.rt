@@ -2,7 +2,7 @@
 use crate::fault::Fault;
 use mml_ends::Retrying;
 use mml_journal::NullSink;
-use mml_program::{answer_script, lab_of, or_memory};
+use mml_program::{answer_script, lab_of, memory_if_lacked};
 use std::io;
 use std::rt::Files;
 
@@ -15,7 +15,7 @@ pub fn answer<R: Files + Input + Print + AllocGlobal>(rt: &R, lab: &str) -> Resu
     let mut writer = Retrying::new(io::writer(rt));
     match answer_script(rt.alloc(), lab, &mut reader, &mut writer, NullSink::new()) {
         Ok(_) => Ok(()),
-        Err(fault) => Err(Fault::from(or_memory(
+        Err(fault) => Err(Fault::from(memory_if_lacked(
             fault,
             reader.lacked_memory || writer.lacked_memory,
         ))),

@@ -13,7 +13,7 @@ use mml_audit::{Audited, audit_events};
 use mml_board::{Board, Event};
 use mml_ends::Retrying;
 use mml_lab::Lab;
-use mml_program::{Fault as ProgramFault, lab_of, or_memory, read_journal};
+use mml_program::{Fault as ProgramFault, lab_of, memory_if_lacked, read_journal};
 use mml_record::{Verdict, read_asks, read_record};
 use mml_tally::{Ask, Findings, put_recorded_tally};
 use std::alloc::Global;
@@ -46,7 +46,7 @@ pub fn tally_recorded<R: Files<File = File> + Print + AllocGlobal>(
         &mut writer,
     ) {
         Ok(()) => Ok(()),
-        Err(fault) => Err(or_memory(Fault::from(fault), writer.lacked_memory)),
+        Err(fault) => Err(memory_if_lacked(Fault::from(fault), writer.lacked_memory)),
     }
 }
 

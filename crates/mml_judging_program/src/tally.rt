@@ -7,7 +7,7 @@ use crate::words::TallyTask;
 use mml_audit::audit_events;
 use mml_ends::Retrying;
 use mml_lab::Lab;
-use mml_program::{Fault as ProgramFault, lab_of, memory_or, or_memory, read_journal};
+use mml_program::{Fault as ProgramFault, lab_of, memory_if_lacked, memory_or, read_journal};
 use mml_tally::put_tally;
 use std::alloc::Global;
 use std::io;
@@ -25,7 +25,7 @@ pub fn tally<R: Files + Print + AllocGlobal>(
     let mut writer = Retrying::new(io::writer(rt));
     match write_tally(rt.alloc(), &lab, journal.as_slice(), &mut writer) {
         Ok(()) => Ok(()),
-        Err(fault) => Err(or_memory(fault, writer.lacked_memory)),
+        Err(fault) => Err(memory_if_lacked(fault, writer.lacked_memory)),
     }
 }
 

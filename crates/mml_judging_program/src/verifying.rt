@@ -16,7 +16,7 @@ use mml_ids::Piece;
 use mml_lab::Lab;
 use mml_lines::{WholeFault, read_whole};
 use mml_program::{
-    Fault as ProgramFault, lab_of, memory_or, or_memory, read_journal, write_pieces,
+    Fault as ProgramFault, lab_of, memory_if_lacked, memory_or, read_journal, write_pieces,
 };
 use mml_record::{PieceFault, Verdict, read_record_from};
 use mml_tally::Findings;
@@ -45,7 +45,7 @@ pub fn verify<R: Files<File = File> + Print + AllocGlobal>(
     let mut writer = Retrying::new(io::writer(rt));
     match write_verified(rt.alloc(), found, events.len() as u64, &mut writer) {
         Ok(()) => Ok(()),
-        Err(fault) => Err(or_memory(Fault::from(fault), writer.lacked_memory)),
+        Err(fault) => Err(memory_if_lacked(Fault::from(fault), writer.lacked_memory)),
     }
 }
 

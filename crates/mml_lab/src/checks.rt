@@ -16,7 +16,7 @@ ghost use Rattle.mml_lab.specs.inside.ChecksView.{checked_view, found_view};
 use crate::accounts::first_malformed;
 use crate::lab_fault::{Key, LabFault};
 use crate::links::neighbours;
-use crate::raw_lab::{Account, RawLimits, RawLab, RawNode};
+use crate::raw_lab::{Account, RawLab, RawLimits, RawNode};
 use crate::roster::students_map;
 use crate::{MAX_EVENTS, MAX_SESSIONS, MAX_STUDENTS};
 use indexmap::IndexMap;

@@ -41,7 +41,7 @@ pub struct SocketReader<'a, Rt> {
     // How the first line begins.
     first: FirstLine,
     // Whether the first line was read to its end.
-    is_first_read: bool,
+    is_first_line_read: bool,
     // How many bytes of the line that is being read have come.
     size: usize,
     // How long the socket lets a read wait.
@@ -66,7 +66,7 @@ impl<'a, Rt: Clock + Wait> SocketReader<'a, Rt> {
             patience,
             has_greeted: false,
             first: FirstLine::Awaited,
-            is_first_read: false,
+            is_first_line_read: false,
             size: 0,
             limit: None,
         }))
@@ -164,7 +164,7 @@ impl<'a, Rt: Clock + Wait> SocketReader<'a, Rt> {
 
     // Takes note of a byte, if it is one of the first line: how that begins, and whether it is read to its end.
     fn note_first_line(&mut self, byte: u8) {
-        if self.is_first_read {
+        if self.is_first_line_read {
             return;
         }
         match (self.first, byte) {
@@ -174,7 +174,7 @@ impl<'a, Rt: Clock + Wait> SocketReader<'a, Rt> {
             _ => {}
         }
         if byte == b'\n' {
-            self.is_first_read = true;
+            self.is_first_line_read = true;
         }
     }
 }
@@ -186,7 +186,7 @@ impl<'a, Rt: Clock + Wait> Read for SocketReader<'a, Rt> {
         let socket = &self.connection.socket;
         socket.is_served.store(true, Ordering::SeqCst);
         // Nothing more is read where the first line, which was answered, was no JSON object.
-        if socket.is_done() || self.is_first_read && self.first == FirstLine::Other {
+        if socket.is_done() || self.is_first_line_read && self.first == FirstLine::Other {
             return Ok(0);
         }
         if !self.has_greeted && socket.is_greeted.load(Ordering::SeqCst) {

@@ -16,14 +16,14 @@ abbrev pub lab_line : LabValue → List ℕ
 lab_line lab = size_line (length lab.ids) (link_count lab.network) (length lab.roster.students)
 
 -- the end of a line, which says whether no node is privileged
-abbrev pub standing : Bool → List ℕ
-standing true = codes ", stable\n"
-standing false = codes ", not stable\n"
+abbrev pub stability_text : Bool → List ℕ
+stability_text true = codes ", stable\n"
+stability_text false = codes ", not stable\n"
 
 -- the line that says how many events there were, the number of the configuration, and whether it is stable
 abbrev pub world_line : World → List ℕ
 world_line w =
-    concat (codes "ok: " ∷ decimal w.place ∷ codes " events, configuration " ∷ decimal w.number ∷ standing (privileged_count (configuration w) == 0) ∷ [])
+    concat (codes "ok: " ∷ decimal w.place ∷ codes " events, configuration " ∷ decimal w.number ∷ stability_text (privileged_count (configuration w) == 0) ∷ [])
 
 -- the bytes pass the audit, and what was printed tells the world that they lead to
 pub record TellsAudited (lab : LabValue) (bytes : List ℕ) (wrote wrote' : Option (List ℕ)) : Type 0 where

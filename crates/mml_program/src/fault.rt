@@ -87,7 +87,7 @@ impl Fault {
 
 /// The error of what was done with a reader or a writer: out of memory where that `lacked` memory, whatever the
 /// fault was told as, and else the fault.
-pub fn or_memory<F: From<Fault> + Drop>(fault: F, lacked: bool) -> F
+pub fn memory_if_lacked<F: From<Fault> + Drop>(fault: F, lacked: bool) -> F
     ensures memory { lacked ≡ true → F.from_gives Memory result }
     ensures other { lacked ≡ false → result ≡ fault }
 {

@@ -10,7 +10,7 @@ mod task;
 mod words;
 
 pub use built_in::BUILT_IN;
-pub use fault::{Fault, memory_or, or_memory};
+pub use fault::{Fault, memory_if_lacked, memory_or};
 pub use files::{
     MAX_FILE, MAX_JOURNAL, begin_journal, begin_journal_with, read_file, read_journal,
 };

@@ -3,7 +3,7 @@ ghost use Rattle.std.specs.Prelude.{◌<◌, ◌≤◌, ◌-◌, ◌^◌};
 ghost use Rattle.mml_journal.specs.Taken.{IsFresh};
 
 use crate::built_in::BUILT_IN;
-use crate::fault::{Fault, memory_or, or_memory};
+use crate::fault::{Fault, memory_if_lacked, memory_or};
 use crate::files::{begin_journal_with, read_file, read_journal};
 use crate::script_answering::{answer_script, write_audit, write_size};
 use crate::words::{ScriptTask, ServeTask, Task, read_words};
@@ -61,7 +61,7 @@ fn answer_input<R: Input + Print + AllocGlobal>(rt: &R) -> Result<(), Fault> {
     let mut writer = Retrying::new(io::writer(rt));
     match answer_script(alloc, lab, &mut reader, &mut writer, NullSink::new()) {
         Ok(_) => Ok(()),
-        Err(fault) => Err(or_memory(fault, reader.lacked_memory || writer.lacked_memory)),
+        Err(fault) => Err(memory_if_lacked(fault, reader.lacked_memory || writer.lacked_memory)),
     }
 }
 
@@ -99,7 +99,7 @@ fn answer_lines<R: Print + AllocGlobal, S: Sink + Drop>(
     let mut writer = Retrying::new(io::writer(rt));
     match answer_script(rt.alloc(), lab, &mut script, &mut writer, sink) {
         Ok(hall) => end_of_script(&hall),
-        Err(fault) => Err(or_memory(fault, writer.lacked_memory)),
+        Err(fault) => Err(memory_if_lacked(fault, writer.lacked_memory)),
     }
 }
 
@@ -188,7 +188,7 @@ fn serve_listener<
     let mut writer = Retrying::new(io::writer(rt));
     match serve_lines(rt, lab, service, sink, &mut writer) {
         Ok(()) => Ok(()),
-        Err(fault) => Err(or_memory(Fault::from(fault), writer.lacked_memory)),
+        Err(fault) => Err(memory_if_lacked(Fault::from(fault), writer.lacked_memory)),
     }
 }
 

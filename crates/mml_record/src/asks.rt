@@ -142,7 +142,7 @@ fn known_by(known: Option<Who>, greeting: Greeting) -> Option<Who>
 
 // What the tally takes the line for (a move, something else, or no request), and who is known behind it, where `known`
 // was known before it. An error means that memory was refused.
-fn told_by(
+fn line_and_known(
     alloc: Global,
     roster: &Roster,
     known: Option<Who>,
@@ -201,7 +201,7 @@ fn ask_of(
 {
     let known = &known;
     let denied = clause_told(text);
-    let (line, then) = told_by(alloc, roster, *known, line)?;
+    let (line, then) = line_and_known(alloc, roster, *known, line)?;
     let ask = Ask {
         who: student_of(*known),
         line,

@@ -82,7 +82,7 @@ pub(crate) fn serve_all<
                         requires { seat.window ≡ window [] [] }
                         ensures { IsServed H.lab R.remaining W.contents seat.connection
                             result.1 result.0 }
-                    { serve_apart(rt, alloc, desk, seat, gate) },
+                    { serve_seated(rt, alloc, desk, seat, gate) },
                 ) {
                     Ok(handle) => handles.push_reserved(handle),
                     Err(_) => return Err(SeatingFault::Memory),
@@ -162,7 +162,7 @@ fn accept_fault(kind: ErrorKind) -> SeatingFault
 // Serves the connection of a seat, hangs up and lets go of it, so that neither the other side nor the system waits
 // until other connections have ended. Gives the seat's window, and how the session ended with what is left of the
 // connection.
-fn serve_apart<Rt: Wait, S: Sink + Drop, H: House, R: LetGo + Drop, W: HangUp + Drop, G: Gate>(
+fn serve_seated<Rt: Wait, S: Sink + Drop, H: House, R: LetGo + Drop, W: HangUp + Drop, G: Gate>(
     rt: &Rt,
     alloc: Global,
     desk: &Desk<S, H>,

@@ -10,8 +10,8 @@ use Rattle.mml_codec.specs.declared.TheConstants.{MAX_REQUEST}
 use Rattle.mml_codec.specs.declared.reply.Reply.{Reply}
 use Rattle.mml_codec.specs.declared.reply.Reply.TheVariants as replies
 use Rattle.mml_window.specs.declared.sight.Closed.{Closed}
-use Rattle.mml_session.specs.declared.session.Said.{Said}
-use Rattle.mml_session.specs.declared.session.Said.TheVariants as says
+use Rattle.mml_session.specs.declared.session.Sent.{Sent}
+use Rattle.mml_session.specs.declared.session.Sent.TheVariants as says
 use Rattle.mml_session.specs.Turns.{Standing, is_bye}
 use Rattle.mml_session.specs.Records.{Kept}
 use Rattle.mml_session.specs.Serving.{SendsReply, ServesLine, ServesNext, next_after}
@@ -27,7 +27,7 @@ bye_is _ is = absurd (true≢false (sym is))
 module _ (number : ℕ) (lab : LabValue) (st after : Standing) (a left c d : Option (List ℕ)) (rec rec' : Option Kept) (held line unsent unsent' : List ℕ)
     (taken : Consumes a (prepend_known held left) (ended line)) (short : IsWithinLimit MAX_REQUEST line) (few : length held < READ_SIZE)
     (ahead : unsent ≢ [] → length (ended line ++ held) < READ_SIZE) where
-  pub serves_next : (came : Result Said Closed) → ServesLine came number lab st after line unsent unsent' c d rec rec'
+  pub serves_next : (came : Result Sent Closed) → ServesLine came number lab st after line unsent unsent' c d rec rec'
       → ServesNext (next_after came) number lab st after a held left unsent unsent' c d rec rec'
   serves_next (Ok says.Told) had = (had.0, had.2.0, taken_by a (prepend_known held left) line had.0.line taken had.1, had.2.1, had.3)
   serves_next (Ok says.Bye) had =
@@ -44,12 +44,12 @@ unread_before limit old new old_reads new_reads taken unread unsent out needed g
     let still : new_reads < old_reads + 1 = lt_of_not-le (λ read. some (out (needed (omega (arith, read))))) in omega (arith, grow, counted, few, still)
 
 -- a reply's line that stands behind what was held is sent with it
-pub sent_behind : (said : Said) (r : Reply) (unsent whole bytes unsent' : List ℕ) (wrote wrote' : Option (List ℕ)) → bytes ≡ unsent ++ whole
+pub sent_behind : (said : Sent) (r : Reply) (unsent whole bytes unsent' : List ℕ) (wrote wrote' : Option (List ℕ)) → bytes ≡ unsent ++ whole
     → SendsReply said r bytes [] unsent' wrote wrote' → SendsReply said r whole unsent unsent' wrote wrote'
 sent_behind said r unsent whole bytes unsent' wrote wrote' e h =
     behind said (subst (λ (t : List ℕ). SendsReply said r t [] unsent' wrote wrote') e h)
   where
-    behind : (said : Said) → SendsReply said r (unsent ++ whole) [] unsent' wrote wrote' → SendsReply said r whole unsent unsent' wrote wrote'
+    behind : (said : Sent) → SendsReply said r (unsent ++ whole) [] unsent' wrote wrote' → SendsReply said r whole unsent unsent' wrote wrote'
     behind says.Told h = h
     behind says.Bye h = h
     behind (says.Unwritten n) h = h

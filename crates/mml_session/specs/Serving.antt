@@ -13,8 +13,8 @@ use Rattle.mml_window.specs.declared.sight.Closed.{Closed}
 use Rattle.mml_session.specs.declared.session.SessionEnd.TheVariants as end
 use Rattle.mml_session.specs.declared.session.Next.{Next}
 use Rattle.mml_session.specs.declared.session.Next.TheVariants as next
-use Rattle.mml_session.specs.declared.session.Said.{Said}
-use Rattle.mml_session.specs.declared.session.Said.TheVariants as said
+use Rattle.mml_session.specs.declared.session.Sent.{Sent}
+use Rattle.mml_session.specs.declared.session.Sent.TheVariants as sent
 use Rattle.mml_session.specs.Turns.{Standing, is_bye}
 use Rattle.mml_session.specs.Talks.{LineTurn, line_read, line_written}
 use Rattle.mml_session.specs.Ends.{IsView}
@@ -23,20 +23,20 @@ use Rattle.mml_session.specs.Records.{Kept, Records, entry_for, line_entries}
 
 -- what was held and the line of a reply behind it are all held or all out; with a bye's they are out; where a write failed, a front is out,
 -- and nothing is held
-abbrev pub SendsReply : Said → Reply → List ℕ → List ℕ → List ℕ → Option (List ℕ) → Option (List ℕ) → Type 0
-SendsReply said.Told r whole unsent unsent' wrote wrote' = (is_bye r ≡ false) × IsHeldOrOut wrote wrote' (unsent ++ whole) unsent'
-SendsReply said.Bye r whole unsent unsent' wrote wrote' = (is_bye r ≡ true) × (unsent' ≡ []) × Appends wrote wrote' (unsent ++ whole)
-SendsReply (said.Unwritten n) r whole unsent unsent' wrote wrote' =
+abbrev pub SendsReply : Sent → Reply → List ℕ → List ℕ → List ℕ → Option (List ℕ) → Option (List ℕ) → Type 0
+SendsReply sent.Told r whole unsent unsent' wrote wrote' = (is_bye r ≡ false) × IsHeldOrOut wrote wrote' (unsent ++ whole) unsent'
+SendsReply sent.Bye r whole unsent unsent' wrote wrote' = (is_bye r ≡ true) × (unsent' ≡ []) × Appends wrote wrote' (unsent ++ whole)
+SendsReply (sent.Unwritten n) r whole unsent unsent' wrote wrote' =
     (n < length (unsent ++ whole)) × (unsent' ≡ []) × Appends wrote wrote' (take n (unsent ++ whole))
 
 -- the line of a reply, or of out of memory instead of one that isn't short, was sent and is recorded
-abbrev pub Tells : Said → ℕ → LabValue → ℕ → List ℕ → Reply → List ℕ → List ℕ → Option (List ℕ) → Option (List ℕ) → Option Kept → Option Kept → Type 0
+abbrev pub Tells : Sent → ℕ → LabValue → ℕ → List ℕ → Reply → List ℕ → List ℕ → Option (List ℕ) → Option (List ℕ) → Option Kept → Option Kept → Type 0
 Tells said number lab seen line r unsent unsent' wrote wrote' given given' =
     (told : Reply) × TellsFor r told × SendsReply said told (reply_line lab.ids lab.roster told) unsent unsent' wrote wrote'
     × Records number given given' (entry_for seen line told (reply_line lab.ids lab.roster told))
 
 -- the line had its turn, and its reply was sent, or it has no reply
-abbrev pub ServesLine : Result Said Closed → ℕ → LabValue → Standing → Standing → List ℕ → List ℕ → List ℕ → Option (List ℕ) → Option (List ℕ)
+abbrev pub ServesLine : Result Sent Closed → ℕ → LabValue → Standing → Standing → List ℕ → List ℕ → List ℕ → Option (List ℕ) → Option (List ℕ)
     → Option Kept → Option Kept → Type 0
 ServesLine (Ok said) number lab st after line unsent unsent' wrote wrote' given given' =
     (t : LineTurn lab st after) × (t.line ≡ line) × SendsReply said t.reply (line_written t) unsent unsent' wrote wrote'
@@ -46,10 +46,10 @@ ServesLine (Err closed) number lab st after line unsent unsent' wrote wrote' giv
 
 -- a session goes on where its reply is out or held and isn't that to a bye, and else has ended: by the bye, the write that failed, or the
 -- window that shows nothing any more
-abbrev pub next_after : Result Said Closed → Next
-next_after (Ok said.Told) = next.Served
-next_after (Ok said.Bye) = next.Ended end.Bye
-next_after (Ok (said.Unwritten n)) = next.Ended end.WriteFault
+abbrev pub next_after : Result Sent Closed → Next
+next_after (Ok sent.Told) = next.Served
+next_after (Ok sent.Bye) = next.Ended end.Bye
+next_after (Ok (sent.Unwritten n)) = next.Ended end.WriteFault
 next_after (Err closed) = next.Ended end.Closed
 
 -- what the outcome of the next line says of where the session stands, of the bytes to come, of which those held are

@@ -219,22 +219,22 @@ fn serve_next<Rt: Wait, S: Sink + Drop, H: House, R: Read, W: Write, G: Gate, K:
 
 // Does what follows from what came of a line: where its reply is out or held, counts the reply, and lets the session
 // stand at its gate if no reply is held any longer. Tells whether the session goes on or how it ended.
-fn go_on<G: Gate>(said: Result<Said, Closed>, held: &mut Held, gate: &G, connection: u8) -> Next
+fn go_on<G: Gate>(said: Result<Sent, Closed>, held: &mut Held, gate: &G, connection: u8) -> Next
     ensures next { result ≡ next_after said }
     ensures held { held.new.bytes.items ≡ held.old.bytes.items }
 {
     match said {
-        Ok(Said::Told) => {
+        Ok(Sent::Told) => {
             held.replies = held.replies.saturating_add(1);
             pass_told(held, gate, connection);
             Next::Served
         }
-        Ok(Said::Bye) => {
+        Ok(Sent::Bye) => {
             held.replies = held.replies.saturating_add(1);
             pass_told(held, gate, connection);
             Next::Ended(SessionEnd::Bye)
         }
-        Ok(Said::Unwritten(_)) => {
+        Ok(Sent::Unwritten(_)) => {
             held.replies = 0;
             Next::Ended(SessionEnd::WriteFault)
         }
@@ -282,7 +282,7 @@ fn let_out<W: Write, G: Gate>(
 
 // What came of a reply.
 #[derive(Clone, Copy)]
-enum Said {
+enum Sent {
     // Its line is out, or held.
     Told,
     // Its line is out, and it is the reply to a bye.
@@ -299,7 +299,7 @@ fn serve_line<Rt: Wait, S: Sink + Drop, H: House, W: Write, K: Recorder>(
     window: &mut Window<H>,
     writer: &mut W,
     recorder: &mut K,
-) -> Result<Said, Closed>
+) -> Result<Sent, Closed>
     requires going { session.old.lines.ending ≡ None }
     requires line { IsWithinLimit MAX_REQUEST session.old.lines.line }
     requires room { REPLY_ROOM ≤ vec_capacity session.old.reply }
@@ -308,7 +308,7 @@ fn serve_line<Rt: Wait, S: Sink + Drop, H: House, W: Write, K: Recorder>(
     ensures lines { session.new.lines ≡ session.old.lines }
     ensures room { REPLY_ROOM ≤ vec_capacity session.new.reply }
     ensures principal { IfSome session.new.known (IsPrincipal H.lab.roster) }
-    ensures out { result ≡ Ok Said.Told
+    ensures out { result ≡ Ok Sent.Told
         → IsWithinLimit session.new.lines.limit session.new.lines.unread
         → session.new.held.bytes.items ≡ [] }
     ensures serves { ServesLine result session.old.connection H.lab (standing session.old.known window.old)
@@ -369,7 +369,7 @@ fn tell<H: House, W: Write, K: Recorder>(
     out: &mut Vec<u8>,
     writer: &mut W,
     recorder: &mut K,
-) -> Said
+) -> Sent
     requires room { REPLY_ROOM ≤ vec_capacity out.old }
     requires about { IsAbout H.lab.ids H.lab.roster reply }
     ensures room { REPLY_ROOM ≤ vec_capacity out.new }
@@ -417,7 +417,7 @@ fn send<W: Write>(
     held: &mut Held,
     at_once: bool,
     writer: &mut W,
-) -> Said
+) -> Sent
     ensures sends { SendsReply result reply.now line.now
         held.old.bytes.items held.new.bytes.items
         (W.contents writer.old) (W.contents writer.new) }
@@ -425,14 +425,14 @@ fn send<W: Write>(
 {
     let is_last = is_bye(reply);
     match held.put(line, at_once || is_last, writer) {
-        Ok(()) => { if is_last { Said::Bye } else { Said::Told } }
-        Err(fault) => Said::Unwritten(fault.written),
+        Ok(()) => { if is_last { Sent::Bye } else { Sent::Told } }
+        Err(fault) => Sent::Unwritten(fault.written),
     }
 }
 
 // Lets what is held go out, of which the line of a reply is the last, or holds all on where it isn't too much, and
 // neither `at_once` says that all must be out nor the reply is a bye's. Tells what came of the reply.
-fn send_held<W: Write>(reply: &Reply, held: &mut Held, at_once: bool, writer: &mut W) -> Said
+fn send_held<W: Write>(reply: &Reply, held: &mut Held, at_once: bool, writer: &mut W) -> Sent
     ensures sends { SendsReply result reply.now held.old.bytes.items
         [] held.new.bytes.items
         (W.contents writer.old) (W.contents writer.new) }
@@ -440,8 +440,8 @@ fn send_held<W: Write>(reply: &Reply, held: &mut Held, at_once: bool, writer: &m
 {
     let is_last = is_bye(reply);
     match held.let_out_when_due(at_once || is_last, writer) {
-        Ok(()) => { if is_last { Said::Bye } else { Said::Told } }
-        Err(fault) => Said::Unwritten(fault.written),
+        Ok(()) => { if is_last { Sent::Bye } else { Sent::Told } }
+        Err(fault) => Sent::Unwritten(fault.written),
     }
 }
 

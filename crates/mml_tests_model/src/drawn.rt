@@ -169,7 +169,7 @@ fn are_both_letters(alloc: Global) -> Result<(bool, bool), Fail> {
 
 /// Fails where a drawn event is legal on the board and not by the plain model's letters, or the other way round.
 #[test]
-fn drawn_events_are_legal_or_not(rt: HostRuntime) -> Result<(), Fail> {
+fn drawn_events_are_legal_as_in_the_plain_model(rt: HostRuntime) -> Result<(), Fail> {
     assert_eq!(rt; are_both_letters(rt.alloc())?, (true, true));
     Ok(())
 }

@@ -44,23 +44,23 @@ fn takes_lines(alloc: Global, lab: &Lab, fail_at: Option<u64>, lines: usize) -> 
 }
 
 /// The first number of lines, from 0 to 10, such that a sink that takes so many lines and fails at the next isn't left
-/// with exactly these, or its journal isn't halted as it should be; 11 where there is none.
-fn lines_that_hold(alloc: Global, lab: &Lab) -> Result<usize, Fail> {
+/// with exactly these, or its journal isn't halted as it should be; `None` where there is none.
+fn first_other_count(alloc: Global, lab: &Lab) -> Result<Option<usize>, Fail> {
     for lines in 0..=10usize {
         if !takes_lines(alloc, lab, Some(lines as u64 + 1), lines)? {
-            return Ok(lines);
+            return Ok(Some(lines));
         }
     }
-    Ok(11)
+    Ok(None)
 }
 
-/// What `lines_that_hold` finds; whether a sink that fails from the beginning has no line; and whether one that never
+/// What `first_other_count` finds; whether a sink that fails from the beginning has no line; and whether one that never
 /// fails has all ten.
-fn lines_taken(alloc: Global, lab: &Lab) -> Result<(usize, bool, bool), Fail> {
-    let hold = lines_that_hold(alloc, lab)?;
+fn lines_taken(alloc: Global, lab: &Lab) -> Result<(Option<usize>, bool, bool), Fail> {
+    let other = first_other_count(alloc, lab)?;
     let none = takes_lines(alloc, lab, Some(0), 0)?;
     let all = takes_lines(alloc, lab, None, 10)?;
-    Ok((hold, none, all))
+    Ok((other, none, all))
 }
 
 /// Whether a sink that fails after `left` bytes is left with just so many of `text`, the ten lines, or with all where
@@ -86,7 +86,7 @@ fn takes_each_number_of_bytes(alloc: Global, lab: &Lab) -> Result<bool, Fail> {
 
 /// Over the path of three: what `lines_taken` tells, and whether a sink that fails after any number of bytes is left
 /// with just that many.
-fn lines_and_bytes_taken(alloc: Global) -> Result<((usize, bool, bool), bool), Fail> {
+fn lines_and_bytes_taken(alloc: Global) -> Result<((Option<usize>, bool, bool), bool), Fail> {
     let lab = boxed_lab(alloc, PATH_OF_THREE)?;
     let lines = lines_taken(alloc, &lab)?;
     Ok((lines, takes_each_number_of_bytes(alloc, &lab)?))
@@ -98,7 +98,7 @@ fn lines_and_bytes_taken(alloc: Global) -> Result<((usize, bool, bool), bool), F
 fn sinks_fail_at_each_put_and_at_each_byte(rt: HostRuntime) -> Result<(), Fail> {
     assert_eq!(rt;
         lines_and_bytes_taken(rt.alloc())?,
-        ((11, true, true), true)
+        ((None, true, true), true)
     );
     Ok(())
 }

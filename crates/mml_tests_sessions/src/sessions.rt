@@ -132,7 +132,7 @@ fn lines_have_limits_and_nothing_is_read_after_a_bye(rt: HostRuntime) -> Result<
 }
 
 /// A reader that gives `ANA_MOVES`, at most `step` bytes in a read.
-fn all_at(step: usize) -> FakeReader<'static> {
+fn ana_moving(step: usize) -> FakeReader<'static> {
     let mut reader = FakeReader::failing_after(usize::MAX, ANA_MOVES.as_bytes());
     reader.step = step;
     reader
@@ -141,7 +141,7 @@ fn all_at(step: usize) -> FakeReader<'static> {
 /// Whether a session whose writer fails after `good` bytes ends by that, or at its reader's end where they are all, has
 /// written just these, and its move stands even where its reply isn't out, so that the close applies it.
 fn tells_a_write<R: Wait>(rt: &R, alloc: Global, good: usize) -> Result<bool, Fail> {
-    let reader = all_at(usize::MAX);
+    let reader = ana_moving(usize::MAX);
     let mut writer = FakeWriter::failing_after(good, alloc);
     writer.step = 1;
     let (served, is_ended) = serve(rt, alloc, reader, writer)?;
@@ -223,7 +223,7 @@ fn failed_reads_are_told(rt: HostRuntime) -> Result<(), Fail> {
 /// How many writes the replies to `ANA_MOVES` take where the reader gives at most `step` bytes in a read; `None` where
 /// they are other replies, or the house doesn't end well.
 fn writes_at<R: Wait>(rt: &R, alloc: Global, step: usize) -> Result<Option<usize>, Fail> {
-    let reader = all_at(step);
+    let reader = ana_moving(step);
     let (served, is_ended) = serve(rt, alloc, reader, FakeWriter::patient(alloc))?;
     let is_well = is_ended && served.writer.taken.as_slice() == ANA_GRANTED.as_bytes();
     Ok(is_well.then_some(usize::MAX - served.writer.good))

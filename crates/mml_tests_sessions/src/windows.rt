@@ -104,13 +104,13 @@ struct Told {
     has_journal: bool,
 }
 
-/// Starts a house, plays a move and a close in it, and ends it with all its windows where `with_both`, else with all
+/// Starts a house, plays a move and a close in it, and ends it with all its windows where `with_all`, else with all
 /// but ana's, the last; what is told of that. The error is want of memory.
 fn in_house<H: House, R: Wait>(
     rt: &R,
     alloc: Global,
     blank: Blank<MemorySink>,
-    with_both: bool,
+    with_all: bool,
 ) -> Result<Told, Memory>
     requires { blank ≡ house_of H.name H.lab }
 {
@@ -118,7 +118,7 @@ fn in_house<H: House, R: Wait>(
     let is_before = are_at(&mut windows, 0);
     let visited = visit_windows(rt, alloc, &desk, &mut windows, MoveAndClose);
     let is_after = are_at(&mut windows, 1);
-    if !with_both {
+    if !with_all {
         windows.pop();
     }
     let end = desk.finish(rt, windows);
@@ -130,11 +130,11 @@ fn in_house<H: House, R: Wait>(
     })
 }
 
-/// What is told of a house over the path of three that ends with all its windows where `with_both`, else with all but
+/// What is told of a house over the path of three that ends with all its windows where `with_all`, else with all but
 /// ana's, through which a move was asked for.
-fn ended_with<R: Wait>(rt: &R, alloc: Global, with_both: bool) -> Result<Told, Fail> {
+fn ended_with<R: Wait>(rt: &R, alloc: Global, with_all: bool) -> Result<Told, Fail> {
     let blank = open_path(rt, alloc, None)?;
-    Ok(in_house::<Brand, _>(rt, alloc, blank, with_both)?)
+    Ok(in_house::<Brand, _>(rt, alloc, blank, with_all)?)
 }
 
 /// What is told of a house where all went well, with this end, and with the journal of a move and its close or not.

@@ -86,12 +86,12 @@ fn told_of_acts<R: Wait>(rt: &R, alloc: Global, is_there: bool) -> Result<Option
 
 /// The first act, whose nth request for memory is refused, and then the second one, for which none is.
 #[derive(Clone, Copy)]
-struct Instead {
+struct FirstThenSecond {
     nth: usize,
     is_there: bool,
 }
 
-impl Visit<NullSink> for Instead {
+impl Visit<NullSink> for FirstThenSecond {
     /// Whether the first was granted, or else refused; `None` where it was answered otherwise, or the second wasn't
     /// granted with the next place.
     type Told = Option<bool>;
@@ -108,13 +108,18 @@ impl Visit<NullSink> for Instead {
 
 /// Whether the first act, whose nth request for memory is refused, if there is one, was granted, in a house that ends
 /// with just the granted ones of that act and the second; `None` where something else came of them.
-fn told_of_another<R: Wait>(
+fn was_first_granted<R: Wait>(
     rt: &R,
     alloc: Global,
     nth: usize,
     is_there: bool,
 ) -> Result<Option<bool>, Fail> {
-    let (told, end) = visit_path(rt, alloc, NullSink::new(), Instead { nth, is_there })?;
+    let (told, end) = visit_path(
+        rt,
+        alloc,
+        NullSink::new(),
+        FirstThenSecond { nth, is_there },
+    )?;
     let Some(was_granted) = told.flatten() else {
         return Ok(None);
     };
@@ -128,9 +133,13 @@ fn told_of_another<R: Wait>(
 
 /// How often the first act was refused before it was granted, each time in a house of its own; `None` where something
 /// else came of it or of the second act.
-fn told_of_others<R: Wait>(rt: &R, alloc: Global, is_there: bool) -> Result<Option<usize>, Fail> {
+fn refusals_of_first<R: Wait>(
+    rt: &R,
+    alloc: Global,
+    is_there: bool,
+) -> Result<Option<usize>, Fail> {
     for nth in 1..MOST {
-        match told_of_another(rt, alloc, nth, is_there)? {
+        match was_first_granted(rt, alloc, nth, is_there)? {
             Some(true) => return Ok(Some(nth - 1)),
             Some(false) => (),
             None => return Ok(None),
@@ -145,7 +154,7 @@ fn told_of_others<R: Wait>(rt: &R, alloc: Global, is_there: bool) -> Result<Opti
 fn refusals_of_an_act_lose_nothing(rt: HostRuntime) -> Result<(), Fail> {
     let is_there = is_there(rt.alloc());
     let same = told_of_acts(&rt, rt.alloc(), is_there)?;
-    let another = told_of_others(&rt, rt.alloc(), is_there)?;
+    let another = refusals_of_first(&rt, rt.alloc(), is_there)?;
     assert_eq!(rt;
         (same.map(|count| count > 0), another.map(|count| count > 0)),
         (Some(is_there), Some(is_there))

@@ -43,12 +43,12 @@ fn views_take_none<H: House, R: Wait>(
 
 /// The first act, and what is asked for after it.
 #[derive(Clone, Copy)]
-struct Asked {
+struct AfterFirst {
     wanted: Refusal,
     is_there: bool,
 }
 
-impl Visit<MemorySink> for Asked {
+impl Visit<MemorySink> for AfterFirst {
     /// Whether, once the first act was granted and the second refused, the first is denied, the second refused as is
     /// wanted, and a view answered, all without memory.
     type Told = bool;
@@ -84,7 +84,7 @@ fn takes_none_after_first<R: Wait>(
         alloc,
         file.as_str(),
         MemorySink::new(alloc, fail_at),
-        Asked { wanted, is_there },
+        AfterFirst { wanted, is_there },
     )?;
     Ok(hold)
 }

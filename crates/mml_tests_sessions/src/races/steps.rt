@@ -45,7 +45,7 @@ impl<'a> Steps<'a> {
     }
 
     /// The count of the steps that a connection, from 1 on, has come to; `None` where there are fewer connections.
-    fn come_of(&self, connection: u8) -> Option<&AtomicU64> {
+    fn count_of(&self, connection: u8) -> Option<&AtomicU64> {
         self.steps.get(usize::from(connection.saturating_sub(1)))
     }
 
@@ -72,7 +72,7 @@ impl<'a> Steps<'a> {
     fn hold_each(&self, holds: &[Hold], connection: u8, step: u64) {
         for (held, at, other, wanted) in holds.iter() {
             if *held == connection && *at == step {
-                self.wait_until(self.come_of(*other), *wanted);
+                self.wait_until(self.count_of(*other), *wanted);
             }
         }
     }
@@ -103,7 +103,7 @@ impl<'a> Steps<'a> {
     /// line, and waits as long as the connection is held there. Where there is no such connection, no step is counted,
     /// and its step is `u64::MAX`.
     pub fn come(&self, connection: u8, point: Point) {
-        let step = match self.come_of(connection) {
+        let step = match self.count_of(connection) {
             Some(come) => come.fetch_add(1, Ordering::SeqCst),
             None => u64::MAX,
         };

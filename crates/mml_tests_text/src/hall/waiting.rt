@@ -12,8 +12,8 @@ use std::test::Fail;
 /// What a reader and a writer both see: how many replies were written, and how many of their bytes
 /// aren't flushed.
 #[derive(Drop)]
-struct Line {
-    replies: Cell<usize>,
+struct Replies {
+    count: Cell<usize>,
     unflushed: Cell<usize>,
 }
 
@@ -21,7 +21,7 @@ struct Line {
 #[derive(Drop)]
 struct Asker<'a> {
     script: &'a str,
-    line: &'a Line,
+    replies: &'a Replies,
     reads: usize,
     is_late: bool,
 }
@@ -30,7 +30,7 @@ impl<'a> Read for Asker<'a> {
     // Gives what fits of the next line, and drops the rest of it; 0 bytes at the end. Sets `is_late` where not each
     // line before has its reply written, or bytes of replies aren't flushed.
     fn read(&mut self, buf: &mut [u8]) -> io::Result<usize> {
-        if self.line.unflushed.get() > 0 || self.line.replies.get() != self.reads {
+        if self.replies.unflushed.get() > 0 || self.replies.count.get() != self.reads {
             self.is_late = true;
         }
         self.reads = self.reads.saturating_add(1);
@@ -40,52 +40,52 @@ impl<'a> Read for Asker<'a> {
     }
 }
 
-/// Keeps the replies that it is given, and counts them and their unflushed bytes in `line`.
+/// Keeps the replies that it is given, and counts them and their unflushed bytes in `replies`.
 #[derive(Drop)]
 struct Answered<'a> {
     taken: Vec<u8>,
-    line: &'a Line,
+    replies: &'a Replies,
 }
 
 impl<'a> Write for Answered<'a> {
     // Takes all bytes, and counts them as unflushed, and their newlines as replies; fails where memory lacks.
     fn write(&mut self, buf: &[u8]) -> io::Result<usize> {
         self.taken.extend_from_slice(buf)?;
-        let replies = &self.line.replies;
-        replies.set(replies.get().saturating_add(ended_lines(buf)));
-        let unflushed = &self.line.unflushed;
+        let count = &self.replies.count;
+        count.set(count.get().saturating_add(ended_lines(buf)));
+        let unflushed = &self.replies.unflushed;
         unflushed.set(unflushed.get().saturating_add(buf.len()));
         Ok(buf.len())
     }
 
     // Counts no byte as unflushed from then on, until the next write.
     fn flush(&mut self) -> io::Result<()> {
-        self.line.unflushed.set(0);
+        self.replies.unflushed.set(0);
         Ok(())
     }
 }
 
-/// Whether a script, read a line a read, ends well with just the given replies, each out and flushed before the next
+/// Whether a script, read a line a read, ends well with just the wanted replies, each out and flushed before the next
 /// read, the last at the end; and how many reads there were.
-fn asked(alloc: Global, script: &str, replies: &str) -> Result<(bool, usize), Fail> {
-    let line = Line {
-        replies: Cell::new(0),
+fn asked(alloc: Global, script: &str, wanted: &str) -> Result<(bool, usize), Fail> {
+    let replies = Replies {
+        count: Cell::new(0),
         unflushed: Cell::new(0),
     };
     let mut asker = Asker {
         script,
-        line: &line,
+        replies: &replies,
         reads: 0,
         is_late: false,
     };
     let mut writer = Answered {
         taken: Vec::new(alloc),
-        line: &line,
+        replies: &replies,
     };
     let fault = script_error_of(alloc, &mut asker, &mut writer)?;
-    let is_told = fault.is_none() && writer.taken.as_slice() == replies.as_bytes();
+    let is_told = fault.is_none() && writer.taken.as_slice() == wanted.as_bytes();
     Ok((
-        is_told && !asker.is_late && line.unflushed.get() == 0,
+        is_told && !asker.is_late && replies.unflushed.get() == 0,
         asker.reads,
     ))
 }
@@ -100,7 +100,7 @@ fn calls(writer: &FakeWriter) -> (usize, usize) {
 
 /// Whether `FIRST_LOOK`, cut in two parts that come in a read each, ends well with just its replies, in at most two
 /// writes and three flushes, one for each read.
-fn is_the_same_cut(alloc: Global, cut: usize) -> Result<bool, Fail> {
+fn is_answered_in_parts(alloc: Global, cut: usize) -> Result<bool, Fail> {
     let (first, second) = FIRST_LOOK.as_bytes().split_at(cut.min(FIRST_LOOK.len()));
     let mut reader = Parts {
         first,
@@ -118,7 +118,7 @@ fn is_the_same_cut(alloc: Global, cut: usize) -> Result<bool, Fail> {
 /// where there is none.
 fn first_cut_that_changes(alloc: Global) -> Result<Option<usize>, Fail> {
     for cut in 0..=FIRST_LOOK.len() {
-        if !is_the_same_cut(alloc, cut)? {
+        if !is_answered_in_parts(alloc, cut)? {
             return Ok(Some(cut));
         }
     }

@@ -52,7 +52,7 @@ fn first_untold_write(alloc: Global) -> Result<Option<(usize, usize)>, Fail> {
 }
 
 /// Whether a flush of the replies to `GREETING` that fails after `good` good ones ends the script, told as a write of
-/// no bytes, with whole lines of replies out, and at most two reads for each good flush.
+/// no bytes, with whole lines of replies out, and one read before each good flush.
 fn tells_a_flush(alloc: Global, good: usize) -> Result<bool, Fail> {
     let mut reader = FakeReader::failing_after(usize::MAX, GREETING.as_bytes());
     reader.step = 40;
@@ -61,14 +61,14 @@ fn tells_a_flush(alloc: Global, good: usize) -> Result<bool, Fail> {
     let fault = script_error_of(alloc, &mut reader, &mut writer)?;
     let out = writer.taken.as_slice();
     let is_front = GREETING_REPLIES.as_bytes().starts_with(out) && after_last_line(out) == 0;
-    let is_unread = reader.reads <= good.saturating_mul(2);
+    let is_unread = reader.reads == good;
     Ok(fault == Some(ScriptFault::Write { written: 0 }) && is_front && is_unread)
 }
 
-/// The first number of good flushes below four, which is fewer than the script takes, for which `tells_a_flush` is
+/// The first number of good flushes below eight, as many as the script takes, for which `tells_a_flush` is
 /// false; `None` where there is none.
 fn first_untold_flush(alloc: Global) -> Result<Option<usize>, Fail> {
-    for good in 0..4 {
+    for good in 0..8 {
         if !tells_a_flush(alloc, good)? {
             return Ok(Some(good));
         }

@@ -4,7 +4,7 @@ use Rattle.mml_hosting.specs.Seats.{IsSeat}
 use Rattle.mml_hosting.proofs.SeatLemmas.{all_more}
 use Rattle.mml_hosting.proofs.port_serving.next_free.Goals as goal
 
-pub returns-then-not-is_made_ready-clause-seats : goal.returns-then-not-is_made_ready-clause-seats
-returns-then-not-is_made_ready-clause-seats g c =
+pub returns-then-not-make_ready-clause-seats : goal.returns-then-not-make_ready-clause-seats
+returns-then-not-make_ready-clause-seats g c =
     let parts = All-pop (IsSeat _) _ _ (Some c.in_ok-seat.seat) c.in_ok-seat.ensures.items c.requires.seats in
-    all_more (IsSeat _) _ _ _ c.push_reserved.ensures.items parts.0 c.is_made_ready.ensures.seat
+    all_more (IsSeat _) _ _ _ c.push_reserved.ensures.items parts.0 c.make_ready.ensures.seat
