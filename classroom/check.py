@@ -26,6 +26,8 @@ KNOWN = {
 MOST_LISTED = 8
 ENOUGH_BITS = 64
 GUESSES = 100_000  # a second, over one machine's loopback
+KINDS = (string.ascii_lowercase, string.ascii_uppercase, string.digits, string.punctuation)  # of a key's letters
+OTHERS = 128  # how many letters of no kind a key is taken to be drawn from
 
 
 def refused(path: Path, error: str) -> Iterator[str]:
@@ -110,9 +112,15 @@ def nearest(key: str, known: Iterable[str]) -> str | None:
 def bits(key: str) -> float:
     """How many bits a key is taken to have at most, by its length, the kinds of its letters, and how many of them
     differ: one of few different letters wasn't drawn from many."""
-    kinds = (string.ascii_lowercase, string.ascii_uppercase, string.digits, string.punctuation)
-    letters = sum(len(kind) for kind in kinds if set(kind) & set(key))
-    return len(key) * math.log2(max(2, min(letters, 2 * len(set(key)))) if len(set(key)) > 1 else 1.01)
+    letters = set(key)
+    return len(key) * math.log2(max(2, min(letters_of_kinds(letters), 2 * len(letters))) if len(letters) > 1 else 1.01)
+
+
+def letters_of_kinds(letters: set[str]) -> int:
+    """How many letters there are of the kinds that these are of. One of none, as a space or what is outside ASCII, is
+    taken for one of OTHERS."""
+    others = letters.difference(*KINDS)
+    return sum(len(kind) for kind in KINDS if letters.intersection(kind)) + (OTHERS if others else 0)
 
 
 def effort(key: str) -> str:

@@ -504,7 +504,10 @@ def is_a(kind: str, value: object) -> bool:
 
 
 def said(value: object) -> str:
-    """What a value of the wrong kind is, in a word or two. Any integer is told as out of range."""
+    """What a value of the wrong kind is, in a word or two. An integer that no request has, below 0 or from 2^64 on, is
+    told as out of range."""
+    if is_a(NODE, value):
+        return NODE
     kinds = {bool: "true or false", str: "a string", type(None): "null", dict: "an object", list: "a list",
              float: "no whole number"}
     return kinds.get(type(value), "out of range")

@@ -1,6 +1,7 @@
 """`./class check`: what the program refuses, and every warning."""
 from __future__ import annotations
 
+import math
 import unittest
 
 from classroom import lab as labs
@@ -71,6 +72,16 @@ class Check(InRoom):
         self.warns("ana's key has 43 bits at most: guessed in", change=("1f3b5a7c9d1e2f48a6b8c0d2e4f61357", "abcdefghij"))
         self.assertLess(bits("a" * 60), 64)
         self.assertGreater(bits("0f3b5a7c9d1e2f48a6b8c0d2e4f61357"), 100)
+
+    def test_letters_of_no_kind(self) -> None:
+        for key, least in (("äöüßéèêàâçñøåæœłżźčš", 100), ("шифр из восьми слов", 80), ("äÄ1!" * 8, 95), ("correct horse battery staple", 120)):
+            self.assertGreater(bits(key), least, key)
+            self.assertGreaterEqual(bits(key + "ж"), bits(key), key)
+        self.assertLess(bits(" " * 60), 64)
+        self.assertLess(bits("äö" * 8), 64)
+        self.assertAlmostEqual(bits("abcdefghijklmnopqrstuvwxyz ABCDEFGHIJKLMNOPQRSTUVWXYZ"), 53 * math.log2(106))
+        self.assertAlmostEqual(bits("".join(map(chr, range(0x410, 0x510)))), 256 * 7)
+        self.assertGreater(bits("abcdefghijklmnopqrstuvwxyzä"), bits("abcdefghijklmnopqrstuvwxyza"))
 
     def test_network(self) -> None:
         self.warns("ana has no node", change=('id = 11\nowner = "ana"\n\n[[node]]\nid = 12\nowner = "ana"',

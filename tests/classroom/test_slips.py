@@ -13,7 +13,7 @@ import unittest
 from pathlib import Path
 
 from classroom.answering import Answering
-from classroom.client import LAST, Client, NoServer, NoSlip, Slip, wrong
+from classroom.client import LAST, RULES, Client, NoServer, NoSlip, Slip, wrong
 from classroom.lab import read
 from classroom.program import host
 from tests.classroom.help import CYCLE, EXAMPLES, KEYS, LIMIT, Cycle, Going, InRoom, no_server, words
@@ -101,7 +101,17 @@ class Files(InRoom):
             ('{"do":"close"', "not JSON: it isn't closed at its end, and a request is one line"), ("", "not JSON at byte 1"),
             ('{"node":1}', 'missing "do"'), ("[1]", "a list, not an object"), ('{"do":"see","do":"see","node":1}', "do stands twice, and the last counts"),
             ('{"do":"see","node":true}', "node is true or false, not a number"), ('{"do":"see","node":1.0}', "node is no whole number, not a number"),
-            ('{"do":"see","node":-1}', "node is out of range, not a number"), ('{"do":"move","node":2,"rule":"marriage","at":4}', 'missing "with"'),
+            ('{"do":"see","node":-1}', "node is out of range, not a number"),
+            ('{"do":"see","node":18446744073709551616}', "node is out of range, not a number"),
+            ('{"do":"hello","name":5,"key":"b"}', "name is a number, not a string"),
+            ('{"do":"hello","name":-5,"key":"b"}', "name is out of range, not a string"),
+            ('{"do":"hello","name":"a","key":18446744073709551615}', "key is a number, not a string"),
+            ('{"do":"hello","name":"a","key":18446744073709551616}', "key is out of range, not a string"),
+            ('{"do":"fault","node":1,"p":null,"m":1}', "m is a number, not true or false"),
+            ('{"do":"move","node":1,"at":0,"rule":0}', f"rule is a number, not one of {', '.join(RULES)}"),
+            ("5", "a number, not an object"), ("-5", "out of range, not an object"),
+            ("18446744073709551616", "out of range, not an object"), ("true", "true or false, not an object"),
+            ('{"do":"move","node":2,"rule":"marriage","at":4}', 'missing "with"'),
             ('{"do":"move","node":2,"rule":"dance","at":4}', 'rule is "dance", not one of update, marriage, seduction, abandonment'),
             ('{"do":"see","node":1,"x":"' + "a" * 4096 + '"}', "more than 4096 bytes: the server ends the connection"),
         ):
