@@ -12,7 +12,7 @@ from collections.abc import Iterable, Iterator
 from pathlib import Path
 
 from classroom import lab as labs
-from classroom import bounds, networks, places
+from classroom import bounds, networks, positions
 from classroom.printable import printable
 from classroom.program import TOP, Answer, Fault, call
 from classroom.statuses import WARNED
@@ -57,12 +57,12 @@ def standing(text: str, error: str) -> tuple[int | None, str]:
     numbered = re.match(r"lab: (node|principal|link) (\d+): (.*)", error)
     if numbered is None:
         key = re.match(r"lab: ([\w.]+) is (?!missing)", error)
-        return place_of_key(text, key[1]) if key else (None, "")
+        return line_of_key(text, key[1]) if key else (None, "")
     kind, index, fault_text = numbered[1], int(numbered[2]), numbered[3]
     if kind == "link":
-        return places.link(text, index), ""
+        return positions.link(text, index), ""
     name = "node" if kind == "node" else "student" if index else "teacher"
-    table = places.table(text, name, index if kind == "node" else max(index - 1, 0))
+    table = positions.table(text, name, index if kind == "node" else max(index - 1, 0))
     if table is None:
         return None, ""
     keys = {"no such owner": ("owner", "owners"), "owner stands twice": ("owners",), "p is not a neighbour": ("p",),
@@ -71,7 +71,7 @@ def standing(text: str, error: str) -> tuple[int | None, str]:
     return line, identifier(text, table) if kind == "node" else ""
 
 
-def identifier(text: str, table: places.Table) -> str:
+def identifier(text: str, table: positions.Table) -> str:
     """What is told of a node behind its line: its identifier as the file has it, in brackets; nothing where that isn't
     found."""
     line = table.keys.get("id")
@@ -79,18 +79,18 @@ def identifier(text: str, table: places.Table) -> str:
     return f" (the node with identifier {found[1]})" if found else ""
 
 
-def place_of_key(text: str, key: str) -> tuple[int | None, str]:
+def line_of_key(text: str, key: str) -> tuple[int | None, str]:
     """The line of the key that an error names, as `teacher.name`, where a single table of that name has it, else none;
     behind it nothing is told."""
     table, _, word = key.rpartition(".")
-    lines = [each.keys[word] for each in places.tables(text) if each.name == table and word in each.keys]
+    lines = [each.keys[word] for each in positions.tables(text) if each.name == table and word in each.keys]
     return (lines[0], "") if len(lines) == 1 else (None, "")
 
 
 def strange(text: str) -> Iterator[tuple[int, str, str | None]]:
     """Keys and tables that the format doesn't name: the line, the key, and the nearest one that may be meant, if
     any."""
-    for table in places.tables(text):
+    for table in positions.tables(text):
         known = KNOWN.get(table.name)
         if known is None:
             if table.name not in KNOWN[""]:

@@ -8,7 +8,7 @@ import secrets
 from pathlib import Path
 
 from classroom import lab as labs
-from classroom import new, places, slips
+from classroom import new, positions, slips
 from classroom.client import NoSlip, Slip
 from classroom.folders import Record, of_folder
 from classroom.program import CLASS, Fault
@@ -31,7 +31,7 @@ def changed(path: Path, name: str, key: str) -> str:
     if index is None:
         there = ", ".join(each["name"] for each in before["student"])
         raise Fault(f"{path}: no student {name}; there are: {there}")
-    table = places.table(text, "student", index)
+    table = positions.table(text, "student", index)
     old = labs.quoted(before["student"][index]["key"])
     lines = text.splitlines(keepends=True)
     if table is not None and "key" in table.keys:

@@ -5,7 +5,8 @@ import math
 import unittest
 
 from classroom import lab as labs
-from classroom.check import bits
+from classroom.check import bits, key_warnings, strange
+from classroom.positions import table as table_at, tables
 from tests.classroom.help import EXAMPLES, InRoom, words
 
 
@@ -74,13 +75,17 @@ class Check(InRoom):
         self.assertGreater(bits("0f3b5a7c9d1e2f48a6b8c0d2e4f61357"), 100)
 
     def test_letters_of_no_kind(self) -> None:
-        for key, least in (("äöüßéèêàâçñøåæœłżźčš", 100), ("шифр из восьми слов", 80), ("äÄ1!" * 8, 95), ("correct horse battery staple", 120)):
+        for key, least in (("äöüßéèêàâçñøåæœłżźčš", 100), ("шифр из восьми слов", 80), ("äÄ1!" * 8, 95),
+                           ("horse battery staple", 80)):
             self.assertGreater(bits(key), least, key)
             self.assertGreaterEqual(bits(key + "ж"), bits(key), key)
         self.assertLess(bits(" " * 60), 64)
         self.assertLess(bits("äö" * 8), 64)
         self.assertAlmostEqual(bits("abcdefghijklmnopqrstuvwxyz ABCDEFGHIJKLMNOPQRSTUVWXYZ"), 53 * math.log2(106))
         self.assertAlmostEqual(bits("".join(map(chr, range(0x410, 0x510)))), 256 * 7)
+        for key, told in (("äöüßéèêàâçñøåæœłżźčš", []), ("äöüßéè", ["ana's key has 22 bits at most: guessed in 30 seconds"])):
+            lab = labs.Lab(1000, 4, ("tess", "0f3b5a7c9d1e2f48a6b8c0d2e4f61357"), {"ana": key}, [], [])
+            self.assertEqual([line.partition(" or sooner")[0] for line in key_warnings(lab)], told)
         self.assertGreater(bits("abcdefghijklmnopqrstuvwxyzä"), bits("abcdefghijklmnopqrstuvwxyza"))
 
     def test_network(self) -> None:
@@ -120,6 +125,83 @@ class Check(InRoom):
             self.assertEqual(done.returncode, 5)
             self.assertNotIn("is no key of a lab", done.stdout)
             self.assertNotIn("can't", done.stdout)
+
+
+class Tables(unittest.TestCase):
+    """The lines of a lab's tables and keys, and what is told of those that the format doesn't name."""
+
+    def hints(self, *lines: str) -> list[tuple[int, str, str | None]]:
+        """What is told of a file of these lines."""
+        return list(strange("\n".join(lines) + "\n"))
+
+    def is_told_alone(self, *lines: str) -> None:
+        """Wants the key `note` told in the first line, once, and one below it, and no other."""
+        below = len(lines) + 1
+        self.assertEqual(self.hints(*lines, "sesions = 4"), [(1, "note", "node"), (below, "sesions", "sessions")])
+
+    def test_an_unknown_table_in_braces(self) -> None:
+        for value in ("{ a = 1 }", "{a=1}", "{}", "{ a = 1 } # more", "{ a = { b = [1, 2] } }",
+                      "[{ a = 1 }, { b = 2 }]", "[ { a = 1 } ]", "[]", "[1, 2]", '"{"', '{ a = "}" }', "['[']",
+                      '{ a = "\\"{" }'):
+            self.is_told_alone(f"note = {value}")
+        self.is_told_alone("note = [", "  { a = 1 },", "  { b = { c = 2 } }", "]")
+        self.is_told_alone("note = [{ a = 1 },", "  { sesions = 2 }]")
+        self.is_told_alone("note = [{ a = [", "  1 ] }, {", "  sesions = 2 }]")
+
+    def test_an_unknown_table_may_be_meant_for_another(self) -> None:
+        self.assertEqual(self.hints("nodes = [{ id = 1 }]", "links = []"), [(1, "nodes", "node")])
+        self.assertEqual(self.hints("[[nodes]]", "id = 1"), [(1, "[nodes]", "node")])
+        self.assertEqual(self.hints("[[student]]", "note = { name = 1 }", "nam = 'a'"),
+                         [(2, "note", None), (3, "nam", "name")])
+        self.assertEqual(self.hints("[[student]]", "node = [{ idd = 1 }]", "kei = 'a'"),
+                         [(2, "node", "node above the first header"), (3, "kei", "key")])
+
+    def test_known_tables_in_braces(self) -> None:
+        ana, ben = "{ name = 'ana', key = '{' }", '{ name = "ben", key = "]" }'
+        shapes: tuple[tuple[tuple[str, ...], int], ...] = (
+            ((f"student = [{ana},", f"  {ben}]"), 1), ((f"student = [ {ana},", ben, "]"), 1),
+            ((f"student = [{ana}", f", {ben} ] # all"), 1), (("student = [", f"  {ana},", f"  {ben},", "]"), 2),
+            (("student = [ # two", f"  {ana},", f"  {ben} ]"), 2),
+            (("student = [", "", f"{ana}, # one", ben, "]", ""), 3),
+        )
+        for lines, first in shapes:
+            found = [(it.name, it.line, it.keys) for it in tables("\n".join(lines))]
+            self.assertEqual(found[1:], [("student", at, {"name": at, "key": at}) for at in (first, first + 1)], lines)
+            self.assertEqual(self.hints(*lines, "sesions = 4"), [(len(lines) + 1, "sesions", "sessions")], lines)
+
+    def test_keys_of_known_tables_in_braces(self) -> None:
+        self.assertEqual(self.hints("teacher = { nam = 'tess', key = 'k' }", "sesions = 4"),
+                         [(2, "sesions", "sessions"), (1, "nam", "name")])
+        self.assertEqual(self.hints("teacher = { name = 'tess', more = { keys = 1 } }"), [(1, "more", None)])
+        self.assertEqual(self.hints("node = [{ id = 1, onwer = 'ana' }, { idd = 2 }]"),
+                         [(1, "onwer", "owner"), (1, "idd", "id")])
+
+    def test_what_stands_below_a_known_table(self) -> None:
+        for line in ('"note" = { idd = 1 }', "note.more = { idd = 1 }", "note.more = [{ idd = 1 },", "{ idd = 1 }"):
+            self.assertEqual(self.hints("node = [{ id = 1 }]", line, "sesions = 4"), [(3, "sesions", "sessions")], line)
+
+    def test_which_table_has_an_index(self) -> None:
+        text = """student = [{ name = 'ana', note = { a = 1 } },
+            { name = 'ben' }]
+            node = [
+              { id = 1, owners = [
+              'ana', 'ben'] }, { id = 2 },
+              { id = 3 },
+            ]
+
+            [teacher]
+            student = [{ name = 'none' }]
+        """
+        for name, lines in (("student", [1, 2]), ("node", [4, 5, 6]), ("teacher", [9])):
+            found = [table_at(text, name, index) for index in range(len(lines) + 1)]
+            self.assertEqual([it and it.line for it in found], [*lines, None])
+
+    def test_a_bracket_that_is_not_closed(self) -> None:
+        self.assertEqual(self.hints("links = [[1, 2], [2, 3]", "sesions = 4"), [(2, "sesions", "sessions")])
+        self.assertEqual(self.hints("student = [{ name = 'ana' },", "sesions = 4"), [(2, "sesions", "sessions")])
+        self.assertEqual(self.hints("teacher = {", "  nam = 'tess',", "[[node]]", "i = 1"),
+                         [(2, "nam", "name"), (4, "i", "id")])
+        self.is_told_alone("note = ]}")
 
 
 if __name__ == "__main__":

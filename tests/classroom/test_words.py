@@ -13,6 +13,7 @@ from classroom.client import Slip
 from classroom.daemons import FORMS
 from classroom.lab import document, read
 from classroom.program import TOP
+from classroom.rekey import changed
 from classroom.words import parser
 from tests.classroom.help import LIMIT, InRoom, words
 
@@ -145,6 +146,20 @@ class Rekeyed(InRoom):
         self.assertEqual(words("key", self.room / "none.toml", "ana").returncode, 4)
         folder: Path = self.room
         self.assertEqual(words("key", folder, "ana").returncode, 1)
+
+
+class KeyInText(InRoom):
+    """Another key in a lab's text, of several shapes."""
+
+    def test_a_table_in_braces_before_it(self) -> None:
+        for text in (
+            'note = { a = 1 }\nstudent = [{ name = "ana", key = "a" }, { name = "ben", key = "b" }]\n',
+            'student = [{ name = "ana", key = "a", more = { key = "x" } },\n  { name = "ben", key = "b" } ]\n',
+            'student = [{ name = "ana" }, { name = "ben", note = [1,\n  2], key = "b" } ]\n',
+            '[more]\nstudent = [{ key = "a" }]\n[[student]]\nname = "ana"\n[[student]]\nname = "ben"\nkey = "b"\n',
+        ):
+            lab = self.file("lab.toml", text)
+            self.assertEqual(changed(lab, "ben", "c"), text.replace('key = "b"', 'key = "c"'))
 
 
 if __name__ == "__main__":

@@ -1,0 +1,87 @@
+"""In which line of a lab's file a thing stands, by the forms in which labs are commonly written."""
+from __future__ import annotations
+
+import re
+from dataclasses import dataclass, field
+
+HEADER = re.compile(r"^\s*(\[{1,2})\s*([\w-]+)\s*\]{1,2}\s*(#.*)?$")
+KEY = re.compile(r"^\s*\"?([\w-]+)\"?\s*=")
+BRACKET_OR_KEY = re.compile(r"[][{}]|([\w-]+)\s*=")
+IN_BRACES = ("teacher", "student", "node")  # the document's keys whose tables may be written in braces
+
+
+@dataclass
+class Table:
+    """A table of the file: its name, the line in which it begins, and that of each of its keys."""
+
+    name: str
+    line: int
+    keys: dict[str, int] = field(default_factory=dict)
+
+
+@dataclass
+class Value:
+    """The value of a key, which ends where its brackets are closed. Its tables in braces are added to a list."""
+
+    name: str = ""  # of the key
+    tables: list[Table] = field(default_factory=list)
+    brackets: str = ""  # those that are open, the outermost first
+
+    def take(self, number: int, text: str) -> None:
+        """Reads a line, or what of it stands behind the key. A table within another isn't added, nor are its keys."""
+        for found in BRACKET_OR_KEY.finditer(text):
+            if found[0] in ("[", "{"):
+                self.brackets += found[0]
+                if found[0] == "{" and self.brackets.count("{") == 1:
+                    self.tables.append(Table(self.name, number))
+            elif found[0] in ("]", "}"):
+                self.brackets = self.brackets[:-1]
+            elif self.brackets.count("{") == 1:
+                self.tables[-1].keys.setdefault(found[1], number)
+
+
+def without_texts(line: str) -> str:
+    """A line without its comment and without what stands in quotes."""
+    return re.sub(r"#.*", "", re.sub(r'"(\\.|[^"\\])*"|\'[^\']*\'', '""', line))
+
+
+def tables(text: str) -> list[Table]:
+    """The file's tables in order; the first is the document's own. Those in braces count too, under the keys of the
+    document that take tables. A bracket that isn't closed ends at the next header, or at a key that isn't in braces."""
+    found, value = [Table("", 1)], Value()
+    current = found[0]
+    for number, whole in enumerate(text.splitlines(), 1):
+        line = without_texts(whole)
+        header, key = HEADER.match(line), KEY.match(line)
+        if header:
+            current, value = Table(header[2], number), Value()
+            found.append(current)
+        elif key and "{" not in value.brackets:
+            current.keys.setdefault(key[1], number)
+            takes_tables = current is found[0] and key[1] in IN_BRACES
+            value = Value(key[1], found if takes_tables else [])
+            value.take(number, line[key.end():])
+        elif value.brackets:
+            value.take(number, line)
+    return found
+
+
+def table(text: str, name: str, index: int) -> Table | None:
+    """The table of that name and index, from 0; None where there are fewer."""
+    named = [each for each in tables(text) if each.name == name]
+    return named[index] if index < len(named) else None
+
+
+def link(text: str, index: int) -> int | None:
+    """The line in which the link of that index, from 0, begins, found by counting brackets; None where there aren't so
+    many."""
+    inside, seen = False, 0
+    for number, whole in enumerate(text.splitlines(), 1):
+        line = without_texts(whole)
+        start = re.match(r"^\s*links\s*=\s*\[(.*)", line)
+        rest = start[1] if start else line if inside else ""
+        inside = inside or start is not None
+        seen += rest.count("[")
+        if inside and seen > index:
+            return number
+    return None
