@@ -54,7 +54,7 @@ def replies(words: Words, stdin: Path) -> bytes:
         return subprocess.run(words, stdin=lines, stdout=subprocess.PIPE, check=True).stdout
 
 
-def counted(words: Words, stdin: Path) -> int:
+def instructions(words: Words, stdin: Path) -> int:
     """How many instructions a run of a program takes: the same in every run, beside other work too."""
     call = ["valgrind", "--tool=callgrind", "--callgrind-out-file=/dev/null", *words]
     with stdin.open("rb") as lines:

@@ -13,7 +13,7 @@ from dataclasses import dataclass
 from pathlib import Path
 
 from bench import inputs
-from bench.common import PROGRAM, TYPED, Words, built_in, counted, needs_valgrind, refuse, replies, stripped
+from bench.common import PROGRAM, TYPED, Words, built_in, instructions, needs_valgrind, refuse, replies, stripped
 
 
 @dataclass(frozen=True)
@@ -73,11 +73,11 @@ class Counter:
         """How many instructions a line of a row takes in this program, and in the one by hand."""
         self.lab.write_text(row.lab(), encoding="ascii")
         less = self.write(row, row.few)
-        before = [counted(self.call(row, index), self.text) for index in range(2)]
+        before = [instructions(self.call(row, index), self.text) for index in range(2)]
         more = self.write(row, row.many)
         if replies(self.call(row, 0), self.text) != replies(self.call(row, 1), self.text):
             refuse(f"{row.name}: the programs write other bytes")
-        after = [counted(self.call(row, index), self.text) for index in range(2)]
+        after = [instructions(self.call(row, index), self.text) for index in range(2)]
         return [row.lines * (b - a) / (more - less) for a, b in zip(before, after)]
 
 

@@ -9,7 +9,7 @@ isn't shown and the other for what isn't there, by words of the same length; the
 import tempfile
 from pathlib import Path
 
-from bench.common import PROGRAM, counted, needs_valgrind, refuse, replies, stripped
+from bench.common import PROGRAM, instructions, needs_valgrind, refuse, replies, stripped
 
 LINES = 2_000
 ANA = '1 {"do":"hello","key":"a-key","name":"ana"}\n'
@@ -30,12 +30,12 @@ PAIRS: list[tuple[str, str, str, str]] = [
 def count(program: Path, before: str, line: str, script: Path) -> tuple[float, bytes]:
     """How many instructions a line takes, and its reply."""
     script.write_text(before, encoding="ascii")
-    begun = counted([program], script)
+    begun = instructions([program], script)
     script.write_text(before + line * LINES, encoding="ascii")
     told = set(replies([program], script).splitlines()[-LINES:])
     if len(told) != 1:
         refuse(f"other replies: {told}")
-    return (counted([program], script) - begun) / LINES, told.pop()
+    return (instructions([program], script) - begun) / LINES, told.pop()
 
 
 def main() -> None:

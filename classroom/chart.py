@@ -50,7 +50,7 @@ class Scale:
         return HIGH - BELOW - count / self.high * (HIGH - ABOVE - BELOW)
 
 
-def nice(high: int, parts: int = 5) -> int:
+def tick_distance(high: int, parts: int = 5) -> int:
     """How far apart the numbers on an axis of that length are: the first of 1, 2, 5, 10, 20, 50 and so on by which the
     axis has at most so many parts."""
     step = 1
@@ -73,11 +73,11 @@ def line(points: Sequence[tuple[float, float]], kind: str, colour: str = "") -> 
 def axes(scale: Scale) -> list[str]:
     """Axes with their numbers."""
     parts = [line([(LEFT, ABOVE), (LEFT, HIGH - BELOW), (WIDE - RIGHT, HIGH - BELOW)], "axis")]
-    for count in range(0, scale.high + 1, nice(scale.high)):
+    for count in range(0, scale.high + 1, tick_distance(scale.high)):
         y = scale.y(count)
         parts.append(line([(LEFT, y), (WIDE - RIGHT, y)], "tick"))
         parts.append(f'<text class="end" x="{LEFT - 6}" y="{y + 4:.1f}">{count}</text>')
-    step = nice(scale.most - scale.least)
+    step = tick_distance(scale.most - scale.least)
     for nodes in range(-(-scale.least // step) * step, scale.most + 1, step):
         parts.append(f'<text x="{scale.x(nodes):.1f}" y="{HIGH - BELOW + 16}">{nodes}</text>')
     parts.append(f'<text class="end" x="{WIDE - RIGHT}" y="{HIGH - 6}">nodes</text>')

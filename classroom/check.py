@@ -224,7 +224,7 @@ def warnings(path: Path) -> Iterator[str]:
 def sized(path: Path, told: str) -> str:
     """The program's line of a lab that it takes, with the house told apart where the lab is read here too."""
     try:
-        return labs.counted(told, labs.read(path))
+        return labs.with_house_apart(told, labs.read(path))
     except Fault:
         return told
 

@@ -611,7 +611,7 @@ class ByHand:
         self.answers = self.connection.makefile("rb")
         if slip is not None:
             self.connection.settimeout(limit)
-            self.send(json.dumps({"do": "hello", "name": slip.name, "key": slip.key}), shown=False)
+            self.send(json.dumps({"do": "hello", "name": slip.name, "key": slip.key}), typed=False)
             self.connection.settimeout(None)
 
     def keep(self, line: str) -> None:
@@ -629,10 +629,10 @@ class ByHand:
         """Tells what the server doesn't."""
         print(f"client: {text}", file=sys.stderr, flush=True)
 
-    def send(self, line: str, shown: bool = True) -> None:
-        """Sends a line, and shows what answers it; with `shown`, what is wrong with the line is told before. A key
+    def send(self, line: str, typed: bool = True) -> None:
+        """Sends a line, and shows what answers it; of one that was typed it is told before what is wrong with it. A key
         isn't kept in the log."""
-        note = wrong(line) if shown else None
+        note = wrong(line) if typed else None
         if note:
             self.note(note)
             self.keep(f"! {note}")

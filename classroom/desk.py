@@ -109,7 +109,7 @@ class Desk:
             self.heard.catch_up(self.last_step)
         self.recount()
         self.ask_report()
-        self.tell(f"gone on from configuration {self.report.at}, {self.counted()}")
+        self.tell(f"gone on from configuration {self.report.at}, {self.events_used()}")
         if self.count >= self.lab.events:
             self.end_by("full")
 
@@ -146,7 +146,7 @@ class Desk:
             try:
                 self.watch.turn(self.report, self.book)
             except Refused as refused:
-                self.wait_for_memory(refused)
+                self.raise_unless_memory(refused)
         if self.is_halted():
             self.end_by("journal")
 
@@ -177,11 +177,11 @@ class Desk:
         if self.house:
             self.house.note(event)
         if self.count == int(MOST_TOLD * self.lab.events) > 0:
-            self.tell(f"{self.counted()}: nothing more is granted after the last")
+            self.tell(f"{self.events_used()}: nothing more is granted after the last")
         if self.count >= self.lab.events:
             self.end_by("full")
 
-    def counted(self) -> str:
+    def events_used(self) -> str:
         """How many events there are of how many."""
         return f"events {self.count} of {self.lab.events}"
 
@@ -191,10 +191,10 @@ class Desk:
             self.report = self.client.report()
             self.is_old = False
         except Refused as refused:
-            self.wait_for_memory(refused)
+            self.raise_unless_memory(refused)
             self.is_old = True
 
-    def wait_for_memory(self, refused: Refused) -> None:
+    def raise_unless_memory(self, refused: Refused) -> None:
         """Raises a refusal, unless it is for memory: that one passes."""
         if refused.word != "memory":
             raise refused
@@ -214,7 +214,7 @@ class Desk:
         limit = f" of at most {most.moves}" if most else ""
         state = "stable" if self.report.stable else f"{len(self.report.privileged)} privileged"
         now = f"{state}, " if self.report.at == at else ""
-        self.tell(f"configuration {at}: {what}; {now}{self.book.since}{limit} moves; {self.counted()}")
+        self.tell(f"configuration {at}: {what}; {now}{self.book.since}{limit} moves; {self.events_used()}")
 
     def come_back(self, event: Event, moved: list[int], before: Report) -> None:
         """Counts a close; where it was the last that the class took to come back, tells how it came."""
@@ -273,9 +273,9 @@ class Desk:
             what = f"journal: no line can be written to it; make room on the disk, then {self.go_on}"
         elif self.lab.events < labs.MOST_EVENTS:
             raised = f"raise `events` in {self.folder}/lab.toml, to at most {labs.MOST_EVENTS}"
-            what = f"full: {self.counted()}; {raised}, then {self.go_on} --again"
+            what = f"full: {self.events_used()}; {raised}, then {self.go_on} --again"
         else:
-            what = f"full: {self.counted()}, the most that a lab has; go on with a new lab"
+            what = f"full: {self.events_used()}, the most that a lab has; go on with a new lab"
         self.tell(f"nothing more is granted: {what}")
 
     def command(self, line: str) -> bool:
@@ -287,7 +287,7 @@ class Desk:
         try:
             word, *rest = understood(line)
             if word == "end":
-                return self.may_end(asked)
+                return not self.ends(asked)
             self.do(word, rest)
         except (Denied, Refused) as no:
             self.tell(f"no: {no}")
@@ -298,15 +298,15 @@ class Desk:
             self.tell(str(error))
         return True
 
-    def may_end(self, asked: bool) -> bool:
-        """Whether the run goes on though `end` was typed: where it isn't stable it ends only if the line before was
-        `end` too, and else that is told."""
+    def ends(self, asked: bool) -> bool:
+        """Whether the run ends where `end` was typed. Unless it is stable it ends only if the line before was `end` too,
+        which `asked` says, and else that is told."""
         self.ask_report()
         if asked or self.report.stable:
-            return False
+            return True
         self.asked_to_end = True
         self.tell(f"not stable, {len(self.report.privileged)} privileged: end once more ends the run all the same")
-        return True
+        return False
 
     def do(self, word: str, rest: list[str]) -> None:
         """Does what a word says, whose form is right."""
@@ -315,7 +315,7 @@ class Desk:
             self.client.close()
         elif word == "report":
             self.ask_report()
-            self.tell(f"{listed(self.report)}; {self.counted()}")
+            self.tell(f"{listed(self.report)}; {self.events_used()}")
         elif word == "wait":
             self.told_waiting = self.waiting()
             self.tell(f"waiting for {self.told_waiting or 'nobody'}")

@@ -21,8 +21,8 @@ from classroom import bounds, chart, networks
 from classroom import lab as labs
 from classroom.answering import answerer
 from classroom.bounds import MOVES
+from classroom.counts import positive
 from classroom.daemons import Daemon, daemons
-from classroom.grade import count
 from classroom.measuring import SIZED, Row, Setting, drawn, runs
 from classroom.program import Fault
 from classroom.statuses import FAILED, WARNED
@@ -51,11 +51,12 @@ def add_words(words: argparse.ArgumentParser) -> None:
                        help="central, synchronous, random:P, adversary, which searches long, and every:S and when-idle:S, where a node "
                        "asks after a second on average (central,synchronous)")
     words.add_argument("--start", choices=networks.STARTS, default="random", help="registers at the beginning (random)")
-    words.add_argument("--runs", type=count, default=20, metavar="K", help="runs of each family, size and daemon (20)")
+    words.add_argument("--runs", type=positive, default=20, metavar="K",
+                       help="runs of each family, size and daemon (20)")
     words.add_argument("--seed", type=int, default=1, help="the first run's; each further run has the next (1)")
     words.add_argument("--csv", default="experiment.csv", metavar="FILE", help="a row a run; one that is there already is gone on with")
     words.add_argument("--plot", metavar="FILE.svg", help="the chart")
-    words.add_argument("--at-once", type=count, help="how many processes (as many as processors)")
+    words.add_argument("--at-once", type=positive, help="how many processes (as many as processors)")
     words.set_defaults(work=experiment)
 
 
@@ -69,12 +70,12 @@ def settings(words: argparse.Namespace) -> list[Setting]:
         for nodes in words.nodes if not family.startswith(SIZED) else [0]:
             spelled = f"random:{nodes}:{links_of(nodes)}" if family == "random" else family
             try:
-                count_of = drawn(Setting(spelled, nodes, words.daemon[0], words.start), words.seed)
+                network = drawn(Setting(spelled, nodes, words.daemon[0], words.start), words.seed)
             except Fault as fault:
                 if family.startswith(SIZED) or "no family" in str(fault):
                     raise
                 continue  # no network of that family is so small
-            found += [Setting(spelled, len(count_of.nodes), how, words.start) for how in words.daemon]
+            found += [Setting(spelled, len(network.nodes), how, words.start) for how in words.daemon]
     if not found:
         raise Fault("no family has a network of these sizes")
     return found

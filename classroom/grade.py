@@ -14,6 +14,7 @@ from pathlib import Path
 from classroom import graded, suites
 from classroom.answering import answerer
 from classroom.bots import Bot
+from classroom.counts import positive
 from classroom.daemons import daemons
 from classroom.folders import new_folder
 from classroom.program import Fault, program
@@ -23,13 +24,6 @@ from classroom.suites import Case
 from classroom.trial import Limits, Result, tried
 
 MOST_AT_ONCE = 16  # bots that run side by side
-
-
-def count(word: str) -> int:
-    """A number from 1."""
-    if not (word.isascii() and word.isdecimal() and int(word) > 0):
-        raise argparse.ArgumentTypeError(f"{word} is no number from 1")
-    return int(word)
 
 
 def seconds(word: str) -> float:
@@ -47,10 +41,11 @@ def add_words(words: argparse.ArgumentParser) -> None:
     cases.add_argument("--suite", choices=sorted(suites.SUITES), default="small", help="cases that come with the release (small)")
     cases.add_argument("--labs", metavar="FOLDER", help="your own labs")
     words.add_argument("--daemon", type=daemons, metavar="D,..", help="instead of the suite's: central, synchronous, random:P, ..")
-    words.add_argument("--seeds", type=count, default=1, metavar="K", help="each case with the seeds 1 to K (1)")
+    words.add_argument("--seeds", type=positive, default=1, metavar="K", help="each case with the seeds 1 to K (1)")
     words.add_argument("--timeout", type=seconds, default=20.0, metavar="SECONDS", help="what a case may take (20)")
-    words.add_argument("--memory", type=count, default=512, metavar="MB", help="what a bot may take, with all that it starts (512)")
-    words.add_argument("--at-once", type=count, help="how many cases run side by side")
+    words.add_argument("--memory", type=positive, default=512, metavar="MB",
+                       help="what a bot may take, with all that it starts (512)")
+    words.add_argument("--at-once", type=positive, help="how many cases run side by side")
     words.add_argument("--into", default="grades", help="where the cases' records and pages are kept (grades)")
     for form, what in (("json", "a list of cases"), ("junit", "JUnit's form"), ("gradescope", "Gradescope's form")):
         words.add_argument(f"--{form}", metavar="FILE", help=what)

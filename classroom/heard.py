@@ -7,6 +7,7 @@ from collections.abc import Iterable
 from dataclasses import dataclass, field
 from pathlib import Path
 
+from classroom.counts import plural
 from classroom.lab import Lab
 from classroom.record import CUT, ENDED, Entry, Reader, seats
 
@@ -39,11 +40,6 @@ class Seat:
             return b""
         self.at += len(found)
         return found
-
-
-def counted(count: int, what: str) -> str:
-    """A count with the word for what is counted, in the plural but for one."""
-    return f"{count} {what}{'' if count == 1 else 's'}"
 
 
 def told_so(word: str) -> str:
@@ -153,9 +149,9 @@ class Heard:
         """Whose connections have become more or fewer."""
         before, now = self.shown, self.connected()
         self.shown = now
-        come = [f"connected: {name}" + (f", {counted(now[name], 'connection')}" if now[name] > 1 else "")
+        come = [f"connected: {name}" + (f", {plural(now[name], 'connection')}" if now[name] > 1 else "")
                 for name in sorted(now) if now[name] > before[name]]
-        return come + [f"gone: {name}" + (f", {counted(now[name], 'connection')} left" if now[name] else "")
+        return come + [f"gone: {name}" + (f", {plural(now[name], 'connection')} left" if now[name] else "")
                        for name in sorted(before) if now[name] < before[name]]
 
     def is_news(self, key: tuple[str, str], count: int, least: int) -> bool:
@@ -168,7 +164,7 @@ class Heard:
 
     def wrong_keys(self) -> list[str]:
         """Wrong keys, as often as their number has doubled."""
-        return [f"{counted(count, 'wrong key')} for {name}" for name, count in self.wrong.items()
+        return [f"{plural(count, 'wrong key')} for {name}" for name, count in self.wrong.items()
                 if self.is_news(("wrong", name), count, 1)]
 
     def denied(self) -> list[tuple[str, str, int]]:
@@ -177,7 +173,7 @@ class Heard:
 
     def in_vain(self) -> list[str]:
         """Who asked in vain since the last step, as lines, from VAIN times on as often as the number has doubled."""
-        return [f"{name}: {told_so(word)} {counted(count, 'time')} since the last step"
+        return [f"{name}: {told_so(word)} {plural(count, 'time')} since the last step"
                 for name, word, count in self.denied() if self.is_news((name, word), count, VAIN)]
 
     def flooding(self, seconds: float) -> list[str]:
@@ -209,7 +205,7 @@ class Heard:
     def amiss(self) -> list[str]:
         """Lines of wrong keys, of who asked in vain since the last step, and of who floods."""
         wrong = ", ".join(f"{count} for {name}" for name, count in self.wrong.items())
-        vain = [f"{name}: {told_so(word)} {counted(count, 'time')}" for name, word, count in self.denied()]
+        vain = [f"{name}: {told_so(word)} {plural(count, 'time')}" for name, word, count in self.denied()]
         floods = ", ".join(f"{name}, {rate} lines a second" for name, rate in self.floods.items())
         told = (f"wrong keys: {wrong}" if wrong else "", f"since the last step {'; '.join(vain)}" if vain else "",
                 f"a flood of {floods}" if floods else "")

@@ -175,7 +175,7 @@ def item(row: Row, count: int) -> str:
     return f"seat {row.seat}{times(count)} <code>{escape(row.asked)}</code> <code>{reply}</code>"
 
 
-def hider_of(run: Path, parts: list[Vouched], lab: labs.Lab) -> Hider:
+def hider_of(parts: list[Vouched], lab: labs.Lab) -> Hider:
     """What hides the keys of the lab, and those that were others before."""
     every = [lab, *(labs.read(part.lab) for part in parts)]
     keys = {key for each in every for key in (*each.students.values(), each.teacher[1])}
@@ -196,7 +196,7 @@ def history(words: argparse.Namespace) -> int:
         if refused:
             raise Fault(refused[0].told(), refused[0].status)
         told = [part.told() for part in parts]
-        lines = rows_of(parts, name, hider_of(run, parts, lab))
+        lines = rows_of(parts, name, hider_of(parts, lab))
         own = {row.place + 1 for row in lines if '"place":' in row.reply}
         between = list(steps(lab, events(parts[-1].journal.read_text(encoding="ascii")), name, own))
         rows = merged(lines, between)

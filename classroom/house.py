@@ -15,7 +15,7 @@ WAITS = "the house waits for a first student"
 HOW = "./class new .. --stand-in makes a lab in which each node has it"
 
 
-def wanted(lab: Lab, file: object) -> None:
+def want_house(lab: Lab, file: object) -> None:
     """Raises a fault, which names the file, where a lab has no house."""
     if not lab.held():
         raise Fault(f"{file}: no node has the second owner `{HOUSE}`, who could stand in: {HOW}")

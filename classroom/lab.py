@@ -114,7 +114,7 @@ def read(path: Path) -> Lab:
     return Lab(it["events"], it["sessions"], (it["teacher"]["name"], it["teacher"]["key"]), students, nodes, links, people)
 
 
-def counted(told: str, lab: Lab) -> str:
+def with_house_apart(told: str, lab: Lab) -> str:
     """What the program says of a lab's size, where the house that it counts among the students is told apart."""
     students = len(lab.without_house().students)
     return told.replace(f"{students + 1} students", f"{students} students and the house") if lab.held() else told

@@ -100,7 +100,7 @@ def new(words: argparse.Namespace) -> int:
             raise Fault(f"this would be no lab: {answer.error}", answer.status)
         labs.write_new(slips_file, slips.page(made, here, words.port + index, lab_file))
         slips.write_all(made, words.port + index, slips_folder)
-        size = labs.counted(answer.output.strip().removeprefix("ok: "), made)
+        size = labs.with_house_apart(answer.output.strip().removeprefix("ok: "), made)
         print(f"{lab_file}: {size}; slips: {slips_file} to print, {slips_folder} for programs")
         if made.sessions < len(part) + 1:
             print(f"note: {made.sessions} sessions for {len(part)} students and a teacher: "

@@ -17,10 +17,11 @@ from classroom import bounds, networks, play, slips
 from classroom.answering import answerer
 from classroom.bots import Bot, Kept
 from classroom.client import RULES
+from classroom.counts import plural, positive
 from classroom.daemons import FORMS, Daemon, daemon
 from classroom.folders import new_folder
-from classroom.grade import count, seconds
-from classroom.heard import MALFORMED, counted
+from classroom.grade import seconds
+from classroom.heard import MALFORMED
 from classroom.new import start
 from classroom.playing import No, Playing, Step
 from classroom.program import TOP, Fault, call, first_free, program
@@ -41,14 +42,14 @@ def add_words(words: argparse.ArgumentParser) -> None:
     words.add_argument("bots", nargs="*", metavar="BOT",
                        help="a command, to which a slip's path is added: 'python3 bot.py'; without one, a port waits for a program")
     words.add_argument("--family", default="cycle", help=f"{networks.NAMED} (cycle)")
-    words.add_argument("--nodes", type=count, help="how many nodes (7)")
+    words.add_argument("--nodes", type=positive, help="how many nodes (7)")
     words.add_argument("--node", metavar="I,..", help="your nodes, dealt out to the BOTs in turn (two for each, by the seed)")
     words.add_argument("--start", choices=networks.STARTS, default="hurt", help="registers at the beginning (hurt)")
     words.add_argument("--daemon", type=daemon, default=Daemon("when-idle", 0.5), metavar="D", help=f"{FORMS} (when-idle:0.5)")
     words.add_argument("--seed", type=int, default=SEED, help=f"for network, start and daemon ({SEED})")
     words.add_argument("--timeout", type=seconds, default=60.0, metavar="SECONDS",
                        help="without news for so long it ends, where a BOT is named (60)")
-    words.add_argument("--port", type=count, help="the port, or else the next that is free (4711; with a BOT any)")
+    words.add_argument("--port", type=positive, help="the port, or else the next that is free (4711; with a BOT any)")
     words.add_argument("--into", default="runs", help="where the run's folder is made (runs)")
     words.set_defaults(work=practise)
 
@@ -146,10 +147,11 @@ class Practice:
         heard = self.playing.heard[name]
         moves = ", ".join(rule for rule in RULES if heard.rules[rule])
         denied = {word: times for word, times in sorted(heard.denied.items()) if word != MALFORMED}
-        text = f"{name}: {counted(heard.granted, 'move')}" + f" ({moves})" * bool(moves) + f", {counted(sum(denied.values()), 'denial')}"
+        text = f"{name}: {plural(heard.granted, 'move')}" + f" ({moves})" * bool(moves)
+        text += f", {plural(sum(denied.values()), 'denial')}"
         text += f" ({', '.join(f'{times} {word}' for word, times in denied.items())})" * bool(denied)
         if heard.denied[MALFORMED]:
-            text += f", {counted(heard.denied[MALFORMED], 'malformed line')}"
+            text += f", {plural(heard.denied[MALFORMED], 'malformed line')}"
         never = ", ".join(rule for rule in RULES if rule not in heard.wanted)
         return text + f"; never asked: {never}" * bool(never) + f"; {FLOODS}" * (name in self.floods)
 
@@ -204,7 +206,7 @@ def practise(words: argparse.Namespace) -> int:
     names = ["you"] if len(bots) < 2 else [f"you-{number}" for number in range(1, len(bots) + 1)]
     lab = made(words, names)
     folder = new_folder(Path(words.into), Path("practise"))
-    with contextlib.closing(Closing(opened(lab, names, words))) as it:
+    with contextlib.closing(ClassWithPrograms(opened(lab, names, words))) as it:
         try:
             return played(it, bots, words, folder)
         except OSError as error:
@@ -216,7 +218,7 @@ def for_its_owner(path: str, flags: int) -> int:
     return os.open(path, flags, 0o600)
 
 
-def played(it: Closing, bots: list[Bot], words: argparse.Namespace, folder: Path) -> int:
+def played(it: ClassWithPrograms, bots: list[Bot], words: argparse.Namespace, folder: Path) -> int:
     """Plays it in a folder of its own; the status is that of the word."""
     lab, names, tell = it.playing.lab, it.playing.programs, Teller(folder)
     practice = Practice(it.playing, tell, words.timeout if bots else None)
@@ -246,7 +248,7 @@ def played(it: Closing, bots: list[Bot], words: argparse.Namespace, folder: Path
 
 
 @dataclass
-class Closing:
+class ClassWithPrograms:
     """The class and its programs, which are ended together."""
 
     playing: Playing

@@ -4,6 +4,7 @@ from __future__ import annotations
 from collections.abc import Collection, Iterable
 
 from classroom import bounds
+from classroom.counts import plural
 
 
 class Recovery:
@@ -29,8 +30,3 @@ class Recovery:
         most = bounds.told(nodes, links)
         proved = f"; proved: at most {most.moves} moves, {most.rounds} rounds" if most else ""
         return f"{plural(self.moves, 'move')}, {plural(self.closes, 'close')}, {plural(self.rounds, 'round')}{proved}"
-
-
-def plural(count: int, word: str) -> str:
-    """A count with its word."""
-    return f"{count} {word}" if count == 1 else f"{count} {word}s"

@@ -27,7 +27,7 @@ def port(word: str) -> int:
         raise argparse.ArgumentTypeError(str(error)) from None
 
 
-def standing(word: str) -> float:
+def seconds_with_unit(word: str) -> float:
     """Seconds, as `20s` or `20`."""
     return seconds(word.removesuffix("s"))
 
@@ -35,7 +35,7 @@ def standing(word: str) -> float:
 def add_desk_words(words: argparse.ArgumentParser) -> None:
     """The words of who holds a desk."""
     words.add_argument("--daemon", "--close", dest="close", type=closing.mode, metavar="D", help=f"{FORMS} (when-idle:2)")
-    words.add_argument("--stand-in", type=standing, metavar="20s",
+    words.add_argument("--stand-in", type=seconds_with_unit, metavar="20s",
                        help="let the house ask for a node that has been privileged so long without its student's move, from when a first "
                             "student has greeted")
     words.add_argument("--until", choices=["stable"], help="end the run where no node is privileged")
@@ -85,7 +85,7 @@ def one(words: argparse.Namespace) -> int:
 def may_stand_in(words: argparse.Namespace, lab: labs.Lab, file: Path) -> None:
     """Where --stand-in is asked for, wants a lab with a house, and no --serve."""
     if words.stand_in is not None:
-        house.wanted(lab, file)
+        house.want_house(lab, file)
         if getattr(words, "serve", False):
             raise Fault("--stand-in isn't for --serve: each move of the house takes a connection")
 

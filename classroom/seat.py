@@ -128,6 +128,6 @@ def told(look: Look) -> dict[str, Any]:
     return {name: value for name, value in asdict(look).items() if name != "at"}
 
 
-def style(name: str = NEIGHBOUR) -> str:
+def style() -> str:
     """The colours that every student's picture has: the student's own and the neighbours'."""
-    return Drawing(replace(shown_part("", {}), students={"": "", name: ""}), Layout({}, 1.0)).style()
+    return Drawing(replace(shown_part("", {}), students={"": "", NEIGHBOUR: ""}), Layout({}, 1.0)).style()

@@ -20,7 +20,7 @@ SIGNALS = (signal.SIGINT, signal.SIGTERM)
 Child = subprocess.Popen[str]
 
 
-def prefixed(words: argparse.Namespace, index: int) -> Child:
+def started(words: argparse.Namespace, index: int) -> Child:
     """Starts the run of one lab, in a process of its own and at ports of its own."""
     more = ["--until", words.until] if words.until else []
     more += ["--page", str(words.page + index)] if words.page is not None else []
@@ -43,7 +43,7 @@ class Several:
         self.labs = [Path(lab) for lab in words.labs]
         self.names = [lab.stem for lab in self.labs]
         self.typed = words.typed
-        self.children = [prefixed(words, index) for index in range(len(words.labs))]
+        self.children = [started(words, index) for index in range(len(words.labs))]
         self.terminal: Terminal | None = None
         self.turn = threading.Lock()
 

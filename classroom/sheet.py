@@ -3,10 +3,10 @@ from __future__ import annotations
 
 import re
 
+from classroom.counts import plural
 from classroom.drawing import STYLE, Drawing
 from classroom.frames import Frame
 from classroom.layout import HEIGHT, ROOMY, WIDTH, halved
-from classroom.rounds import plural
 
 ACROSS = 3  # in a row
 WIDE, HIGH, TITLE = WIDTH / 2, HEIGHT / 2, 26.0  # of a configuration, and of the line above it

@@ -9,6 +9,7 @@ from collections.abc import Callable
 from importlib import import_module
 from typing import NoReturn
 
+from classroom.counts import positive
 from classroom.printable import printable
 from classroom.program import TOP, Fault
 from classroom.statuses import FAILED, TABLE, USAGE
@@ -27,13 +28,6 @@ def version() -> str:
     """Version, commit and toolchain, as `mml` tells them."""
     said = subprocess.run([TOP / "mml", "--version"], stdin=subprocess.DEVNULL, capture_output=True, text=True, check=False)
     return said.stdout.strip().removeprefix("Cenduwa ") or "of no known version"
-
-
-def positive(word: str) -> int:
-    """A number from 1."""
-    if not (word.isascii() and word.isdecimal() and int(word) > 0):
-        raise argparse.ArgumentTypeError(f"{word} is no number from 1")
-    return int(word)
 
 
 def add_new(words: argparse.ArgumentParser) -> None:
