@@ -33,8 +33,9 @@ class Adversary:
         self.registers = {node.id: (node.p, node.m) for node in made.nodes}
         known = {node for node, _ in report["privileged"]}
         ways = [[node] for node in self.some(chosen, FIRST)] + [list(chosen)]
-        worth = {place: self.tried(bench, report, way, STEPS) for place, way in enumerate(ways) if known.issuperset(way)}
-        return ways[max(worth, key=lambda place: worth[place])] if worth else list(chosen)
+        worth = {index: self.tried(bench, report, way, STEPS)
+                 for index, way in enumerate(ways) if known.issuperset(way)}
+        return ways[max(worth, key=lambda index: worth[index])] if worth else list(chosen)
 
     def bench_over(self, made: labs.Lab) -> Bench:
         """A program over the network, with room for a search: the one at hand, or a new one where that has other links

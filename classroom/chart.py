@@ -36,7 +36,7 @@ svg text.title { font-weight: bold; font-size: 14px; }
 
 
 class Scale:
-    """From numbers to places on a panel."""
+    """From numbers to spots on a panel."""
 
     def __init__(self, least: int, most: int, high: int) -> None:
         self.least, self.most, self.high = least, max(most, least + 1), max(high, 1)
@@ -65,7 +65,7 @@ def line(points: Sequence[tuple[float, float]], kind: str, colour: str = "") -> 
     """The path through points; a short line through a single point."""
     if len(points) == 1:
         points = [(points[0][0] - 8, points[0][1]), (points[0][0] + 8, points[0][1])]
-    path = " ".join(f"{'M' if place == 0 else 'L'}{x:.1f} {y:.1f}" for place, (x, y) in enumerate(points))
+    path = " ".join(f"{'M' if index == 0 else 'L'}{x:.1f} {y:.1f}" for index, (x, y) in enumerate(points))
     style = f' style="stroke: var({colour})"' if colour else ""
     return f'<path class="{kind}" d="{path}"{style}/>'
 
@@ -108,8 +108,8 @@ def panel(title: str, rows: list[Row]) -> str:
 def key(runs: int) -> str:
     """What the lines and points of all panels stand for, to be drawn below them."""
     parts = []
-    for place, (name, colour, _) in enumerate(MEASURES):
-        x = 12 + 84 * place
+    for column, (name, colour, _) in enumerate(MEASURES):
+        x = 12 + 84 * column
         parts.append(line([(x, 14), (x + 22, 14)], "median", colour) + f'<text class="left" x="{x + 28}" y="18">{name}</text>')
     parts.append(f'<text class="left" x="270" y="18">{runs} runs</text>')
     parts.append('<text class="left" x="12" y="36">points: runs; thick: median; thin: greatest</text>')

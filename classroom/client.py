@@ -69,7 +69,7 @@ class NoServer(Closed):
 
 
 class NoSlip(Exception):
-    """A slip, or a word in its place, that can't be taken."""
+    """A slip, or a word instead of one, that can't be taken."""
 
 
 class NotReply(Closed):
@@ -553,7 +553,7 @@ def sent(line: str) -> bytes:
 
 
 def byte(line: str, at: int) -> int:
-    """Which byte a place in a line is, from 1."""
+    """Which byte stands at an index of a line, from 1."""
     return len(sent(line[:at])) + 1
 
 
@@ -677,11 +677,11 @@ def by_hand(words: list[str]) -> None:
     """Sends each line of standard input, and shows the line that answers it."""
     log = None
     if "--log" in words:
-        place = words.index("--log")
-        if place + 1 == len(words):
+        index = words.index("--log")
+        if index + 1 == len(words):
             raise NoSlip("--log FILE")
-        log = Path(words[place + 1])
-        words = words[:place] + words[place + 2:]
+        log = Path(words[index + 1])
+        words = words[:index] + words[index + 2:]
     if len(words) == 1 and words[0].isdecimal():
         talk = ByHand(None, port_of(words[0]), log)
     else:

@@ -48,11 +48,12 @@ def owner(number: str) -> str:
 class Connected:
     """What there is to tell of who comes and goes at the students' port."""
 
-    def __init__(self, port: int, places: int, but: int, names: dict[int, str] | None = None, tells: bool = True) -> None:
-        """`places` is how many seats there are; `but` is the port of the desk's own end, which isn't counted; `names`
+    def __init__(self, port: int, seats: int, but: int, names: dict[int, str] | None = None,
+                 tells: bool = True) -> None:
+        """`seats` is how many seats there are; `but` is the port of the desk's own end, which isn't counted; `names`
         has who is known otherwise than by a process, by the port of the client's end. `tells` is false where a record
         tells who comes and goes: then nothing is told here but that the seats are taken."""
-        self.port, self.places, self.but, self.tells = port, places, but, tells
+        self.port, self.seats, self.but, self.tells = port, seats, but, tells
         self.names = {} if names is None else names
         self.known: dict[int, str] = {}
         self.full = False
@@ -96,7 +97,7 @@ class Connected:
         self.known |= {port: self.names.get(port) or self.process(ends.get(port)) for port in come}
         lines = [f"connected: {self.known[port]}" for port in come] + [f"gone: {who}" for who in gone] if self.tells else []
         listens = any(own == self.port and state == LISTENING for own, _, state, _ in found)
-        if not self.full and (len(here) >= self.places or not listens):
+        if not self.full and (len(here) >= self.seats or not listens):
             self.full = True
             lines.append("all seats are taken: who comes now is told so; who tells whose they are" if listens else
                          "each connection of this server was used: who comes now isn't let in")
@@ -117,4 +118,4 @@ class Connected:
     def who(self) -> str:
         """How many of the seats are taken, and by whom, in the order in which they were seen to come."""
         names = [self.names.get(port, who) for port, who in self.known.items()]
-        return f"{len(self.known)} of {self.places} seats: {', '.join(names) or 'nobody'}"
+        return f"{len(self.known)} of {self.seats} seats: {', '.join(names) or 'nobody'}"

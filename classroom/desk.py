@@ -345,7 +345,8 @@ class Desk:
         if self.connected and self.heard:
             self.heard.read()
             self.heard.since(self.last_step)
-            self.tell(f"connected: {self.heard.who(self.connected.count(), self.connected.places, self.connected.names.values())}")
+            who = self.heard.who(self.connected.count(), self.connected.seats, self.connected.names.values())
+            self.tell(f"connected: {who}")
             for line in self.heard.amiss():
                 self.tell(line)
         elif self.connected:

@@ -21,7 +21,7 @@ OPEN_MOST = 2000  # open links above which they are told as a number alone
 FAINT_ABOVE = 8  # links for each node above which their lines are the fainter the more they are
 SIGNS = "letters below a node: whose it is"
 LETTERS = f"letter beside it: {', '.join(f'{rule[:1].upper()} {rule}' for rule in RULES)}"
-LISTED_WIDE, LISTED_HIGH = 220, 18  # of a student's place in the list below a small drawing
+LISTED_WIDE, LISTED_HIGH = 220, 18  # of a student's cell in the list below a small drawing
 M_LARGE = '<rect x="-6" y="-6" width="12" height="12"/><text y="4">m</text>'
 M_SMALL = '<rect x="-3" y="-3" width="6" height="6"/>'
 
@@ -236,8 +236,8 @@ class Drawing:
             return "", 0
         columns, names = int(WIDTH // LISTED_WIDE), list(self.lab.students)
         rows = [f'<text class="listed" x="8" y="{HEIGHT + 4:g}">{self.letters}</text>']
-        for place, name in enumerate(names):
-            row, column = divmod(place, columns)
+        for index, name in enumerate(names):
+            row, column = divmod(index, columns)
             rows.append(
                 f'<g transform="translate({14 + column * LISTED_WIDE:g} {HEIGHT + (row + 1) * LISTED_HIGH:g})">'
                 f'{sector(0, 1, 6, self.hue(name))}<text class="listed" x="12" y="4">{self.signs[name]}: {escape(name)}</text></g>'
@@ -250,7 +250,7 @@ class Drawing:
         return {kind: self.layout.radius + 24 if kind == "fault" else 6 for kind in EDITS}
 
     def mark(self, event: Event | None) -> str:
-        """The word of a fault, link or cut, where it took place."""
+        """The word of a fault, link or cut, where it happened."""
         if event is None or event.kind not in EDITS:
             return '<text class="mark"></text>'
         points = [self.layout.points[node] for node in event.nodes]

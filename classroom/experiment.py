@@ -198,7 +198,7 @@ def left(every: list[Setting], seeds: range, done: set[Key]) -> list[tuple[Setti
     tasks = []
     for it in sorted(every, key=lambda setting: -setting.nodes):
         more = [seed for seed in seeds if (it.family, it.nodes, it.daemon.spelled(), it.start, seed) not in done]
-        tasks += [(it, more[place:place + CHUNK]) for place in range(0, len(more), CHUNK)]
+        tasks += [(it, more[first:first + CHUNK]) for first in range(0, len(more), CHUNK)]
     return tasks
 
 

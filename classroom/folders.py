@@ -24,7 +24,7 @@ def new_folder(into: Path, lab: Path) -> Path:
         except FileExistsError:
             continue
         except OSError as error:
-            raise Fault(f"{folder}: {error.strerror}; --into FOLDER names another place", 4) from None
+            raise Fault(f"{folder}: {error.strerror}; --into FOLDER names another folder", 4) from None
     raise Fault(f"{into}: no name is free for a folder", 4)
 
 

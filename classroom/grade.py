@@ -71,7 +71,7 @@ def results_of(bots: list[Bot], cases: list[Case], words: argparse.Namespace, to
             with tempfile.TemporaryDirectory(prefix="bot-", ignore_cleanup_errors=True) as room:
                 return tried(bot, case, limits, Path(room), folder_of(top, bot, case), stop)
         except OSError as error:
-            why = f"not tried: {error.filename or tempfile.gettempdir()}: {error.strerror}; TMPDIR names another place"
+            why = f"not tried: {error.filename or tempfile.gettempdir()}: {error.strerror}; TMPDIR names another folder"
             return Result(bot.name, case.lab, case.daemon.spelled(), case.seed, False, why)
 
     with concurrent.futures.ThreadPoolExecutor(at_once) as pool:
@@ -129,11 +129,12 @@ def grade(words: argparse.Namespace) -> int:
             results.append(result)
             print(graded.told(result), flush=True)
             if result.unkept and not full:
-                print(f"class: {printable(result.unkept)}; --into names another place", flush=True)
+                print(f"class: {printable(result.unkept)}; --into names another folder", flush=True)
             full = full or bool(result.unkept)
     finally:
         stop.set()
-        order = {(bot.name, case.name()): place for place, (bot, case) in enumerate((bot, case) for bot in bots for case in cases)}
+        pairs = [(bot.name, case.name()) for bot in bots for case in cases]
+        order = {pair: index for index, pair in enumerate(pairs)}
         results.sort(key=lambda result: order[result.bot, graded.named(result)])
         unwritten = write_all(words, results)
     print(graded.table(results))

@@ -191,7 +191,7 @@ class Heard:
         why = "it has taken its room in the record, or the disk is full"
         return [f"the rest of what {name} sends isn't recorded: {why}" for name in dict.fromkeys(names)]
 
-    def who(self, count: int, places: int, otherwise: Iterable[str] = ()) -> str:
+    def who(self, count: int, all_seats: int, otherwise: Iterable[str] = ()) -> str:
         """Who is connected, and how many of the seats are taken: `count`, as the system tells it. `otherwise` are texts
         of some of them: a name, a comma, and how they are connected."""
         known, every = self.connected(), self.connected().total()
@@ -200,7 +200,7 @@ class Heard:
         names = [name if times == 1 else f"{name} {times} times" for name, times in sorted(known.items()) if times > 0] + how
         others = max(count - every, 0)
         names += [f"{others} without a name"] if others else []
-        return f"{max(count, every)} of {places} seats: {', '.join(names) or 'nobody'}"
+        return f"{max(count, every)} of {all_seats} seats: {', '.join(names) or 'nobody'}"
 
     def amiss(self) -> list[str]:
         """Lines of wrong keys, of who asked in vain since the last step, and of who floods."""

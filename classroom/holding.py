@@ -103,7 +103,7 @@ def open_desk(it: server.Server, run: Running) -> Desk:
 
 def show(pages: projector.Pages, desk: Desk, tell: Teller, typed: bool) -> None:
     """Opens the page, and tells it what is told from now on. Where to act is told to the terminal alone, or to a
-    program that types in its place."""
+    program that types instead."""
     watch = desk.watched()
 
     def act() -> None:

@@ -35,7 +35,7 @@ class Event:
 
     @cached_property
     def nodes(self) -> tuple[int, ...]:
-        """The nodes at which it takes place, as far as its line names them."""
+        """The nodes at which it happens, as far as its line names them."""
         first = {"grant": 2, "release": 1, "fault": 1, "link": 1, "cut": 1}.get(self.kind, len(self.words))
         count = 2 if self.kind in ("link", "cut") else 1
         return tuple(int(word) for word in self.words[first : first + count])

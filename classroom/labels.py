@@ -105,9 +105,9 @@ class Witnesses:
         return self.spots[a, b]
 
     def found(self, a: int, b: int) -> Point:
-        """The first place where nothing stands, or else the one where the least does; it is taken from then on."""
+        """The first spot where nothing stands, or else the one where the least does; it is taken from then on."""
         best, least = (0.0, 0.0), math.inf
-        for x, y in self.places(a, b):
+        for x, y in self.candidates(a, b):
             box = written(self.letters, WITNESS_SIZE, x, y)
             shared = sum(map(box.shared, self.taken))
             if shared < least:
@@ -118,8 +118,8 @@ class Witnesses:
         self.taken.append(written(self.letters, WITNESS_SIZE, *best))
         return best
 
-    def places(self, a: int, b: int) -> Iterator[Point]:
-        """Where the witness of a link may stand, the best place first."""
+    def candidates(self, a: int, b: int) -> Iterator[Point]:
+        """Where the witness of a link may stand, the best spot first."""
         (x, y), (u, v) = self.layout.points[a], self.layout.points[b]
         length = math.dist((x, y), (u, v)) or 1.0
         for aside in ASIDE:

@@ -110,7 +110,7 @@ def around(count: int, wide: float, high: float) -> list[Point]:
     angles = [math.tau * turn / TURNS - math.pi / 2 for turn in range(TURNS + 1)]
     fine = [(wide / 2 * math.cos(angle), high / 2 * math.sin(angle)) for angle in angles]
     along = list(accumulate((math.dist(a, b) for a, b in pairwise(fine)), initial=0.0))
-    return [fine[bisect_left(along, along[-1] * place / count)] for place in range(count)]
+    return [fine[bisect_left(along, along[-1] * index / count)] for index in range(count)]
 
 
 def fitted(points: dict[int, Point]) -> Layout:

@@ -92,21 +92,21 @@ def table(path: Path, text: str, words: argparse.Namespace) -> People:
     first, last = column(path, heads, words.first_name, FIRST), column(path, heads, words.last_name, LAST)
     whole = column(path, heads, words.column, () if words.first_name or words.last_name else NAMES)
     ids = column(path, heads, words.id, IDS)
-    parts = [whole] if whole is not None else [place for place in (first, last) if place is not None]
+    parts = [whole] if whole is not None else [index for index in (first, last) if index is not None]
     if not parts:
         there = ", ".join(heads)
         raise Fault(f"{path}: no column name; there are: {there}. --column NAME, or --first-name and --last-name, name it")
     rows: list[tuple[list[str], Person | None]] = []
     for row in lines[1:]:
         row += [""] * (len(heads) - len(row))
-        written = " ".join(row[place].strip() for place in parts).strip()
+        written = " ".join(row[index].strip() for index in parts).strip()
         nobody = not written or written.lower() in NOBODY
         rows.append((row, None if nobody else Person(written, row[ids].strip() if ids is not None else "")))
     return People(rows, heads, delimiter)
 
 
 def column(path: Path, heads: list[str], asked: str | None, known: Iterable[str]) -> int | None:
-    """The place of a column: the one that is asked for, or the first of those that are known."""
+    """The index of a column: the one that is asked for, or the first of those that are known."""
     lower = [head.lower() for head in heads]
     if asked is not None and asked.lower() not in lower:
         raise Fault(f"{path}: no column {asked}; there are: {', '.join(heads)}. --column NAME names it")

@@ -84,8 +84,8 @@ def all_of(people: Iterable[Person], taken: Iterable[str] = ()) -> dict[str, Per
     forms = [one(person.written) for person in listed]
     ids = [re.sub("[^a-z0-9]+", "-", person.id.lower()).strip("-") for person in listed]
     counts, used, made = Counter([*forms, *taken]), set(taken), dict[str, Person]()
-    for place, (person, form, identifier) in enumerate(zip(listed, forms, ids), 1):
-        short = form or f"s-{identifier or place}"[:MOST_BYTES].rstrip("-")
+    for index, (person, form, identifier) in enumerate(zip(listed, forms, ids), 1):
+        short = form or f"s-{identifier or index}"[:MOST_BYTES].rstrip("-")
         if form and identifier and counts[form] > 1:
             short = with_end(form, identifier)
         first, number = short, 1

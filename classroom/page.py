@@ -25,7 +25,7 @@ Link = tuple[int, int]
 
 
 class Frames:
-    """The frames as what changed from one to the next, nodes and links by their places in a list."""
+    """The frames as what changed from one to the next, nodes and links by their indices in a list."""
 
     def __init__(self, drawing: Drawing) -> None:
         self.drawing = drawing
@@ -75,7 +75,7 @@ class Frames:
         return rows
 
     def rules(self, before: dict[int, str], now: dict[int, str]) -> list[list[int]]:
-        """The nodes whose rule changed, each with the rule's place in RULES, 0 where it has none."""
+        """The nodes whose rule changed, each with the rule's index in RULES, 0 where it has none."""
         changed = {node for node, _ in before.items() ^ now.items()}
         return [[self.order[node], RULES.index(now.get(node, ""))] for node in sorted(changed)]
 
@@ -89,10 +89,10 @@ class Frames:
 
     def changed_links(self, before: frozenset[Link], now: frozenset[Link]) -> list[list[int]]:
         """The links that came, each with 1, or went, with 0."""
-        return [[self.place_of(link), int(link in now)] for link in sorted(before ^ now)]
+        return [[self.index_of(link), int(link in now)] for link in sorted(before ^ now)]
 
-    def place_of(self, link: Link) -> int:
-        """The place of a link in the list, at whose end it is put where it is new."""
+    def index_of(self, link: Link) -> int:
+        """The index of a link in the list, at whose end it is put where it is new."""
         if link not in self.index:
             self.index[link] = len(self.links)
             self.links.append(link)
@@ -101,7 +101,7 @@ class Frames:
     def changed_open(self, links: list[OpenLink]) -> list[list[int]]:
         """Runs of links that follow each other and have the same witness from now on: the first, how many
         they are, the witness (-1: none) and its rule."""
-        now = {self.place_of((a, b)): (self.order[node], RULES.index(rule)) for a, b, node, rule in links}
+        now = {self.index_of((a, b)): (self.order[node], RULES.index(rule)) for a, b, node, rule in links}
         changed = sorted(link for link in now.keys() | self.open.keys() if now.get(link) != self.open.get(link))
         runs: list[list[int]] = []
         for link in changed:

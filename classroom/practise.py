@@ -77,7 +77,7 @@ def made(words: argparse.Namespace, names: list[str]) -> labs.Lab:
     own = own_nodes(words.node, identifiers, len(names), chance)
     if len(own) < len(names):
         raise Fault(f"{len(own)} nodes for {len(names)} BOTs: name more by --node")
-    owner = {node: names[place % len(names)] for place, node in enumerate(own)}
+    owner = {node: names[index % len(names)] for index, node in enumerate(own)}
     keys = {name: key() for name in [*names, HOUSE]}
     dealt = [labs.Node(node, [owner.get(node, HOUSE)]) for node in identifiers]
     it = labs.Lab(labs.MOST_EVENTS, labs.MOST_SESSIONS, (TEACHER, key()), keys, dealt, links)
@@ -210,7 +210,7 @@ def practise(words: argparse.Namespace) -> int:
         try:
             return played(it, bots, words, folder)
         except OSError as error:
-            raise Fault(f"{error.filename or folder}: {error.strerror}; --into names another place", 4) from None
+            raise Fault(f"{error.filename or folder}: {error.strerror}; --into names another folder", 4) from None
 
 
 def for_its_owner(path: str, flags: int) -> int:

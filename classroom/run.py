@@ -132,9 +132,9 @@ def begin(run: Running, port_asked: int, record: Record | None = None) -> server
         run.tell(f"slips: {slips}")
     if it.port != port_asked:
         run.tell(f"port {port_asked} is in use")
-    places = f"{run.lab.sessions - 1} students at once" if it.hosted else \
+    seats = f"{run.lab.sessions - 1} students at once" if it.hosted else \
         f"{run.lab.sessions} connections in all, the teacher's among them"
-    run.tell(f"port {it.port}, for {places}; folder {run.folder}")
+    run.tell(f"port {it.port}, for {seats}; folder {run.folder}")
     if it.hosted:
         run.tell(f"desk {it.desk}")
     return it

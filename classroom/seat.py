@@ -13,7 +13,7 @@ from classroom.journal import Event
 from classroom.lab import Lab, Node, ordered
 from classroom.layout import HEIGHT, ROOMY, WIDTH, Layout, halved, lay_out
 
-NEIGHBOUR = "a neighbour"  # in place of its owners, whom no reply tells; no student has such a name
+NEIGHBOUR = "a neighbour"  # instead of its owners, whom no reply tells; no student has such a name
 Told = TypeVar("Told")
 Looks = dict[int, Look]
 

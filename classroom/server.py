@@ -1,4 +1,4 @@
-"""The one place where a server is started, and where it ends."""
+"""The one module that starts a server, and ends it."""
 from __future__ import annotations
 
 import os

@@ -21,7 +21,7 @@ def sheet(drawing: Drawing, frames: list[Frame]) -> str:
     key, high = drawing.key()
     across, down = min(ACROSS, len(frames)), -(-len(frames) // ACROSS)
     wide, whole = max(across * WIDE, WIDTH if key else 0), down * (HIGH + TITLE)
-    cells = [cell(drawn, frame, place, times) for place, frame in enumerate(frames)]
+    cells = [cell(drawn, frame, index, times) for index, frame in enumerate(frames)]
     arrow = ARROW.search(drawn.svg(frames[0].state, None))
     assert arrow is not None
     return "\n".join([
@@ -33,9 +33,9 @@ def sheet(drawing: Drawing, frames: list[Frame]) -> str:
     ])
 
 
-def cell(drawing: Drawing, frame: Frame, place: int, times: int) -> str:
-    """One of the configurations, at its place in the rows, below its title."""
-    x, y = place % ACROSS * WIDE, place // ACROSS * (HIGH + TITLE)
+def cell(drawing: Drawing, frame: Frame, index: int, times: int) -> str:
+    """One of the configurations, at its index in the rows, below its title."""
+    x, y = index % ACROSS * WIDE, index // ACROSS * (HIGH + TITLE)
     state = frame.state
     left = f"{len(state.privileged)} privileged" if state.privileged else "stable"
     title = f"after {plural(state.place, 'event')}, {plural(state.moves, 'move')}: {left}" if state.place else f"at the beginning: {left}"

@@ -24,12 +24,12 @@ def by_springs(nodes: list[int], links: Links) -> dict[int, Point] | None:
     if not 2 < len(nodes) <= FEW_NODES or len(links) > 4 * len(nodes):
         return None
     far = distances(nodes, links)
-    ring = [math.tau * place / len(nodes) for place in range(len(nodes))]
+    ring = [math.tau * index / len(nodes) for index in range(len(nodes))]
     first, second = plane(far, [list(map(math.cos, ring)), list(map(math.sin, ring))])
     points = [(x + APART * math.cos(turn), y + APART * math.sin(turn)) for x, y, turn in zip(first, second, ring)]
     for _ in range(TURNS):
-        for place in range(len(points)):
-            points[place] = pulled(points, far[place], place)
+        for index in range(len(points)):
+            points[index] = pulled(points, far[index], index)
     # The lowest identifier stands above on the left.
     across, down = (-1.0 if coordinate > 0 else 1.0 for coordinate in points[0])
     return {node: (across * x, down * y) for node, (x, y) in zip(nodes, points)}
@@ -76,10 +76,10 @@ def plane(far: Rows, axes: Rows) -> Rows:
     return coordinates
 
 
-def pulled(points: list[Point], far: list[float], place: int) -> Point:
+def pulled(points: list[Point], far: list[float], index: int) -> Point:
     """Where a node comes to lie: in the middle of where each other one wants it, the near ones more than the far
     ones."""
-    x, y = points[place]
+    x, y = points[index]
     sum_x = sum_y = weights = 0.0
     for (other_x, other_y), apart in zip(points, far):
         if apart:

@@ -77,7 +77,7 @@ class Terminal:
         readline.parse_and_bind("tab: complete")
 
     def complete(self, text: str, state: int) -> str | None:
-        """Of the words that begin so the one at that place, from 0; None after the last."""
+        """Of the words that begin so the one at that index, from 0; None after the last."""
         before = self.readline.get_line_buffer()[:self.readline.get_begidx()]
         first = re.fullmatch(r"\s*(\d+\s*:\s*)?", before) is not None  # A run's number may stand before it.
         found = [f"{word} " for word in (WORDS if first else self.words) if word.startswith(text)]

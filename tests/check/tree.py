@@ -11,7 +11,7 @@ from pathlib import Path
 
 TOP = Path(__file__).resolve().parents[2]
 LIMIT = 300.0  # seconds after which something hangs
-# In the place of the tables: each part is a line of a shell.
+# Instead of the tables: each part is a line of a shell.
 TABLES = '''
 PROOFS = Part("proofs", ("sh", "-c", {proofs!r}, "proofs"), 8, 1, ALL, (), shows="^rt: ", hands_on=STANDS)
 WRONG = Part("wrong", ("sh", "-c", {wrong!r}, "wrong"), 4, 1, ALL)

@@ -177,11 +177,11 @@ class Played(unittest.TestCase):
         self.assertEqual((done.returncode, done.stderr), (0, ""))
         return output
 
-    def open(self, page: Path, place: str = "") -> float:
+    def open(self, page: Path, fragment: str = "") -> float:
         """Opens a page, and answers the seconds until it shows something."""
         start = time.monotonic()
         self.driver.get("about:blank")
-        self.driver.get(page.as_uri() + place)
+        self.driver.get(page.as_uri() + fragment)
         until(self.driver, is_ready)
         return time.monotonic() - start
 

@@ -32,7 +32,7 @@ class Broken(Cycle):
     """Whatever ends a run, its folder is whole."""
 
     def lab(self, name: str, sessions: int) -> Path:
-        """A lab of `examples/` with so many places."""
+        """A lab of `examples/` with so many seats."""
         text = (EXAMPLES / name).read_text(encoding="utf-8")
         return self.file(name, re.sub(r"(?m)^sessions = \d+", f"sessions = {sessions}", text))
 

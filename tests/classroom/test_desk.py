@@ -377,8 +377,8 @@ class NotDone(Cycle):
         self.says(4, f"class: {self.room}: .*", "run", self.room, "--into", into)
         self.says(1, "class: the following arguments are required: .*; class --help tells the words")
         file = self.file("file", "")
-        self.says(4, f"class: {file}/.*: Not a directory; --into FOLDER names another place", "run", CYCLE, "--into", file)
-        self.says(4, "class: /proc/none/.*; --into FOLDER names another place", "run", CYCLE, "--into", "/proc/none")
+        self.says(4, f"class: {file}/.*: Not a directory; --into FOLDER names another folder", "run", CYCLE, "--into", file)
+        self.says(4, "class: /proc/none/.*; --into FOLDER names another folder", "run", CYCLE, "--into", "/proc/none")
         self.assertFalse(into.exists() and list(into.iterdir()))
 
     def test_no_folder_is_left_where_no_server_starts(self) -> None:

@@ -54,7 +54,7 @@ class Disks(InRoom):
         table = self.room / "cases.json"
         done = self.grades(before, "--into", disk, "--json", table)
         self.assertEqual(done.returncode, 5, done.stdout + done.stderr)
-        self.assertRegex(done.stdout, "(?m)^class: .*: no record: No space left on device; --into names another place$")
+        self.assertRegex(done.stdout, "(?m)^class: .*: no record: No space left on device; --into names another folder$")
         self.assertIn("bot.py: 1 of 1 cases passed\nno-such-bot: not tried: it can't be started\n", done.stdout)
         self.assertEqual([each["passed"] for each in json.loads(table.read_text(encoding="utf-8"))], [True, False])
 
@@ -86,7 +86,7 @@ class Disks(InRoom):
         done = subprocess.run([*before, sys.executable, TOP / "class", "practise", EXAMPLES / "bot.py", "--into", disk],
                               capture_output=True, text=True, check=False, timeout=LIMIT)
         self.assertEqual((done.returncode, done.stderr.count("\n")), (4, 1), done.stderr)
-        self.assertRegex(done.stderr, f"^class: {disk}/2.*-practise: No space left on device; --into names another place$")
+        self.assertRegex(done.stderr, f"^class: {disk}/2.*-practise: No space left on device; --into names another folder$")
 
     def test_a_bot_without_room_of_its_own_is_not_tried(self) -> None:
         told = argparse.Namespace(timeout=20.0, memory=512, at_once=2)
@@ -95,7 +95,7 @@ class Disks(InRoom):
         with unittest.mock.patch.object(Path, "write_text", side_effect=OSError(28, "No space left on device", "/tmp/slip")):
             found = list(grade.results_of([Bot.of("true"), Bot.of("false")], [case], told, self.room, threading.Event()))
         self.assertEqual([result.why for result in found],
-                         ["not tried: /tmp/slip: No space left on device; TMPDIR names another place"] * 2)
+                         ["not tried: /tmp/slip: No space left on device; TMPDIR names another folder"] * 2)
         self.assertFalse(any(result.passed for result in found))
 
 

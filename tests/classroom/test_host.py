@@ -18,10 +18,10 @@ TEACHER = read(CYCLE).teacher
 
 @unittest.skipUnless(host(), "not tried: no host is built")
 class Hosted(Cycle):
-    """Runs over the cycle of `examples/`, with three places of which one is the desk's, or with all."""
+    """Runs over the cycle of `examples/`, with three seats of which one is the desk's, or with all."""
 
     def begin(self, sessions: int, *more: str) -> Going:
-        """Starts a run over a lab with so many places."""
+        """Starts a run over a lab with so many seats."""
         text = re.sub(r"(?m)^sessions = \d+", f"sessions = {sessions}", CYCLE.read_text(encoding="utf-8"))
         going = Going(self, self.file("cycle.toml", text), *more)
         self.assertTrue(any(f"for {sessions - 1} students at once; folder" in line for line in going.lines), going.lines)

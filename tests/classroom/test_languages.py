@@ -118,7 +118,7 @@ class Bots(Cycle):
 
 
 class Reset(InRoom):
-    """A server that resets a connection in the place of an answer, as the system does for one that was killed."""
+    """A server that resets a connection instead of an answer, as the system does for one that was killed."""
 
     def test_they_come_again(self) -> None:
         every: dict[str, Command] = {"bot.py": (sys.executable, EXAMPLES / "bot.py"), **bots()}

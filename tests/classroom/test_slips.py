@@ -225,7 +225,7 @@ class Fake(InRoom):
             said = call(*BY_HAND, self.slip(self.answers(b'{"refuse":"%s"}\n' % word.encode())), typed='{"do":"close"}\n')
             self.assertEqual((said.returncode, said.stdout), (0, f"the server has closed the connection: {why}\n"), said.stderr)
 
-    def test_no_place_is_free(self) -> None:
+    def test_no_seat_is_free(self) -> None:
         said = call(*BOT, self.slip(self.answers(b'{"refuse":"busy"}\n', 9)), "0.5")
         self.assertEqual((said.returncode, said.stdout), (5, ""))
         self.assertEqual(said.stderr, "bot.py: all seats were taken for a minute: come again later\n")

@@ -169,7 +169,7 @@ def called(port: int, source: str = "127.0.0.1") -> Caller:
 
 
 def let_in(port: int, line: bytes) -> tuple[Caller, bytes]:
-    """A connection that has a place, and the reply to its first line; one that is told `busy` comes again."""
+    """A connection that has a seat, and the reply to its first line; one that is told `busy` comes again."""
     end = time.monotonic() + LIMIT
     while time.monotonic() < end:
         caller = called(port)
@@ -178,7 +178,7 @@ def let_in(port: int, line: bytes) -> tuple[Caller, bytes]:
             return caller, reply
         caller.close()
         time.sleep(0.01)
-    fail("host: no place has become free")
+    fail("host: no seat has become free")
 
 
 class Talk:

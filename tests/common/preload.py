@@ -100,16 +100,16 @@ class Story:
 
     def script(self, without: frozenset[int] = frozenset()) -> bytes:
         """The script without these lines."""
-        return b"".join(line for place, line in enumerate(self.lines) if place not in without)
+        return b"".join(line for index, line in enumerate(self.lines) if index not in without)
 
     def plain(self, without: frozenset[int]) -> tuple[list[bytes], bytes]:
-        """The replies of a plain run without these lines, in their places an empty one; and its journal."""
+        """The replies of a plain run without these lines, an empty one instead of each; and its journal."""
         if without not in self.known:
             script, journal = self.room / "plain.script", self.room / "plain.journal"
             script.write_bytes(self.script(without))
             replies = iter(good(["script", str(self.lab), str(script), str(journal)]).splitlines(keepends=True))
-            places = range(len(self.lines))
-            self.known[without] = [b"" if at in without else next(replies) for at in places], journal.read_bytes()
+            indices = range(len(self.lines))
+            self.known[without] = [b"" if at in without else next(replies) for at in indices], journal.read_bytes()
         return self.known[without]
 
     def refused(self, replies: list[bytes]) -> frozenset[int]:

@@ -82,9 +82,9 @@ def sources_of(files: list[str]) -> dict[str, str]:
     """The text of each crate's `src/` and `specs/`."""
     texts: dict[str, str] = {}
     for path in files:
-        place = re.match(r"crates/(\w+)/(src|specs)/", path)
-        if place:
-            texts[place[1]] = texts.get(place[1], "") + (TOP / path).read_text(encoding="utf-8") + "\n"
+        found = re.match(r"crates/(\w+)/(src|specs)/", path)
+        if found:
+            texts[found[1]] = texts.get(found[1], "") + (TOP / path).read_text(encoding="utf-8") + "\n"
     return texts
 
 

@@ -75,8 +75,8 @@ def tested_in(crate: str, all_groups: list[Group]) -> str:
         return ""
     uses = {name: used for group in all_groups for name, used in group.crates.items()}
     crates = [name.removeprefix(TESTS) for name, used in uses.items() if name.startswith(TESTS) and crate in used]
-    places = [*crates, *(f"tests/{it}" for it in FOLDERS.get(crate, []))]
-    return "tested in " + ", ".join(places) if places else "laws alone"
+    testers = [*crates, *(f"tests/{it}" for it in FOLDERS.get(crate, []))]
+    return "tested in " + ", ".join(testers) if testers else "laws alone"
 
 
 def text_at(x: int, y: int, text: str, kind: str = "") -> str:

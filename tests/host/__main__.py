@@ -42,7 +42,7 @@ def goes_on(talk: Talk, student: Caller, teacher: Caller, turn: int) -> None:
 
 
 def one_after_another(room: Path) -> None:
-    """200 connections through three places, which end in each way: by bye, by their end, in a line, by a reset."""
+    """200 connections through three seats, which end in each way: by bye, by their end, in a line, by a reset."""
     lab, journal = lab_of(room, 4), room / "journal"
     with Host(lab, 0, 0, journal) as host:
         talk = Talk(lab, 4, room)
@@ -69,9 +69,9 @@ def one_after_another(room: Path) -> None:
     talk.check(journal)
 
 
-def through_one_place(room: Path) -> None:
-    """Who sees the end of a connection and comes again isn't told `busy`, where there is one place, or hardly ever on a slow
-    machine: the place is free within half a second."""
+def through_one_seat(room: Path) -> None:
+    """Who sees the end of a connection and comes again isn't told `busy`, where there is one seat, or hardly ever on a
+    slow machine: the seat is free within half a second."""
     lab, told = lab_of(room, 2), 0
     with Host(lab, 0, 0) as host:
         for _ in range(200):
@@ -215,7 +215,7 @@ def told_busy(port: int) -> None:
 
 
 def says_busy(room: Path) -> None:
-    """Where all places are taken a host says so, at each port for itself, and lets one in when one leaves."""
+    """Where all seats are taken a host says so, at each port for itself, and lets one in when one leaves."""
     lab = lab_of(room, 3)
     with Host(lab, 0, 0) as host:
         ana, _ = let_in(host.port, hello("ana"))
@@ -228,7 +228,7 @@ def says_busy(room: Path) -> None:
             fail("host: no end after a bye")
         cyd, reply = let_in(host.port, hello("cyd"))
         if reply != greeted("cyd") or not ben.ask(look("ben")).startswith(b'{"at":0'):
-            fail("host: a place that was left isn't given to the next")
+            fail("host: a seat that was left isn't given to the next")
         told_busy(host.port)
         if host.dismissed(tess) != NONE or (ben.line(), ben.line(), cyd.line()) != (OVER, b"", OVER):
             fail("host: another end of a full host")
@@ -437,14 +437,14 @@ def few_descriptors(room: Path) -> None:
             def client(name: str) -> None:
                 together.wait()
                 replies: tuple[bytes, ...] = ()
-                while replies[2:] != (BID, b""):  # Of a name with more than four places the newest leaves for a newcomer.
+                while replies[2:] != (BID, b""):  # Of a name with more than four seats the newest leaves for a newcomer.
                     caller, reply = let_in(host.port, hello(name))
                     replies = reply, caller.ask(look(name)), caller.ask(BYE), caller.line()
                     caller.close()
                 served.append(replies)
 
             clients = [threading.Thread(target=client, args=[list(NODES)[at % 3]]) for at in range(30)]
-            held = [called(host.port) for _ in range(descriptors)]  # Most of them find no file, or no place.
+            held = [called(host.port) for _ in range(descriptors)]  # Most of them find no file, or no seat.
             for each in clients:
                 each.start()
             for caller in held:
@@ -480,7 +480,7 @@ def words(room: Path) -> None:
 
 
 TESTS: list[Test] = [
-    connect_and_close, deadlines, one_after_another, ended_while_asked, few_descriptors, through_one_place,
+    connect_and_close, deadlines, one_after_another, ended_while_asked, few_descriptors, through_one_seat,
     killed_in_a_line, says_busy, two_of_one_name, raced, byes_that_end_nothing, ports, words,
 ]
 

@@ -4,7 +4,7 @@ A table is a TOML file. Its rows are the tables of the array `labs`, each with t
 
 - `text` (or `bytes`, of which each letter is a byte) behind `before` and ahead of `after`, which stand at the
   head of the table or in the row;
-- `old` and `new`: the lab that is built into the program, or the table's own `base`, with `new` in the place of
+- `old` and `new`: the lab that is built into the program, or the table's own `base`, with `new` instead of
   `old`, which must stand there once. With `goes_on = true` it is the document of the row before.
 
 And with one of these:
@@ -42,7 +42,7 @@ def built_in() -> str:
 
 
 def changed(name: str, base: str, row: dict[str, Any]) -> str:
-    """A document with a new text in the place of one that stands there once."""
+    """A document with a new text instead of one that stands there once."""
     if base.count(row["old"]) != 1:
         fail(f"{name}: {row['old']!r} doesn't stand once in its document")
     return base.replace(row["old"], row["new"])

@@ -179,7 +179,7 @@ def three_hellos(room: Path) -> None:
 
 
 def comes(port: int, line: bytes, taken: list[float]) -> Caller:
-    """Who has a key gets a place, coming again where there is none; notes how many seconds that took."""
+    """Who has a key gets a seat, coming again where there is none; notes how many seconds that took."""
     begun = time.monotonic()
     while True:
         caller = Caller(port)
@@ -206,7 +206,7 @@ def alone(host: Host) -> float:
 def waits_little(taken: list[float], quiet: float, most: float = 2.0) -> None:
     """Wants that most honest clients wait for less than so many seconds, and what a slow machine makes of that."""
     if sorted(taken)[len(taken) // 2] > most + 20 * quiet:
-        fail(f"outsiders: honest clients wait for a place: {taken} seconds, alone {quiet}")
+        fail(f"outsiders: honest clients wait for a seat: {taken} seconds, alone {quiet}")
 
 
 def until_set(stop: threading.Event, act: Callable[[], None]) -> list[threading.Thread]:
@@ -248,7 +248,7 @@ def silent_ones(room: Path) -> None:
             caller.close()
         for name, caller in zip(NODES, students):
             if b'"ok":"look"' not in caller.ask(look(name)):
-                fail("outsiders: a student with a place loses it to those without a key")
+                fail("outsiders: a student with a seat loses it to those without a key")
         stop.set()
         for thread in threads:
             thread.join()
@@ -259,7 +259,7 @@ def silent_ones(room: Path) -> None:
 
 
 def a_third(room: Path) -> None:
-    """Those who haven't greeted have a third of the places, and one at the desk: the first of them leaves for the next."""
+    """Those who haven't greeted have a third of the seats, and one at the desk: the first of them leaves for the next."""
     lab = lab_of(room, 16)
     with Host(lab, 0, 0) as host:
         for port, share in ((host.port, 5), (host.desk, 1)):
@@ -293,7 +293,7 @@ def told_busy(port: int, count: int) -> float:
 
 
 def nobody_behind(room: Path) -> None:
-    """Twelve who come at once to a full port wait for a place together, and not one after the other."""
+    """Twelve who come at once to a full port wait for a seat together, and not one after the other."""
     lab = lab_of(room, 3)
     with Host(lab, 0, 0) as host:
         held = [let_in(host.port, hello(name))[0] for name in ("ana", "ben")]
@@ -301,7 +301,7 @@ def nobody_behind(room: Path) -> None:
         if one < 0.4 or twelve > 6 * one:
             fail(f"outsiders: who comes to a full port waits {one} seconds, and twelve wait {twelve}")
         if any(b'"ok":"look"' not in caller.ask(look(name)) for name, caller in zip(("ana", "ben"), held)):
-            fail("outsiders: a newcomer to a full port takes a place")
+            fail("outsiders: a newcomer to a full port takes a seat")
         ends(host, let_in(host.desk, hello("tess"))[0])
 
 
@@ -328,7 +328,7 @@ def guesses(host: Host, quiet: float) -> tuple[int, int, float]:
             for _ in range(20):
                 caller = comes(port, hello(name), taken)
                 if b'"ok":"look"' not in caller.ask(look("ana")):
-                    fail(f"outsiders: {name} loses a place to those who guess")
+                    fail(f"outsiders: {name} loses a seat to those who guess")
                 caller.close()
             waits_little(taken, quiet, 0.1)
     while sum(denied) < 100 and time.monotonic() - begun < LIMIT:
@@ -354,20 +354,20 @@ def guessed_keys(room: Path) -> None:
 
 
 def one_of_many(room: Path) -> None:
-    """Where a name has more than four places and none is free, its last one goes to a newcomer; four are its own."""
+    """Where a name has more than four seats and none is free, its last one goes to a newcomer; four are its own."""
     lab = lab_of(room, 7)
     with Host(lab, 0, 0) as host:
         many = [let_in(host.port, hello("ana"))[0] for _ in range(6)]
         ben, cyd = (comes(host.port, hello(name), []) for name in ("ben", "cyd"))
         if [caller.line() for caller in many[4:]] != [BUSY] * 2:
-            fail("outsiders: the last connections of a name with six places keep them")
+            fail("outsiders: the last connections of a name with six seats keep them")
         if any(b'"ok":"look"' not in caller.ask(look("ana")) for caller in many[:4]):
-            fail("outsiders: a name doesn't keep four places")
+            fail("outsiders: a name doesn't keep four seats")
         more = Caller(host.port)
         if more.ask(hello("ben")) != BUSY:
-            fail("outsiders: a name with four places loses one")
+            fail("outsiders: a name with four seats loses one")
         if any(b'"ok":"look"' not in caller.ask(look(name)) for name, caller in (("ben", ben), ("cyd", cyd))):
-            fail("outsiders: a newcomer loses its place")
+            fail("outsiders: a newcomer loses its seat")
         ends(host, let_in(host.desk, hello("tess"))[0])
 
 
@@ -443,7 +443,7 @@ def ten_minutes(room: Path) -> None:
 
 def journals(room: Path) -> None:
     """A journal is nobody's output, nor a pipe without a reader, and is for its owner alone to read where nobody has
-    said otherwise; the one that takes its place has the mode of the one before."""
+    said otherwise; the one that replaces it has the mode of the one before."""
     lab, journal = lab_of(room, 4), room / "journal"
     for stream in ("", "2"):
         journal.unlink(missing_ok=True)

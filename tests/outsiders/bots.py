@@ -2,7 +2,7 @@
 
     python3 -m tests.outsiders.bots [SECONDS]
 
-The class reaches a stable end while the outsiders are there. It is told how long honest clients wait for a place,
+The class reaches a stable end while the outsiders are there. It is told how long honest clients wait for a seat,
 and for a reply; that is bounded by what they wait for where nobody disturbs them.
 """
 import json
@@ -60,7 +60,7 @@ def guesses(ports: tuple[int, int]) -> None:
 
 
 def holds(ports: tuple[int, int]) -> None:
-    """A place, by lines that are no hello."""
+    """Holds a seat, by lines that are no hello."""
     with socket.create_connection(("127.0.0.1", ports[0]), LIMIT) as it, it.makefile("rb") as replies:
         it.sendall(b"{}\n")
         while replies.readline() not in (b"", BUSY, LATE):
@@ -95,10 +95,10 @@ def outsider(ports: tuple[int, int]) -> None:
 
 @dataclass
 class Waits:
-    """How many seconds honest clients waited for the desk, for a student's place, and for a reply."""
+    """How many seconds honest clients waited for the desk, for a student's seat, and for a reply."""
 
     desk: list[float] = field(default_factory=list)
-    places: list[float] = field(default_factory=list)
+    seats: list[float] = field(default_factory=list)
     replies: list[float] = field(default_factory=list)
 
     def __str__(self) -> str:
@@ -111,7 +111,7 @@ class Honest:
 
     def __init__(self, port: int, line: bytes, waits: Waits) -> None:
         self.port, self.line, self.waits = port, line, waits
-        found = waits.desk if line == hello("tess") else waits.places
+        found = waits.desk if line == hello("tess") else waits.seats
         begun = time.monotonic()
         while b'"ok":"hello"' not in (said := self.greets()):
             if said not in (b"", BUSY):

@@ -125,7 +125,7 @@ def counted(file: Path, steps: list[Step]) -> Counted:
     if tally != plain.tally(read_lab(file.read_bytes()), journal.read_text(encoding="ascii"), True):
         fail(f"{file.name}: the tally is another than that of a plain count")
     *_, bounds, run = (line.split() for line in tally.splitlines())
-    if [int(run[place]) for place in (1, 4, 8)] != [events, len(steps), found.moves]:
+    if [int(run[column]) for column in (1, 4, 8)] != [events, len(steps), found.moves]:
         fail(f"{file.name}: the tally has other numbers: {run}")
     return Counted(found.moves, found.rounds, int(bounds[1]), int(bounds[2]), reports)
 

@@ -117,9 +117,9 @@ def drawn_line(rng: Random) -> bytes:
     """A request's members with others before or after them; one line of three has a byte replaced."""
     after = f',{others(rng)}"x":0' if rng.random() < 0.5 else ""
     line = bytearray(f"{{{others(rng)}{rng.choice(REQUESTS)}{after}}}".encode())
-    place = rng.randrange(3 * len(line))
-    if place < len(line):
-        line[place] = rng.choice(HURTS)
+    offset = rng.randrange(3 * len(line))
+    if offset < len(line):
+        line[offset] = rng.choice(HURTS)
     return bytes(line)
 
 

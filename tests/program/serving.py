@@ -13,7 +13,7 @@ ROUNDS = 300
 
 
 def lab_of(room: Path, old: str, new: str) -> Path:
-    """The built-in lab with one text in the place of another."""
+    """The built-in lab with one text instead of another."""
     lab = room / "changed.toml"
     lab.write_text(built_in(room).read_text(encoding="utf-8").replace(old, new, 1), encoding="utf-8")
     return lab

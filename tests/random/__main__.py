@@ -147,7 +147,7 @@ def replaced(room: Path) -> int:
             wanted = said(audit(lab, text))
             found = files.audited(text)
             if found != wanted:
-                fail(f"another audit with {bytes([byte])!r} in place {at}: {found}, not {wanted}")
+                fail(f"another audit with {bytes([byte])!r} at byte {at}: {found}, not {wanted}")
     return len(journal) * len(REPLACEMENTS)
 
 

@@ -38,7 +38,7 @@ class Meshing:
         self.replies.append(f"{connection} {self.model.answer(connection, line.encode())}\n")
 
     def after(self, start: int, steps: int) -> int:
-        """The node so many places after another, round the end."""
+        """The node so many steps after another, round the end."""
         return (start + steps - 1) % len(self.model.world.links) + 1
 
     def grant(self, start: int) -> Optional[Asked]:

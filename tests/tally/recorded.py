@@ -14,7 +14,7 @@ from tests.record.drawn import drawn_run
 from tests.tally import plain
 from tests.tally.asked import asked
 
-# What is said in the seats one after the other, with the place of the clause that denies it in the comment.
+# What is said in the seats one after the other, with the number of the clause that denies it in the comment.
 TALK = (
     (1, b'{"do":"hello","key":"a-key","name":"ana"}'),
     (1, b'{"do":"hello","key":"a-key","name":"ana"}'),  # greeted, 1
@@ -65,7 +65,7 @@ class Files:
 
 
 def with_record(tally: str, told: str) -> str:
-    """The tally with what is told of the record in its place."""
+    """The tally with what is told of the record where it belongs."""
     front, bounds, end = tally.partition("bounds ")
     return front + told + bounds + end
 

@@ -82,7 +82,7 @@ class Running:
 
 
 def copy_crate(folder: Path, to: Path, texts: dict[str, str]) -> None:
-    """Copies what a crate is checked from, with other texts in place of some of its files'."""
+    """Copies what a crate is checked from, with other texts instead of some of its files'."""
     for part in ("src", "specs", "proofs"):
         if (folder / part).is_dir():
             shutil.copytree(folder / part, to / part)

@@ -1,4 +1,4 @@
-"""Wrong bodies beside an `rt ci` that runs, with scripts in the prover's place."""
+"""Wrong bodies beside an `rt ci` that runs, with scripts instead of the prover."""
 from __future__ import annotations
 
 import os
@@ -62,7 +62,7 @@ class Standing(InRoom):
         self.assertEqual(([*given], running.beside), (["top"], None))
 
     def test_libraries_as_they_stood(self) -> None:
-        """What is written in their place later isn't read, and one that isn't named isn't there."""
+        """What is written over them later isn't read, and one that isn't named isn't there."""
         self.write("low", "new")
         self.write("high", "old")
         given = as_proved(self.tree, ["low"], iter(("low\n", "top\n")), Running(beside=1))

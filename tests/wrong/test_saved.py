@@ -87,17 +87,17 @@ class TakingUp(unittest.TestCase):
             name = find_name(tree)
             texts: list[dict[str, str]] = [{}, apply_edit(THERE, {}, folder)]
             for number, text in enumerate(texts):
-                place = Path(room) / str(number)
-                place.mkdir()
+                copy = Path(room) / str(number)
+                copy.mkdir()
                 if number:
-                    hand_on(tree.library(CRATE), place / "kept" / name)
-                ended = try_round(tree, CRATE, Round([THERE], text), place, Running())
+                    hand_on(tree.library(CRATE), copy / "kept" / name)
+                ended = try_round(tree, CRATE, Round([THERE], text), copy, Running())
                 found = LOADED.search(ended.output)
                 assert found is not None, ended.output
                 self.assertEqual(int(found[1]) > int(found[2]), number == 1, found[0])
                 self.assertEqual(bool(judge([THERE], ended.status, read_output(CRATE, ended.output)).of_edit), number == 0)
                 if not number:
-                    saved = {it.stem: it.read_bytes() for it in (place / "kept" / name).glob("Rattle-*.oantt")}
+                    saved = {it.stem: it.read_bytes() for it in (copy / "kept" / name).glob("Rattle-*.oantt")}
                     write_library(tree.library(CRATE), saved)
 
 
