@@ -1,6 +1,6 @@
 -- Names among accounts, and among the entries of the students' map.
-use Rattle.std.proofs.Common.{◌≡◌, ℕ, ◌<◌, List, [], ◌∷◌, length, get_or, map, Option, Some, refl, ap, ◌∙◌, string_bytes, String, Global, arith}
-use Rattle.std.specs.Prelude.{bytes_eq}
+use Rattle.std.proofs.Common.{◌≡◌, ℕ, ◌<◌, List, [], ◌∷◌, length, get_or, map, Option, Some, None, refl, sym, ap, ◌∙◌, string_bytes, String, Global, arith}
+use Rattle.std.specs.Prelude.{bytes_eq, IfSome}
 use Rattle.std.specs.List.{position, position_or_len}
 use Rattle.std.specs.Map.{keys_of}
 use Rattle.std.proofs.lemmas.List.Quantifiers.{position-Some}
@@ -39,3 +39,9 @@ search_same r name es o same found = found ∙ position_same name es ∙ ap (pos
 -- the student of a name is one of the students, and has that name
 pub student_is : (r : RosterValue) (name : List ℕ) (s : ℕ) → student_named r name ≡ Some s → (s < length r.students) × (name_of r (who.Student s) ≡ name)
 student_is r name s found = grind (arith, position-Some, bytes_eq-Decides)
+
+-- whoever a name finds is one of the students, and has that name
+pub whoever_is : (r : RosterValue) (name : List ℕ) (o : Option ℕ) → o ≡ student_named r name
+    → IfSome o (λ s. s < length r.students) × IfSome o (λ s. name_of r (who.Student s) ≡ name)
+whoever_is r name None found = (tt, tt)
+whoever_is r name (Some s) found = student_is r name s (sym found)

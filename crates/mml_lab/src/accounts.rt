@@ -63,10 +63,7 @@ pub(crate) fn first_malformed(teacher: &Account, students: &[Account]) -> Option
     if !is_account(teacher) {
         return Some(0);
     }
-    match first_malformed_student(students) {
-        Some(index) => Some(index + 1),
-        None => None,
-    }
+    first_malformed_student(students).map(|index| index + 1)
 }
 
 /// The index, from 0, of the first student whose name or key isn't of its form; `None` where there is none.

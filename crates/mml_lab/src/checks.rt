@@ -179,10 +179,7 @@ pub(crate) fn unless(fault: Option<LabFault>) -> Result<(), LabFault>
 fn both_fault(nodes: &[RawNode]) -> Option<LabFault>
     ensures { result ≡ both_fault (map node_view nodes.now) }
 {
-    match first_with_both(nodes) {
-        Some(index) => Some(LabFault::BothOwners(index)),
-        None => None,
-    }
+    first_with_both(nodes).map(LabFault::BothOwners)
 }
 
 /// The index of the first node with both keys of its owners, `owner` and `owners`; `None` where no node has both.
@@ -228,10 +225,7 @@ fn file_ids(alloc: Global, nodes: &[RawNode]) -> Result<Vec<u64>, AllocError>
 fn forms_fault(teacher: &Account, students: &[Account]) -> Option<LabFault>
     ensures { result ≡ forms_fault (account_view teacher.now ∷ map account_view students.now) }
 {
-    match first_malformed(teacher, students) {
-        Some(index) => Some(LabFault::Name(index)),
-        None => None,
-    }
+    first_malformed(teacher, students).map(LabFault::Name)
 }
 
 /// The error of the first node with an owner who is no student; `None` where each owner is one.
@@ -240,10 +234,7 @@ fn no_owner_fault(students: &IndexMap<String, String>, nodes: &[RawNode]) -> Opt
     ensures { result ≡
         no_owner_fault (map entry_account students.now.entries) (map node_view nodes.now) }
 {
-    match first_without_owner(students, nodes) {
-        Some(index) => Some(LabFault::NoOwner(index)),
-        None => None,
-    }
+    first_without_owner(students, nodes).map(LabFault::NoOwner)
 }
 
 /// The error of the first node whose two owners are one student; `None` where there is no such node.
@@ -251,10 +242,7 @@ fn no_owner_fault(students: &IndexMap<String, String>, nodes: &[RawNode]) -> Opt
 fn owner_twice_fault(nodes: &[RawNode]) -> Option<LabFault>
     ensures { result ≡ owner_twice_fault (map node_view nodes.now) }
 {
-    match first_with_owner_twice(nodes) {
-        Some(index) => Some(LabFault::OwnerTwice(index)),
-        None => None,
-    }
+    first_with_owner_twice(nodes).map(LabFault::OwnerTwice)
 }
 
 /// The index of the first node with an owner who is no student; `None` where each owner is one.
@@ -340,10 +328,7 @@ fn limits(bounds: RawLimits, students: usize) -> Result<(u64, u8), LabFault>
 fn pointers_fault(links: &[(i64, i64)], nodes: &[RawNode]) -> Option<LabFault>
     ensures { result ≡ pointers_fault links.now (map node_view nodes.now) }
 {
-    match first_at_unlinked(links, nodes) {
-        Some(index) => Some(LabFault::BadPointer(index)),
-        None => None,
-    }
+    first_at_unlinked(links, nodes).map(LabFault::BadPointer)
 }
 
 /// The index of the first node that points at one that it isn't linked to; `None` where there is no such node.

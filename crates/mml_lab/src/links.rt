@@ -45,10 +45,7 @@ pub(crate) fn neighbours(
 fn ends_fault(nodes: &[RawNode], links: &[(i64, i64)]) -> Option<LabFault>
     ensures { result ≡ ends_fault (map node_view nodes.now) links.now }
 {
-    match first_without_end(nodes, links) {
-        Some(index) => Some(LabFault::LinkEnd(index)),
-        None => None,
-    }
+    first_without_end(nodes, links).map(LabFault::LinkEnd)
 }
 
 /// The index of the first link with an end that is no node; `None` where each end is one.
@@ -86,10 +83,7 @@ fn has_id(nodes: &[RawNode], id: i64) -> bool
 fn loops_fault(links: &[(i64, i64)]) -> Option<LabFault>
     ensures { result ≡ loops_fault links.now }
 {
-    match first_loop(links) {
-        Some(index) => Some(LabFault::Loop(index)),
-        None => None,
-    }
+    first_loop(links).map(LabFault::Loop)
 }
 
 /// The index of the first link whose ends are one node; `None` where there is no such link.

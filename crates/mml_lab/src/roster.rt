@@ -92,10 +92,8 @@ impl Roster {
         if are_name_and_key(name, key, known.as_str(), secret.as_str()) {
             return Some(Who::Teacher);
         }
-        match student_with(&self.students, name, key) {
-            Some(index) => Some(Who::Student(Student::new(index as u16))),
-            None => None,
-        }
+        let index = student_with(&self.students, name, key);
+        index.map(|index| Who::Student(Student::new(index as u16)))
     }
 
     /// The nodes that `who` owns, none for the teacher or a student past the last. For every student the steps are the
@@ -140,10 +138,8 @@ impl Roster {
         ensures member { IfSome result (λ s. s < length self.now.students) }
         ensures back { IfSome result (λ s. name_of self.now (AStudent s) ≡ name.now) }
     {
-        match self.students.get_index_of(name) {
-            Some(index) => Some(Student::new(index as u16)),
-            None => None,
-        }
+        let index = self.students.get_index_of(name);
+        index.map(|index| Student::new(index as u16))
     }
 }
 

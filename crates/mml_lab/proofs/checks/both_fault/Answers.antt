@@ -1,4 +1,4 @@
-use Rattle.std.proofs.Common.{◌∙◌, ap, option_map}
+use Rattle.std.proofs.Common.{◌≡◌, ◌∙◌, ap, option_map, rules}
 use Rattle.mml_lab.specs.declared.lab_fault.LabFault.TheVariants as fault
 use Rattle.mml_lab.specs.Shape.{NodeSpec}
 use Rattle.mml_lab.specs.inside.Raw.{node_view}
@@ -6,10 +6,8 @@ use Rattle.mml_lab.specs.Labs.{both_fault}
 use Rattle.mml_ids.proofs.MapLemmas.{position-map}
 use Rattle.mml_lab.proofs.checks.both_fault.Goals as goal
 
-pub returns-in-Some : goal.returns-in-Some
+pub returns : goal.returns
 unfolding both_fault
-returns-in-Some c = ap (option_map fault.BothOwners) (c.in-Some.ensures ∙ position-map (λ (node : NodeSpec). node.both) node_view c.args.nodes.now)
-
-pub returns-in-None : goal.returns-in-None
-unfolding both_fault
-returns-in-None c = ap (option_map fault.BothOwners) (c.in-None.ensures ∙ position-map (λ (node : NodeSpec). node.both) node_view c.args.nodes.now)
+returns c =
+    let mapped : c.map.result ≡ option_map fault.BothOwners c.first_with_both.result = search rules in
+    mapped ∙ ap (option_map fault.BothOwners) (c.first_with_both.ensures ∙ position-map (λ (node : NodeSpec). node.both) node_view c.args.nodes.now)

@@ -1,16 +1,12 @@
-use Rattle.std.proofs.Common.{◌∙◌, ap, map, option_map}
+use Rattle.std.proofs.Common.{◌≡◌, ◌∙◌, ap, map, option_map, rules}
 use Rattle.mml_lab.specs.declared.lab_fault.LabFault.TheVariants as fault
 use Rattle.mml_lab.specs.inside.Raw.{node_view, entry_account}
 use Rattle.mml_lab.specs.Labs.{lacks_owner, no_owner_fault}
 use Rattle.mml_ids.proofs.MapLemmas.{position-map}
 use Rattle.mml_lab.proofs.checks.no_owner_fault.Goals as goal
 
-pub returns-in-Some : goal.returns-in-Some
+pub returns : goal.returns
 unfolding no_owner_fault
-returns-in-Some c =
-    ap (option_map fault.NoOwner) (c.in-Some.ensures ∙ position-map (lacks_owner (map entry_account c.args.students.now.entries)) node_view c.args.nodes.now)
-
-pub returns-in-None : goal.returns-in-None
-unfolding no_owner_fault
-returns-in-None c =
-    ap (option_map fault.NoOwner) (c.in-None.ensures ∙ position-map (lacks_owner (map entry_account c.args.students.now.entries)) node_view c.args.nodes.now)
+returns c =
+    let mapped : c.map.result ≡ option_map fault.NoOwner c.first_without_owner.result = search rules in
+    mapped ∙ ap (option_map fault.NoOwner) (c.first_without_owner.ensures ∙ position-map (lacks_owner (map entry_account c.args.students.now.entries)) node_view c.args.nodes.now)

@@ -1,4 +1,4 @@
-use Rattle.std.proofs.Common.{◌∙◌, ap, option_map}
+use Rattle.std.proofs.Common.{◌≡◌, ◌∙◌, ap, option_map, rules}
 use Rattle.mml_lab.specs.declared.lab_fault.LabFault.TheVariants as fault
 use Rattle.mml_lab.specs.Shape.{NodeSpec}
 use Rattle.mml_lab.specs.inside.Raw.{node_view}
@@ -6,12 +6,8 @@ use Rattle.mml_lab.specs.Labs.{are_one_twice, owner_twice_fault}
 use Rattle.mml_ids.proofs.MapLemmas.{position-map}
 use Rattle.mml_lab.proofs.checks.owner_twice_fault.Goals as goal
 
-pub returns-in-Some : goal.returns-in-Some
+pub returns : goal.returns
 unfolding owner_twice_fault
-returns-in-Some c =
-    ap (option_map fault.OwnerTwice) (c.in-Some.ensures ∙ position-map (λ (node : NodeSpec). are_one_twice node.owners) node_view c.args.nodes.now)
-
-pub returns-in-None : goal.returns-in-None
-unfolding owner_twice_fault
-returns-in-None c =
-    ap (option_map fault.OwnerTwice) (c.in-None.ensures ∙ position-map (λ (node : NodeSpec). are_one_twice node.owners) node_view c.args.nodes.now)
+returns c =
+    let mapped : c.map.result ≡ option_map fault.OwnerTwice c.first_with_owner_twice.result = search rules in
+    mapped ∙ ap (option_map fault.OwnerTwice) (c.first_with_owner_twice.ensures ∙ position-map (λ (node : NodeSpec). are_one_twice node.owners) node_view c.args.nodes.now)

@@ -1,14 +1,12 @@
-use Rattle.std.proofs.Common.{◌∙◌, ap, option_map}
+use Rattle.std.proofs.Common.{◌≡◌, ◌∙◌, ap, option_map, rules}
 use Rattle.mml_lab.specs.declared.lab_fault.LabFault.TheVariants as fault
 use Rattle.mml_lab.specs.inside.Raw.{node_view}
 use Rattle.mml_lab.specs.Labs.{points_at_unlinked, pointers_fault}
 use Rattle.mml_ids.proofs.MapLemmas.{position-map}
 use Rattle.mml_lab.proofs.checks.pointers_fault.Goals as goal
 
-pub returns-in-Some : goal.returns-in-Some
+pub returns : goal.returns
 unfolding pointers_fault
-returns-in-Some c = ap (option_map fault.BadPointer) (c.in-Some.ensures ∙ position-map (points_at_unlinked c.args.links.now) node_view c.args.nodes.now)
-
-pub returns-in-None : goal.returns-in-None
-unfolding pointers_fault
-returns-in-None c = ap (option_map fault.BadPointer) (c.in-None.ensures ∙ position-map (points_at_unlinked c.args.links.now) node_view c.args.nodes.now)
+returns c =
+    let mapped : c.map.result ≡ option_map fault.BadPointer c.first_at_unlinked.result = search rules in
+    mapped ∙ ap (option_map fault.BadPointer) (c.first_at_unlinked.ensures ∙ position-map (points_at_unlinked c.args.links.now) node_view c.args.nodes.now)
