@@ -18,7 +18,7 @@ use Rattle.mml_ids.proofs.SearchLemmas.{position-none, position-None, first_here
 use Rattle.mml_lab.specs.declared.lab_fault.LabFault.{LabFault}
 use Rattle.mml_lab.specs.declared.lab_fault.LabFault.TheVariants as fault
 use Rattle.mml_lab.specs.Shape.{Account, NodeSpec, RawSpec}
-use Rattle.mml_lab.specs.Labs.{number_of, file_ids, is_node, is_linked, lacks_end, is_link_again, neighbours_of, ends_fault, again_fault, unless}
+use Rattle.mml_lab.specs.Labs.{number_of, file_ids, is_node, is_linked, lacks_end, is_link_again, neighbours_of, ends_fault, again_fault, pass_unless}
 use Rattle.mml_lab.specs.Labs.{pointers_fault, identified, enrolled, owned, linked, limited, checked, lab_from, lab_in, network_in}
 use Rattle.mml_lab.specs.inside.Checks.{rank_at, lacks_rank, are_near, lab_with}
 use Rattle.mml_lab.proofs.LabInLemmas.{positive}
@@ -45,7 +45,7 @@ near-linked ids table links rows are z w some_z some_w =
     grind (arith, nat_tests, rank-names, has-neighbours_of, lt-ltb)
 
 -- where each end is a node of the file, each has a rank
-pub all-ranked : (nodes : List NodeSpec) → IsTable (in_order (file_ids nodes)) → (links : List (ℤ × ℤ)) → unless (ends_fault nodes links) ≡ Ok tt
+pub all-ranked : (nodes : List NodeSpec) → IsTable (in_order (file_ids nodes)) → (links : List (ℤ × ℤ)) → pass_unless (ends_fault nodes links) ≡ Ok tt
     → position (lacks_rank (in_order (file_ids nodes))) links ≡ None
 unfolding ends_fault rank_at
 all-ranked nodes table links right = position-none (lacks_rank (in_order (file_ids nodes))) links (pos 0, pos 0) (λ k lt.
@@ -55,7 +55,7 @@ all-ranked nodes table links right = position-none (lacks_rank (in_order (file_i
     let parts = and_parts (is_node nodes link.0) (is_node nodes link.1) both in
     ap not (and_from _ _ (has link.0 parts.0) (has link.1 parts.1)))
   where
-    none_in : (o : Option LabFault) → unless o ≡ Ok tt → o ≡ None
+    none_in : (o : Option LabFault) → pass_unless o ≡ Ok tt → o ≡ None
     none_in o h = grind arith
 
     has : (z : ℤ) → is_node nodes z ≡ true → is_some (rank_in (in_order (file_ids nodes)) (number_of z)) ≡ true
@@ -77,13 +77,13 @@ again-at ids table links k rows d lt ends are = grind (arith, not-false, positio
 
 -- the first link that stood before is the error of the links
 pub again-found : (ids : List ℕ) (links : List (ℤ × ℤ)) (k : ℕ) (rows : List (FinSet nat_cmp)) → k < length links → AreFresh ids links k rows
-    → is_link_again links k ≡ true → unless (again_fault links) ≡ Err (fault.LinkTwice k)
+    → is_link_again links k ≡ true → pass_unless (again_fault links) ≡ Err (fault.LinkTwice k)
 unfolding again_fault
 again-found ids links k rows lt so_far again = grind (arith, first_here)
 
 module _ (ids : List ℕ) (links : List (ℤ × ℤ)) (k : ℕ) (rows : List (FinSet nat_cmp)) where
   -- once all links were put in, none stood before
-  pub again-none : length links ≤ k → AreFresh ids links k rows → unless (again_fault links) ≡ Ok tt
+  pub again-none : length links ≤ k → AreFresh ids links k rows → pass_unless (again_fault links) ≡ Ok tt
   unfolding again_fault
   again-none le so_far = grind (arith, first_end)
 
@@ -94,7 +94,7 @@ module _ (ids : List ℕ) (links : List (ℤ × ℤ)) (k : ℕ) (rows : List (Fi
 -- a file that passes its tests gives the lab of what they found
 pub gathered : (raw : RawSpec) (ids : List ℕ) (students : List Account) (rows : List (FinSet nat_cmp)) (events sessions : ℕ)
     → identified raw.nodes ≡ Ok tt → enrolled raw.teacher raw.students ≡ Ok tt → owned students raw.nodes ≡ Ok tt → linked raw.nodes raw.links ≡ Ok tt
-    → unless (pointers_fault raw.links raw.nodes) ≡ Ok tt → limited raw.events raw.sessions (length students) ≡ Ok tt
+    → pass_unless (pointers_fault raw.links raw.nodes) ≡ Ok tt → limited raw.events raw.sessions (length students) ≡ Ok tt
     → ids ≡ in_order (file_ids raw.nodes) → students ≡ raw.students → rows ≡ map (neighbours_of ids raw.links) ids
     → events ≡ number_of raw.events → sessions ≡ number_of raw.sessions
     → lab_from raw ≡ Ok (lab_with ids raw.teacher students raw.nodes rows events sessions)

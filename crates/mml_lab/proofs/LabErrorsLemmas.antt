@@ -7,7 +7,7 @@ use Rattle.std.proofs.lemmas.Bool.{cases_lt, lt-ltb, le-ltb, lt-leb, le-leb}
 use Rattle.mml_ids.specs.Gives.{◌>>◌, need, first_fault, fault_if}
 use Rattle.mml_lab.specs.declared.lab_fault.LabFault.{LabFault}
 use Rattle.mml_lab.specs.Shape.{RawSpec}
-use Rattle.mml_lab.specs.Labs.{both_fault, ids_fault, forms_fault, no_owner_fault, owner_twice_fault, ends_fault, loops_fault, again_fault, pointers_fault, unless}
+use Rattle.mml_lab.specs.Labs.{both_fault, ids_fault, forms_fault, no_owner_fault, owner_twice_fault, ends_fault, loops_fault, again_fault, pointers_fault, pass_unless}
 use Rattle.mml_lab.specs.Labs.{identified, enrolled, owned, linked, limited, checked, error_of, lab_fault}
 use Rattle.mml_lab.specs.LabErrors.{order_of, errors_of, IsFirstError}
 
@@ -60,7 +60,7 @@ first_in n (None ∷ ts) f have h =
 pub record EndsIn (r : Result (Unit {0}) LabFault) (ts : List (Option LabFault)) : Type 0 where
   pub first : error_of r ≡ first_of ts
 
-one : (t : Option LabFault) → EndsIn (unless t) (t ∷ [])
+one : (t : Option LabFault) → EndsIn (pass_unless t) (t ∷ [])
 one t = grind arith
 
 one_if : (b : Bool) (e : LabFault) → EndsIn (need b e) (fault_if (not b) e ∷ [])

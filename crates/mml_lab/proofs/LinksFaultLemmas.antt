@@ -12,7 +12,7 @@ use Rattle.mml_ids.specs.Search.{first_below}
 use Rattle.mml_lab.specs.declared.lab_fault.LabFault.{LabFault}
 use Rattle.mml_lab.specs.declared.lab_fault.LabFault.TheVariants as fault
 use Rattle.mml_lab.specs.Shape.{RawSpec}
-use Rattle.mml_lab.specs.Labs.{is_linked, is_link_again, ends_fault, loops_fault, again_fault, unless, linked}
+use Rattle.mml_lab.specs.Labs.{is_linked, is_link_again, ends_fault, loops_fault, again_fault, pass_unless, linked}
 use Rattle.mml_lab.specs.LabMeaning.{JoinNodes, IsLinkAgain, IsFirstLinkAgain}
 use Rattle.mml_ids.proofs.SearchLemmas.{first-is, first-at, none-is, none-at}
 use Rattle.mml_ids.proofs.FindLemmas.{list_any-found}
@@ -56,7 +56,7 @@ none-means links = (
 )
 
 abbrev three : Option ℕ → Option ℕ → Option ℕ → Result (Unit {0}) LabFault
-three a b c = unless (option_map fault.LinkEnd a) >> (unless (option_map fault.Loop b) >> unless (option_map fault.LinkTwice c))
+three a b c = pass_unless (option_map fault.LinkEnd a) >> (pass_unless (option_map fault.Loop b) >> pass_unless (option_map fault.LinkTwice c))
 
 third_is : (a b c : Option ℕ) (k : ℕ) → three a b c ≡ Err (fault.LinkTwice k) → (a ≡ None) × (b ≡ None) × (c ≡ Some k)
 third_is a b c k e = grind arith
@@ -64,7 +64,7 @@ third_is a b c k e = grind arith
 all_none : (a b c : Option ℕ) → three a b c ≡ Ok tt → (a ≡ None) × (b ≡ None) × (c ≡ None)
 all_none a b c e = grind arith
 
-third : (a b c d : Option ℕ) → a ≡ None → b ≡ None → c ≡ d → three a b c ≡ unless (option_map fault.LinkTwice d)
+third : (a b c d : Option ℕ) → a ≡ None → b ≡ None → c ≡ d → three a b c ≡ pass_unless (option_map fault.LinkTwice d)
 third a b c d no_a no_b is = rw (no_a, no_b, is) refl
 
 -- the error is a link twice exactly where all links join different nodes and it is the first that stood before

@@ -11,7 +11,7 @@ use Rattle.mml_lab.specs.Shape.{NodeSpec, is_lab_memory}
 use Rattle.mml_lab.specs.inside.Raw.{node_view, entry_account}
 use Rattle.mml_lab.specs.Rosters.{has_name}
 use Rattle.mml_lab.specs.Faults.{id_fault_as}
-use Rattle.mml_lab.specs.Labs.{number_of, file_ids, node_with, ids_fault, unless}
+use Rattle.mml_lab.specs.Labs.{number_of, file_ids, node_with, ids_fault, pass_unless}
 use Rattle.mml_ids.proofs.MapLemmas.{find-map, map-map}
 
 -- the identifiers that were read are those of the file's nodes
@@ -29,12 +29,12 @@ some-lookup name [] = refl
 some-lookup name (e ∷ es) = grind (arith, string_bytes, some-lookup name es)
 
 -- identifiers without an error are those of a file without one
-pub table_ok : (nodes : List NodeSpec) (ids : List ℕ) → ids ≡ file_ids nodes → id_fault ids ≡ None → unless (ids_fault nodes) ≡ Ok tt
+pub table_ok : (nodes : List NodeSpec) (ids : List ℕ) → ids ≡ file_ids nodes → id_fault ids ≡ None → pass_unless (ids_fault nodes) ≡ Ok tt
 unfolding ids_fault
 table_ok nodes ids same sound = rw (← same, sound) refl
 
 -- the error of the identifiers is the file's, unless memory ran out
 pub table_fault : (nodes : List NodeSpec) (ids : List ℕ) (e : IdFault) → ids ≡ file_ids nodes → Faults is_id_memory e (id_fault ids)
-    → MatchBool (is_lab_memory (id_fault_as e)) (Unit {0}) (unless (ids_fault nodes) ≡ Err (id_fault_as e))
+    → MatchBool (is_lab_memory (id_fault_as e)) (Unit {0}) (pass_unless (ids_fault nodes) ≡ Err (id_fault_as e))
 unfolding ids_fault
 table_fault nodes ids e same found = grind arith

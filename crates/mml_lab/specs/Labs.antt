@@ -118,33 +118,33 @@ unfoldable pub pointers_fault : List (ℤ × ℤ) → List NodeSpec → Option L
 pointers_fault links nodes = option_map fault.BadPointer (position (points_at_unlinked links) nodes)
 
 -- a step that ends in the error, if there is one
-abbrev pub unless : Option LabFault → Result (Unit {0}) LabFault
-unless fault = unless_fault fault tt
+abbrev pub pass_unless : Option LabFault → Result (Unit {0}) LabFault
+pass_unless fault = unless_fault fault tt
 
 -- the nodes: none with both keys of its owners, and their identifiers are a table
 unfoldable pub identified : List NodeSpec → Result (Unit {0}) LabFault
 identified nodes = do
-  unless (both_fault nodes)
-  unless (ids_fault nodes)
+  pass_unless (both_fault nodes)
+  pass_unless (ids_fault nodes)
 
 -- who takes part: all names and keys have their forms, and each name stands once
 unfoldable pub enrolled : Account → List Account → Result (Unit {0}) LabFault
 enrolled teacher students = do
-  unless (forms_fault (teacher ∷ students))
-  unless (name_twice (teacher ∷ students))
+  pass_unless (forms_fault (teacher ∷ students))
+  pass_unless (name_twice (teacher ∷ students))
 
 -- the owners: all are students, and both of a node differ
 unfoldable pub owned : List Account → List NodeSpec → Result (Unit {0}) LabFault
 owned students nodes = do
-  unless (no_owner_fault students nodes)
-  unless (owner_twice_fault nodes)
+  pass_unless (no_owner_fault students nodes)
+  pass_unless (owner_twice_fault nodes)
 
 -- the links: each end is a node, both ends differ, and no link joins what an earlier one joins
 unfoldable pub linked : List NodeSpec → List (ℤ × ℤ) → Result (Unit {0}) LabFault
 linked nodes links = do
-  unless (ends_fault nodes links)
-  unless (loops_fault links)
-  unless (again_fault links)
+  pass_unless (ends_fault nodes links)
+  pass_unless (loops_fault links)
+  pass_unless (again_fault links)
 
 -- the limits: the numbers of events, of sessions and of students are within them
 unfoldable pub limited : ℤ → ℤ → ℕ → Result (Unit {0}) LabFault
@@ -160,7 +160,7 @@ checked raw = do
   enrolled raw.teacher raw.students
   owned raw.students raw.nodes
   linked raw.nodes raw.links
-  unless (pointers_fault raw.links raw.nodes)
+  pass_unless (pointers_fault raw.links raw.nodes)
   limited raw.events raw.sessions (length raw.students)
 
 -- the error that ended the steps, if one did

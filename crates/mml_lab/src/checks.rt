@@ -10,7 +10,7 @@ ghost use Rattle.mml_lab.specs.Faults.{id_fault_as};
 ghost use Rattle.mml_lab.specs.inside.Raw.{account_view, node_view, entry_account, raw_view};
 ghost use Rattle.mml_lab.specs.Rosters.{has_name};
 ghost use Rattle.mml_lab.specs.Labs.{number_of, file_ids, joins, is_linked, lacks_owner, are_one_twice, points_at_unlinked, is_within, both_fault, ids_fault};
-ghost use Rattle.mml_lab.specs.Labs.{forms_fault, no_owner_fault, owner_twice_fault, pointers_fault, unless, identified, enrolled, owned, limited, lab_from};
+ghost use Rattle.mml_lab.specs.Labs.{forms_fault, no_owner_fault, owner_twice_fault, pointers_fault, pass_unless, identified, enrolled, owned, limited, lab_from};
 ghost use Rattle.mml_lab.specs.inside.ChecksView.{checked_view, found_view};
 
 use crate::accounts::first_malformed;
@@ -107,7 +107,7 @@ fn check_parts(
     let students = enrol(alloc, teacher, students)?;
     check_owners(&students, nodes)?;
     let neighbours = neighbours(alloc, &ids, nodes, links)?;
-    unless(pointers_fault(links, nodes))?;
+    pass_unless(pointers_fault(links, nodes))?;
     let (events, sessions) = limits(bounds, student_count(&students))?;
     Ok(Found {
         ids,
@@ -125,7 +125,7 @@ fn identify(alloc: Global, nodes: &[RawNode]) -> Result<IdTable, LabFault>
     ensures tests { Gives is_lab_memory (λ _. tt {0}) result (identified (map node_view nodes.now)) }
     ensures table { IfOk result (λ ids. ids ≡ in_order (file_ids (map node_view nodes.now))) }
 {
-    unless(both_fault(nodes))?;
+    pass_unless(both_fault(nodes))?;
     id_table(alloc, nodes)
 }
 
@@ -142,7 +142,7 @@ fn enrol(
     ensures students { IfOk result
         (λ m. map entry_account m.entries ≡ map account_view students.items) }
 {
-    unless(forms_fault(teacher, &students))?;
+    pass_unless(forms_fault(teacher, &students))?;
     students_map(alloc, teacher, students)
 }
 
@@ -153,8 +153,8 @@ fn check_owners(students: &IndexMap<String, String>, nodes: &[RawNode]) -> Resul
     ensures { Gives is_lab_memory (λ u. u) result
         (owned (map entry_account students.now.entries) (map node_view nodes.now)) }
 {
-    unless(no_owner_fault(students, nodes))?;
-    unless(owner_twice_fault(nodes))
+    pass_unless(no_owner_fault(students, nodes))?;
+    pass_unless(owner_twice_fault(nodes))
 }
 
 /// How many students a file has. The contract counts the accounts that the entries of the map stand for.
@@ -165,8 +165,8 @@ fn student_count(students: &IndexMap<String, String>) -> usize
 }
 
 /// `Err` with the error, where there is one, at which `?` ends the caller; else `Ok(())`.
-pub(crate) fn unless(fault: Option<LabFault>) -> Result<(), LabFault>
-    ensures { Gives is_lab_memory (λ u. u) result (unless fault) }
+pub(crate) fn pass_unless(fault: Option<LabFault>) -> Result<(), LabFault>
+    ensures { Gives is_lab_memory (λ u. u) result (pass_unless fault) }
 {
     match fault {
         Some(fault) => Err(fault),
@@ -192,7 +192,7 @@ fn first_with_both(nodes: &[RawNode]) -> Option<usize>
 /// The table of the nodes' identifiers, or the first error of the identifiers.
 fn id_table(alloc: Global, nodes: &[RawNode]) -> Result<IdTable, LabFault>
     ensures tests { Gives is_lab_memory (λ _. tt {0}) result
-        (unless (ids_fault (map node_view nodes.now))) }
+        (pass_unless (ids_fault (map node_view nodes.now))) }
     ensures table { IfOk result (λ ids. ids ≡ in_order (file_ids (map node_view nodes.now))) }
 {
     let ids = file_ids(alloc, nodes)?;

@@ -10,10 +10,10 @@ ghost use Rattle.mml_rules.specs.Configuration.{holds};
 ghost use Rattle.mml_rules.specs.Network.{neighbours_at};
 ghost use Rattle.mml_lab.specs.Shape.{is_lab_memory};
 ghost use Rattle.mml_lab.specs.inside.Raw.{node_view};
-ghost use Rattle.mml_lab.specs.Labs.{number_of, file_ids, is_node, lacks_end, is_loop, neighbours_of, ends_fault, loops_fault, again_fault, unless, linked};
+ghost use Rattle.mml_lab.specs.Labs.{number_of, file_ids, is_node, lacks_end, is_loop, neighbours_of, ends_fault, loops_fault, again_fault, pass_unless, linked};
 ghost use Rattle.mml_lab.specs.inside.Checks.{rank_at, lacks_rank, are_near};
 
-use crate::checks::{number_of, unless};
+use crate::checks::{number_of, pass_unless};
 use crate::lab_fault::LabFault;
 use crate::raw_lab::RawNode;
 use mml_ids::{IdTable, NodeSet, Rank};
@@ -35,8 +35,8 @@ pub(crate) fn neighbours(
 {
     // By what this call ensures, the identifiers are a table.
     let _count = ids.len();
-    unless(ends_fault(nodes, links))?;
-    unless(loops_fault(links))?;
+    pass_unless(ends_fault(nodes, links))?;
+    pass_unless(loops_fault(links))?;
     rows(alloc, ids, links)
 }
 
@@ -104,7 +104,7 @@ fn is_loop(link: (i64, i64)) -> bool
 /// those of a link before it.
 fn rows(alloc: Global, ids: &IdTable, links: &[(i64, i64)]) -> Result<Vec<NodeSet>, LabFault>
     requires { position (lacks_rank ids.now) links.now ≡ None }
-    ensures tests { Gives is_lab_memory (λ _. tt {0}) result (unless (again_fault links.now)) }
+    ensures tests { Gives is_lab_memory (λ _. tt {0}) result (pass_unless (again_fault links.now)) }
     ensures rows { IfOk result (λ rows. rows.items ≡ map (neighbours_of ids.now links.now) ids.now) }
 {
     let mut rows = vec![in alloc; NodeSet::empty(); ids.len() as usize]?;

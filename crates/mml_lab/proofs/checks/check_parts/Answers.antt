@@ -1,6 +1,6 @@
 use Rattle.std.proofs.Common.{◌∙◌, ap, map, sym}
 use Rattle.mml_lab.specs.inside.Raw.{account_view, node_view, entry_account}
-use Rattle.mml_lab.specs.Labs.{unless, limited}
+use Rattle.mml_lab.specs.Labs.{pass_unless, limited}
 use Rattle.mml_lab.proofs.ChecksLemmas.{gathered}
 use Rattle.mml_lab.proofs.checks.check_parts.Goals as goal
 
@@ -17,7 +17,7 @@ returns c =
     })
     c.in_ok-ids.ids (map entry_account c.in_ok-students.students.entries) c.in_ok-neighbours.neighbours.items c.in_ok-events.events c.in_ok-events.sessions
     c.in_ok-ids.ensures.tests c.in_ok-students.ensures.tests c.in_ok-check_owners.ensures c.in_ok-neighbours.ensures.tests
-    (ap unless (sym c.pointers_fault.ensures) ∙ c.in_ok-unless.ensures)
+    (ap pass_unless (sym c.pointers_fault.ensures) ∙ c.in_ok-pass_unless.ensures)
     (ap (limited c.args.bounds.events c.args.bounds.sessions) (sym c.student_count.ensures) ∙ c.in_ok-events.ensures.tests)
     c.in_ok-ids.ensures.table c.in_ok-students.ensures.students c.in_ok-neighbours.ensures.rows
     c.in_ok-events.ensures.events c.in_ok-events.ensures.sessions
