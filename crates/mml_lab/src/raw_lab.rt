@@ -403,12 +403,7 @@ pub fn read_bytes(alloc: Global, bytes: &[u8]) -> Result<RawLab, LabFault>
 {
     match toml::table_from_slice(alloc, bytes) {
         Ok(table) => read_raw(alloc, &table),
-        Err(e) => {
-            if e.is_memory() {
-                Err(LabFault::Memory)
-            } else {
-                Err(LabFault::NotToml)
-            }
-        }
+        Err(e) if e.is_memory() => Err(LabFault::Memory),
+        Err(_) => Err(LabFault::NotToml),
     }
 }

@@ -5,5 +5,5 @@ use Rattle.mml_lab.proofs.raw_lab.read_bytes.Goals as goal
 pub returns-in-Ok : goal.returns-in-Ok
 returns-in-Ok c = rw (spelled-some _ _ (table_in-some _ _ c.in-Ok.ensures.ok.0 c.in-Ok.ensures.ok.1)) c.read_raw.ensures
 
-pub returns-else-is_memory : goal.returns-else-is_memory
-returns-else-is_memory c = grind (arith, spelled-none, table_in-none, true≢false)
+pub returns-in-Err-2 : goal.returns-in-Err-2
+returns-in-Err-2 c = grind (arith, spelled-none, table_in-none, true≢false)
