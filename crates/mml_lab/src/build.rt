@@ -97,10 +97,7 @@ fn node_with(nodes: &[RawNode], id: u64) -> Option<&RawNode>
 fn registers_in(ids: &IdTable, node: &RawNode) -> Regs
     ensures { result ≡ registers_in ids.now (node_view node.now) }
 {
-    let p = match node.p {
-        Some(p) => rank_at(ids, p),
-        None => None,
-    };
+    let p = node.p.and_then(|p| rank_at(ids, p));
     Regs { p, m: node.m }
 }
 
@@ -165,8 +162,6 @@ fn student_named(students: &IndexMap<String, String>, name: &str) -> Student
     requires { length students.now.entries ≤ MAX_STUDENTS }
     ensures { result ≡ student_index (map entry_account students.now.entries) name.now }
 {
-    match students.get_index_of(name) {
-        Some(index) => Student::new(index as u16),
-        None => Student::new(0),
-    }
+    let index = students.get_index_of(name).unwrap_or(0);
+    Student::new(index as u16)
 }

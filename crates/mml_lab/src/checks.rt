@@ -344,10 +344,7 @@ fn first_at_unlinked(links: &[(i64, i64)], nodes: &[RawNode]) -> Option<usize>
 fn points_at_unlinked(links: &[(i64, i64)], node: &RawNode) -> bool
     ensures { result ≡ points_at_unlinked links.now (node_view node.now) }
 {
-    match node.p {
-        Some(p) => !is_linked(links, node.id, p),
-        None => false,
-    }
+    node.p.is_some_and(|p| !is_linked(links, node.id, p))
 }
 
 /// Whether some link joins the nodes with the identifiers `a` and `b`, in either order.

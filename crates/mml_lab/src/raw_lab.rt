@@ -59,30 +59,21 @@ fn find<'a>(table: &'a Table, name: &str) -> Option<&'a Value>
 fn value_at<'a>(table: &'a Table, name: &str, key: Key) -> Result<&'a Value, LabFault>
     ensures { Gives is_lab_memory (λ v. view v.now) result (value_under key name.now (table_view table.now)) }
 {
-    match find(table, name) {
-        Some(value) => Ok(value),
-        None => Err(LabFault::Missing(key)),
-    }
+    find(table, name).ok_or(LabFault::Missing(key))
 }
 
 /// The integer that a value is; else the error that what stands under `key` is of another kind.
 fn integer(value: &Value, key: Key) -> Result<i64, LabFault>
     ensures { Gives is_lab_memory (λ z. z) result (of_kind key as_integer (view value.now)) }
 {
-    match value.as_integer() {
-        Some(z) => Ok(z),
-        None => Err(LabFault::WrongKind(key)),
-    }
+    value.as_integer().ok_or(LabFault::WrongKind(key))
 }
 
 /// The truth value that a value is; else the error that what stands under `key` is of another kind.
 fn boolean(value: &Value, key: Key) -> Result<bool, LabFault>
     ensures { Gives is_lab_memory (λ b. b) result (of_kind key as_bool (view value.now)) }
 {
-    match value.as_bool() {
-        Some(b) => Ok(b),
-        None => Err(LabFault::WrongKind(key)),
-    }
+    value.as_bool().ok_or(LabFault::WrongKind(key))
 }
 
 /// The string that a value is; else the error that what stands under `key` is of another kind.
@@ -99,20 +90,14 @@ fn text(alloc: Global, value: &Value, key: Key) -> Result<String, LabFault>
 fn table_of(value: &Value, key: Key) -> Result<&Table, LabFault>
     ensures { Gives is_lab_memory (λ t. table_view t.now) result (of_kind key as_table (view value.now)) }
 {
-    match value.as_table() {
-        Some(t) => Ok(t),
-        None => Err(LabFault::WrongKind(key)),
-    }
+    value.as_table().ok_or(LabFault::WrongKind(key))
 }
 
 /// The array that a value is; else the error that what stands under `key` is of another kind.
 fn array_of(value: &Value, key: Key) -> Result<&Array, LabFault>
     ensures { Gives is_lab_memory (λ t. array_view t.now) result (of_kind key as_array (view value.now)) }
 {
-    match value.as_array() {
-        Some(t) => Ok(t),
-        None => Err(LabFault::WrongKind(key)),
-    }
+    value.as_array().ok_or(LabFault::WrongKind(key))
 }
 
 /// The integer under the key `name`; else the error that the key, told as `key`, is missing or of another kind.
@@ -325,9 +310,7 @@ fn two_of(list: &Array) -> Result<(&Value, &Value), LabFault>
     if list.len() != 2 {
         return Err(LabFault::WrongKind(Key::Link));
     }
-    let first = &list[0];
-    let second = &list[1];
-    Ok((first, second))
+    Ok((&list[0], &list[1]))
 }
 
 /// The identifiers of the first and the second end of a link; or the error that it isn't an array of two integers.

@@ -85,11 +85,8 @@ impl Roster {
         ensures member { IfSome result (IsPrincipal self.now) }
         ensures roster { IsRoster self.now }
     {
-        let Account {
-            name: known,
-            key: secret,
-        } = &self.teacher;
-        if are_name_and_key(name, key, known.as_str(), secret.as_str()) {
+        let teacher = &self.teacher;
+        if are_name_and_key(name, key, teacher.name.as_str(), teacher.key.as_str()) {
             return Some(Who::Teacher);
         }
         let index = student_with(&self.students, name, key);

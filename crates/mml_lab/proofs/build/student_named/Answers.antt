@@ -1,10 +1,10 @@
-use Rattle.std.proofs.Common.{◌∙◌, ap}
+use Rattle.std.proofs.Common.{◌≡◌, ◌∙◌, ap, rules}
 use Rattle.std.specs.Prelude.{unwrap_or}
 use Rattle.mml_lab.proofs.StudentNamedLemmas.{position_same}
 use Rattle.mml_lab.proofs.build.student_named.Goals as goal
 
-pub returns-in-Some : goal.returns-in-Some
-returns-in-Some c = c.new.ensures ∙ ap (λ o. unwrap_or o 0) (c.in-Some.ensures.index ∙ position_same c.args.name.now c.args.students.now.entries)
-
-pub returns-in-None : goal.returns-in-None
-returns-in-None c = c.new-in-None.ensures ∙ ap (λ o. unwrap_or o 0) (c.in-None.ensures.index ∙ position_same c.args.name.now c.args.students.now.entries)
+pub returns : goal.returns
+returns c =
+    let or_first : c.unwrap_or-index.result ≡ unwrap_or c.get_index_of.result 0 = search rules in
+    c.new.ensures ∙ or_first
+    ∙ ap (λ o. unwrap_or o 0) (c.get_index_of.ensures.index ∙ position_same c.args.name.now c.args.students.now.entries)
