@@ -1,5 +1,5 @@
 -- What the monitor keeps over a change.
-use Rattle.std.proofs.Common.{◌≡◌, ℕ, ◌<◌, Bool, true, false, cond, ◌&&◌, ◌||◌, eqb, None, Some, List, length, sym, refl, ap, ◌∙◌, subst, arith, length-set}
+use Rattle.std.proofs.Common.{◌≡◌, ℕ, ◌<◌, Bool, true, false, cond, ◌&&◌, ◌||◌, eqb, None, Some, List, length, set, sym, refl, ap, ◌∙◌, subst, arith, length-set}
 use Rattle.std.proofs.lemmas.Bool.{eq-eqb, ne_eqb, lt-ltb, both_ways, or_left, or_right, false_from_ne_true}
 use Rattle.std.specs.FinSet as sets
 use Rattle.std.specs.FinSet.{FinSet}
@@ -9,6 +9,7 @@ use Rattle.mml_rules.specs.declared.regs.Regs.{Regs}
 use Rattle.mml_rules.specs.Configuration.{Configuration, IsLawful}
 use Rattle.mml_rules.specs.Rules.{enabled_kind, is_privileged}
 use Rattle.mml_rules.specs.Network.{Network, neighbours_at, registers_at, configuration_of, IsNetwork, unpointed, with_registers, with_link, without_link}
+use Rattle.mml_rules.specs.Network.{with_neighbour, without_neighbour}
 use Rattle.mml_rules.proofs.AroundLemmas.{same_kind}
 use Rattle.mml_rules.proofs.NetworkLemmas.{registers_at-set, length-unpointed, linked-with_link, linked-without_link, with_registers-lawful, with_link-lawful}
 use Rattle.mml_rules.proofs.NetworkLemmas.{without_link-lawful}
@@ -48,6 +49,19 @@ put-in s a j = grind (arith, has_insert)
 -- a rank that is taken out of a set isn't in it, and all others are as before
 pub put-out : (s : FinSet nat_cmp) (a j : ℕ) → sets.contains (sets.remove s a) j ≡ cond (eqb j a) false (sets.contains s j)
 put-out s a j = grind (arith, has_remove)
+
+-- a set of which one rank is told anew, and all others are as before, is the set with that rank or without it
+pub put_told : (s s' : FinSet nat_cmp) (a : ℕ) (b : Bool) → ((j : ℕ) → sets.contains s' j ≡ cond (eqb j a) b (sets.contains s j))
+    → s' ≡ cond b (sets.insert s a) (sets.remove s a)
+put_told s s' a true h = same_ranks s' (sets.insert s a) (λ j. h j ∙ sym (put-in s a j))
+put_told s s' a false h = same_ranks s' (sets.remove s a) (λ j. h j ∙ sym (put-out s a j))
+
+-- rows of which one is told so are the rows with that rank in it or without it
+pub row_told : (rows : List (FinSet nat_cmp)) (s' : FinSet nat_cmp) (i a : ℕ) (b : Bool)
+    → ((j : ℕ) → sets.contains s' j ≡ cond (eqb j a) b (sets.contains (neighbours_at rows i) j))
+    → set rows i s' ≡ cond b (with_neighbour rows i a) (without_neighbour rows i a)
+row_told rows s' i a true h = ap (set rows i) (put_told (neighbours_at rows i) s' a true h)
+row_told rows s' i a false h = ap (set rows i) (put_told (neighbours_at rows i) s' a false h)
 
 -- the node and its neighbours are looked at
 pub around_refreshed : (c : Configuration) (now next row left left' : FinSet nat_cmp) (a : ℕ) → IsLawful c → ((k : ℕ) → sets.contains row k ≡ c.linked a k)

@@ -193,12 +193,7 @@ fn put_suitor(suitors: &mut [NodeSet], p: Option<Rank>, node: Rank, is_in: bool)
         (if is_in then with_suitor suitors.old p node else without_suitor suitors.old p node) }
 {
     if let Some(other) = p {
-        let row = suitors[other.index() as usize];
-        let row = if is_in {
-            row.with(node)
-        } else {
-            row.except(node)
-        };
-        suitors[other.index() as usize] = row;
+        let index = other.index() as usize;
+        suitors[index] = with_or_without(suitors[index], node, is_in);
     }
 }
