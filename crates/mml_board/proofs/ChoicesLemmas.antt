@@ -1,10 +1,11 @@
 -- The set of the nodes that have a chosen move, beside the list of the choices.
-use Rattle.std.proofs.Common.{◌≡◌, ℕ, ◌<◌, false, cond, ◌||◌, eqb, Option, None, is_some, List, [], ◌∷◌, length, zero, suc, set, replicate, sym, refl, ap, ◌∙◌}
+use Rattle.std.proofs.Common.{◌≡◌, ℕ, ◌<◌, Bool, true, false, not, cond, ◌||◌, eqb, Option, None, is_some, List, [], ◌∷◌, length, zero, suc, set, replicate, sym, refl, ap, ◌∙◌}
+use Rattle.std.proofs.lemmas.Bool.{false≢true, or_right, both_ways, false_from_ne_true}
 use Rattle.std.specs.List.{list_any}
 use Rattle.std.specs.FinSet as sets
 use Rattle.std.specs.FinSet.{FinSet}
 use Rattle.std.specs.Ordering.{nat_cmp}
-use Rattle.mml_ids.specs.inside.WordsLemmas.{has_empty}
+use Rattle.mml_ids.specs.inside.WordsLemmas.{has_empty, same_ranks}
 use Rattle.mml_rules.specs.declared.rule.Rule.{Rule}
 use Rattle.mml_board.specs.World.{chosen_at}
 use Rattle.mml_board.specs.inside.Kept.{AreChosen}
@@ -40,3 +41,22 @@ none_chosen xs s are e = go xs (none_of xs s are e)
     go : (xs : List (Option Rule)) → ((i : ℕ) → is_some (chosen_at xs i) ≡ false) → list_any is_some xs ≡ false
     go [] h = refl
     go (x ∷ xs) h = ap (λ b. b || list_any is_some xs) (h zero) ∙ go xs (λ i. h (suc i))
+
+-- one choice that is some is found
+some_chosen : (xs : List (Option Rule)) (i : ℕ) → is_some (chosen_at xs i) ≡ true → list_any is_some xs ≡ true
+some_chosen [] i h = absurd (false≢true h)
+some_chosen (x ∷ xs) zero h = ap (λ b. b || list_any is_some xs) h
+some_chosen (x ∷ xs) (suc i) h = or_right (is_some x) (list_any is_some xs) (some_chosen xs i h)
+
+-- the set is empty exactly where no move is chosen
+pub any_chosen : (xs : List (Option Rule)) (s : FinSet nat_cmp) (b : Bool) → AreChosen xs s
+    → (b ≡ true → s ≡ sets.empty) × (s ≡ sets.empty → b ≡ true) → not b ≡ list_any is_some xs
+any_chosen xs s true are h = sym (none_chosen xs s are (h.0 refl))
+any_chosen xs s false are h = go (list_any is_some xs) refl
+  where
+    none : list_any is_some xs ≡ false → (i : ℕ) → sets.contains s i ≡ false
+    none e i = false_from_ne_true (sets.contains s i) (λ t. both_ways (list_any is_some xs) e (some_chosen xs i (sym (are i) ∙ t)))
+
+    go : (a : Bool) → list_any is_some xs ≡ a → true ≡ a
+    go true e = refl
+    go false e = sym (h.1 (same_ranks s sets.empty (λ i. none e i ∙ sym (has_empty i))))

@@ -1,5 +1,6 @@
 -- What the monitor keeps over a change.
-use Rattle.std.proofs.Common.{◌≡◌, ℕ, ◌<◌, Bool, true, false, cond, ◌&&◌, ◌||◌, eqb, None, Some, List, length, set, sym, refl, ap, ◌∙◌, subst, arith, length-set}
+use Rattle.std.proofs.Common.{◌≡◌, ℕ, ◌<◌, Bool, true, false, cond, ◌&&◌, ◌||◌, eqb, Option, None, Some, is_none, List, length, set, sym, refl, ap, ◌∙◌, subst, arith, length-set}
+use Rattle.std.specs.Prelude.{IfSome, IfNone}
 use Rattle.std.proofs.lemmas.Bool.{eq-eqb, ne_eqb, lt-ltb, both_ways, or_left, or_right, false_from_ne_true}
 use Rattle.std.specs.FinSet as sets
 use Rattle.std.specs.FinSet.{FinSet}
@@ -62,6 +63,13 @@ pub row_told : (rows : List (FinSet nat_cmp)) (s' : FinSet nat_cmp) (i a : ℕ) 
     → set rows i s' ≡ cond b (with_neighbour rows i a) (without_neighbour rows i a)
 row_told rows s' i a true h = ap (set rows i) (put_told (neighbours_at rows i) s' a true h)
 row_told rows s' i a false h = ap (set rows i) (put_told (neighbours_at rows i) s' a false h)
+
+-- a set has no greatest rank exactly where it is empty
+pub none_greatest : (s : FinSet nat_cmp) (o : Option ℕ) (b : Bool) → b ≡ is_none o
+    → IfNone o (s ≡ sets.empty) → IfSome o (λ r. sets.contains s r ≡ true) → (b ≡ true → s ≡ sets.empty) × (s ≡ sets.empty → b ≡ true)
+none_greatest s None b told none member = (λ t. none, λ e. told)
+none_greatest s (Some r) b told none member =
+    (λ t. absurd (both_ways b told t), λ e. absurd (both_ways (sets.contains s r) (ap (λ u. sets.contains u r) e ∙ has_empty r) member))
 
 -- the node and its neighbours are looked at
 pub around_refreshed : (c : Configuration) (now next row left left' : FinSet nat_cmp) (a : ℕ) → IsLawful c → ((k : ℕ) → sets.contains row k ≡ c.linked a k)

@@ -5,7 +5,7 @@ ghost use Rattle.std.specs.List.{list_any};
 ghost use Rattle.mml_board.specs.World.{chosen_at};
 ghost use Rattle.mml_board.specs.inside.Kept.{AreChosen};
 
-use crate::node_sets::with_or_without;
+use crate::node_sets::{is_empty, with_or_without};
 use mml_ids::{Memory, NodeSet, Rank};
 use mml_rules::Rule;
 use std::alloc::Global;
@@ -76,10 +76,7 @@ impl Choices {
     pub fn is_any(&self) -> bool
         ensures { result ≡ list_any is_some self.now }
     {
-        match self.nodes.greatest() {
-            Some(_) => true,
-            None => false,
-        }
+        !is_empty(self.nodes)
     }
 
     /// Makes `rule` the chosen move of a node, or, where it is `None`, leaves the node without one.

@@ -27,8 +27,5 @@ pub fn with_or_without(nodes: NodeSet, node: Rank, is_in: bool) -> NodeSet
 pub fn is_empty(nodes: NodeSet) -> bool
     ensures { IsTrue result ↔ (nodes ≡ set.empty) }
 {
-    match nodes.greatest() {
-        Some(_) => false,
-        None => true,
-    }
+    nodes.greatest().is_none()
 }

@@ -1,6 +1,9 @@
-use Rattle.mml_board.proofs.ChoicesLemmas.{none_chosen}
+use Rattle.std.proofs.Common.{◌∙◌, ap, is_some}
+use Rattle.std.specs.List.{list_any}
+use Rattle.mml_board.proofs.ChoicesLemmas.{any_chosen}
 use Rattle.mml_board.proofs.choices.Choices.is_any.Goals as goal
-use Rattle.std.proofs.Common.{arith}
 
-pub returns-in-None : goal.returns-in-None
-returns-in-None c = grind (arith, none_chosen)
+pub returns : goal.returns
+returns c =
+    any_chosen c.self.inside.rules.items c.self.inside.nodes c.is_empty.result c.self.invariant c.is_empty.ensures
+    ∙ ap (list_any is_some) c.self.view_is
