@@ -80,10 +80,8 @@ fn boolean(value: &Value, key: Key) -> Result<bool, LabFault>
 fn text(alloc: Global, value: &Value, key: Key) -> Result<String, LabFault>
     ensures { Gives is_lab_memory string_bytes result (of_kind key as_str (view value.now)) }
 {
-    match value.as_str() {
-        Some(s) => Ok(String::from_str(alloc, s)?),
-        None => Err(LabFault::WrongKind(key)),
-    }
+    let text = value.as_str().ok_or(LabFault::WrongKind(key))?;
+    Ok(String::from_str(alloc, text)?)
 }
 
 /// The table that a value is; else the error that what stands under `key` is of another kind.
@@ -258,14 +256,10 @@ fn owner_names(
     if let Some(names) = owners {
         return Ok(names);
     }
-    match owner {
-        Some(name) => {
-            let mut names = Vec::new(alloc);
-            names.push(name)?;
-            Ok(names)
-        }
-        None => Err(LabFault::Missing(Key::NodeOwner)),
-    }
+    let name = owner.ok_or(LabFault::Missing(Key::NodeOwner))?;
+    let mut names = Vec::new(alloc);
+    names.push(name)?;
+    Ok(names)
 }
 
 /// A node as an element of `node` spells it, with m false where the key is left out; or the first error of the element.
