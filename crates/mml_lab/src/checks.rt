@@ -196,10 +196,7 @@ fn id_table(alloc: Global, nodes: &[RawNode]) -> Result<IdTable, LabFault>
     ensures table { IfOk result (λ ids. ids ≡ in_order (file_ids (map node_view nodes.now))) }
 {
     let ids = file_ids(alloc, nodes)?;
-    match IdTable::new(alloc, &ids) {
-        Ok(table) => Ok(table),
-        Err(fault) => Err(fault_of_ids(fault)),
-    }
+    IdTable::new(alloc, &ids).map_err(fault_of_ids)
 }
 
 /// The error of a lab that an error of identifiers is: out of memory is `LabFault::Memory`, each other one an `Id`.
