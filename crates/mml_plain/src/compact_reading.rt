@@ -58,15 +58,13 @@ fn member<'a>(text: &'a [u8], fields: &mut Fields<'a>) -> Option<&'a [u8]>
     // Only a short member at the end of the line has fewer than 8 bytes here. With 8, the first bounds below need no
     // test.
     if in_key.len() < 8 {
-        let rest = any_member(in_key, fields)?;
-        return Some(rest);
+        return any_member(in_key, fields);
     }
     let front = u32::from_be_bytes([in_key[0], in_key[1], in_key[2], in_key[3]]);
     if let Some(rest) = known_value(front, &in_key[4..], fields) {
         return Some(rest);
     }
-    let rest = any_member(in_key, fields)?;
-    Some(rest)
+    any_member(in_key, fields)
 }
 
 /// Puts a member into the fields, and gives what follows it. The member begins with a quotation mark and the four bytes
@@ -138,9 +136,7 @@ fn in_quotes<'a>(text: &'a [u8]) -> Option<&'a [u8]>
     if let Some(rest) = behind(text, b'"') {
         return Some(rest);
     }
-    let at_quote = unspaced(text);
-    let rest = behind(at_quote, b'"')?;
-    Some(rest)
+    behind(unspaced(text), b'"')
 }
 
 /// What follows the quotation mark and the colon behind a key, if they stand at the front.
@@ -148,9 +144,7 @@ fn in_quotes<'a>(text: &'a [u8]) -> Option<&'a [u8]>
 fn quote_and_colon<'a>(text: &'a [u8]) -> Option<&'a [u8]>
     ensures { IfSome result (λ rest. text.now ≡ 34 ∷ 58 ∷ rest.now) }
 {
-    let at_colon = behind(text, b'"')?;
-    let rest = behind(at_colon, b':')?;
-    Some(rest)
+    behind(behind(text, b'"')?, b':')
 }
 
 /// The string behind a colon, and what follows its closing quotation mark. `None` where no string stands there, or one
@@ -159,9 +153,7 @@ fn quote_and_colon<'a>(text: &'a [u8]) -> Option<&'a [u8]>
 fn text_value<'a>(text: &'a [u8]) -> Option<(&'a str, &'a [u8])>
     ensures { IfSome result (λ r. BeginsAfter text.now (Text r.0) r.1.now) }
 {
-    let in_word = in_quotes(text)?;
-    let (word, rest) = bare_word(in_word)?;
-    Some((word, rest))
+    bare_word(in_quotes(text)?)
 }
 
 /// The number behind a colon, and what follows it. `None` where no number stands there, or one that isn't read here.
@@ -169,9 +161,7 @@ fn text_value<'a>(text: &'a [u8]) -> Option<(&'a str, &'a [u8])>
 fn number_value<'a>(text: &'a [u8]) -> Option<(u64, &'a [u8])>
     ensures { IfSome result (λ r. BeginsAfter text.now (Number r.0) r.1.now) }
 {
-    let at_value = unspaced(text);
-    let (number, rest) = whole_number(at_value)?;
-    Some((number, rest))
+    whole_number(unspaced(text))
 }
 
 /// What follows `byte` at the front of the text, if that byte stands there.

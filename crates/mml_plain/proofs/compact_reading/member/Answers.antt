@@ -1,4 +1,5 @@
 use Rattle.std.proofs.Common.{arith, rules, sym, subst, refl}
+use Rattle.std.proofs.lemmas.Option.{IfSome_then}
 use Rattle.mml_plain.specs.Compact.{PutsKnown, PutsMember}
 use Rattle.mml_plain.proofs.CompactLemmas.{known_key, four_first}
 use Rattle.mml_plain.proofs.compact_reading.member.Goals as goal
@@ -13,7 +14,9 @@ returns-in-Some c =
     (subst (λ t. PutsKnown t rest old new) (sym (four_first in_key c.from_be_bytes-front.result (omega (arith, c.if-in_key-lt8.false)) (search rules) c.from_be_bytes-front.ensures)) c.in-Some.ensures.member)
 
 pub returns-then-in_key-lt8 : goal.returns-then-in_key-lt8
-returns-then-in_key-lt8 c = c.in_ok-rest.ensures c.args.text.now c.in_ok-in_key.ensures
+returns-then-in_key-lt8 c = IfSome_then c.any_member.result c.any_member.ensures (λ rest puts. puts c.args.text.now c.in_ok-in_key.ensures)
 
 pub returns : goal.returns
-returns c = subst (λ old. PutsMember c.args.text.now c.in_ok-rest-2.rest.now old c.any_member-2.new.fields) (c.in_default.ensures.other refl) (c.in_ok-rest-2.ensures c.args.text.now c.in_ok-in_key.ensures)
+returns c =
+    IfSome_then c.any_member-2.result c.any_member-2.ensures
+    (λ rest puts. subst (λ old. PutsMember c.args.text.now rest.now old c.any_member-2.new.fields) (c.in_default.ensures.other refl) (puts c.args.text.now c.in_ok-in_key.ensures))

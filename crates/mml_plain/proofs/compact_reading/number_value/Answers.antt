@@ -1,9 +1,8 @@
+use Rattle.std.proofs.lemmas.Option.{IfSome_then}
 use Rattle.mml_plain.proofs.CompactLemmas as compact
 use Rattle.mml_plain.proofs.compact_reading.number_value.Goals as goal
 
 pub returns : goal.returns
-returns c = record {
-  at_value = c.unspaced-at_value.result.now;
-  spaced_value = c.unspaced-at_value.ensures;
-  value = compact.number_value c.unspaced-at_value.result.now c.in_ok-number.rest.now c.in_ok-number.number c.in_ok-number.ensures.1 c.in_ok-number.ensures.0;
-}
+returns c =
+    IfSome_then c.whole_number.result c.whole_number.ensures
+    (λ r h. record { at_value = c.unspaced.result.now; spaced_value = c.unspaced.ensures; value = compact.number_value c.unspaced.result.now r.1.now r.0 h.1 h.0 })
