@@ -275,7 +275,7 @@ fn whole_number<'a>(text: &'a [u8]) -> Option<(u64, &'a [u8])>
 {
     let first = digit(text, 0)?;
     if first == 0 {
-        return Some((first, &text[1..]));
+        return Some((0, &text[1..]));
     }
     let mut number = first;
     let mut end = 1usize;
