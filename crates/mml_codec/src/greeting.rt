@@ -74,11 +74,10 @@ pub fn greet_into(
 fn admit_into(found: Option<Who>, reply: &mut Reply) -> Greeted
     ensures { greeting_with result reply.new ≡ admitted found }
 {
-    match found {
+    match &found {
         Some(who) => {
-            let who = &who;
             *reply = Reply::Hello(*who);
-            Greeted::Known(Some(*who))
+            Greeted::Known(found)
         }
         None => deny_into(Denial::Unknown, None, reply),
     }
