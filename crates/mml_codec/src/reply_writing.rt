@@ -150,15 +150,13 @@ fn put_line(ids: &IdTable, roster: &Roster, reply: &Reply, out: &mut Vec<u8>) ->
     put_end(out)
 }
 
-// Puts a newline behind what the vector holds, at once where there is room.
+// Puts a newline behind what the vector holds.
 fn put_end(out: &mut Vec<u8>) -> Result<(), Memory>
     ensures { Puts (10 ∷ []) 1 out.old out.new result }
 {
-    if out.len() < out.capacity() {
-        out.push_reserved(b'\n');
-        return Ok(());
-    }
-    put(out, &[Piece::Text("\n")])
+    make_room(out, 1)?;
+    out.push_reserved(b'\n');
+    Ok(())
 }
 
 // Puts the text of a reply, without its newline, behind what the vector holds.
