@@ -76,13 +76,12 @@ fn with_room(line: Vec<u8>) -> Result<Vec<u8>, Vec<u8>>
 // The line, grown to have room for one item more, or as `Err` as it was, where there is no memory for that. This
 // rare case of `with_room` stands apart, so that `with_room` is short.
 #[inline(never)]
-fn grown(line: Vec<u8>) -> Result<Vec<u8>, Vec<u8>>
+fn grown(mut line: Vec<u8>) -> Result<Vec<u8>, Vec<u8>>
     ensures same { MatchResult result (λ l. l.items ≡ line.items) (λ l. l.items ≡ line.items) }
     ensures room { IfOk result (λ l. length l.items + ITEM_ROOM ≤ vec_capacity l) }
     ensures capacity { MatchResult result (λ l. vec_capacity line ≤ vec_capacity l)
         (λ l. vec_capacity line ≤ vec_capacity l) }
 {
-    let mut line = line;
     match make_room(&mut line, ITEM_ROOM) {
         Ok(()) => Ok(line),
         Err(_) => Err(line),
