@@ -39,13 +39,10 @@ pub(crate) fn witness(board: &Board, kinds: &[Option<Kind>], a: Rank, b: Rank) -
     requires b { b < length board.now.network.registers }
     ensures { result ≡ certificate (configuration board.now) a b }
 {
-    match walk(board, kinds, a) {
-        Some(found) => found,
-        None => match walk(board, kinds, b) {
-            Some(found) => found,
-            None => (a, Kind::Seduction),
-        },
+    if let Some(found) = walk(board, kinds, a) {
+        return found;
     }
+    walk(board, kinds, b).unwrap_or((a, Kind::Seduction))
 }
 
 /// The node where the way along the pointers from `node` ends, after as many steps as there are nodes at the most, with
@@ -57,11 +54,8 @@ fn walk(board: &Board, kinds: &[Option<Kind>], node: Rank) -> Option<(Rank, Kind
 {
     let (last, enabled) = top(board, kinds, node);
     match enabled {
-        Some(Kind::Update) => Some((last, Kind::Update)),
-        Some(Kind::Marriage) => Some((last, Kind::Marriage)),
-        Some(Kind::Abandonment) => Some((last, Kind::Abandonment)),
-        Some(Kind::Seduction) => None,
-        None => None,
+        Some(Kind::Seduction) | None => None,
+        Some(kind) => Some((last, kind)),
     }
 }
 
