@@ -1,12 +1,12 @@
 -- To whom a node is shown, as tests and as facts.
-use Rattle.std.proofs.Common.{◌≡◌, ℕ, ◌<◌, Bool, true, false, ◌&&◌, ◌||◌, eqb, inl, inr, ap, ◌∙◌, arith}
-use Rattle.std.specs.Prelude.{◌↔◌}
+use Rattle.std.proofs.Common.{◌≡◌, ℕ, ◌<◌, Bool, true, false, ◌&&◌, ◌||◌, eqb, inl, inr, ap, sym, ◌∙◌, arith, Option, None, Some}
+use Rattle.std.specs.Prelude.{◌↔◌, IfSome, IfNone, is_some}
 use Rattle.std.proofs.lemmas.Bool.{eq-eqb, eqb-true, and_parts, and_from, or_cases, or_left, or_right, both_ways, false_from_ne_true, false≢true}
 use Rattle.std.specs.Ordering.{nat_cmp}
 use Rattle.std.specs.Cmp.{nat_cmp_total}
 use Rattle.std.specs.FinSet as sets
 use Rattle.std.specs.FinSet.{FinSet}
-use Rattle.mml_ids.specs.inside.WordsLemmas.{has_insert}
+use Rattle.mml_ids.specs.inside.WordsLemmas.{has_empty, has_insert}
 use Rattle.mml_rules.specs.Configuration.{Configuration, IsLawful}
 use Rattle.mml_ids.proofs.SearchLemmas.{some_below-find, some_below-at}
 use Rattle.mml_lab.specs.declared.who.Who.{Who}
@@ -60,11 +60,18 @@ has_around r c x i near around owned both linked is_around mine is_both j =
     ∙ (λ t. sets.contains (is_around t) j && mine j t) ∙ ap (λ b. b && owns r x j) (has_insert near i j ∙ ap (λ b. eqb j i || b) (linked j))
 
 -- one who owns a node around i owns i or a neighbour of it
-pub around_found : (r : RosterValue) (c : Configuration) (x : Who) (i j : ℕ) → IsLawful c → owned_around r c x i j ≡ true
+around_found : (r : RosterValue) (c : Configuration) (x : Who) (i j : ℕ) → IsLawful c → owned_around r c x i j ≡ true
     → true ≡ (owns r x i || owns_neighbour r c x i)
 around_found r c x i j lawful is = grind (arith, and_parts, or_cases, or_left, eqb-true, or_right, owner_found, and_from)
 
 -- one who owns no node around i owns neither i nor a neighbour of it
-pub none_around : (r : RosterValue) (c : Configuration) (x : Who) (i : ℕ) → ((j : ℕ) → owned_around r c x i j ≡ false)
+none_around : (r : RosterValue) (c : Configuration) (x : Who) (i : ℕ) → ((j : ℕ) → owned_around r c x i j ≡ false)
     → false ≡ (owns r x i || owns_neighbour r c x i)
 none_around r c x i none = grind (arith, no_owner, or_right, or_left, eq-eqb, false≢true)
+
+-- where a node is found in the set of those around i that x owns, x owns i or a neighbour of it; where none is, neither
+pub around_is_some : (r : RosterValue) (c : Configuration) (x : Who) (i : ℕ) (both : FinSet nat_cmp) (found : Option ℕ) → IsLawful c
+    → ((j : ℕ) → sets.contains both j ≡ owned_around r c x i j) → IfSome found (λ j. sets.contains both j ≡ true) → IfNone found (both ≡ sets.empty)
+    → is_some found ≡ (owns r x i || owns_neighbour r c x i)
+around_is_some r c x i both None lawful has member none = none_around r c x i (λ j. sym (has j) ∙ ap (λ s. sets.contains s j) none ∙ has_empty j)
+around_is_some r c x i both (Some j) lawful has member none = around_found r c x i j lawful (sym (has j) ∙ member)
