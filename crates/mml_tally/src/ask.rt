@@ -44,6 +44,7 @@ pub struct Denials {
 pub fn push_ask(asks: &mut Vec<Ask>, ask: &Ask) -> Result<(), Memory>
     ensures { OnOk result (asks.new.items ≡ asks.old.items ++ (ask.now ∷ [])) }
 {
+    // Not by `push`, for which the toolchain has no proof here.
     asks.extend_from_slice(slice::from_ref(ask))?;
     Ok(())
 }
@@ -63,10 +64,7 @@ fn asks_by(alloc: Global, asks: &[Ask], student: Student) -> Result<Vec<Ask>, Me
 fn is_student(student: Student, who: Option<Student>) -> bool
     ensures { result ≡ is_student student who }
 {
-    match who {
-        Some(other) => other == student,
-        None => false,
-    }
+    who == Some(student)
 }
 
 /// How many of a student's lines each clause denied, and how many were no request.
@@ -116,10 +114,7 @@ fn count_clause(own: &[Ask], clause: u8) -> u64
 fn is_clause(clause: u8, denied: Option<u8>) -> bool
     ensures { result ≡ is_clause clause denied }
 {
-    match denied {
-        Some(number) => number == clause,
-        None => false,
-    }
+    denied == Some(clause)
 }
 
 /// How many of the lines were no request.

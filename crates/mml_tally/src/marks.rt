@@ -119,13 +119,7 @@ fn count_kind(all: &[Move], kind: Kind) -> u64
 pub(crate) fn is_kind(asked: Kind, kind: Kind) -> bool
     ensures { result ≡ is_kind asked kind }
 {
-    match (asked, kind) {
-        (Kind::Update, Kind::Update)
-        | (Kind::Marriage, Kind::Marriage)
-        | (Kind::Seduction, Kind::Seduction)
-        | (Kind::Abandonment, Kind::Abandonment) => true,
-        _ => false,
-    }
+    asked == kind
 }
 
 /// How many closes applied one of a student's moves. The moves come in the order of the closes that applied them, so
