@@ -766,7 +766,7 @@ fn with_pointer(text: Vec<u8>, ids: &IdTable, p: Option<Rank>) -> Vec<u8>
     ensures grows { length result.items ≤ length text.items + 5 }
 {
     match p {
-        Some(j) => with_node(text, ids, j),
+        Some(node) => with_node(text, ids, node),
         None => with_text(text, "null"),
     }
 }
@@ -781,7 +781,7 @@ pub(crate) fn with_pointer_at_end(text: Vec<u8>, ids: &IdTable, p: Option<Rank>)
     ensures grows { length result.items ≤ length text.items + 6 }
 {
     match p {
-        Some(j) => with_text(with_node(text, ids, j), "}"),
+        Some(node) => with_text(with_node(text, ids, node), "}"),
         None => with_text(text, "null}"),
     }
 }

@@ -50,8 +50,8 @@ fn request(alloc: Global, fields: &Fields<'_>) -> Result<Request, LineFault>
     let request = match fields.word.ok_or(LineFault::Malformed)? {
         "hello" => return hello_of(alloc, fields),
         "bye" => Some(Request::Bye),
-        "see" => see_request(fields),
-        "look" => look_request(fields),
+        "see" => see_of(fields),
+        "look" => look_of(fields),
         "move" => move_of(fields),
         "close" => Some(Request::Do(Command::Close)),
         "fault" => fault_of(fields),
@@ -79,7 +79,7 @@ fn hello_of(alloc: Global, fields: &Fields<'_>) -> Result<Request, LineFault>
 }
 
 // The see that the fields ask, if its node is there.
-fn see_request(fields: &Fields<'_>) -> Option<Request>
+fn see_of(fields: &Fields<'_>) -> Option<Request>
     ensures { (d : Data) → Holds fields.now d → result ≡ node_of command.See d }
 {
     let node = fields.node?;
@@ -87,7 +87,7 @@ fn see_request(fields: &Fields<'_>) -> Option<Request>
 }
 
 // The look that the fields ask, if its node is there.
-fn look_request(fields: &Fields<'_>) -> Option<Request>
+fn look_of(fields: &Fields<'_>) -> Option<Request>
     ensures { (d : Data) → Holds fields.now d → result ≡ node_of command.Look d }
 {
     let node = fields.node?;
