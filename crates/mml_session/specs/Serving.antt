@@ -1,10 +1,11 @@
 -- What comes of the next line of a session.
-use Rattle.std.specs.Prelude.{◌≡◌, ◌≢◌, ℕ, ◌<◌, false, true, List, [], ◌++◌, length, take, Option, Result, Ok, Err}
+use Rattle.std.specs.Prelude.{◌≡◌, ◌≢◌, ℕ, ◌<◌, Bool, false, true, List, [], ◌++◌, length, take, Option, Result, Ok, Err, ⊤}
 use Rattle.std.specs.Io.KnownBytes.{Appends, Consumes, IsAtEnd, prepend_known}
 use Rattle.mml_lab.specs.Labs.{LabValue}
 use Rattle.mml_ids.specs.Lines.{ended}
 use Rattle.mml_lines.specs.LinesOf.{IsWithinLimit, IsTooLong}
 use Rattle.mml_lines.specs.declared.lines.TheConstants.{READ_SIZE}
+use Rattle.mml_lines.specs.declared.write_fault.WriteFault.{WriteFault}
 use Rattle.mml_codec.specs.declared.TheConstants.{MAX_REQUEST}
 use Rattle.mml_codec.specs.declared.reply.Reply.{Reply}
 use Rattle.mml_codec.specs.declared.reply.Reply.TheVariants as reply
@@ -28,6 +29,12 @@ SendsReply sent.Told r whole unsent unsent' wrote wrote' = (is_bye r ≡ false) 
 SendsReply sent.Bye r whole unsent unsent' wrote wrote' = (is_bye r ≡ true) × (unsent' ≡ []) × Appends wrote wrote' (unsent ++ whole)
 SendsReply (sent.Unwritten n) r whole unsent unsent' wrote wrote' =
     (n < length (unsent ++ whole)) × (unsent' ≡ []) × Appends wrote wrote' (take n (unsent ++ whole))
+
+-- what came of a reply, by what came of its bytes, and by whether it is a bye's
+abbrev pub sent_of : Result ⊤ WriteFault → Bool → Sent
+sent_of (Ok done) false = sent.Told
+sent_of (Ok done) true = sent.Bye
+sent_of (Err fault) last = sent.Unwritten fault.written
 
 -- the line of a reply, or of out of memory instead of one that isn't short, was sent and is recorded
 abbrev pub Tells : Sent → ℕ → LabValue → ℕ → List ℕ → Reply → List ℕ → List ℕ → Option (List ℕ) → Option (List ℕ) → Option Kept → Option Kept → Type 0

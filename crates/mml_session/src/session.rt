@@ -8,7 +8,7 @@ ghost use Rattle.mml_session.specs.Turns.{standing, is_bye};
 ghost use Rattle.mml_session.specs.Ends.{Ended};
 ghost use Rattle.mml_session.specs.Records.{EndedRecorded, Records, entry_for};
 ghost use Rattle.mml_session.specs.Holding.{LetsOut};
-ghost use Rattle.mml_session.specs.Serving.{SendsReply, ServesLine, ServesNext, Tells, next_after};
+ghost use Rattle.mml_session.specs.Serving.{SendsReply, ServesLine, ServesNext, Tells, next_after, sent_of};
 ghost use Rattle.mml_codec.specs.Replies.{IsAbout};
 
 use crate::answering::answer_into;
@@ -20,7 +20,7 @@ use mml_codec::{LineScratch, MAX_REQUEST, REPLY_ROOM, Reply, append_reply, tell_
 use mml_ids::Memory;
 use mml_journal::Sink;
 use mml_lab::Who;
-use mml_lines::{Lines, Step};
+use mml_lines::{Lines, Step, WriteFault};
 use mml_window::{Closed, Desk, House, Window};
 use std::alloc::Global;
 use std::io::{Read, Write};
@@ -225,13 +225,11 @@ fn go_on<G: Gate>(said: Result<Sent, Closed>, held: &mut Held, gate: &G, connect
 {
     match said {
         Ok(Sent::Told) => {
-            held.replies = held.replies.saturating_add(1);
-            pass_told(held, gate, connection);
+            count_told(held, gate, connection);
             Next::Served
         }
         Ok(Sent::Bye) => {
-            held.replies = held.replies.saturating_add(1);
-            pass_told(held, gate, connection);
+            count_told(held, gate, connection);
             Next::Ended(SessionEnd::Bye)
         }
         Ok(Sent::Unwritten(_)) => {
@@ -240,6 +238,15 @@ fn go_on<G: Gate>(said: Result<Sent, Closed>, held: &mut Held, gate: &G, connect
         }
         Err(Closed) => Next::Ended(SessionEnd::Closed),
     }
+}
+
+// Counts a reply that is out or held, and lets the session stand at its gate for all that are counted if no reply is
+// held any longer.
+fn count_told<G: Gate>(held: &mut Held, gate: &G, connection: u8)
+    ensures { held.new.bytes.items ≡ held.old.bytes.items }
+{
+    held.replies = held.replies.saturating_add(1);
+    pass_told(held, gate, connection);
 }
 
 // Where no reply is held any longer, lets the session stand at its gate once for each that was counted since it stood
@@ -424,10 +431,7 @@ fn send<W: Write>(
     ensures out { IsTrue at_once → held.new.bytes.items ≡ [] }
 {
     let is_last = is_bye(reply);
-    match held.put(line, at_once || is_last, writer) {
-        Ok(()) => { if is_last { Sent::Bye } else { Sent::Told } }
-        Err(fault) => Sent::Unwritten(fault.written),
-    }
+    sent_of(held.put(line, at_once || is_last, writer), is_last)
 }
 
 // Lets what is held go out, of which the line of a reply is the last, or holds all on where it isn't too much, and
@@ -439,7 +443,15 @@ fn send_held<W: Write>(reply: &Reply, held: &mut Held, at_once: bool, writer: &m
     ensures out { IsTrue at_once → held.new.bytes.items ≡ [] }
 {
     let is_last = is_bye(reply);
-    match held.let_out_when_due(at_once || is_last, writer) {
+    sent_of(held.let_out_when_due(at_once || is_last, writer), is_last)
+}
+
+// What came of a reply: `came` says what came of its line and of what was held before it, and `is_last` whether the
+// reply is a bye's.
+fn sent_of(came: Result<(), WriteFault>, is_last: bool) -> Sent
+    ensures { result ≡ sent_of came is_last }
+{
+    match came {
         Ok(()) => { if is_last { Sent::Bye } else { Sent::Told } }
         Err(fault) => Sent::Unwritten(fault.written),
     }
