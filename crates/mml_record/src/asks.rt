@@ -153,6 +153,7 @@ fn line_and_known(
     ensures known { IfOk result (λ x. x.1 ≡ known_asked roster.now known (request_in line.now)) }
     ensures part { IfOk result (λ x. IfSome x.1 (IsPrincipal roster.now)) }
 {
+    // By reference: a value with a student inside isn't copied by the toolchain where it is used again.
     let known = &known;
     match read_request(alloc, line) {
         Ok(request) => {
@@ -184,10 +185,11 @@ fn student_of(known: Option<Who>) -> Option<Student>
     }
 }
 
-// What a line asked that was answered by this text, and who is known behind it: where the text says that memory was
-// refused, whoever was known before it. An error means that memory was refused to this call.
+// What a line asked that was answered by this text, with the student who was known before it and the clause that denied
+// it; and who is known behind the line. `known` is who was known before it, and still is where the text says that memory
+// was refused. An error means that memory was refused to this call.
 #[tactic(auto, unfolding(crate::specs::Asks::known_after))]
-fn ask_of(
+fn ask_and_known(
     alloc: Global,
     roster: &Roster,
     known: Option<Who>,
@@ -199,6 +201,7 @@ fn ask_of(
     ensures known { IfOk result (λ x. x.1 ≡ known_after roster.now known line.now text.now) }
     ensures part { IfOk result (λ x. IfSome x.1 (IsPrincipal roster.now)) }
 {
+    // By reference: a value with a student inside isn't copied by the toolchain where it is used again.
     let known = &known;
     let denied = clause_told(text);
     let (line, then) = line_and_known(alloc, roster, *known, line)?;
@@ -232,7 +235,7 @@ fn read_ask(
 {
     match entry {
         RawEntry::Said { line, text, .. } => {
-            let (ask, then) = ask_of(alloc, lab.roster(), known, line, text)?;
+            let (ask, then) = ask_and_known(alloc, lab.roster(), known, line, text)?;
             push_ask(asks, &ask)?;
             Ok(then)
         }
