@@ -51,7 +51,8 @@ pub(crate) struct Ready<C: Drop> {
     pub recorders: Recorders<C>,
 }
 
-/// Serves a class, and records it where there is a folder for that.
+/// Serves a class until it is over, and records it where there is a folder for that. The error is why the class doesn't
+/// begin or go on, doesn't end well, or isn't wholly recorded.
 pub(crate) fn serve_class<
     R: System + Files<File = File> + Net<Listener = TcpListener, Stream = TcpStream> + Sync,
 >(rt: &R, class: Class<'_>, folder: Option<RecordFolder>) -> Result<(), Fault> {
@@ -126,7 +127,8 @@ fn told_whole(state: &RecordState) -> Result<(), Fault> {
     }
 }
 
-// Serves a class at its ports, and prints its lines. Want of memory at a write is told as such.
+// Serves a class until it is over, and writes the host's lines (the ports, where an old journal leads, the end) to
+// standard output. Where a write lacked memory, the error is `Memory`, whatever it would be else.
 fn serve_ports<
     R: System + Files<File = File> + Net<Listener = TcpListener, Stream = TcpStream> + Sync,
     C: Recorder + Send + Drop,

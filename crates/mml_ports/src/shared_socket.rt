@@ -66,7 +66,8 @@ impl SharedSocket {
     }
 
     /// Whether a whole line stands in the first 512 bytes that have come, which are left to be read; false where the
-    /// socket was given back, or can't be looked at.
+    /// socket was given back, or can't be looked at. Only before the connection is served: for the look the shared socket
+    /// is set not to wait, and a read or write of another thread would fail then.
     pub(crate) fn has_line<Rt: Wait>(&self, rt: &Rt) -> bool {
         let stream = self.stream.read(rt);
         match &*stream {

@@ -59,8 +59,8 @@ fn on_this_machine(port: u16) -> SocketAddr {
     SocketAddr::from((Ipv4Addr::LOCALHOST, port))
 }
 
-/// The bell that ends the accepts at both ports once the host is over; an error where the system refuses the descriptor
-/// that it holds spare.
+/// The bell that wakes the accepts at both ports once the host is over. It holds a spare descriptor until then, a copy of
+/// the desk's listener: the error is that the system refuses the copy, or want of memory.
 pub fn bell_of<'a, R>(
     rt: &'a R,
     state: &'a HostState,

@@ -47,9 +47,10 @@ pub fn run<
     }
 }
 
-// Prints how many nodes, links and students the lab of a file has.
-fn check_file<R: Files + Print + AllocGlobal>(rt: &R, lab: &str) -> Result<(), Fault> {
-    let lab = lab_of(rt, lab)?;
+// Checks that a file spells a lab, and prints how many nodes, links and students it has. The error is that the file can't
+// be read, why it spells no lab, that the write failed, or want of memory.
+fn check_file<R: Files + Print + AllocGlobal>(rt: &R, path: &str) -> Result<(), Fault> {
+    let lab = lab_of(rt, path)?;
     write_size(rt.alloc(), &lab, &mut io::writer(rt))
 }
 
@@ -98,13 +99,13 @@ fn answer_lines<R: Print + AllocGlobal, S: Sink + Drop>(
     let mut script = script;
     let mut writer = Retrying::new(io::writer(rt));
     match answer_script(rt.alloc(), lab, &mut script, &mut writer, sink) {
-        Ok(hall) => end_of_script(&hall),
+        Ok(hall) => fault_if_halted(&hall),
         Err(fault) => Err(memory_if_lacked(fault, writer.lacked_memory)),
     }
 }
 
-// What the program ends with once all lines of a script are answered: an error where the journal was halted.
-fn end_of_script<S: Sink>(hall: &Hall<S>) -> Result<(), Fault> {
+// The error `Journal` where the journal was halted while a script's lines were answered; else `Ok`.
+fn fault_if_halted<S: Sink>(hall: &Hall<S>) -> Result<(), Fault> {
     if hall.halted() {
         return Err(Fault::Journal);
     }

@@ -67,8 +67,9 @@ fn digit_first(rest: Option<&[u8]>) -> Option<u8>
     Some(digit.saturating_sub(b'0'))
 }
 
-// The number of a clause, where the members of a reply, its text behind the `{`, begin with the member `clause`; none
-// where they begin otherwise, or it has no value.
+// The clause's number, where `clause` is the first of the members of a reply, its text behind the `{`; `None` where
+// another member is first, or nothing follows the colon. Of the value the first byte alone is read, as by `digit_first`:
+// in a reply it is the number, since clauses have one digit.
 #[tactic(auto, unfolding(crate::specs::Asks::clause_first))]
 fn clause_first(members: &[u8]) -> Option<u8>
     ensures { result ≡ clause_first members.now }

@@ -54,9 +54,9 @@ fn first_other_count(alloc: Global, lab: &Lab) -> Result<Option<usize>, Fail> {
     Ok(None)
 }
 
-/// What `first_other_count` finds; whether a sink that fails from the beginning has no line; and whether one that never
-/// fails has all ten.
-fn lines_taken(alloc: Global, lab: &Lab) -> Result<(Option<usize>, bool, bool), Fail> {
+/// The first number of lines for which a sink fails otherwise than it should, by `first_other_count`; whether a sink that
+/// fails from the beginning has no line and halts its journal; and whether one that never fails has all ten, and doesn't.
+fn faults_of_sinks(alloc: Global, lab: &Lab) -> Result<(Option<usize>, bool, bool), Fail> {
     let other = first_other_count(alloc, lab)?;
     let none = takes_lines(alloc, lab, Some(0), 0)?;
     let all = takes_lines(alloc, lab, None, 10)?;
@@ -84,11 +84,11 @@ fn takes_each_number_of_bytes(alloc: Global, lab: &Lab) -> Result<bool, Fail> {
     Ok(true)
 }
 
-/// Over the path of three: what `lines_taken` tells, and whether a sink that fails after any number of bytes is left
+/// Over the path of three: what `faults_of_sinks` tells, and whether a sink that fails after any number of bytes is left
 /// with just that many.
 fn lines_and_bytes_taken(alloc: Global) -> Result<((Option<usize>, bool, bool), bool), Fail> {
     let lab = boxed_lab(alloc, PATH_OF_THREE)?;
-    let lines = lines_taken(alloc, &lab)?;
+    let lines = faults_of_sinks(alloc, &lab)?;
     Ok((lines, takes_each_number_of_bytes(alloc, &lab)?))
 }
 

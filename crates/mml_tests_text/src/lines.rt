@@ -219,17 +219,17 @@ fn counted_in(alloc: Global, breaks: &[u8]) -> Result<(u32, Step, usize), Fail> 
     Ok((count, step, reader.rest.len()))
 }
 
-/// Whether a line of 4,096 bytes, the limit, comes whole by reads of one byte, and then the end; and how many reads
+/// Reads a line of 4,096 bytes, the limit, one byte a read: whether it comes whole, and then the end; and how many reads
 /// there were.
-fn comes_by_bytes(alloc: Global) -> Result<(bool, usize), Fail> {
+fn longest_line_by_bytes(alloc: Global) -> Result<(bool, usize), Fail> {
     let mut text = digits(alloc, 4096)?;
     text.push('\n')?;
-    line_comes_by_bytes(alloc, text.as_bytes())
+    line_by_bytes(alloc, text.as_bytes())
 }
 
-/// Whether a line, which `text` has with its newline, comes whole by reads of one byte, and then the end; and how many
-/// reads there were.
-fn line_comes_by_bytes(alloc: Global, text: &[u8]) -> Result<(bool, usize), Fail> {
+/// Reads a line, which `text` has with its newline, one byte a read: whether it comes whole, and then the end; and how
+/// many reads there were.
+fn line_by_bytes(alloc: Global, text: &[u8]) -> Result<(bool, usize), Fail> {
     let mut reader = FakeReader::failing_after(usize::MAX, text);
     let mut lines = Lines::new(alloc, 4096)?;
     let is_line = lines.next(&mut reader) == Step::Line;
@@ -242,10 +242,13 @@ fn line_comes_by_bytes(alloc: Global, text: &[u8]) -> Result<(bool, usize), Fail
 /// whole, and how many reads there were.
 type Counts = ((u32, Step, usize), (bool, usize));
 
-/// What `lines_of_many_newlines` tells of one empty line more than there may be reads, and `comes_by_bytes` of one long
-/// line.
+/// What `lines_of_many_newlines` tells of one empty line more than there may be reads, and `longest_line_by_bytes` of
+/// one long line.
 fn counts(alloc: Global) -> Result<Counts, Fail> {
-    Ok((lines_of_many_newlines(alloc)?, comes_by_bytes(alloc)?))
+    Ok((
+        lines_of_many_newlines(alloc)?,
+        longest_line_by_bytes(alloc)?,
+    ))
 }
 
 // Fails where of lines that take a read each more or fewer come than there may be reads, or where a long line doesn't
