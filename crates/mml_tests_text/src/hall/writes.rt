@@ -65,10 +65,10 @@ fn tells_a_flush(alloc: Global, good: usize) -> Result<bool, Fail> {
     Ok(fault == Some(ScriptFault::Write { written: 0 }) && is_front && is_unread)
 }
 
-/// The first number of good flushes below eight, as many as the script takes, for which `tells_a_flush` is
+/// The first number of good flushes below seven, as many as the script takes, for which `tells_a_flush` is
 /// false; `None` where there is none.
 fn first_untold_flush(alloc: Global) -> Result<Option<usize>, Fail> {
-    for good in 0..8 {
+    for good in 0..7 {
         if !tells_a_flush(alloc, good)? {
             return Ok(Some(good));
         }
