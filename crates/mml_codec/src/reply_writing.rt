@@ -268,8 +268,7 @@ fn with_see(text: Vec<u8>, ids: &IdTable, see: &See) -> Vec<u8>
     with_pointer_at_end(text, ids, see.regs.p)
 }
 
-// Puts the reply to a granted look behind what the vector holds. Its contract has the text of one object, which
-// `put_look_parts` has in parts.
+// Puts the reply to a granted look behind what the vector holds: the parts of `put_look_parts` make one object.
 fn put_look(ids: &IdTable, look: &Look, out: &mut Vec<u8>) -> Result<(), Memory>
     requires { IsLookedAt ids.now look.now }
     ensures text { OnOk result
@@ -280,8 +279,7 @@ fn put_look(ids: &IdTable, look: &Look, out: &mut Vec<u8>) -> Result<(), Memory>
     put_look_parts(ids, look, out)
 }
 
-// Puts the reply to a granted look behind what the vector holds, in parts: what stands before the linked nodes, the
-// nodes, and what stands after.
+// Puts the reply to a granted look behind what the vector holds: what comes before the linked nodes, they, and the rest.
 #[tactic(auto, unfolding(crate::specs::inside::Puts::look_parts))]
 fn put_look_parts(ids: &IdTable, look: &Look, out: &mut Vec<u8>) -> Result<(), Memory>
     requires { IsLookedAt ids.now look.now }
@@ -595,8 +593,7 @@ fn with_release(text: Vec<u8>, ids: &IdTable, moment: Moment, node: Rank) -> Vec
     with_text(text, "}")
 }
 
-// Puts a denial behind what the vector holds. Its contract has the text of one object, which `put_denial_parts` has in
-// parts.
+// Puts a denial behind what the vector holds: the parts of `put_denial_parts` make one object.
 fn put_denial(ids: &IdTable, denial: Denial, out: &mut Vec<u8>) -> Result<(), Memory>
     ensures puts { Puts (object_text ids.now (deny_fields denial)) TEXT_ROOM out.old out.new result }
     ensures count { HaveFittingCounts (deny_fields denial) }
@@ -625,8 +622,7 @@ fn put_denial_parts(denial: Denial, out: &mut Vec<u8>) -> Result<(), Memory>
     )
 }
 
-// Puts the opening brace of a denial behind what the vector holds, and the current number where the denial tells it,
-// with its comma: only `stale` does.
+// Puts a denial's opening brace behind what the vector holds; of `stale` also the current number and a comma.
 fn put_number_first(denial: Denial, out: &mut Vec<u8>) -> Result<(), Memory>
     ensures puts { Puts (number_front (current_number denial)) 40 out.old out.new result }
     ensures count { HaveFittingCounts (deny_fields denial) }
