@@ -1,17 +1,13 @@
 -- A run from a world in which each node points somewhere or nowhere, with m true: each in turn updates, and abandons where it points.
-use Rattle.std.proofs.Common.{◌≡◌, ℕ, zero, suc, ◌+◌, ◌<◌, ◌⊎◌, inl, inr, Bool, true, false, cond, not, Option, None, Some, is_some}
-use Rattle.std.proofs.Common.{sym, refl, ap, ◌∙◌, subst, arith}
-use Rattle.std.proofs.lemmas.Bool.{cases_lt, cases_eq}
-use Rattle.std.proofs.lemmas.Bool.Decides.{nat_tests}
-use Rattle.mml_rules.specs.declared.rule.Rule.{Rule}
-use Rattle.mml_rules.specs.Configuration.{Configuration, IsLawful, holds}
-use Rattle.mml_rules.specs.Rules.{is_married}
+use Rattle.std.proofs.Common.{◌≡◌, ℕ, zero, suc, ◌+◌, ◌<◌, ◌⊎◌, Bool, true, false, cond, not, Option, None, Some, is_some, sym, refl, ap, ◌∙◌, subst, arith}
+use Rattle.std.proofs.lemmas.Bool.{cases_lt, cases_eq, Decides.nat_tests}
+use Rattle.mml_rules.specs.{declared.rule.Rule.Rule, Configuration.Configuration, Configuration.IsLawful, Configuration.holds, Rules.is_married}
 use Rattle.mml_rules.proofs.RulesLemmas.{married-at, married-null}
-use Rattle.mml_lab.specs.declared.who.Who.TheVariants as who
 use Rattle.mml_lab.specs.Rosters.{RosterValue, owns}
 use Rattle.mml_board.specs.World.{World, configuration, IsWorld}
 use Rattle.mml_bounds.proofs.MoveLemmas.{IsQuiet, IsMoved, Holds, is, stays, turns, Goes, single}
 use Rattle.mml_bounds.proofs.IdleLemmas.{may_update, may_abandon}
+use Rattle.mml_lab.specs.declared.who.Who.TheVariants as who
 
 -- the moves of those from i on, and a more
 abbrev pub cleared : (f : ℕ → Option ℕ) (left i a : ℕ) → ℕ
@@ -33,33 +29,18 @@ module _ (n : ℕ) (f : ℕ → Option ℕ) (Shape : Configuration → Type 0) (
       → IsMoved c d (is i) rule → Holds d i p2 m2 → Cleared i p2 m2 d
   changed i p m p2 m2 c d rule lt k e to = record {
     shape = shaped c d i rule k.shape e;
-    done = λ j less.
-        stays n i c d rule (sized c k.shape).0 e j None false (omega (arith, less, lt)) (λ same. omega (arith, same, less)) (k.done j less);
+    done = grind (arith, nat_tests, stays);
     here = λ _. to;
     todo = λ j more j_in. stays n i c d rule (sized c k.shape).0 e j (f j) true j_in (λ same. omega (arith, same, more)) (k.todo j more j_in);
   }
 
   -- the next one's turn
   advance : (i : ℕ) (c : Configuration) → i < n → Cleared i None false c → Cleared (suc i) (f (suc i)) true c
-  advance i c lt k = record {
-    shape = k.shape;
-    done = λ j less. elim (cases_eq j i) [
-      | inl same ↦ subst (λ z. Holds c z None false) (sym same) (k.here lt)
-      | inr other ↦ k.done j (omega (arith, less, other))
-    ];
-    here = λ j_in. k.todo (suc i) (omega arith) j_in;
-    todo = λ j more j_in. k.todo j (omega (arith, more)) j_in;
-  }
+  advance i c lt k = grind (arith, nat_tests, cases_eq, Holds)
 
   -- whom i points at doesn't answer
-  unanswered : (i j : ℕ) (p : Option ℕ) (m : Bool) (c : Configuration) → i < n → f i ≡ Some j → Cleared i p m c
-      → (holds (c.p j) i ≡ false) × ((c.m j ≡ true) ⊎ (j < i))
-  unanswered i j p m c lt e k =
-      let x = points i j lt e in
-      elim (cases_lt j i) [
-        | inl less ↦ (ap (λ o. holds o i) (k.done j less).0, inr less)
-        | inr ge ↦ let y = k.todo j (omega (arith, ge, x.1)) x.0 in (ap (λ o. holds o i) y.0 ∙ x.2, inl y.1)
-      ]
+  unanswered : (i j : ℕ) (p : Option ℕ) (m : Bool) (c : Configuration) → i < n → f i ≡ Some j → Cleared i p m c → (holds (c.p j) i ≡ false) × ((c.m j ≡ true) ⊎ (j < i))
+  unanswered i j p m c lt e k = grind (arith, nat_tests, points i j lt e, cases_lt)
 
   free_at_first : (i : ℕ) (c : Configuration) → i < n → Cleared i (f i) true c → is_married c i ≡ false
   free_at_first i c lt k = go (f i) refl

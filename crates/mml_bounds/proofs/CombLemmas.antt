@@ -1,12 +1,8 @@
 -- The comb at first, and what stays in each step.
 use Rattle.std.proofs.Common.{◌≡◌, ℕ, ◌+◌, ◌*◌, ◌<◌, ◌≤◌, true, false, Some, sym, ap, ◌∙◌, arith}
-use Rattle.std.proofs.lemmas.Bool.Decides.{nat_tests}
-use Rattle.std.proofs.lemmas.List.FromFn.{get_or-map-range_with_len, length-map-range_with_len}
+use Rattle.std.proofs.lemmas.{Bool.Decides.nat_tests, List.FromFn.get_or-map-range_with_len, List.FromFn.length-map-range_with_len}
 use Rattle.mml_ids.specs.declared.TheConstants.{MAX_NODES}
-use Rattle.mml_rules.specs.declared.regs.Regs.{Regs}
-use Rattle.mml_rules.specs.declared.rule.Rule.{Rule}
-use Rattle.mml_rules.specs.Configuration.{Configuration, IsLawful, holds}
-use Rattle.mml_rules.specs.Network.{no_regs, registers_at}
+use Rattle.mml_rules.specs.{declared.regs.Regs.Regs, declared.rule.Rule.Rule, Configuration.Configuration, Configuration.IsLawful, Configuration.holds, Network.no_regs, Network.registers_at}
 use Rattle.mml_board.specs.World.{size, configuration, IsWorld}
 use Rattle.mml_bounds.specs.Comb.{first_pointer, is_comb, comb, comb_world}
 use Rattle.mml_bounds.proofs.MoveLemmas.{IsMoved, is}
@@ -32,12 +28,6 @@ next_to n i j second at more = grind (arith, nat_tests)
 comb_from : (n i j : ℕ) → Points n i j → is_comb n i j ≡ true
 comb_from n i j e = grind (arith, nat_tests)
 
-comb_turned : (n i j : ℕ) → is_comb n i j ≡ true → is_comb n j i ≡ true
-comb_turned n i j e = grind (arith, nat_tests)
-
-comb_loop : (n i : ℕ) → is_comb n i i ≡ true → ⊥
-comb_loop n i e = grind (arith, nat_tests)
-
 -- n nodes, and the comb's links
 pub record Shape (n : ℕ) (c : Configuration) : Type 0 where
   pub size : c.size ≡ n
@@ -45,11 +35,7 @@ pub record Shape (n : ℕ) (c : Configuration) : Type 0 where
   pub joined : (i j : ℕ) → Points n i j → (c.linked i j ≡ true) × (c.linked j i ≡ true)
 
 pub shaped : (n x : ℕ) (c d : Configuration) (rule : Rule) → Shape n c → IsMoved c d (is x) rule → Shape n d
-shaped n x c d rule s e = record {
-  size = e.size ∙ s.size;
-  lawful = e.lawful;
-  joined = λ i j at. let z = s.joined i j at in (e.linked i j ∙ z.0, e.linked j i ∙ z.1);
-}
+shaped n x c d rule s e = grind (arith, nat_tests)
 
 -- ---- the world of the comb
 
@@ -64,20 +50,14 @@ module _ (n : ℕ) where
   first_registers i lt = get_or-map-range_with_len (λ i. record { p = first_pointer n i; m = true }) 0 n i i no_regs lt (omega arith)
 
   pub linked-from : (i j : ℕ) → Points n i j → at_first.linked i j ≡ true
-  linked-from i j e =
-      let x = points n i j e in
-      opening.linked-from n (is_comb n) (comb n).registers comb_size i j (omega (arith, x)) x.1 (comb_from n i j e)
+  linked-from i j e = let x = points n i j e in opening.linked-from n (is_comb n) (comb n).registers comb_size i j (omega (arith, x)) x.1 (comb_from n i j e)
 
   first_lawful : IsLawful at_first
-  first_lawful = opening.first_lawful n (is_comb n) (comb n).registers comb_size (comb_turned n) (comb_loop n) (λ i j lt e.
+  first_lawful = opening.first_lawful n (is_comb n) (comb n).registers comb_size (grind (arith, nat_tests)) (grind (arith, nat_tests)) (λ i j lt e.
       let at : Points n i j = sym (ap (λ (g : Regs). g.p) (first_registers i lt)) ∙ e in ((points n i j at).1, comb_from n i j at))
 
   pub first_shape : Shape n at_first
-  first_shape = record {
-    size = comb_size;
-    lawful = first_lawful;
-    joined = λ i j at. (linked-from i j at, first_lawful.symmetric i j (linked-from i j at));
-  }
+  first_shape = grind (arith, nat_tests, comb_size, first_lawful, linked-from)
 
   pub comb_is_world : n ≤ MAX_NODES → IsWorld (comb_world n)
   comb_is_world few = opening.first_world n (is_comb n) (comb n).registers comb_size first_lawful few

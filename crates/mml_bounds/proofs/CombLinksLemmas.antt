@@ -1,7 +1,6 @@
 -- The comb joins all its nodes by as few links as can: each node but the last is linked to one higher node.
 use Rattle.std.proofs.Common.{◌≡◌, ℕ, zero, suc, ◌+◌, ◌-◌, ◌<◌, ◌*◌, ◌≤◌, ◌&&◌, ◌==◌, inl, inr, Bool, true, Some, ◌∙◌, sym, refl, ap, arith}
-use Rattle.std.proofs.lemmas.Bool.{cases_lt, false_from_ne_true, lt-ltb}
-use Rattle.std.proofs.lemmas.Bool.Decides.{nat_tests}
+use Rattle.std.proofs.lemmas.Bool.{cases_lt, false_from_ne_true, lt-ltb, Decides.nat_tests}
 use Rattle.mml_ids.specs.Search.{count_below}
 use Rattle.mml_rules.specs.Configuration.{holds}
 use Rattle.mml_lab.specs.Labs.{links_below, link_count}
@@ -9,9 +8,8 @@ use Rattle.mml_board.specs.World.{configuration}
 use Rattle.mml_convergence.specs.Potential.{sum_below}
 use Rattle.mml_convergence.proofs.SumsLemmas.{count_none, count_same, sum_turned}
 use Rattle.mml_bounds.specs.Comb.{first_pointer, is_comb, comb, comb_world}
-use Rattle.mml_bounds.proofs.CountLemmas.{count_one}
+use Rattle.mml_bounds.proofs.{CountLemmas.count_one, CombLemmas.at_first, CombLemmas.comb_size, CombLemmas.halfway, CombLemmas.next_to, CombLemmas.linked-from}
 use Rattle.mml_bounds.proofs.OpeningLemmas as opening
-use Rattle.mml_bounds.proofs.CombLemmas.{at_first, comb_size, halfway, next_to, linked-from}
 
 -- where no number from h on passes
 count_further : (m h : ℕ) (t : ℕ → Bool) → h ≤ m → ((i : ℕ) → t i ≡ true → i < h) → count_below m t ≡ count_below h t
@@ -53,9 +51,7 @@ module _ (n : ℕ) where
   ]
 
   one_each : (i : ℕ) → i + 1 < n → count_below n (λ h. up h i) ≡ 1
-  one_each i lt =
-      let x = mate i lt in
-      count_same n (λ h. up h i) (λ h. h == x.0) (λ h _. ap (λ o. holds o h) x.3 ∙ eqb_turned x.0 h) ∙ count_one x.0 n x.1
+  one_each i lt = let x = mate i lt in count_same n (λ h. up h i) (λ h. h == x.0) (λ h _. ap (λ o. holds o h) x.3 ∙ eqb_turned x.0 h) ∙ count_one x.0 n x.1
     where
       eqb_turned : (a b : ℕ) → (a == b) ≡ (b == a)
       eqb_turned a b = grind (arith, nat_tests)
@@ -72,14 +68,7 @@ unfolding link_count
 comb_links zero some = absurd (omega (arith, some))
 comb_links (suc k) some =
     let n = suc k in
-    omega (
-      arith,
-      ap (links_below (at_first n)) (comb_size n),
-      links_sum n n (omega arith),
-      sum_turned (up n) n n,
-      sum_of_ones n k (omega arith),
-      last_none n k (omega arith),
-    )
+    omega (arith, ap (links_below (at_first n)) (comb_size n), links_sum n n (omega arith), sum_turned (up n) n n, sum_of_ones n k (omega arith), last_none n k (omega arith))
 
 -- so each node is joined to the last
 pub comb_joined : (n i : ℕ) → i + 1 < n → (j : ℕ) × (i < j) × ((configuration (comb_world n)).linked i j ≡ true)

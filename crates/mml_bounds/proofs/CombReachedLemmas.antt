@@ -1,26 +1,18 @@
 -- The phases in the comb, each move in a close of its own, and the moves of the whole run.
-use Rattle.std.proofs.Common.{◌≡◌, ℕ, zero, suc, ◌+◌, ◌*◌, ◌-◌, ◌<◌, ◌≤◌, ◌⊎◌, inl, inr, Bool, true, false, cond, not, ◌==◌, Option, None, Some, length}
-use Rattle.std.proofs.Common.{sym, refl, ap, ◌∙◌, subst, arith}
-use Rattle.std.proofs.lemmas.Bool.{cases_lt, cases_eq, eq-eqb, ne_eqb}
-use Rattle.std.proofs.lemmas.Bool.Decides.{nat_tests}
+use Rattle.std.proofs.Common.{◌≡◌, ℕ, zero, suc, ◌+◌, ◌*◌, ◌-◌, ◌<◌, ◌≤◌, ◌⊎◌, inl, inr, Bool, true, false, cond, not, ◌==◌, Option, None, Some, length, rules, sym, refl, ap, ◌∙◌, arith}
+use Rattle.std.proofs.lemmas.Bool.{cases_lt, cases_eq, eq-eqb, ne_eqb, Decides.nat_tests}
 use Rattle.mml_ids.specs.declared.TheConstants.{MAX_NODES}
-use Rattle.mml_rules.specs.declared.regs.Regs.{Regs}
-use Rattle.mml_rules.specs.declared.rule.Rule.{Rule}
-use Rattle.mml_rules.specs.Configuration.{Configuration, holds}
-use Rattle.mml_rules.specs.Rules.{guard}
-use Rattle.mml_rules.specs.Meaning.{IsCandidate}
+use Rattle.mml_rules.specs.{declared.regs.Regs.Regs, declared.rule.Rule.Rule, Configuration.Configuration, Rules.guard, Meaning.IsCandidate}
 use Rattle.mml_rules.proofs.RulesLemmas.{married-from}
-use Rattle.mml_lab.specs.declared.who.Who.TheVariants as who
 use Rattle.mml_lab.specs.Rosters.{RosterValue, owns}
 use Rattle.mml_board.specs.World.{World, configuration, IsWorld}
 use Rattle.mml_board.proofs.WorldLemmas.{none_at}
 use Rattle.mml_bounds.specs.Comb.{first_pointer, comb_world}
 use Rattle.mml_bounds.proofs.MoveLemmas.{IsQuiet, IsMoved, stop, Holds, is, stays, turns, Goes, single}
-use Rattle.mml_bounds.proofs.IdleLemmas.{may_update, may_marry, may_abandon, may_seduce, seduces_greatest}
-use Rattle.mml_bounds.proofs.PhaseLemmas.{Couples, class, mate, couples_kept, some_same}
-use Rattle.mml_bounds.proofs.MovesReachedLemmas.{Applies}
+use Rattle.mml_bounds.proofs.{IdleLemmas.may_update, IdleLemmas.may_marry, IdleLemmas.may_abandon, IdleLemmas.may_seduce, IdleLemmas.seduces_greatest, PhaseLemmas.Couples, PhaseLemmas.class}
+use Rattle.mml_bounds.proofs.{PhaseLemmas.mate, PhaseLemmas.couples_kept, PhaseLemmas.some_same, MovesReachedLemmas.Applies, ClearLemmas.clear, ClearLemmas.cleared}
 use Rattle.mml_bounds.proofs.CombLemmas.{Points, points, halfway, next_to, Shape, shaped, first_registers, first_shape, comb_is_world}
-use Rattle.mml_bounds.proofs.ClearLemmas.{clear, cleared}
+use Rattle.mml_lab.specs.declared.who.Who.TheVariants as who
 
 -- before phase r: who isn't married points nowhere
 record Seated (n r : ℕ) (c : Configuration) : Type 0 where
@@ -48,13 +40,7 @@ module _ (n r b : ℕ) (sum : r + b + 1 ≡ n) (room : 2 * r + 2 ≤ n) where
   last i = cond (i + 1 == b) (Some b) None
 
   begin : (c : Configuration) → Seated n r c → Stage None false None false nowhere c
-  begin c k = record {
-    shape = k.shape;
-    couples = k.couples;
-    groom = k.free r (omega arith) (omega (arith, room));
-    bride = k.free b (omega (arith, sum, room)) (omega (arith, sum));
-    between = λ i above below. k.free i (omega (arith, above)) (omega (arith, below, sum));
-  }
+  begin c k = grind (arith, nat_tests)
 
   -- what a step of one node leaves
   module _ (g : Option ℕ) (mg : Bool) (h : Option ℕ) (mh : Bool) (at : ℕ → Option ℕ) (c d : Configuration) (rule : Rule) (k : Stage g mg h mh at c) where
@@ -69,8 +55,7 @@ module _ (n r b : ℕ) (sum : r + b + 1 ≡ n) (room : 2 * r + 2 ≤ n) where
       couples = couples_stay r (omega arith) (omega (arith, sum, room)) e;
       groom = to;
       bride = stays n r c d rule k.shape.size e b h mh (omega (arith, sum)) (λ same. omega (arith, same, sum, room)) k.bride;
-      between = λ i above below.
-          stays n r c d rule k.shape.size e i (at i) false (omega (arith, below, sum)) (λ same. omega (arith, same, above)) (k.between i above below);
+      between = grind (arith, nat_tests, stays);
     }
 
     at_bride : (h2 : Option ℕ) (mh2 : Bool) → IsMoved c d (is b) rule → Holds d b h2 mh2 → Stage g mg h2 mh2 at d
@@ -79,8 +64,7 @@ module _ (n r b : ℕ) (sum : r + b + 1 ≡ n) (room : 2 * r + 2 ≤ n) where
       couples = couples_stay b (omega (arith, sum, room)) (omega arith) e;
       groom = stays n b c d rule k.shape.size e r g mg (omega (arith, sum)) (λ same. omega (arith, same, sum, room)) k.groom;
       bride = to;
-      between = λ i above below.
-          stays n b c d rule k.shape.size e i (at i) false (omega (arith, below, sum)) (λ same. omega (arith, same, below)) (k.between i above below);
+      between = grind (arith, nat_tests, stays);
     }
 
     at_third : (x : ℕ) (at2 : ℕ → Option ℕ) → r < x → x < b → IsMoved c d (is x) rule → Holds d x (at2 x) false
@@ -90,12 +74,7 @@ module _ (n r b : ℕ) (sum : r + b + 1 ≡ n) (room : 2 * r + 2 ≤ n) where
       couples = couples_stay x (omega (arith, above)) (omega (arith, below)) e;
       groom = stays n x c d rule k.shape.size e r g mg (omega (arith, sum)) (λ same. omega (arith, same, above)) k.groom;
       bride = stays n x c d rule k.shape.size e b h mh (omega (arith, sum)) (λ same. omega (arith, same, below)) k.bride;
-      between = λ i i_above i_below. elim (cases_eq i x) [
-        | inl same ↦ subst (λ z. Holds d z (at2 z) false) (sym same) to
-        | inr other ↦
-            let y = k.between i i_above i_below in
-            stays n x c d rule k.shape.size e i (at2 i) false (omega (arith, i_below, sum)) other (y.0 ∙ others i other, y.1)
-      ];
+      between = grind (arith, nat_tests, cases_eq, Holds, stays);
     }
 
   -- ---- who seduces b
@@ -107,8 +86,7 @@ module _ (n r b : ℕ) (sum : r + b + 1 ≡ n) (room : 2 * r + 2 ≤ n) where
       cc
 
   -- nobody points at a free node but b
-  nobody : (g : Option ℕ) (c : Configuration) → Stage g false None false nowhere c → ((g ≡ None) ⊎ (g ≡ Some b)) → (i : ℕ) → r ≤ i → i < b
-      → (j : ℕ) → c.p j ≡ Some i → ⊥
+  nobody : (g : Option ℕ) (c : Configuration) → Stage g false None false nowhere c → ((g ≡ None) ⊎ (g ≡ Some b)) → (i : ℕ) → r ≤ i → i < b → (j : ℕ) → c.p j ≡ Some i → ⊥
   nobody g c k free i from below j e =
       let range = k.shape.lawful.in_range j i (k.shape.lawful.to_linked j i e) in
       elim (class n r j (omega (arith, range.0, k.shape.size))) [
@@ -116,13 +94,7 @@ module _ (n r b : ℕ) (sum : r + b + 1 ≡ n) (room : 2 * r + 2 ≤ n) where
             let to = mate n r j x.0 c k.couples x.1 x.2 in
             let same = some_same x.0 i (sym to.0 ∙ e) in
             elim x.2 [ inl lt ↦ omega (arith, lt, same, x.1, below, sum) | inr lt ↦ omega (arith, lt, same, from) ]
-        | inr x ↦ elim (cases_eq j r) [
-          | inl here ↦ at_r free (sym k.groom.0 ∙ subst (λ z. c.p z ≡ Some i) here e)
-          | inr other ↦ elim (cases_eq j b) [
-            | inl there ↦ let f : c.p b ≡ Some i = subst (λ z. c.p z ≡ Some i) there e in let null = k.bride.0 in cc
-            | inr middle ↦ let null = (k.between j (omega (arith, x.0, other)) (omega (arith, x.1, middle, sum))).0 in cc
-          ]
-        ]
+        | inr x ↦ grind (arith, nat_tests, cases_eq)
       ]
     where
       at_r : ((g ≡ None) ⊎ (g ≡ Some b)) → g ≡ Some i → ⊥
@@ -134,8 +106,7 @@ module _ (n r b : ℕ) (sum : r + b + 1 ≡ n) (room : 2 * r + 2 ≤ n) where
 
   courts : (g : Option ℕ) (c : Configuration) → Stage g false None false nowhere c → ((g ≡ None) ⊎ (g ≡ Some b)) → (x : ℕ) → r ≤ x → x < b → Points n x b
       → Holds c x None false → guard c x Rule.Seduction ≡ true
-  courts g c k free x from below at here =
-      may_seduce c k.shape.lawful x b here.0 here.1 (nobody g c k free x from below) (candidate g c k x below at)
+  courts g c k free x from below at here = may_seduce c k.shape.lawful x b here.0 here.1 (nobody g c k free x from below) (candidate g c k x below at)
 
   courted : (g : Option ℕ) (c d : Configuration) → Stage g false None false nowhere c → (x : ℕ) → x < b → Points n x b → Holds c x None false
       → IsMoved c d (is x) Rule.Seduction → Holds d x (Some b) false
@@ -144,12 +115,7 @@ module _ (n r b : ℕ) (sum : r + b + 1 ≡ n) (room : 2 * r + 2 ≤ n) where
       (y.0 ∙ seduces_greatest c k.shape.lawful x b (candidate g c k x below at) greatest, y.1 ∙ here.1)
     where
       greatest : (j : ℕ) → IsCandidate c x j → j ≤ b
-      greatest j z = elim (cases_lt b j) [
-        | inr le ↦ le
-        | inl above ↦
-            let range = k.shape.lawful.in_range x j z.0 in
-            absurd (above_b c k.couples j above (omega (arith, range.1, k.shape.size)) z.2)
-      ]
+      greatest j z = grind (arith, nat_tests, cases_lt, above_b)
 
   -- ---- b marries r, and both update
 
@@ -166,18 +132,12 @@ module _ (n r b : ℕ) (sum : r + b + 1 ≡ n) (room : 2 * r + 2 ≤ n) where
   end : (at : ℕ → Option ℕ) (c : Configuration) → Stage (Some b) true (Some r) true at c → ((i : ℕ) → r < i → i < b → at i ≡ None) → Seated n (suc r) c
   end at c k none = record {
     shape = k.shape;
-    couples = λ i j lt total. elim (cases_eq i r) [
-      | inl same ↦ pair i j same (omega (arith, same, total, sum))
-      | inr other ↦ k.couples i j (omega (arith, lt, other)) total
-    ];
-    free = λ i from near.
-        let x = k.between i (omega (arith, from)) (omega (arith, near, sum)) in
-        (x.0 ∙ none i (omega (arith, from)) (omega (arith, near, sum)), x.1);
+    couples = λ i j lt total. elim (cases_eq i r) [ inl same ↦ pair i j same (omega (arith, same, total, sum)) | inr other ↦ k.couples i j (omega (arith, lt, other)) total ];
+    free = grind (arith, nat_tests);
   }
     where
       pair : (i j : ℕ) → i ≡ r → j ≡ b → (c.p i ≡ Some j) × (c.p j ≡ Some i) × (c.m i ≡ true) × (c.m j ≡ true)
-      pair i j x y = subst (λ z. (c.p z ≡ Some j) × (c.p j ≡ Some z) × (c.m z ≡ true) × (c.m j ≡ true)) (sym x)
-          (subst (λ z. (c.p r ≡ Some z) × (c.p z ≡ Some r) × (c.m r ≡ true) × (c.m z ≡ true)) (sym y) (k.groom.0, k.bride.0, k.groom.1, k.bride.1))
+      pair i j x y = grind (arith, nat_tests)
 
   module _ (o : RosterValue) (s : ℕ) (owned : (i : ℕ) → i < n → owns o (who.Student s) i ≡ true) where
     wed : (a : ℕ) (at : ℕ → Option ℕ) (w : World) → IsWorld w → IsQuiet w → Stage (Some b) false None false at (configuration w)
@@ -218,9 +178,7 @@ module _ (n r b : ℕ) (sum : r + b + 1 ≡ n) (room : 2 * r + 2 ≤ n) where
     -- two free nodes alone
     short : (a : ℕ) (w : World) → 2 * r + 2 ≡ n → IsWorld w → IsQuiet w → Seated n r (configuration w)
         → ((u : World) → IsWorld u → IsQuiet u → Seated n (suc r) (configuration u) → Goes a o u) → Goes (suc (suc (suc (suc a)))) o w
-    short a w two world quiet seated next =
-        court (suc (suc (suc a))) w world quiet seated (λ u ku qu k.
-        wed a nowhere u ku qu k (λ v kv qv done. next v kv qv (end nowhere (configuration v) done (λ i above below. refl))))
+    short a w two world quiet seated next = search (rules, court, wed, end)
 
     -- the one before b seduces it too, and abandons it
     module _ (x : ℕ) (before : x + 1 ≡ b) (more : r < x) where
@@ -234,9 +192,7 @@ module _ (n r b : ℕ) (sum : r + b + 1 ≡ n) (room : 2 * r + 2 ≤ n) where
       last_elsewhere i other = ap (λ t. cond {A = Option ℕ} t (Some b) None) (ne_eqb (i + 1) b (λ e. other (omega (arith, e, before))))
 
       leaves : (c : Configuration) → Stage (Some b) true (Some r) true last c → guard c x Rule.Abandonment ≡ true
-      leaves c k =
-          let y = k.between x more (omega (arith, before)) in
-          may_abandon c k.shape.lawful x b (y.0 ∙ last_here) (ap (λ p. holds p x) k.bride.0 ∙ ne_eqb r x (λ e. omega (arith, e, more))) y.1 (inl k.bride.1)
+      leaves c k = grind (arith, nat_tests, may_abandon, last_here, ne_eqb)
 
       long : (a : ℕ) (w : World) → IsWorld w → IsQuiet w → Seated n r (configuration w)
           → ((u : World) → IsWorld u → IsQuiet u → Seated n (suc r) (configuration u) → Goes a o u) → Goes (suc (suc (suc (suc (suc (suc a)))))) o w
@@ -275,15 +231,17 @@ moves_sum zero true = refl
 moves_sum (suc q) odd = let rest = moves_sum q odd in omega (arith, rest)
 
 module _ (r : RosterValue) (s n : ℕ) (owned : (i : ℕ) → i < n → owns r (who.Student s) i ≡ true) where
-  phases : (q : ℕ) (odd : Bool) (p : ℕ) → 2 * (p + q) + 2 + cond odd 1 0 ≡ n → (w : World) → IsWorld w → IsQuiet w → Seated n p (configuration w)
-      → Goes (moves_of q odd) r w
+  phases : (q : ℕ) (odd : Bool) (p : ℕ) → 2 * (p + q) + 2 + cond odd 1 0 ≡ n → (w : World) → IsWorld w → IsQuiet w → Seated n p (configuration w) → Goes (moves_of q odd) r w
   phases zero false p whole w world quiet at =
-      short n p (n - (p + 1)) (omega (arith, whole)) (omega (arith, whole)) r s owned 0 w (omega (arith, whole)) world quiet at (λ u ku qu done. stop _ r u refl)
+      short n p (n - (p + 1)) (omega (arith, whole)) (omega (arith, whole)) r s owned 0 w (omega (arith, whole)) world quiet at
+      (λ u ku qu done. stop _ r u refl)
   phases zero true p whole w world quiet at =
-      long n p (n - (p + 1)) (omega (arith, whole)) (omega (arith, whole)) r s owned (n - (p + 2)) (omega (arith, whole)) (omega (arith, whole)) 0 w world quiet at
+      long n p (n - (p + 1)) (omega (arith, whole)) (omega (arith, whole)) r s owned (n - (p + 2)) (omega (arith, whole)) (omega (arith, whole)) 0 w world
+      quiet at
       (λ u ku qu done. stop _ r u refl)
   phases (suc q) odd p whole w world quiet at =
-      long n p (n - (p + 1)) (omega (arith, whole)) (omega (arith, whole)) r s owned (n - (p + 2)) (omega (arith, whole)) (omega (arith, whole)) (moves_of q odd) w world quiet at
+      long n p (n - (p + 1)) (omega (arith, whole)) (omega (arith, whole)) r s owned (n - (p + 2)) (omega (arith, whole)) (omega (arith, whole))
+      (moves_of q odd) w world quiet at
       (λ u ku qu done. phases q odd (suc p) (omega (arith, whole)) u ku qu done)
 
 cleared_sum : (n left i a : ℕ) → i + left + 1 ≡ n → cleared (first_pointer n) (suc left) i a ≡ 2 * left + 1 + a
@@ -297,7 +255,8 @@ whole_run r s n q odd few owned whole a total =
     let all : suc left ≡ n = omega (arith, whole) in
     let run =
     clear n (first_pointer n) (Shape n) (λ c k. (k.size, k.lawful)) (λ c d x rule k e. shaped n x c d rule k e)
-    (λ i j lt e. let x = points n i j e in (x.1, (λ same. omega (arith, same, x)), x.2)) r s owned (suc left) 0 (moves_of q odd) (omega (arith, all)) (comb_world n)
+    (λ i j lt e. let x = points n i j e in (x.1, (λ same. omega (arith, same, x)), x.2)) r s owned (suc left) 0 (moves_of q odd) (omega (arith, all))
+    (comb_world n)
     (comb_is_world n few) (none_at (length (comb_world n).network.registers)) (record {
       shape = first_shape n;
       done = λ j lt. absurd (omega (arith, lt));

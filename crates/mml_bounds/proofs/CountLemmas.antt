@@ -15,8 +15,7 @@ module _ (a z : ℕ) (t : ℕ → Bool) (le : a ≤ z) (on : (i : ℕ) → a ≤
 
 -- one number is i
 pub count_one : (i n : ℕ) → i < n → count_below n (λ j. j == i) ≡ 1
-count_one i n lt =
-    omega (arith, count_between i (suc i) (λ j. j == i) (omega arith) (λ j from below. equal j from below) (λ j e. means j e) n lt)
+count_one i n lt = omega (arith, count_between i (suc i) (λ j. j == i) (omega arith) (λ j from below. equal j from below) (λ j e. means j e) n lt)
   where
     equal : (j : ℕ) → i ≤ j → j < suc i → (j == i) ≡ true
     equal j from below = grind (arith, nat_tests)

@@ -1,17 +1,10 @@
 -- In a step each node pays for its move by its part, but where some nodes are newly married: then each of these is lent 1, and each other 2.
-use Rattle.std.proofs.Common.{◌≡◌, ℕ, ◌+◌, ◌<◌, ◌≤◌, true, false, cond, not, ◌&&◌, inl, inr, Option, None, Some, is_some, refl, ap, ◌∙◌, arith, nat_lt}
-use Rattle.std.specs.Option.{option_map_or}
-use Rattle.std.proofs.lemmas.Bool.{and_parts, both_ways, ltb-true, cases_Bool, false_from_ne_true, not-true}
-use Rattle.std.proofs.lemmas.Bool.Decides.{nat_tests}
-use Rattle.mml_rules.specs.declared.rule.Rule.{Rule}
-use Rattle.mml_rules.specs.Configuration.{Configuration, IsLawful, holds}
-use Rattle.mml_rules.specs.Rules.{is_married, moved, step, AllHold}
-use Rattle.mml_rules.proofs.ConfigurationLemmas.{holds-true}
-use Rattle.mml_rules.proofs.RulesLemmas.{married-null, married-at, married-from}
-use Rattle.mml_rules.proofs.StepLemmas.{step-lawful}
-use Rattle.mml_convergence.proofs.StepLemmas.{step-married, moved-m}
+use Rattle.std.proofs.Common.{◌≡◌, ℕ, ◌+◌, ◌<◌, ◌≤◌, true, false, cond, inl, inr, Option, None, Some, is_some, refl, ap, ◌∙◌, arith}
+use Rattle.std.proofs.lemmas.Bool.{and_parts, both_ways, ltb-true, cases_Bool, false_from_ne_true, not-true, Decides.nat_tests}
+use Rattle.mml_rules.specs.{declared.rule.Rule.Rule, Configuration.Configuration, Configuration.IsLawful, Configuration.holds, Rules.is_married, Rules.moved, Rules.step, Rules.AllHold}
+use Rattle.mml_rules.proofs.{ConfigurationLemmas.holds-true, RulesLemmas.married-null, RulesLemmas.married-at, RulesLemmas.married-from, StepLemmas.step-lawful}
+use Rattle.mml_convergence.proofs.{StepLemmas.step-married, StepLemmas.moved-m, MarriedCountLemmas.Calm}
 use Rattle.mml_convergence.proofs.MovesLemmas.{updates, marries, Seduces, seduces, seduced, abandons, abandoned, drops}
-use Rattle.mml_convergence.proofs.MarriedCountLemmas.{Calm}
 use Rattle.mml_bounds.specs.Courtships.{pointer_part, node_part}
 
 -- ---- the parts
@@ -26,16 +19,11 @@ wed_part : (d : Configuration) (i : ℕ) → is_married d i ≡ true → node_pa
 wed_part d i e = ap (λ b. cond b (cond (d.m i) 0 1) (cond (d.m i) 1 0 + pointer_part d i)) e
 
 null_part : (d : Configuration) (i : ℕ) → d.p i ≡ None → pointer_part d i ≡ 1
-null_part d i e =
-    ap (λ o. cond {A = ℕ} (option_map_or (λ j. nat_lt i j && (not (d.m j) && not (is_married d j))) o false) 0 (cond (is_some o) 2 1)) e
+null_part d i e = grind (arith, nat_tests)
 
 -- what courting means
 court : (d : Configuration) (i j : ℕ) → d.p i ≡ Some j → i < j → d.m j ≡ false → is_married d j ≡ false → pointer_part d i ≡ 0
 court d i j e lt off free = grind (arith, nat_tests)
-
--- a pointer at a node that is lower, or whose m is true
-pub vain_part : (d : Configuration) (i j : ℕ) → d.p i ≡ Some j → nat_lt i j && (not (d.m j) && not (is_married d j)) ≡ false → pointer_part d i ≡ 2
-vain_part d i j e off = grind (arith, nat_tests)
 
 module _ (c : Configuration) (chosen : ℕ → Option Rule) (l : IsLawful c) (h : AllHold c chosen) where
   -- the configuration after the step
@@ -66,35 +54,35 @@ module _ (c : Configuration) (chosen : ℕ → Option Rule) (l : IsLawful c) (h 
   wed_pays i (Some Rule.Seduction) e a = absurd (both_ways (is_married c i) (married-null c i (seducing i e).null) a)
   wed_pays i (Some Rule.Abandonment) e a =
       let some = abandoned c i (h i Rule.Abandonment e) in
-      let g = abandons c i some.0 (h i Rule.Abandonment e) some.1 in
-      absurd (both_ways (is_married c i) (married-at c i some.0 l some.1 ∙ g.unanswered) a)
+      grind (arith, nat_tests, abandons c i some.0 (h i Rule.Abandonment e) some.1, both_ways, married-at)
 
   -- ---- a node that is newly married
 
-  pub newly_pays : (i : ℕ) (o : Option Rule) → chosen i ≡ o → is_married c i ≡ false → is_married next i ≡ true
-      → node_part next i + cond (is_some o) 1 0 ≤ node_part c i + 1
+  pub newly_pays : (i : ℕ) (o : Option Rule) → chosen i ≡ o → is_married c i ≡ false → is_married next i ≡ true → node_part next i + cond (is_some o) 1 0 ≤ node_part c i + 1
   newly_pays i None e a b = grind (arith, free_part c i a, wed_part next i b)
   newly_pays i (Some Rule.Update) e a b = grind (arith, free_part c i a, wed_part next i b, a, updates c i (h i Rule.Update e))
-  newly_pays i (Some (Rule.Marriage j)) e a b =
-      grind (arith, free_part c i a, wed_part next i b, null_part c i (marries c i j (h i (Rule.Marriage j) e)).null)
+  newly_pays i (Some (Rule.Marriage j)) e a b = grind (arith, free_part c i a, wed_part next i b, null_part c i (marries c i j (h i (Rule.Marriage j) e)).null)
   newly_pays i (Some Rule.Seduction) e a b = grind (arith, free_part c i a, wed_part next i b, null_part c i (seducing i e).null)
   newly_pays i (Some Rule.Abandonment) e a b = absurd (both_ways (is_married next i) (married-null next i (p_after i (Some Rule.Abandonment) e)) b)
 
   -- ---- a node that isn't married after the step
 
-  pub free_pays : (i : ℕ) (o : Option Rule) → chosen i ≡ o → is_married c i ≡ false → is_married next i ≡ false
-      → node_part next i + cond (is_some o) 1 0 ≤ node_part c i + 2
+  pub free_pays : (i : ℕ) (o : Option Rule) → chosen i ≡ o → is_married c i ≡ false → is_married next i ≡ false → node_part next i + cond (is_some o) 1 0 ≤ node_part c i + 2
   free_pays i None e a b = grind (arith, free_part c i a, free_part next i b, pointer_most next i, m_after i None e)
   free_pays i (Some Rule.Update) e a b =
       grind (arith, free_part c i a, free_part next i b, pointer_most next i, a, updates c i (h i Rule.Update e), m_after i (Some Rule.Update) e)
-  free_pays i (Some (Rule.Marriage j)) e a b =
-      let null = null_part c i (marries c i j (h i (Rule.Marriage j) e)).null in
-      grind (arith, free_part c i a, free_part next i b, pointer_most next i, null, m_after i (Some (Rule.Marriage j)) e)
+  free_pays i (Some (Rule.Marriage j)) e a b = grind (
+    arith,
+    nat_tests,
+    null_part c i (marries c i j (h i (Rule.Marriage j) e)).null,
+    marries,
+    free_part,
+    pointer_most,
+    m_after,
+  )
   free_pays i (Some Rule.Seduction) e a b =
       grind (arith, free_part c i a, free_part next i b, pointer_most next i, null_part c i (seducing i e).null, m_after i (Some Rule.Seduction) e)
-  free_pays i (Some Rule.Abandonment) e a b =
-      let null = null_part next i (p_after i (Some Rule.Abandonment) e) in
-      grind (arith, free_part c i a, free_part next i b, null, m_after i (Some Rule.Abandonment) e)
+  free_pays i (Some Rule.Abandonment) e a b = grind (arith, nat_tests, null_part, p_after, free_part, m_after)
 
   -- ---- where no node is newly married
 
@@ -114,7 +102,7 @@ module _ (c : Configuration) (chosen : ℕ → Option Rule) (l : IsLawful c) (h 
 
     -- a pointer that stays
     pointer_kept : (i : ℕ) → next.p i ≡ c.p i → pointer_part next i ≤ pointer_part c i
-    pointer_kept i same = grind (arith, nat_tests, null_part, courts_then, vain_part, pointer_most)
+    pointer_kept i same = grind (arith, nat_tests, null_part, courts_then, pointer_most)
 
     calm_free : (i : ℕ) (o : Option Rule) → chosen i ≡ o → is_married c i ≡ false → node_part next i + cond (is_some o) 1 0 ≤ node_part c i
     calm_free i None e a = grind (arith, free_part c i a, after_free i a, m_after i None e, pointer_kept i (p_after i None e))
@@ -133,22 +121,37 @@ module _ (c : Configuration) (chosen : ℕ → Option Rule) (l : IsLawful c) (h 
         let court = courts_then i j to lt alone (left.0.right ∙ alone) in
         grind (arith, free_part c i a, after_free i a, null, court, m_after i (Some (Rule.Marriage j)) e ∙ g.right ∙ a)
     calm_free i (Some Rule.Seduction) e a =
-        let g = seducing i e in
-        let to = p_after i (Some Rule.Seduction) e ∙ (seduced c i (h i Rule.Seduction e)).1 in
-        grind (arith, free_part c i a, after_free i a, null_part c i g.null, courts_then i _ to g.higher (married-null c _ g.free) g.m, m_after i (Some Rule.Seduction) e ∙ g.right ∙ a)
+        grind (
+          arith,
+          nat_tests,
+          seducing i e,
+          p_after i (Some Rule.Seduction) e ∙ (seduced c i (h i Rule.Seduction e)).1,
+          seduced,
+          free_part,
+          after_free,
+          null_part,
+          courts_then,
+          married-null,
+          m_after,
+        )
     calm_free i (Some Rule.Abandonment) e a =
         let some = abandoned c i (h i Rule.Abandonment e) in
         let j = some.0 in
-        let g = abandons c i j (h i Rule.Abandonment e) some.1 in
-        let vain : nat_lt i j && (not (c.m j) && not (is_married c j)) ≡ false = false_from_ne_true _ (λ on.
-        let x = and_parts (nat_lt i j) (not (c.m j) && not (is_married c j)) on in
-        elim g.vain [
-          | inl m ↦ both_ways (c.m j) (not-true _ (and_parts (not (c.m j)) (not (is_married c j)) x.1).0) m
-          | inr lt ↦ let gt = ltb-true i j x.0 in omega (arith, lt, gt)
-        ]) in
-        let two = vain_part c i j some.1 vain in
-        let null = null_part next i (p_after i (Some Rule.Abandonment) e) in
-        grind (arith, free_part c i a, after_free i a, two, null, m_after i (Some Rule.Abandonment) e)
+        grind (
+          arith,
+          nat_tests,
+          abandons c i j (h i Rule.Abandonment e) some.1,
+          false_from_ne_true,
+          and_parts,
+          both_ways,
+          not-true,
+          ltb-true,
+          null_part,
+          p_after,
+          free_part,
+          after_free,
+          m_after,
+        )
 
     -- each node pays for its own move
     pub calm_pays : (i : ℕ) → node_part next i + cond (is_some (chosen i)) 1 0 ≤ node_part c i

@@ -1,11 +1,8 @@
 -- The crowd at first.
-use Rattle.std.proofs.Common.{◌≡◌, ℕ, ◌+◌, ◌<◌, ◌≤◌, Bool, true, false, Some, sym, refl, ap, ◌∙◌, subst, arith}
-use Rattle.std.proofs.lemmas.Bool.Decides.{nat_tests}
-use Rattle.std.proofs.lemmas.List.FromFn.{get_or-map-range_with_len, length-map-range_with_len}
+use Rattle.std.proofs.Common.{◌≡◌, ℕ, ◌<◌, ◌≤◌, Bool, true, false, Some, sym, refl, ap, ◌∙◌, subst, arith}
+use Rattle.std.proofs.lemmas.{Bool.Decides.nat_tests, List.FromFn.get_or-map-range_with_len, List.FromFn.length-map-range_with_len}
 use Rattle.mml_ids.specs.declared.TheConstants.{MAX_NODES}
-use Rattle.mml_rules.specs.declared.regs.Regs.{Regs}
-use Rattle.mml_rules.specs.Configuration.{Configuration, IsLawful, holds}
-use Rattle.mml_rules.specs.Network.{no_regs, registers_at}
+use Rattle.mml_rules.specs.{declared.regs.Regs.Regs, Configuration.Configuration, Configuration.IsLawful, Configuration.holds, Network.no_regs, Network.registers_at}
 use Rattle.mml_board.specs.World.{size, configuration, IsWorld}
 use Rattle.mml_bounds.specs.Crowd.{is_near, first_pointer, crowd, crowd_world}
 use Rattle.mml_bounds.proofs.PhaseLemmas.{Shape, some_same}
@@ -19,18 +16,6 @@ all i = true
 pub points : (n i j : ℕ) → 4 ≤ n → i < n → Some (first_pointer n i) ≡ Some j → (j < n) × (i ≡ j → ⊥) × (holds (Some (first_pointer n j)) i ≡ false)
 points n i j four lt e = grind (arith, nat_tests)
 
-pointed_near : (n i : ℕ) → 4 ≤ n → i < n → (first_pointer n i < n) × (is_near n i (first_pointer n i) ≡ true)
-pointed_near n i four lt = grind (arith, nat_tests)
-
-near_turned : (n i j : ℕ) → is_near n i j ≡ true → is_near n j i ≡ true
-near_turned n i j e = grind (arith, nat_tests)
-
-near_loop : (n i : ℕ) → is_near n i i ≡ true → ⊥
-near_loop n i e = grind (arith, nat_tests)
-
-near_from : (n i j : ℕ) → i < j → j < n → n ≤ i + j + 1 → is_near n i j ≡ true
-near_from n i j less lt close = grind (arith, nat_tests)
-
 module _ (n : ℕ) (four : 4 ≤ n) where
   abbrev at_first : Configuration
   at_first = configuration (crowd_world n)
@@ -42,9 +27,9 @@ module _ (n : ℕ) (four : 4 ≤ n) where
   first_registers i lt = get_or-map-range_with_len (λ i. record { p = Some (first_pointer n i); m = true }) 0 n i i no_regs lt (omega arith)
 
   first_lawful : IsLawful at_first
-  first_lawful = opening.first_lawful n (is_near n) (crowd n).registers crowd_size (near_turned n) (near_loop n) (λ i j lt e.
+  first_lawful = opening.first_lawful n (is_near n) (crowd n).registers crowd_size (grind (arith, nat_tests)) (grind (arith, nat_tests)) (λ i j lt e.
       let at : first_pointer n i ≡ j = some_same (first_pointer n i) j (sym (ap (λ (g : Regs). g.p) (first_registers i lt)) ∙ e) in
-      subst (λ z. (z < n) × (is_near n i z ≡ true)) at (pointed_near n i four lt))
+      subst (λ z. (z < n) × (is_near n i z ≡ true)) at (grind (arith, nat_tests)))
 
   pub first_shape : Shape n all at_first
   first_shape = record {
@@ -52,7 +37,7 @@ module _ (n : ℕ) (four : 4 ≤ n) where
     lawful = first_lawful;
     joined = λ r b i sum room from below low.
         let linked = opening.linked-from n (is_near n) (crowd n).registers crowd_size i b (omega (arith, below, sum)) (omega (arith, sum))
-        (near_from n i b below (omega (arith, sum)) (omega (arith, sum, from))) in
+        (grind (arith, nat_tests)) in
         (linked, first_lawful.symmetric i b linked);
     upward = λ i j linked lt. refl;
     lowest = λ r room. refl;

@@ -1,14 +1,9 @@
 -- Nodes at which no rule may be applied, and nodes at which a certain one may.
-use Rattle.std.proofs.Common.{◌≡◌, ℕ, ◌<◌, ◌≤◌, ◌⊎◌, Bool, true, false, not, None, Some, sym, ap, ◌∙◌, arith}
-use Rattle.std.specs.Bool.{beq}
-use Rattle.std.proofs.lemmas.Bool.{both_ways, false_from_ne_true}
-use Rattle.std.proofs.lemmas.Bool.Decides.{nat_tests}
-use Rattle.mml_rules.specs.declared.rule.Rule.{Rule}
-use Rattle.mml_rules.specs.Configuration.{Configuration, IsLawful, holds}
+use Rattle.std.proofs.Common.{◌≡◌, ℕ, ◌<◌, ◌≤◌, ◌⊎◌, true, false, not, None, Some, sym, ap, ◌∙◌, arith}
+use Rattle.std.proofs.lemmas.Bool.{both_ways, false_from_ne_true, Decides.nat_tests}
+use Rattle.mml_rules.specs.{declared.rule.Rule.Rule, Configuration.Configuration, Configuration.IsLawful, Configuration.holds, Meaning.IsMRight, Meaning.IsCandidate}
 use Rattle.mml_rules.specs.Rules.{is_married, greatest_candidate, guard, is_privileged}
-use Rattle.mml_rules.specs.Meaning.{IsMRight, IsCandidate}
-use Rattle.mml_rules.proofs.ConfigurationLemmas.{holds-from}
-use Rattle.mml_rules.proofs.RulesLemmas.{married-null, married-at, married-from}
+use Rattle.mml_rules.proofs.{ConfigurationLemmas.holds-from, RulesLemmas.married-null, RulesLemmas.married-at, RulesLemmas.married-from}
 use Rattle.mml_rules.proofs.MeaningLemmas.{beq-same, right-means, guard-means, greatest-means, privileged-means}
 use Rattle.mml_convergence.proofs.MovesLemmas.{updates, marries, seduces, seduced, abandons, abandoned}
 
@@ -29,8 +24,7 @@ module _ (c : Configuration) (l : IsLawful c) where
   waiting i j a off m n lt = grind (arith, nat_tests, idle, updates, married-at, marries, seduced, seduces, abandons)
 
   -- a node that points nowhere, at which nobody points, and of whose higher neighbours each points somewhere
-  pub lonely : (i : ℕ) → c.p i ≡ None → c.m i ≡ false → ((j : ℕ) → c.p j ≡ Some i → ⊥) → ((j : ℕ) → c.linked i j ≡ true → i < j → c.p j ≡ None → ⊥)
-      → is_privileged c i ≡ false
+  pub lonely : (i : ℕ) → c.p i ≡ None → c.m i ≡ false → ((j : ℕ) → c.p j ≡ Some i → ⊥) → ((j : ℕ) → c.linked i j ≡ true → i < j → c.p j ≡ None → ⊥) → is_privileged c i ≡ false
   lonely i a m none top = idle i go
     where
       go : (rule : Rule) → guard c i rule ≡ true → ⊥
@@ -39,11 +33,8 @@ module _ (c : Configuration) (l : IsLawful c) where
       go Rule.Seduction g = let some = seduced c i g in let s = seduces c i some.0 g some.1 in top some.0 s.linked s.higher s.free
       go Rule.Abandonment g = let some = abandoned c i g in let e = some.1 in cc
 
-  differ : (a b : Bool) → a ≡ not b → not (beq a b) ≡ true
-  differ a b e = grind arith
-
   pub may_update : (i : ℕ) → c.m i ≡ not (is_married c i) → guard c i Rule.Update ≡ true
-  may_update i e = differ (c.m i) (is_married c i) e
+  may_update i e = grind (arith, c.m i, is_married c i)
 
   right : (i : ℕ) → c.m i ≡ is_married c i → IsMRight c i
   right i e = (right-means c i l).0 (beq-same (c.m i) (is_married c i) e)
@@ -55,8 +46,7 @@ module _ (c : Configuration) (l : IsLawful c) where
   may_abandon i j a off m vain = grind (arith, nat_tests, guard-means, right, married-at, holds-from)
 
   pub may_seduce : (i j : ℕ) → c.p i ≡ None → c.m i ≡ false → ((k : ℕ) → c.p k ≡ Some i → ⊥) → IsCandidate c i j → guard c i Rule.Seduction ≡ true
-  may_seduce i j a m none candidate =
-      (guard-means c i Rule.Seduction l).1 (right i (m ∙ sym (married-null c i a)), a, (λ suitor. none suitor.0 suitor.2), (j, candidate))
+  may_seduce i j a m none candidate = (guard-means c i Rule.Seduction l).1 (right i (m ∙ sym (married-null c i a)), a, (λ suitor. none suitor.0 suitor.2), (j, candidate))
 
   pub seduces_greatest : (i j : ℕ) → IsCandidate c i j → ((k : ℕ) → IsCandidate c i k → k ≤ j) → greatest_candidate c i ≡ Some j
   seduces_greatest i j candidate most = (greatest-means c i j l).1 (candidate, most)

@@ -1,27 +1,16 @@
 -- A node's move in a close of its own, and ways on by such moves.
-use Rattle.std.proofs.Common.{◌≡◌, ℕ, suc, ◌<◌, Bool, true, false, cond, ◌==◌, Option, None, Some, is_some, is_none, List, [], ◌∷◌}
-use Rattle.std.proofs.Common.{refl, ap, ◌∙◌, arith}
-use Rattle.std.specs.List.{list_all}
-use Rattle.std.proofs.lemmas.Bool.{and_from, lt-ltb, eq-eqb, ne_eqb}
-use Rattle.mml_rules.specs.declared.regs.Regs.{Regs}
-use Rattle.mml_rules.specs.declared.rule.Rule.{Rule}
-use Rattle.mml_rules.specs.Configuration.{Configuration, IsLawful}
-use Rattle.mml_rules.specs.Rules.{guard, effect, moved}
-use Rattle.mml_rules.specs.Network.{registers_at}
-use Rattle.mml_lab.specs.declared.who.Who.TheVariants as who
+use Rattle.std.{proofs.lemmas.Bool.Decides.nat_tests, proofs.lemmas.Bool.and_from, proofs.lemmas.Bool.lt-ltb, proofs.lemmas.Bool.eq-eqb, proofs.lemmas.Bool.ne_eqb, specs.List.list_all}
+use Rattle.std.proofs.Common.{◌≡◌, ℕ, suc, ◌<◌, Bool, true, false, cond, ◌==◌, Option, None, Some, is_some, is_none, List, [], ◌∷◌, refl, ap, ◌∙◌, arith}
+use Rattle.mml_rules.specs.{declared.regs.Regs.Regs, declared.rule.Rule.Rule, Configuration.Configuration, Configuration.IsLawful, Rules.guard, Rules.effect, Rules.moved, Network.registers_at}
 use Rattle.mml_lab.specs.Rosters.{RosterValue, owns}
-use Rattle.mml_board.specs.declared.event.Event.{Event}
-use Rattle.mml_board.specs.declared.event.Event.TheVariants as event
-use Rattle.mml_board.specs.World.{World, size, configuration, chosen_at, IsWorld}
+use Rattle.mml_board.specs.{declared.event.Event.Event, World.World, World.size, World.configuration, World.chosen_at, World.IsWorld, Runs.is_legal_list, Runs.world_of}
 use Rattle.mml_board.specs.Events.{is_chosen, is_any_chosen, is_possible, is_legal, after, chosen_count, moved_registers}
-use Rattle.mml_board.specs.Runs.{is_legal_list, world_of}
 use Rattle.mml_board.proofs.WorldLemmas.{after-world, chosen_at-set, moved_at, none_at, size-after}
-use Rattle.mml_convergence.specs.Moves.{applied_over, count_closes}
-use Rattle.mml_convergence.specs.Rest.{is_grant_or_close}
-use Rattle.mml_convergence.specs.Rounds.{Rounds}
-use Rattle.mml_convergence.proofs.RestLemmas.{any_chosen}
-use Rattle.mml_convergence.proofs.SumsLemmas.{count_same}
+use Rattle.mml_convergence.specs.{Moves.applied_over, Moves.count_closes, Rest.is_grant_or_close, Rounds.Rounds}
+use Rattle.mml_convergence.proofs.{RestLemmas.any_chosen, SumsLemmas.count_same}
 use Rattle.mml_bounds.proofs.CountLemmas.{count_one}
+use Rattle.mml_lab.specs.declared.who.Who.TheVariants as who
+use Rattle.mml_board.specs.declared.event.Event.TheVariants as event
 
 -- a way on from a world by closes of one move each: k rounds, and an end of which A holds and of how many moves there were
 pub record GoesOn (A : World → ℕ → Type 0) (r : RosterValue) (w : World) (k : ℕ) : Type 0 where
@@ -38,8 +27,7 @@ stop A r w ends = record { events = []; legal = refl; forward = refl; alone = re
 
 -- whatever its rounds
 pub unrounded : (A B : World → ℕ → Type 0) (r : RosterValue) (w : World) (k : ℕ) → ((u : World) (x : ℕ) → A u x → B u x) → GoesOn A r w k → GoesOn B r w 0
-unrounded A B r w k so g =
-    record { events = g.events; legal = g.legal; forward = g.forward; alone = g.alone; rounds = tt; ends = so _ _ g.ends }
+unrounded A B r w k so g = grind (arith, nat_tests)
 
 -- a way of so many moves
 abbrev pub Goes : ℕ → RosterValue → World → Type 0
@@ -59,12 +47,10 @@ pub record IsMoved (c d : Configuration) (t : ℕ → Bool) (rule : Rule) : Type
 -- where the rule is applied, and elsewhere
 module _ (c d : Configuration) (t : ℕ → Bool) (rule : Rule) (e : IsMoved c d t rule) where
   pub kept : (i : ℕ) → i < c.size → t i ≡ false → (d.p i ≡ c.p i) × (d.m i ≡ c.m i)
-  kept i lt off =
-      (e.p i lt ∙ ap (λ b. (moved c i (cond b (Some rule) None)).p) off, e.m i lt ∙ ap (λ b. (moved c i (cond b (Some rule) None)).m) off)
+  kept i lt off = grind (arith, nat_tests)
 
   pub turned : (i : ℕ) → i < c.size → t i ≡ true → (d.p i ≡ (effect c i rule).p) × (d.m i ≡ (effect c i rule).m)
-  turned i lt on =
-      (e.p i lt ∙ ap (λ b. (moved c i (cond b (Some rule) None)).p) on, e.m i lt ∙ ap (λ b. (moved c i (cond b (Some rule) None)).m) on)
+  turned i lt on = grind (arith, nat_tests)
 
 -- what a node holds
 abbrev pub Holds : Configuration → ℕ → Option ℕ → Bool → Type 0
@@ -98,8 +84,7 @@ pub record Move (r : RosterValue) (s : ℕ) (w : World) (x : ℕ) (rule : Rule) 
 pub move : (r : RosterValue) (s : ℕ) (w : World) (x : ℕ) (rule : Rule) → IsWorld w → IsQuiet w → x < size w → owns r (who.Student s) x ≡ true
     → guard (configuration w) x rule ≡ true → Move r s w x rule
 unfolding chosen_count
-move r s w x rule world quiet lt owner holds =
-    record { legal = legal; chosen = chosen; any = any; one = one; world = closed; quiet = none_at (size w); moved = moves }
+move r s w x rule world quiet lt owner holds = record { legal = legal; chosen = chosen; any = any; one = one; world = closed; quiet = none_at (size w); moved = moves }
   where
     v : World
     v = after w (event.Grant s x rule)
@@ -145,7 +130,8 @@ move r s w x rule world quiet lt owner holds =
     }
 
 -- a move, and a way on
-pub single : (n : ℕ) (r : RosterValue) (s : ℕ) → ((i : ℕ) → i < n → owns r (who.Student s) i ≡ true) → (x a : ℕ) (rule : Rule) (w : World) → IsWorld w → IsQuiet w
+pub single : (n : ℕ) (r : RosterValue) (s : ℕ) → ((i : ℕ) → i < n → owns r (who.Student s) i ≡ true) → (x a : ℕ) (rule : Rule) (w : World) → IsWorld w →
+    IsQuiet w
     → size w ≡ n → x < n → guard (configuration w) x rule ≡ true
     → ((u : World) → IsWorld u → IsQuiet u → IsMoved (configuration w) (configuration u) (is x) rule → Goes a r u) → Goes (suc a) r w
 single n r s owned x a rule w world quiet e lt hold next =

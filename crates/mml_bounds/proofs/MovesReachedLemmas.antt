@@ -1,27 +1,18 @@
 -- The run in the crowd, and its moves: as many as any may take.
 use Rattle.std.proofs.Common.{◌≡◌, ℕ, zero, suc, ◌+◌, ◌*◌, ◌-◌, ◌<◌, ◌≤◌, Bool, true, false, cond, ◌==◌, Some, List, length, refl, ap, arith}
-use Rattle.std.specs.List.{list_all}
-use Rattle.std.proofs.lemmas.Bool.{eqb-true, ne_eqb}
-use Rattle.std.proofs.lemmas.Bool.Decides.{nat_tests}
-use Rattle.mml_ids.specs.declared.TheConstants.{MAX_NODES}
-use Rattle.mml_ids.specs.Search.{count_below}
+use Rattle.std.{specs.List.list_all, proofs.lemmas.Bool.eqb-true, proofs.lemmas.Bool.ne_eqb, proofs.lemmas.Bool.Decides.nat_tests}
+use Rattle.mml_ids.specs.{declared.TheConstants.MAX_NODES, Search.count_below}
 use Rattle.mml_rules.specs.declared.regs.Regs.{Regs}
-use Rattle.mml_lab.specs.declared.who.Who.TheVariants as who
 use Rattle.mml_lab.specs.Rosters.{RosterValue, owns}
-use Rattle.mml_board.specs.declared.event.Event.{Event}
-use Rattle.mml_board.specs.World.{World, configuration, IsWorld}
-use Rattle.mml_board.specs.Runs.{is_legal_list}
+use Rattle.mml_board.specs.{declared.event.Event.Event, World.World, World.configuration, World.IsWorld, Runs.is_legal_list}
 use Rattle.mml_board.proofs.WorldLemmas.{none_at}
-use Rattle.mml_convergence.specs.Moves.{applied_over}
-use Rattle.mml_convergence.specs.Rest.{is_grant_or_close}
-use Rattle.mml_bounds.specs.Courtships.{most_courtships}
-use Rattle.mml_bounds.specs.Crowd.{first_pointer, crowd_world}
-use Rattle.mml_bounds.proofs.MoveLemmas.{IsQuiet, Goes, stop, unrounded}
+use Rattle.mml_convergence.specs.{Moves.applied_over, Rest.is_grant_or_close}
+use Rattle.mml_bounds.specs.{Courtships.most_courtships, Crowd.first_pointer, Crowd.crowd_world}
+use Rattle.mml_bounds.proofs.{MoveLemmas.IsQuiet, MoveLemmas.Goes, MoveLemmas.stop, MoveLemmas.unrounded, RunLemmas.court, RunLemmas.marry, RunLemmas.learn, RunLemmas.phase, CountLemmas.count_between}
+use Rattle.mml_bounds.proofs.{CountLemmas.count_one, CountLemmas.count_either, ClearLemmas.clear, ClearLemmas.cleared}
 use Rattle.mml_bounds.proofs.PhaseLemmas.{Shape, Seated, shaped, courts, marries_now, learns, leaves, courts-means, courts-from, leaves-means, leaves-from}
-use Rattle.mml_bounds.proofs.RunLemmas.{court, marry, learn, phase}
-use Rattle.mml_bounds.proofs.CountLemmas.{count_between, count_one, count_either}
 use Rattle.mml_bounds.proofs.CrowdLemmas.{all, points, first_registers, first_shape, crowd_is_world}
-use Rattle.mml_bounds.proofs.ClearLemmas.{clear, cleared}
+use Rattle.mml_lab.specs.declared.who.Who.TheVariants as who
 
 -- how many move in each round of a phase
 counts : (n p b : ℕ) (sum : p + b + 1 ≡ n) (room : 2 * p + 2 ≤ n)

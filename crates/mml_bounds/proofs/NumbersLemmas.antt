@@ -1,5 +1,5 @@
 -- Sums, counts, and how the most courtships grow with the number of nodes.
-use Rattle.std.proofs.Common.{◌≡◌, ℕ, zero, suc, ◌+◌, ◌*◌, ◌≤◌, ◌-◌, Bool, true, cond, not, refl, ap, subst, arith}
+use Rattle.std.proofs.Common.{◌≡◌, ℕ, zero, suc, ◌+◌, ◌*◌, ◌≤◌, ◌-◌, Bool, true, cond, not, refl, subst, arith}
 use Rattle.std.proofs.lemmas.Bool.Decides.{nat_tests}
 use Rattle.mml_ids.specs.Search.{count_below}
 use Rattle.mml_convergence.specs.Potential.{sum_below}
@@ -29,37 +29,21 @@ courtships_rise zero = omega arith
 courtships_rise (suc zero) = omega arith
 courtships_rise (suc (suc n)) = let rest = courtships_rise n in omega (arith, rest)
 
--- and more where there was one
-courtships_grow : (n : ℕ) → most_courtships (suc n) + 1 ≤ most_courtships (suc (suc n))
-courtships_grow zero = omega arith
-courtships_grow (suc n) = let rest = courtships_rise n in omega (arith, rest)
-
 courtships_between : (n k : ℕ) → most_courtships n ≤ most_courtships (n + k)
 courtships_between n zero = grind (arith, nat_tests)
-courtships_between n (suc k) =
-    let rest = courtships_between n k in
-    let last = courtships_rise (n + k) in
-    let e : n + suc k ≡ suc (n + k) = omega arith in
-    omega (arith, rest, last, ap most_courtships e)
+courtships_between n (suc k) = grind (arith, nat_tests, courtships_rise, courtships_between n k)
 
 -- no fewer nodes have no fewer
 pub courtships_kept : (n u : ℕ) → n ≤ u → most_courtships n ≤ most_courtships u
-courtships_kept n u le =
-    let e : n + (u - n) ≡ u = omega (arith, le) in
-    subst (λ z. most_courtships n ≤ most_courtships z) e (courtships_between n (u - n))
+courtships_kept n u le = let e : n + (u - n) ≡ u = omega (arith, le) in subst (λ z. most_courtships n ≤ most_courtships z) e (courtships_between n (u - n))
 
 courtships_more : (n : ℕ) → 1 ≤ n → most_courtships n + 1 ≤ most_courtships (suc n)
-courtships_more zero le = absurd (omega (arith, le))
-courtships_more (suc n) le = courtships_grow n
+courtships_more n le = grind (arith, nat_tests, courtships_rise)
 
 -- two nodes more, and others, pay 1 for each that is gone and 2 for each that is left
 couples_pay : (n k : ℕ) → 2 * most_courtships n + (n + (n + 2 + k)) ≤ 2 * most_courtships (n + 2 + k)
 couples_pay n zero = grind (arith, nat_tests)
-couples_pay n (suc k) =
-    let rest = couples_pay n k in
-    let last = courtships_more (n + 2 + k) (omega arith) in
-    let e : n + 2 + suc k ≡ suc (n + 2 + k) = omega arith in
-    omega (arith, rest, last, ap most_courtships e)
+couples_pay n (suc k) = grind (arith, nat_tests, courtships_more, couples_pay n k)
 
 -- where two nodes at the least are gone, the courtships pay 1 for each that is gone and 2 for each that is left
 pub marriages_pay : (n u : ℕ) → n + 2 ≤ u → 2 * most_courtships n + (n + u) ≤ 2 * most_courtships u

@@ -1,19 +1,12 @@
 -- A world at the beginning whose links a test gives.
 use Rattle.std.proofs.Common.{◌≡◌, ℕ, ◌<◌, ◌≤◌, Bool, true, false, ◌&&◌, nat_lt, nat_cmp, None, Some, List, length, map, ap, ◌∙◌, arith}
-use Rattle.std.specs.FinSet as sets
 use Rattle.std.specs.List.{range_with_len}
-use Rattle.std.proofs.lemmas.Bool.{and_from, lt-ltb}
-use Rattle.std.proofs.lemmas.List.{get_or_past}
-use Rattle.std.proofs.lemmas.List.FromFn.{get_or-map-range_with_len, length-map-range_with_len}
-use Rattle.std.proofs.lemmas.Bool.Decides.{nat_tests}
-use Rattle.mml_ids.specs.declared.TheConstants.{MAX_NODES}
-use Rattle.mml_ids.specs.Sets.{those_below}
-use Rattle.mml_ids.specs.inside.WordsLemmas.{has_empty, has-those_below}
-use Rattle.mml_rules.specs.declared.regs.Regs.{Regs}
-use Rattle.mml_rules.specs.Configuration.{Configuration, IsLawful}
-use Rattle.mml_rules.specs.Network.{no_regs}
+use Rattle.std.proofs.lemmas.{Bool.and_from, Bool.lt-ltb, Bool.Decides.nat_tests, List.get_or_past, List.FromFn.get_or-map-range_with_len, List.FromFn.length-map-range_with_len}
+use Rattle.mml_ids.specs.{declared.TheConstants.MAX_NODES, Sets.those_below, inside.WordsLemmas.has_empty, inside.WordsLemmas.has-those_below}
+use Rattle.mml_rules.specs.{declared.regs.Regs.Regs, Configuration.Configuration, Configuration.IsLawful, Network.no_regs}
 use Rattle.mml_board.specs.World.{World, opening_of, configuration, IsWorld}
 use Rattle.mml_board.proofs.WorldLemmas.{length-none, hold-none}
+use Rattle.std.specs.FinSet as sets
 
 module _ (n : ℕ) (test : ℕ → ℕ → Bool) (registers : List Regs) (sized : length registers ≡ n) where
   abbrev opening : World
@@ -31,8 +24,7 @@ module _ (n : ℕ) (test : ℕ → ℕ → Bool) (registers : List Regs) (sized 
   rows = length-map-range_with_len (λ i. those_below n (test i)) 0 n
 
   unlinked : (i j : ℕ) → n ≤ i → at_first.linked i j ≡ false
-  unlinked i j past =
-      ap (λ (x : sets.FinSet nat_cmp). sets.contains x j) (get_or_past opening.network.neighbours i sets.empty (omega (arith, past, rows))) ∙ has_empty j
+  unlinked i j past = ap (λ (x : sets.FinSet nat_cmp). sets.contains x j) (get_or_past opening.network.neighbours i sets.empty (omega (arith, past, rows))) ∙ has_empty j
 
   pub linked-means : (i j : ℕ) → at_first.linked i j ≡ true → (i < n) × (j < n) × (test i j ≡ true)
   linked-means i j e = grind (arith, nat_tests, first_linked, unlinked)

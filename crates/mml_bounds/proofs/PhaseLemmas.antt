@@ -1,13 +1,7 @@
 -- A phase of four steps: the low nodes seduce the highest free node, it marries the lowest, both update, the others abandon it.
-use Rattle.std.proofs.Common.{◌≡◌, ℕ, suc, ◌+◌, ◌*◌, ◌-◌, ◌<◌, ◌≤◌, ◌⊎◌, inl, inr, Bool, true, false, not, ◌&&◌, ◌||◌, ◌==◌, nat_lt, Option, None, Some}
-use Rattle.std.proofs.Common.{sym, refl, ap, ◌∙◌, subst, arith}
-use Rattle.std.proofs.lemmas.Bool.{both_ways, false_from_ne_true, and_from, or_cases, or_left, or_right, or_from, cases_lt, cases_eq, cases_Bool}
-use Rattle.std.proofs.lemmas.Bool.{lt-ltb, eqb-true, eq-eqb, ne_eqb}
-use Rattle.std.proofs.lemmas.Bool.Decides.{nat_tests}
-use Rattle.mml_rules.specs.declared.rule.Rule.{Rule}
-use Rattle.mml_rules.specs.Configuration.{Configuration, IsLawful, holds}
-use Rattle.mml_rules.specs.Rules.{guard, is_privileged}
-use Rattle.mml_rules.specs.Meaning.{IsCandidate}
+use Rattle.std.proofs.Common.{not, ◌≡◌, ℕ, suc, ◌+◌, ◌*◌, ◌-◌, ◌<◌, ◌≤◌, ◌⊎◌, inl, inr, Bool, true, false, ◌&&◌, ◌||◌, ◌==◌, nat_lt, Option, None, Some, sym, refl, ap, ◌∙◌, subst, arith}
+use Rattle.std.proofs.lemmas.Bool.{both_ways, false_from_ne_true, and_from, or_cases, or_left, or_right, or_from, cases_lt, cases_eq, cases_Bool, lt-ltb, eqb-true, eq-eqb, ne_eqb, Decides.nat_tests}
+use Rattle.mml_rules.specs.{declared.rule.Rule.Rule, Configuration.Configuration, Configuration.IsLawful, Configuration.holds, Rules.guard, Rules.is_privileged, Meaning.IsCandidate}
 use Rattle.mml_rules.proofs.RulesLemmas.{married-from}
 use Rattle.mml_bounds.proofs.MoveLemmas.{IsMoved, kept, turned}
 use Rattle.mml_bounds.proofs.IdleLemmas.{settled, waiting, lonely, may_update, may_marry, may_abandon, may_seduce, seduces_greatest}
@@ -41,10 +35,7 @@ Class n r i = ((j : ℕ) × (i + j + 1 ≡ n) × ((i < r) ⊎ (j < r))) ⊎ ((r 
 pub class : (n r i : ℕ) → i < n → Class n r i
 class n r i lt = elim (cases_lt i r) [
   | inl less ↦ inl (n - (i + 1), omega (arith, lt), inl less)
-  | inr ge ↦ elim (cases_lt (i + r) n) [
-    | inr far ↦ inl (n - (i + 1), omega (arith, lt), inr (omega (arith, far, lt)))
-    | inl near ↦ inr (ge, near)
-  ]
+  | inr ge ↦ elim (cases_lt (i + r) n) [ inr far ↦ inl (n - (i + 1), omega (arith, lt), inr (omega (arith, far, lt))) | inl near ↦ inr (ge, near) ]
 ]
 
 -- what a couple's node holds
@@ -69,12 +60,16 @@ module _ (c d : Configuration) (t : ℕ → Bool) (rule : Rule) (e : IsMoved c d
 pub couples_kept : (n r : ℕ) (c d : Configuration) (t : ℕ → Bool) (rule : Rule) → IsMoved c d t rule → c.size ≡ n → 2 * r ≤ n → Couples n r c
     → ((i : ℕ) → i < n → (i < r) ⊎ (n ≤ i + r) → t i ≡ false) → Couples n r d
 couples_kept n r c d t rule e size few couples off i j lt sum =
-    let x = couples i j lt sum in
-    let a = kept c d t rule e i (omega (arith, lt, sum, size, few)) (off i (omega (arith, lt, sum)) (inl lt)) in
-    let b = kept c d t rule e j (omega (arith, lt, sum, size)) (off j (omega (arith, sum)) (inr (omega (arith, lt, sum)))) in
-    (a.0 ∙ x.0, b.0 ∙ x.1, a.1 ∙ x.2, b.1 ∙ x.3)
+    grind (
+      arith,
+      nat_tests,
+      couples i j lt sum,
+      kept c d t rule e i (omega (arith, lt, sum, size, few)) (off i (omega (arith, lt, sum)) (inl lt)),
+      kept c d t rule e j (omega (arith, lt, sum, size)) (off j (omega (arith, sum)) (inr (omega (arith, lt, sum)))),
+    )
 
-between_kept : (n r b q : ℕ) (low : ℕ → Bool) (is_low : Bool) (at : Option ℕ) (c d : Configuration) (t : ℕ → Bool) (rule : Rule) → IsMoved c d t rule → c.size ≡ n
+between_kept : (n r b q : ℕ) (low : ℕ → Bool) (is_low : Bool) (at : Option ℕ) (c d : Configuration) (t : ℕ → Bool) (rule : Rule) → IsMoved c d t rule → c.size
+    ≡ n
     → b < n → r ≤ q → Between r b low is_low at c → ((i : ℕ) → q ≤ i → i < b → low i ≡ is_low → t i ≡ false) → Between q b low is_low at d
 between_kept n r b q low is_low at c d t rule e size b_in le between off i from below is = grind (arith, nat_tests, kept)
 
@@ -87,8 +82,7 @@ high_idle : (n : ℕ) (low : ℕ → Bool) (c : Configuration) → Shape n low c
     → ((j : ℕ) → c.p j ≡ Some i → ⊥) → is_privileged c i ≡ false
 high_idle n low c s i high null off none = lonely c s.lawful i null off none (λ j linked lt free. both_ways (low i) high (s.upward i j linked lt))
 
-couple_idle : (n r : ℕ) (low : ℕ → Bool) (c : Configuration) → Shape n low c → Couples n r c → (i j : ℕ) → i + j + 1 ≡ n → (i < r) ⊎ (j < r)
-    → is_privileged c i ≡ false
+couple_idle : (n r : ℕ) (low : ℕ → Bool) (c : Configuration) → Shape n low c → Couples n r c → (i j : ℕ) → i + j + 1 ≡ n → (i < r) ⊎ (j < r) → is_privileged c i ≡ false
 couple_idle n r low c s couples i j e side = let x = mate n r i j c couples e side in settled c s.lawful i j x.0 x.1 x.2
 
 -- ---- phase r, in which b, the highest free node, is married to r
@@ -158,9 +152,7 @@ module _ (n : ℕ) (low : ℕ → Bool) (r b : ℕ) (sum : r + b + 1 ≡ n) (roo
   ]
 
   pub candidate : (c : Configuration) → Seated n low r c → (i : ℕ) → r ≤ i → i < b → low i ≡ true → IsCandidate c i b
-  candidate c k i from below is =
-      let x = k.free b (omega (arith, sum, room)) (omega (arith, sum)) in
-      ((k.shape.joined r b i sum room from below is).0, below, x.0, x.1)
+  candidate c k i from below is = let x = k.free b (omega (arith, sum, room)) (omega (arith, sum)) in ((k.shape.joined r b i sum room from below is).0, below, x.0, x.1)
 
   pub above_b : (c : Configuration) → Seated n low r c → (j : ℕ) → b < j → j < n → c.p j ≡ None → ⊥
   above_b c k j above lt null =
@@ -169,12 +161,7 @@ module _ (n : ℕ) (low : ℕ → Bool) (r b : ℕ) (sum : r + b + 1 ≡ n) (roo
       cc
 
   pub greatest : (c : Configuration) → Seated n low r c → (i : ℕ) → (j : ℕ) → IsCandidate c i j → j ≤ b
-  greatest c k i j x = elim (cases_lt b j) [
-    | inr le ↦ le
-    | inl above ↦
-        let range = k.shape.lawful.in_range i j x.0 in
-        absurd (above_b c k j above (omega (arith, range.1, k.shape.size)) x.2)
-  ]
+  greatest c k i j x = grind (arith, nat_tests, cases_lt, above_b)
 
   pub courts_hold : (c : Configuration) → Seated n low r c → (i : ℕ) → i < c.size → courts i ≡ true → guard c i Rule.Seduction ≡ true
   courts_hold c k i lt on =
@@ -200,24 +187,13 @@ module _ (n : ℕ) (low : ℕ → Bool) (r b : ℕ) (sum : r + b + 1 ≡ n) (roo
   then_courted c d k e = record {
     shape = shaped c d courts Rule.Seduction e n low k.shape;
     couples = couples_kept n r c d courts Rule.Seduction e k.shape.size (omega (arith, room)) k.couples
-        (λ i lt side. false_from_ne_true (courts i) (λ on. let x = courts-means i on in elim side [
-          | inl a ↦ omega (arith, a, x.0)
-          | inr a ↦ omega (arith, a, x.1, sum)
-        ]));
+        (λ i lt side. false_from_ne_true (courts i) (λ on. let x = courts-means i on in elim side [ inl a ↦ omega (arith, a, x.0) | inr a ↦ omega (arith, a, x.1, sum) ]));
     courting = λ i from below is.
         let x = k.free i from (omega (arith, below, sum)) in
         let y = turned c d courts Rule.Seduction e i (omega (arith, below, sum, k.shape.size)) (courts-from i from below is) in
         (y.0 ∙ seduces_greatest c k.shape.lawful i b (candidate c k i from below is) (greatest c k i), y.1 ∙ x.1);
-    rest = λ i from below is.
-        let x = k.free i from (omega (arith, below, sum)) in
-        let y = kept c d courts Rule.Seduction e i (omega (arith, below, sum, k.shape.size))
-        (false_from_ne_true (courts i) (λ on. both_ways (low i) is (courts-means i on).2)) in
-        (y.0 ∙ x.0, y.1 ∙ x.1);
-    bride =
-        let x = k.free b (omega (arith, sum, room)) (omega (arith, sum)) in
-        let y = kept c d courts Rule.Seduction e b (omega (arith, sum, k.shape.size))
-        (false_from_ne_true (courts b) (λ on. let x = courts-means b on in omega (arith, x.1))) in
-        (y.0 ∙ x.0, y.1 ∙ x.1);
+    rest = grind (arith, nat_tests, kept, false_from_ne_true, both_ways, courts-means);
+    bride = grind (arith, nat_tests, kept, false_from_ne_true, courts-means);
   }
 
   -- ---- who points at a node that isn't low, once b is courted
@@ -229,15 +205,7 @@ module _ (n : ℕ) (low : ℕ → Bool) (r b : ℕ) (sum : r + b + 1 ≡ n) (roo
         let to = mate n r j x.0 c couples x.1 x.2 in
         let same = some_same x.0 i (sym to.0 ∙ e) in
         elim x.2 [ inl lt ↦ omega (arith, lt, same, x.1, below, sum) | inr lt ↦ omega (arith, lt, same, from) ]
-    | inr x ↦ elim (cases_eq j b) [
-      | inl here ↦ at_b (ap c.p (sym here) ∙ e) bride
-      | inr other ↦
-          let lt : j < b = omega (arith, x, other, sum) in
-          elim (cases_Bool (low j)) [
-            | inl on ↦ let same = some_same b i (sym (courting j x.0 lt on).0 ∙ e) in omega (arith, same, below)
-            | inr off ↦ let to = (rest j x.0 lt off).0 in cc
-          ]
-    ]
+    | inr x ↦ grind (arith, nat_tests, cases_eq, cases_Bool, some_same)
   ]
     where
       at_b : c.p b ≡ Some i → ((c.p b ≡ None) ⊎ (c.p b ≡ Some r)) → ⊥
@@ -254,21 +222,14 @@ module _ (n : ℕ) (low : ℕ → Bool) (r b : ℕ) (sum : r + b + 1 ≡ n) (roo
         let below : i < b = omega (arith, x, other, sum) in
         elim (cases_Bool (low i)) [
           | inl on ↦ courter below (courting i x.0 below on)
-          | inr high ↦
-              let y = rest i x.0 below high in
-              high_idle n low c s i high y.0 y.1 (λ j. nobody c s couples courting rest bride i j x.0 below high)
+          | inr high ↦ let y = rest i x.0 below high in high_idle n low c s i high y.0 y.1 (λ j. nobody c s couples courting rest bride i j x.0 below high)
         ]
   ]
 
   -- ---- the step from Courted
 
   pub marriage_holds : (c : Configuration) → Courted c → (i : ℕ) → i < c.size → marries_now i ≡ true → guard c i (Rule.Marriage r) ≡ true
-  marriage_holds c k i lt on = subst (λ z. guard c z (Rule.Marriage r) ≡ true) (sym (eqb-true i b on)) at_b
-    where
-      at_b : guard c b (Rule.Marriage r) ≡ true
-      at_b =
-          let y = k.courting r (omega arith) (omega (arith, room, sum)) (low_r k.shape) in
-          may_marry c k.shape.lawful b r k.bride.0 k.bride.1 (k.shape.joined r b r sum room (omega arith) (omega (arith, room, sum)) (low_r k.shape)).1 y.0
+  marriage_holds c k i lt on = grind (arith, nat_tests, eqb-true, low_r, may_marry)
 
   pub courted_others : (c : Configuration) → Courted c → (i : ℕ) → i < c.size → marries_now i ≡ false → is_privileged c i ≡ false
   courted_others c k i lt off =
@@ -283,13 +244,9 @@ module _ (n : ℕ) (low : ℕ → Bool) (r b : ℕ) (sum : r + b + 1 ≡ n) (roo
     shape = shaped c d marries_now (Rule.Marriage r) e n low k.shape;
     couples = couples_kept n r c d marries_now (Rule.Marriage r) e k.shape.size (omega (arith, room)) k.couples
         (λ i lt side. ne_eqb i b (λ same. elim side [ inl a ↦ omega (arith, a, same, sum, room) | inr a ↦ omega (arith, a, same, sum) ]));
-    courting = between_kept n r b r low true (Some b) c d marries_now (Rule.Marriage r) e k.shape.size (omega (arith, sum)) (omega arith) k.courting
-        (λ i from below is. not_b i below);
-    rest = between_kept n r b r low false None c d marries_now (Rule.Marriage r) e k.shape.size (omega (arith, sum)) (omega arith) k.rest
-        (λ i from below is. not_b i below);
-    bride =
-        let y = turned c d marries_now (Rule.Marriage r) e b (omega (arith, sum, k.shape.size)) (eq-eqb b b refl) in
-        (y.0, y.1 ∙ k.bride.1);
+    courting = grind (arith, nat_tests, between_kept, not_b);
+    rest = grind (arith, nat_tests, between_kept, not_b);
+    bride = grind (arith, nat_tests, turned, eq-eqb);
   }
 
   -- ---- the step from Engaged
@@ -310,14 +267,10 @@ module _ (n : ℕ) (low : ℕ → Bool) (r b : ℕ) (sum : r + b + 1 ≡ n) (roo
       at_r = may_update c k.shape.lawful r ((groom c k).1 ∙ sym (ap not (married-from c r b k.shape.lawful (groom c k).0 k.bride.0)))
 
   unequal : (i : ℕ) → learns i ≡ false → ((i ≡ b) ⊎ (i ≡ r)) → ⊥
-  unequal i off (inl e) = both_ways (learns i) off (or_left (i == b) (i == r) (eq-eqb i b e))
-  unequal i off (inr e) = both_ways (learns i) off (or_right (i == b) (i == r) (eq-eqb i r e))
+  unequal i off h2 = grind (arith, nat_tests, both_ways, or_left, eq-eqb, or_right)
 
   pub engaged_others : (c : Configuration) → Engaged c → (i : ℕ) → i < c.size → learns i ≡ false → is_privileged c i ≡ false
-  engaged_others c k i lt off =
-      let gone : holds (c.p b) i ≡ false = ap (λ o. holds o i) k.bride.0 ∙ ne_eqb r i (λ e. unequal i off (inr (sym e))) in
-      others_idle c k.shape k.couples k.courting k.rest (inr k.bride.0) i lt (λ e. unequal i off (inl e))
-      (λ below y. waiting c k.shape.lawful i b y.0 gone y.1 k.bride.1 below)
+  engaged_others c k i lt off = grind (arith, nat_tests, ap (λ o. holds o i) k.bride.0 ∙ ne_eqb r i (λ e. unequal i off (inr (sym e))), ne_eqb, unequal, others_idle, waiting)
 
   learns_not : (i : ℕ) → (i ≡ b → ⊥) → (i ≡ r → ⊥) → learns i ≡ false
   learns_not i x y = or_from (i == b) (i == r) (ne_eqb i b x) (ne_eqb i r y)
@@ -325,14 +278,9 @@ module _ (n : ℕ) (low : ℕ → Bool) (r b : ℕ) (sum : r + b + 1 ≡ n) (roo
   pub then_wed : (c d : Configuration) → Engaged c → IsMoved c d learns Rule.Update → Wed d
   then_wed c d k e = record {
     shape = shaped c d learns Rule.Update e n low k.shape;
-    couples = λ i j lt total. elim (cases_eq i r) [
-      | inl same ↦ both i j same (omega (arith, same, total, sum))
-      | inr other ↦ before i j (omega (arith, lt, other)) total
-    ];
-    courting = between_kept n r b (suc r) low true (Some b) c d learns Rule.Update e k.shape.size (omega (arith, sum)) (omega arith) k.courting
-        (λ i from below is. learns_not i (λ same. omega (arith, below, same)) (λ same. omega (arith, from, same)));
-    rest = between_kept n r b (suc r) low false None c d learns Rule.Update e k.shape.size (omega (arith, sum)) (omega arith) k.rest
-        (λ i from below is. learns_not i (λ same. omega (arith, below, same)) (λ same. omega (arith, from, same)));
+    couples = λ i j lt total. elim (cases_eq i r) [ inl same ↦ both i j same (omega (arith, same, total, sum)) | inr other ↦ before i j (omega (arith, lt, other)) total ];
+    courting = grind (arith, nat_tests, between_kept, learns_not);
+    rest = grind (arith, nat_tests, between_kept, learns_not);
   }
     where
       before : Couples n r d
@@ -343,13 +291,15 @@ module _ (n : ℕ) (low : ℕ → Bool) (r b : ℕ) (sum : r + b + 1 ≡ n) (roo
 
       pair : (d.p r ≡ Some b) × (d.p b ≡ Some r) × (d.m r ≡ true) × (d.m b ≡ true)
       pair =
-          let y = groom c k in
-          let a = turned c d learns Rule.Update e r (omega (arith, sum, k.shape.size)) (or_right (r == b) (r == r) (eq-eqb r r refl)) in
-          let z = turned c d learns Rule.Update e b (omega (arith, sum, k.shape.size)) (or_left (b == b) (b == r) (eq-eqb b b refl)) in (
-            a.0 ∙ y.0,
-            z.0 ∙ k.bride.0,
-            a.1 ∙ married-from c r b k.shape.lawful y.0 k.bride.0,
-            z.1 ∙ married-from c b r k.shape.lawful k.bride.0 y.0,
+          grind (
+            arith,
+            nat_tests,
+            groom c k,
+            turned c d learns Rule.Update e r (omega (arith, sum, k.shape.size)) (or_right (r == b) (r == r) (eq-eqb r r refl)),
+            or_right,
+            eq-eqb,
+            or_left,
+            married-from,
           )
 
       both : (i j : ℕ) → i ≡ r → j ≡ b → (d.p i ≡ Some j) × (d.p j ≡ Some i) × (d.m i ≡ true) × (d.m j ≡ true)
@@ -367,20 +317,11 @@ module _ (n : ℕ) (low : ℕ → Bool) (r b : ℕ) (sum : r + b + 1 ≡ n) (roo
         let to = mate n (suc r) j x.0 c k.couples x.1 x.2 in
         let same = some_same x.0 i (sym to.0 ∙ e) in
         elim x.2 [ inl lt ↦ omega (arith, lt, same, x.1, below, sum) | inr lt ↦ omega (arith, lt, same, from) ]
-    | inr x ↦
-        let lt : j < b = omega (arith, x, sum) in
-        elim (cases_Bool (low j)) [
-          | inl on ↦ let same = some_same b i (sym (k.courting j x.0 lt on).0 ∙ e) in omega (arith, same, below)
-          | inr off ↦ let to = (k.rest j x.0 lt off).0 in cc
-        ]
+    | inr x ↦ grind (arith, nat_tests, cases_Bool, some_same)
   ]
 
   pub abandonments_hold : (c : Configuration) → Wed c → (i : ℕ) → i < c.size → leaves i ≡ true → guard c i Rule.Abandonment ≡ true
-  abandonments_hold c k i lt on =
-      let x = leaves-means i on in
-      let y = k.courting i (omega (arith, x.0)) x.1 x.2 in
-      let z = wed_pair c k in
-      may_abandon c k.shape.lawful i b y.0 (ap (λ o. holds o i) z.1 ∙ ne_eqb r i (λ e. omega (arith, e, x.0))) y.1 (inl z.3)
+  abandonments_hold c k i lt on = grind (arith, nat_tests, leaves-means i on, wed_pair c k, may_abandon, ne_eqb)
 
   pub wed_others : (c : Configuration) → Wed c → (i : ℕ) → i < c.size → leaves i ≡ false → is_privileged c i ≡ false
   wed_others c k i lt off = elim (class n (suc r) i (omega (arith, lt, k.shape.size))) [
@@ -389,9 +330,7 @@ module _ (n : ℕ) (low : ℕ → Bool) (r b : ℕ) (sum : r + b + 1 ≡ n) (roo
         let below : i < b = omega (arith, x, sum) in
         elim (cases_Bool (low i)) [
           | inl on ↦ absurd (both_ways (leaves i) off (leaves-from i (omega (arith, x)) below on))
-          | inr high ↦
-              let y = k.rest i x.0 below high in
-              high_idle n low c k.shape i high y.0 y.1 (λ j. wed_free c k i j (omega (arith, x)) below)
+          | inr high ↦ let y = k.rest i x.0 below high in high_idle n low c k.shape i high y.0 y.1 (λ j. wed_free c k i j (omega (arith, x)) below)
         ]
   ]
 
@@ -400,22 +339,10 @@ module _ (n : ℕ) (low : ℕ → Bool) (r b : ℕ) (sum : r + b + 1 ≡ n) (roo
   then_free c d k e = record {
     shape = shaped c d leaves Rule.Abandonment e n low k.shape;
     couples = couples_kept n (suc r) c d leaves Rule.Abandonment e k.shape.size (omega (arith, room)) k.couples
-        (λ i lt side. false_from_ne_true (leaves i) (λ on. let x = leaves-means i on in elim side [
-          | inl a ↦ omega (arith, a, x.0)
-          | inr a ↦ omega (arith, a, x.1, sum)
-        ]));
+        (λ i lt side. false_from_ne_true (leaves i) (λ on. let x = leaves-means i on in elim side [ inl a ↦ omega (arith, a, x.0) | inr a ↦ omega (arith, a, x.1, sum) ]));
     free = λ i from near. free i from near (cases_Bool (low i));
   }
     where
       free : (i : ℕ) → suc r ≤ i → i + suc r < n → (low i ≡ true) ⊎ (low i ≡ false) → (d.p i ≡ None) × (d.m i ≡ false)
-      free i from near (inl on) =
-          let below : i < b = omega (arith, near, sum) in
-          let x = k.courting i from below on in
-          let y = turned c d leaves Rule.Abandonment e i (omega (arith, near, k.shape.size)) (leaves-from i (omega (arith, from)) below on) in
-          (y.0, y.1 ∙ x.1)
-      free i from near (inr off) =
-          let below : i < b = omega (arith, near, sum) in
-          let x = k.rest i from below off in
-          let y = kept c d leaves Rule.Abandonment e i (omega (arith, near, k.shape.size))
-          (false_from_ne_true (leaves i) (λ on. both_ways (low i) off (leaves-means i on).2)) in
-          (y.0 ∙ x.0, y.1 ∙ x.1)
+      free i from near (inl on) = grind (arith, nat_tests, turned, leaves-from)
+      free i from near (inr off) = grind (arith, nat_tests, kept, false_from_ne_true, both_ways, leaves-means)

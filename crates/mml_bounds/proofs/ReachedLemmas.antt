@@ -1,33 +1,20 @@
 -- The run in two halves, each move in a close of its own, and its rounds.
-use Rattle.std.proofs.Common.{◌≡◌, ℕ, zero, suc, ◌+◌, ◌*◌, ◌-◌, ◌<◌, ◌≤◌, inl, inr, Bool, true, false, cond, nat_lt, None, List, length, refl, ap, ◌∙◌, subst, arith}
-use Rattle.std.specs.List.{list_all}
-use Rattle.std.proofs.lemmas.Bool.{both_ways, eq-eqb, or_left, cases_lt, lt-ltb, ltb-true}
-use Rattle.std.proofs.lemmas.Bool.Decides.{nat_tests}
-use Rattle.std.proofs.lemmas.List.{get_or-replicate, length-replicate}
+use Rattle.std.{proofs.lemmas.Grind.common_steps, proofs.lemmas.List.get_or-replicate, proofs.lemmas.List.length-replicate, specs.List.list_all}
+use Rattle.std.proofs.Common.{◌≡◌, ℕ, zero, suc, ◌+◌, ◌*◌, ◌-◌, ◌<◌, ◌≤◌, Bool, true, false, cond, nat_lt, None, List, length, refl, ap, subst, arith}
+use Rattle.std.proofs.lemmas.Bool.{both_ways, eq-eqb, or_left, cases_lt, lt-ltb, ltb-true, Decides.nat_tests}
 use Rattle.mml_ids.specs.declared.TheConstants.{MAX_NODES}
-use Rattle.mml_rules.specs.declared.regs.Regs.{Regs}
-use Rattle.mml_rules.specs.declared.rule.Rule.{Rule}
+use Rattle.mml_rules.specs.{declared.regs.Regs.Regs, declared.rule.Rule.Rule, Network.no_regs, Network.registers_at, Rules.is_privileged, Matching.IsStable}
 use Rattle.mml_rules.specs.Configuration.{Configuration, IsLawful}
-use Rattle.mml_rules.specs.Network.{no_regs, registers_at}
-use Rattle.mml_rules.specs.Rules.{is_privileged}
-use Rattle.mml_rules.specs.Matching.{IsStable}
 use Rattle.mml_rules.proofs.RulesLemmas.{married-null}
-use Rattle.mml_lab.specs.declared.who.Who.TheVariants as who
 use Rattle.mml_lab.specs.Rosters.{RosterValue, owns}
-use Rattle.mml_board.specs.declared.event.Event.{Event}
-use Rattle.mml_board.specs.World.{World, size, configuration, IsWorld}
-use Rattle.mml_board.specs.Runs.{is_legal_list, world_of}
+use Rattle.mml_board.specs.{declared.event.Event.Event, World.World, World.size, World.configuration, World.IsWorld, Runs.is_legal_list, Runs.world_of}
 use Rattle.mml_board.proofs.WorldLemmas.{none_at}
-use Rattle.mml_convergence.specs.Moves.{applied_over, count_closes}
-use Rattle.mml_convergence.specs.Rest.{is_grant_or_close}
-use Rattle.mml_convergence.specs.Rounds.{Rounds, rounds_for}
+use Rattle.mml_convergence.specs.{Moves.applied_over, Moves.count_closes, Rest.is_grant_or_close, Rounds.Rounds, Rounds.rounds_for}
 use Rattle.mml_bounds.specs.Halves.{is_joined, halves, halves_world}
 use Rattle.mml_bounds.proofs.MoveLemmas.{GoesOn, IsQuiet, IsMoved, stop, turned}
-use Rattle.mml_bounds.proofs.IdleLemmas.{privileged}
+use Rattle.mml_bounds.proofs.{IdleLemmas.privileged, SinglyLemmas.single_round, OneByOneLemmas.first_updates_stand, RunLemmas.court, RunLemmas.marry, RunLemmas.learn, RunLemmas.phase}
 use Rattle.mml_bounds.proofs.PhaseLemmas.{Shape, Seated, Engaged, updates_hold, abandonments_hold, leaves-from, shaped}
-use Rattle.mml_bounds.proofs.SinglyLemmas.{single_round}
-use Rattle.mml_bounds.proofs.OneByOneLemmas.{first_updates_stand}
-use Rattle.mml_bounds.proofs.RunLemmas.{court, marry, learn, phase}
+use Rattle.mml_lab.specs.declared.who.Who.TheVariants as who
 use Rattle.mml_bounds.proofs.OpeningLemmas as opening
 
 -- the nodes of the lower half
@@ -75,15 +62,6 @@ module _ (r : RosterValue) (s n : ℕ) (owned : (i : ℕ) → i < n → owns r (
 
 -- ---- the world of two halves
 
-joined_turned : (n i j : ℕ) → is_joined n i j ≡ true → is_joined n j i ≡ true
-joined_turned n i j e = grind (arith, nat_tests)
-
-joined_loop : (n i : ℕ) → is_joined n i i ≡ true → ⊥
-joined_loop n i e = grind (arith, nat_tests)
-
-joined_from : (n i j : ℕ) → 2 * i < n → n ≤ 2 * j → j < n → n ≤ i + j + 1 → is_joined n i j ≡ true
-joined_from n i j low high lt close = grind (arith, nat_tests)
-
 joined_low : (n i j : ℕ) → is_joined n i j ≡ true → i < j → lower n i ≡ true
 joined_low n i j e lt = grind (arith, nat_tests)
 
@@ -101,16 +79,13 @@ module _ (n : ℕ) where
   first_registers i lt = get_or-replicate n i (record { p = None; m = true }) no_regs lt
 
   first_null : (i : ℕ) → at_first.p i ≡ None
-  first_null i = elim (cases_lt i n) [
-    | inl lt ↦ ap (λ (g : Regs). g.p) (first_registers i lt)
-    | inr past ↦ opening.null_past n (is_joined n) (halves n).registers first_size i past
-  ]
+  first_null i = grind (arith, common_steps, cases_lt, first_registers, first_size)
 
   first_m : (i : ℕ) → i < n → at_first.m i ≡ true
   first_m i lt = ap (λ (g : Regs). g.m) (first_registers i lt)
 
   first_lawful : IsLawful at_first
-  first_lawful = opening.first_lawful n (is_joined n) (halves n).registers first_size (joined_turned n) (joined_loop n) (λ i j lt e.
+  first_lawful = opening.first_lawful n (is_joined n) (halves n).registers first_size (grind (arith, nat_tests)) (grind (arith, nat_tests)) (λ i j lt e.
       let null = first_null i in absurd (cc))
 
   first_shape : Shape n (lower n) at_first
@@ -120,7 +95,7 @@ module _ (n : ℕ) where
     joined = λ r b i sum room from below low.
         let lt = ltb-true (2 * i) n low in
         let linked = opening.linked-from n (is_joined n) (halves n).registers first_size i b (omega (arith, below, sum)) (omega (arith, sum))
-        (joined_from n i b lt (omega (arith, sum, room)) (omega (arith, sum)) (omega (arith, sum, from))) in
+        (grind (arith, nat_tests)) in
         (linked, first_lawful.symmetric i b linked);
     upward = λ i j e lt. joined_low n i j (opening.linked-means n (is_joined n) (halves n).registers first_size i j e).2 lt;
     lowest = λ r room. lower_from n r (omega (arith, room));
@@ -138,9 +113,7 @@ module _ (n : ℕ) where
   }
     where
       blank : (i : ℕ) → i < n → (d.p i ≡ None) × (d.m i ≡ false)
-      blank i lt =
-          let x = turned at_first d (λ i. nat_lt i n) Rule.Update e i (omega (arith, lt, first_size)) (lt-ltb i n lt) in
-          (x.0 ∙ first_null i, x.1 ∙ married-null at_first i (first_null i))
+      blank i lt = grind (arith, nat_tests, turned, first_size, lt-ltb, first_null, married-null)
 
 -- ---- for each number of nodes
 
@@ -168,14 +141,14 @@ whole_run r s n q odd few owned whole =
     (none_at (length (halves_world n).network.registers)) (first_size n) owned
     (first_updates_stand (configuration (halves_world n)) (λ i. nat_lt i n) (λ i lt. (first_null n i, first_m n i (omega (arith, lt, first_size n)))))
     (λ i lt off. absurd (both_ways (nat_lt i n) off (lt-ltb i n (omega (arith, lt, first_size n)))))
-    (λ u ku qu moved. phases r s n owned q odd 0 (n - 1) (omega (arith, whole)) (omega (arith, whole)) (omega (arith, whole)) u ku qu (seated n (configuration u) moved))
+    (λ u ku qu moved. phases r s n owned q odd 0 (n - 1) (omega (arith, whole)) (omega (arith, whole)) (omega (arith, whole)) u ku qu
+    (seated n (configuration u) moved))
 
 abbrev pub Reaches : RosterValue → World → ℕ → Type 0
 Reaches r w k = (es : List Event) × (is_legal_list r w es ≡ true) × (list_all is_grant_or_close es ≡ true) × (applied_over w es ≡ count_closes es)
     × Rounds k w es × (¬ IsStable (configuration (world_of w es)))
 
-pub rounds_reached : (r : RosterValue) (s n : ℕ) → 2 ≤ n → n ≤ MAX_NODES → ((i : ℕ) → i < n → owns r (who.Student s) i ≡ true)
-    → Reaches r (halves_world n) (rounds_for n - 1)
+pub rounds_reached : (r : RosterValue) (s n : ℕ) → 2 ≤ n → n ≤ MAX_NODES → ((i : ℕ) → i < n → owns r (who.Student s) i ≡ true) → Reaches r (halves_world n) (rounds_for n - 1)
 rounds_reached r s n two few owned =
     let x = parted n two in
     let run = whole_run r s n x.couples x.odd few owned x.whole in

@@ -1,16 +1,14 @@
 -- The four rounds of a phase, each move in a close of its own.
 use Rattle.std.proofs.Common.{◌≡◌, ℕ, suc, ◌+◌, ◌*◌, ◌<◌, ◌≤◌, Bool, true}
 use Rattle.mml_ids.specs.Search.{count_below}
-use Rattle.mml_rules.specs.declared.rule.Rule.{Rule}
-use Rattle.mml_rules.specs.Configuration.{Configuration}
-use Rattle.mml_lab.specs.declared.who.Who.TheVariants as who
+use Rattle.mml_rules.specs.{declared.rule.Rule.Rule, Configuration.Configuration}
 use Rattle.mml_lab.specs.Rosters.{RosterValue, owns}
 use Rattle.mml_board.specs.World.{World, configuration, IsWorld}
-use Rattle.mml_bounds.proofs.MoveLemmas.{GoesOn, IsQuiet}
-use Rattle.mml_bounds.proofs.PhaseLemmas.{Seated, Courted, Engaged, Wed, courts, marries_now, learns, leaves}
-use Rattle.mml_bounds.proofs.PhaseLemmas.{seated_others, then_courted, courted_others, then_engaged, engaged_others, then_wed, wed_others, then_free}
-use Rattle.mml_bounds.proofs.SinglyLemmas.{single_round}
+use Rattle.mml_bounds.proofs.{MoveLemmas.GoesOn, MoveLemmas.IsQuiet, SinglyLemmas.single_round}
+use Rattle.mml_bounds.proofs.PhaseLemmas.{Seated, Courted, Engaged, Wed, courts, marries_now, learns, leaves, seated_others, then_courted, courted_others, then_engaged, engaged_others, then_wed}
+use Rattle.mml_bounds.proofs.PhaseLemmas.{wed_others, then_free}
 use Rattle.mml_bounds.proofs.OneByOneLemmas.{courts_stand, marriage_stands, updates_stand, abandonments_stand}
+use Rattle.mml_lab.specs.declared.who.Who.TheVariants as who
 
 -- what is left to hold after a round of those that pass
 abbrev pub Later : (World → ℕ → Type 0) → ℕ → (ℕ → Bool) → World → ℕ → Type 0
@@ -23,22 +21,19 @@ module _ (r : RosterValue) (s n : ℕ) (low : ℕ → Bool) (owned : (i : ℕ) �
 
   module _ (p b : ℕ) (sum : p + b + 1 ≡ n) (room : 2 * p + 2 ≤ n) (A : World → ℕ → Type 0) where
     module _ (k : ℕ) (w : World) (world : IsWorld w) (quiet : IsQuiet w) where
-      pub court : Seated n low p (configuration w) → Onward (Later A n (courts n low p b sum room)) k (Courted n low p b sum room)
-          → GoesOn A r w (suc k)
+      pub court : Seated n low p (configuration w) → Onward (Later A n (courts n low p b sum room)) k (Courted n low p b sum room) → GoesOn A r w (suc k)
       court at next =
           single_round A r s k n (courts n low p b sum room) Rule.Seduction w world quiet at.shape.size owned
           (courts_stand n low p b sum room (configuration w) at) (seated_others n low p b sum room (configuration w) at)
           (λ u ku qu moved. next u ku qu (then_courted n low p b sum room (configuration w) (configuration u) at moved))
 
-      pub marry : Courted n low p b sum room (configuration w) → Onward (Later A n (marries_now n low p b sum room)) k (Engaged n low p b sum room)
-          → GoesOn A r w (suc k)
+      pub marry : Courted n low p b sum room (configuration w) → Onward (Later A n (marries_now n low p b sum room)) k (Engaged n low p b sum room) → GoesOn A r w (suc k)
       marry at next =
           single_round A r s k n (marries_now n low p b sum room) (Rule.Marriage p) w world quiet at.shape.size owned
           (marriage_stands n low p b sum room (configuration w) at) (courted_others n low p b sum room (configuration w) at)
           (λ u ku qu moved. next u ku qu (then_engaged n low p b sum room (configuration w) (configuration u) at moved))
 
-      pub learn : Engaged n low p b sum room (configuration w) → Onward (Later A n (learns n low p b sum room)) k (Wed n low p b sum room)
-          → GoesOn A r w (suc k)
+      pub learn : Engaged n low p b sum room (configuration w) → Onward (Later A n (learns n low p b sum room)) k (Wed n low p b sum room) → GoesOn A r w (suc k)
       learn at next =
           single_round A r s k n (learns n low p b sum room) Rule.Update w world quiet at.shape.size owned
           (updates_stand n low p b sum room (configuration w) at) (engaged_others n low p b sum room (configuration w) at)

@@ -1,24 +1,15 @@
 -- A round of one rule in which each node that passes a test moves in a close of its own, from the highest to the lowest.
-use Rattle.std.proofs.Common.{◌≡◌, ℕ, zero, suc, ◌+◌, ◌<◌, ◌≤◌, inl, inr, Bool, true, false, cond, not, ◌&&◌, nat_le, None, Some, List, [], ◌∷◌, ◌++◌}
-use Rattle.std.proofs.Common.{sym, refl, ap, ◌∙◌, subst, arith}
+use Rattle.std.proofs.Common.{sym, refl, subst, ◌≡◌, ℕ, zero, suc, ◌+◌, ◌<◌, ◌≤◌, inl, inr, Bool, true, false, cond, not, ◌&&◌, nat_le, None, Some, List, [], ◌∷◌, ◌++◌, ap, arith}
 use Rattle.std.specs.List.{list_all}
-use Rattle.std.proofs.lemmas.Bool.{and_from, or_left, or_right, cases_Bool, cases_eq, le-leb, eq-eqb, ne_eqb}
-use Rattle.std.proofs.lemmas.Bool.Decides.{nat_tests}
+use Rattle.std.proofs.lemmas.Bool.{and_from, or_left, or_right, cases_Bool, cases_eq, le-leb, eq-eqb, ne_eqb, Decides.nat_tests}
 use Rattle.mml_ids.specs.Search.{count_below}
-use Rattle.mml_rules.specs.declared.rule.Rule.{Rule}
-use Rattle.mml_rules.specs.Configuration.{Configuration}
-use Rattle.mml_rules.specs.Rules.{is_privileged, guard, moved, effect}
-use Rattle.mml_lab.specs.declared.who.Who.TheVariants as who
+use Rattle.mml_rules.specs.{declared.rule.Rule.Rule, Configuration.Configuration, Rules.is_privileged, Rules.guard, Rules.moved, Rules.effect}
 use Rattle.mml_lab.specs.Rosters.{RosterValue, owns}
-use Rattle.mml_board.specs.declared.event.Event.{Event}
-use Rattle.mml_board.specs.declared.event.Event.TheVariants as event
-use Rattle.mml_board.specs.World.{World, size, configuration, IsWorld}
-use Rattle.mml_board.specs.Events.{is_chosen, after}
-use Rattle.mml_board.specs.Runs.{is_legal_list, world_of}
-use Rattle.mml_convergence.specs.Moves.{is_close, applied_over, count_closes}
-use Rattle.mml_convergence.specs.Rest.{is_grant_or_close}
-use Rattle.mml_convergence.specs.Rounds.{is_served, Rounds}
+use Rattle.mml_board.specs.{declared.event.Event.Event, World.World, World.size, World.configuration, World.IsWorld, Events.is_chosen, Events.after, Runs.is_legal_list, Runs.world_of}
+use Rattle.mml_convergence.specs.{Moves.is_close, Moves.applied_over, Moves.count_closes, Rest.is_grant_or_close, Rounds.is_served, Rounds.Rounds}
 use Rattle.mml_bounds.proofs.MoveLemmas.{GoesOn, IsQuiet, IsMoved, Move, move, after_move, is, kept, turned}
+use Rattle.mml_lab.specs.declared.who.Who.TheVariants as who
+use Rattle.mml_board.specs.declared.event.Event.TheVariants as event
 
 -- who passes, from n on
 abbrev pub above : (ℕ → Bool) → ℕ → ℕ → Bool
@@ -33,13 +24,6 @@ above_out t n i off = ap (λ b. b && nat_le n i) off
 pub above_in : (t : ℕ → Bool) (n i : ℕ) → above t n i ≡ true → (t i ≡ true) × (n ≤ i)
 above_in t n i e = grind (arith, nat_tests)
 
-above_same : (t : ℕ → Bool) (n i : ℕ) → (i ≡ n → ⊥) → above t (suc n) i ≡ above t n i
-above_same t n i other = grind (arith, nat_tests)
-
--- by another test with the same answers
-relabelled : (c d : Configuration) (t u : ℕ → Bool) (rule : Rule) → ((i : ℕ) → i < c.size → t i ≡ u i) → IsMoved c d t rule → IsMoved c d u rule
-relabelled c d t u rule same e = grind (arith, nat_tests)
-
 -- the rule may be applied at n once it was applied at all that pass and are higher, and does what it would have done before
 abbrev pub Stands : (c : Configuration) (t : ℕ → Bool) (rule : Rule) → Type 0
 Stands c t rule = (d : Configuration) (n : ℕ) → n < c.size → t n ≡ true → IsMoved c d (above t (suc n)) rule
@@ -48,37 +32,6 @@ Stands c t rule = (d : Configuration) (n : ℕ) → n < c.size → t n ≡ true 
 -- what a step leaves at i
 abbrev Turned : (c u : Configuration) (t : ℕ → Bool) (rule : Rule) → ℕ → Type 0
 Turned c u t rule i = (u.p i ≡ (moved c i (cond (t i) (Some rule) None)).p) × (u.m i ≡ (moved c i (cond (t i) (Some rule) None)).m)
-
--- one more
-one_more : (c d u : Configuration) (t : ℕ → Bool) (rule : Rule) (n : ℕ) → n < c.size → t n ≡ true → IsMoved c d (above t (suc n)) rule
-    → (effect d n rule).p ≡ (effect c n rule).p → (effect d n rule).m ≡ (effect c n rule).m → IsMoved d u (is n) rule → IsMoved c u (above t n) rule
-one_more c d u t rule n n_in on e same_p same_m f = record {
-  size = f.size ∙ e.size;
-  lawful = f.lawful;
-  linked = λ i j. f.linked i j ∙ e.linked i j;
-  p = λ i lt. (at i lt).0;
-  m = λ i lt. (at i lt).1;
-}
-  where
-    here : above t n n ≡ true
-    here = and_from _ _ on (le-leb n n (omega arith))
-
-    at_n : Turned c u (above t n) rule n
-    at_n =
-        let x = turned d u (is n) rule f n (omega (arith, n_in, e.size)) (eq-eqb n n refl) in (
-          x.0 ∙ same_p ∙ sym (ap (λ b. (moved c n (cond b (Some rule) None)).p) here),
-          x.1 ∙ same_m ∙ sym (ap (λ b. (moved c n (cond b (Some rule) None)).m) here),
-        )
-
-    at : (i : ℕ) → i < c.size → Turned c u (above t n) rule i
-    at i lt = elim (cases_eq i n) [
-      | inl same ↦ subst (λ z. Turned c u (above t n) rule z) (sym same) at_n
-      | inr other ↦
-          let x = kept d u (is n) rule f i (omega (arith, lt, e.size)) (ne_eqb i n other) in (
-            x.0 ∙ e.p i lt ∙ ap (λ b. (moved c i (cond b (Some rule) None)).p) (above_same t n i other),
-            x.1 ∙ e.m i lt ∙ ap (λ b. (moved c i (cond b (Some rule) None)).m) (above_same t n i other),
-          )
-    ]
 
 -- who isn't privileged has had its turn
 pub idle_served : (i : ℕ) (w : World) (es : List Event) → is_privileged (configuration w) i ≡ false → is_served i w es ≡ true
@@ -133,7 +86,7 @@ module _ (A : World → ℕ → Type 0) (r : RosterValue) (s k n : ℕ) (c : Con
   part : (m : ℕ) (v : World) → m ≤ n → IsWorld v → IsQuiet v → IsMoved c (configuration v) (above t m) rule → Part m v
   part zero v le world quiet e =
       let all : (i : ℕ) → i < c.size → above t 0 i ≡ t i = λ i lt. every i in
-      let rest = next v world quiet (relabelled c (configuration v) (above t 0) t rule all e) in
+      let rest = next v world quiet (grind (arith, nat_tests, configuration v, above t 0)) in
       record {
         front = [];
         back = rest.events;
@@ -154,25 +107,12 @@ module _ (A : World → ℕ → Type 0) (r : RosterValue) (s k n : ℕ) (c : Con
         let x = stands (configuration v) m lt on e in
         let o = move r s v m rule world quiet (omega (arith, lt, e.size)) (owned m le) x.0 in
         with_one m v o on (part m (after_move s v m rule) (omega (arith, le)) o.world o.quiet
-        (one_more c (configuration v) (configuration (after_move s v m rule)) t rule m lt on e x.1 x.2 o.moved))
-    | inr off ↦
-        let rest = part m v (omega (arith, le)) world quiet (relabelled c (configuration v) (above t (suc m)) (above t m) rule (same off) e) in
-        let none : cond {A = ℕ} (t m) 1 0 ≡ 0 = ap (λ b. cond b 1 0) off in
-        record {
-          front = rest.front;
-          back = rest.back;
-          legal = rest.legal;
-          forward = rest.forward;
-          alone = rest.alone;
-          moves = omega (arith, rest.moves, none);
-          rounds = rest.rounds;
-          ends = rest.ends;
-          turns = λ i lt is. rest.turns i (other i lt is off) is;
-        }
+        (grind (arith, nat_tests, and_from, le-leb, turned, is, eq-eqb, cases_eq, kept, ne_eqb, configuration v, configuration (after_move s v m rule))))
+    | inr off ↦ grind (arith, nat_tests, is, part m v (omega (arith, le)) world quiet (grind (arith, nat_tests, configuration v, above t (suc m), above t m, same off)))
   ]
     where
       same : t m ≡ false → (i : ℕ) → i < c.size → above t (suc m) i ≡ above t m i
-      same off i lt = grind (arith, nat_tests, above_same t m i, off)
+      same off i lt = grind (arith, nat_tests, off)
 
       other : (i : ℕ) → i < suc m → t i ≡ true → t m ≡ false → i < m
       other i lt is off = grind (arith, nat_tests)
@@ -194,10 +134,7 @@ single_round A r s k n t rule w world quiet sized owned stands others next =
         x.front,
         x.back,
         refl,
-        (λ i lt. elim (cases_Bool (t i)) [
-          | inl on ↦ x.turns i (omega (arith, lt, sized)) on
-          | inr off ↦ idle_served i w x.front (others i lt off)
-        ]),
+        (λ i lt. elim (cases_Bool (t i)) [ inl on ↦ x.turns i (omega (arith, lt, sized)) on | inr off ↦ idle_served i w x.front (others i lt off) ]),
         x.rounds,
       );
       ends = subst (λ z. A (world_of w (x.front ++ x.back)) z) (sym x.moves) x.ends;

@@ -1,14 +1,9 @@
 -- In a step the courting potential falls by the nodes that move.
 use Rattle.std.proofs.Common.{ℕ, zero, suc, ◌+◌, ◌*◌, ◌≤◌, cond, not, inl, inr, Option, arith}
 use Rattle.mml_ids.specs.Search.{count_below}
-use Rattle.mml_rules.specs.declared.rule.Rule.{Rule}
-use Rattle.mml_rules.specs.Configuration.{Configuration, IsLawful}
-use Rattle.mml_rules.specs.Rules.{is_married, step, AllHold}
-use Rattle.mml_convergence.specs.Potential.{sum_below}
-use Rattle.mml_convergence.specs.Moves.{moves}
-use Rattle.mml_convergence.proofs.StepLemmas.{step-married}
-use Rattle.mml_convergence.proofs.SumsLemmas.{sum_charged, sum_of_tests}
-use Rattle.mml_convergence.proofs.MarriedCountLemmas.{married_kept, grows}
+use Rattle.mml_rules.specs.{declared.rule.Rule.Rule, Configuration.Configuration, Configuration.IsLawful, Rules.is_married, Rules.step, Rules.AllHold}
+use Rattle.mml_convergence.specs.{Potential.sum_below, Moves.moves}
+use Rattle.mml_convergence.proofs.{StepLemmas.step-married, SumsLemmas.sum_charged, SumsLemmas.sum_of_tests, MarriedCountLemmas.married_kept, MarriedCountLemmas.grows}
 use Rattle.mml_bounds.specs.Courtships.{node_part, most_courtships, courting_potential}
 use Rattle.mml_bounds.proofs.NumbersLemmas.{sum_lent, count_both, count_lent, courtships_kept, marriages_pay}
 use Rattle.mml_bounds.proofs.CourtshipLemmas.{pointer_most, calm_pays, lent_pays}

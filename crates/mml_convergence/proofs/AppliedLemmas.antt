@@ -1,28 +1,15 @@
 -- Over grants, releases and closes the moves are paid for by the potential.
 use Rattle.std.proofs.Common.{◌≡◌, ℕ, ◌+◌, ◌*◌, ◌≤◌, true, cond, List, [], ◌∷◌, length, Option, None, is_some, ap, ◌∙◌, arith}
-use Rattle.std.specs.List.{list_all}
-use Rattle.std.proofs.lemmas.Bool.{false≢true}
-use Rattle.std.proofs.lemmas.List.{get_or_default}
-use Rattle.std.proofs.lemmas.List.Folds.{Any-from_list_any}
+use Rattle.std.{specs.List.list_all, proofs.lemmas.Bool.false≢true, proofs.lemmas.Bool.Decides.nat_tests, proofs.lemmas.List.get_or_default, proofs.lemmas.List.Folds.Any-from_list_any}
 use Rattle.mml_ids.specs.Search.{count_below}
-use Rattle.mml_rules.specs.declared.rule.Rule.{Rule}
-use Rattle.mml_rules.specs.Configuration.{Configuration, IsLawful}
-use Rattle.mml_rules.specs.Rules.{step, AllHold}
-use Rattle.mml_rules.specs.Network.{Network, configuration_of, IsNetwork}
-use Rattle.mml_lab.specs.Labs.{link_count}
-use Rattle.mml_lab.specs.Rosters.{RosterValue}
-use Rattle.mml_board.specs.declared.event.Event.{Event}
-use Rattle.mml_board.specs.declared.event.Event.TheVariants as event
+use Rattle.mml_rules.specs.{declared.rule.Rule.Rule, Configuration.Configuration, Configuration.IsLawful, Rules.step, Rules.AllHold, Network.Network, Network.configuration_of, Network.IsNetwork}
+use Rattle.mml_lab.specs.{Labs.link_count, Rosters.RosterValue}
+use Rattle.mml_board.specs.{declared.event.Event.Event, Events.is_possible, Events.is_any_chosen, Events.after, Events.chosen_count, Runs.is_legal_list}
 use Rattle.mml_board.specs.World.{World, size, configuration, chosen_at, IsWorld}
-use Rattle.mml_board.specs.Events.{is_possible, is_any_chosen, after, chosen_count}
-use Rattle.mml_board.specs.Runs.{is_legal_list}
 use Rattle.mml_board.proofs.WorldLemmas.{closed-step, after-world}
-use Rattle.mml_convergence.specs.Runs.{is_of_step}
-use Rattle.mml_convergence.specs.Potential.{whole_potential}
-use Rattle.mml_convergence.specs.Moves.{moves, applied_by, applied_over, is_close, count_closes}
-use Rattle.mml_convergence.proofs.SumsLemmas.{count_some}
-use Rattle.mml_convergence.proofs.WholePotentialLemmas.{whole_fell, whole_most}
-use Rattle.std.proofs.lemmas.Bool.Decides.{nat_tests}
+use Rattle.mml_convergence.specs.{Runs.is_of_step, Potential.whole_potential, Moves.moves, Moves.applied_by, Moves.applied_over, Moves.is_close, Moves.count_closes}
+use Rattle.mml_convergence.proofs.{SumsLemmas.count_some, WholePotentialLemmas.whole_fell, WholePotentialLemmas.whole_most}
+use Rattle.mml_board.specs.declared.event.Event.TheVariants as event
 
 -- what falls in each step by the moves at the least
 abbrev pub Falls : (Configuration → ℕ) → Type 0
@@ -44,8 +31,7 @@ event_pays P falls w _ k of_step = absurd (false≢true of_step)
 pub moves_paid : (P : Configuration → ℕ) → Falls P → (r : RosterValue) (w : World) (es : List Event) → IsWorld w → is_legal_list r w es ≡ true
     → list_all is_of_step es ≡ true → applied_over w es ≤ P (configuration w)
 moves_paid P falls r w [] k legal steps = omega arith
-moves_paid P falls r w (e ∷ es) k legal steps =
-    grind (arith, event_pays P falls w e k, moves_paid P falls r (after w e) es, after-world w e k)
+moves_paid P falls r w (e ∷ es) k legal steps = grind (arith, event_pays P falls w e k, moves_paid P falls r (after w e) es, after-world w e k)
 
 -- a close pays for its moves
 pub close_pays : (w : World) → IsWorld w → chosen_count w + whole_potential (configuration (after w event.Close)) ≤ whole_potential (configuration w)
@@ -59,8 +45,7 @@ network_most n k = whole_most (configuration_of n) k.lawful
 -- over grants, releases and closes, 2 moves for each link and 3 for each node are applied at the most
 pub moves_bounded : (r : RosterValue) (w : World) (es : List Event) → IsWorld w → is_legal_list r w es ≡ true → list_all is_of_step es ≡ true
     → applied_over w es ≤ 2 * link_count w.network + 3 * size w
-moves_bounded r w es k legal steps =
-    omega (arith, moves_paid whole_potential whole_fell r w es k legal steps, network_most w.network k.network)
+moves_bounded r w es k legal steps = omega (arith, moves_paid whole_potential whole_fell r w es k legal steps, network_most w.network k.network)
 
 -- ---- each close applies a move
 

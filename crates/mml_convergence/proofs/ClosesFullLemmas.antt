@@ -1,24 +1,13 @@
 -- Where each close finds a chosen move at every privileged node, it ends a round.
 use Rattle.std.proofs.Common.{◌≡◌, ℕ, zero, suc, ◌<◌, ◌≤◌, inl, inr, Bool, true, false, cond, List, [], ◌∷◌, ◌++◌, refl, ap, subst, arith}
 use Rattle.std.specs.List.{list_all}
-use Rattle.std.proofs.lemmas.Bool.{and_from, or_left, or_right, both_ways, cases_Bool, cases_lt}
+use Rattle.std.proofs.lemmas.Bool.{and_from, or_left, or_right, both_ways, cases_Bool, cases_lt, Decides.nat_tests}
 use Rattle.mml_lab.specs.Rosters.{RosterValue}
-use Rattle.mml_board.specs.declared.event.Event.{Event}
-use Rattle.mml_board.specs.World.{World, size, IsWorld}
-use Rattle.mml_board.specs.Events.{is_legal, after}
-use Rattle.mml_board.specs.Runs.{is_legal_list, world_of}
+use Rattle.mml_board.specs.{declared.event.Event.Event, World.World, World.size, World.IsWorld, Events.is_legal, Events.after, Runs.is_legal_list, Runs.world_of}
 use Rattle.mml_board.proofs.WorldLemmas.{size-after}
-use Rattle.mml_convergence.specs.Runs.{is_of_step}
-use Rattle.mml_convergence.specs.Moves.{is_close, count_closes}
-use Rattle.mml_convergence.proofs.RestLemmas.{stable_final}
-use Rattle.mml_convergence.specs.Rounds.{IsRound, Rounds, rounds_for, IsFull, ClosesFull}
+use Rattle.mml_convergence.specs.{Runs.is_of_step, Moves.is_close, Moves.count_closes, Rounds.IsRound, Rounds.Rounds, Rounds.rounds_for, Rounds.ClosesFull}
+use Rattle.mml_convergence.proofs.{RestLemmas.stable_final, RoundsLemmas.rounds_end}
 use Rattle.mml_convergence.proofs.ServedLemmas.{IsRun, first_legal, first_of_step, run_parts, run_end}
-use Rattle.mml_convergence.proofs.RoundsLemmas.{rounds_end}
-use Rattle.std.proofs.lemmas.Bool.Decides.{nat_tests}
-
--- a full close is a round by itself
-close_round : (w : World) (e : Event) → is_close e ≡ true → IsFull w → IsRound w (e ∷ [])
-close_round w e close full i lt = grind (arith, nat_tests, cases_Bool, or_right, or_left, and_from)
 
 -- a round is one with an event before it
 longer_round : (w : World) (e : Event) (es : List Event) → IsRound (after w e) es → IsRound w (e ∷ es)
@@ -33,12 +22,16 @@ cut k w [] full less = absurd (omega arith)
 cut zero w (e ∷ es) full less = ([], e, es, refl, tt)
 cut (suc k) w (e ∷ es) full less = go (cut k (after w e) es full.1) (cut (suc k) (after w e) es full.1) (is_close e) refl
   where
-    go : (k < count_closes es → Cut k (after w e) es) → (suc k < count_closes es → Cut (suc k) (after w e) es) → (b : Bool) → is_close e ≡ b
-        → Cut (suc k) w (e ∷ es)
+    go : (k < count_closes es → Cut k (after w e) es) → (suc k < count_closes es → Cut (suc k) (after w e) es) → (b : Bool) → is_close e ≡ b → Cut (suc k) w (e ∷ es)
     go here there true f =
         let one : cond {A = ℕ} (is_close e) 1 0 ≡ 1 = ap (λ b. cond b 1 0) f in
-        let rest = here (omega (arith, less, one)) in
-        (e ∷ rest.0, rest.1, rest.2, ap (λ z. e ∷ z) rest.3, (e ∷ [], rest.0, refl, close_round w e f (full.0 f), rest.4))
+        let rest = here (omega (arith, less, one)) in (
+          e ∷ rest.0,
+          rest.1,
+          rest.2,
+          ap (λ z. e ∷ z) rest.3,
+          (e ∷ [], rest.0, refl, grind (arith, nat_tests, cases_Bool, or_right, or_left, and_from, full.0 f), rest.4),
+        )
     go here there false f =
         let none : cond {A = ℕ} (is_close e) 1 0 ≡ 0 = ap (λ b. cond b 1 0) f in
         let rest = there (omega (arith, less, none)) in

@@ -1,31 +1,21 @@
 -- The bound is reached: on the triangle with a tail a legal list applies 20 moves.
-use Rattle.std.proofs.Common.{◌≡◌, ◌==◌, ℕ, zero, suc, ◌+◌, ◌-◌, ◌*◌, ◌<◌, nat_lt, Bool, true, false, ◌&&◌, ◌||◌, Option, None, Some, is_some}
-use Rattle.std.proofs.Common.{is_none, List, [], ◌∷◌, map, length, set, replicate, sym, refl, ap, ◌∙◌, subst, arith, rules}
-use Rattle.std.specs.Prelude.{nat_le, All}
-use Rattle.std.specs.List.{list_any, range_with_len}
-use Rattle.std.specs.Ordering.{nat_cmp}
-use Rattle.std.specs.FinSet as sets
-use Rattle.std.proofs.lemmas.Bool.{and_parts, and_from, both_ways, eqb-true, ltb-true, leb-true, false≢true}
-use Rattle.std.proofs.lemmas.Bool.Decides.{nat_tests}
+use Rattle.std.proofs.Common.{◌≡◌, ◌==◌, ℕ, zero, suc, ◌+◌, ◌-◌, ◌*◌, ◌<◌, nat_lt, Bool, true, false, ◌&&◌, ◌||◌, Option, None, Some, is_some, is_none, List, [], ◌∷◌, map, length, set, replicate, sym}
+use Rattle.std.proofs.Common.{refl, ap, ◌∙◌, subst, arith, rules}
+use Rattle.std.specs.{Prelude.nat_le, List.list_any, List.range_with_len, Ordering.nat_cmp}
+use Rattle.std.proofs.lemmas.Bool.{and_parts, and_from, both_ways, eqb-true, ltb-true, leb-true, false≢true, Decides.nat_tests}
 use Rattle.mml_ids.specs.Search.{count_below}
-use Rattle.mml_rules.specs.declared.regs.Regs.{Regs}
-use Rattle.mml_rules.specs.declared.rule.Rule.{Rule}
-use Rattle.mml_rules.specs.Configuration.{Configuration}
+use Rattle.mml_rules.specs.{declared.regs.Regs.Regs, declared.rule.Rule.Rule, Configuration.Configuration, Rules.is_married, Rules.has_suitor, Rules.greatest_candidate, Rules.guard, Rules.moved}
 use Rattle.mml_rules.specs.Network.{Network, neighbours_at, registers_at, configuration_of, IsNetwork, with_link}
 use Rattle.mml_rules.proofs.NetworkLemmas.{with_link-lawful, linked-with_link}
-use Rattle.mml_rules.specs.Rules.{is_married, has_suitor, greatest_candidate, guard, moved}
-use Rattle.mml_lab.specs.declared.who.Who.TheVariants as who
-use Rattle.mml_lab.specs.Labs.{links_below, link_count}
-use Rattle.mml_lab.specs.Rosters.{RosterValue, IsRoster, owns}
-use Rattle.mml_board.specs.declared.event.Event.{Event}
-use Rattle.mml_board.specs.declared.event.Event.TheVariants as event
+use Rattle.mml_lab.specs.{Labs.links_below, Labs.link_count, Rosters.RosterValue, Rosters.IsRoster, Rosters.owns}
+use Rattle.mml_board.specs.{declared.event.Event.Event, Events.moved_registers, Events.chosen_count, Events.after, Runs.is_legal_list}
 use Rattle.mml_board.specs.World.{World, size, configuration, chosen_at, IsWorld}
-use Rattle.mml_board.specs.Events.{moved_registers, chosen_count, after}
-use Rattle.mml_board.specs.Runs.{is_legal_list}
 use Rattle.mml_board.proofs.WorldLemmas.{size-after, hold-none}
-use Rattle.mml_convergence.specs.Potential.{potential, whole_potential}
-use Rattle.mml_convergence.specs.Moves.{applied_over}
+use Rattle.mml_convergence.specs.{Potential.potential, Potential.whole_potential, Moves.applied_over}
 use Rattle.mml_convergence.specs.Examples.{unlinked, triangle, triangle_world, sole_owner, twenty_moves}
+use Rattle.std.specs.FinSet as sets
+use Rattle.mml_lab.specs.declared.who.Who.TheVariants as who
+use Rattle.mml_board.specs.declared.event.Event.TheVariants as event
 
 -- ---- a run, computed over registers: the links are a test, instead of sets
 
@@ -59,11 +49,15 @@ sound r w [] n owned t = (refl, sym (eqb-true n 0 t))
 sound r w (event.Grant s i rule ∷ es) n owned t =
     let x = and_parts (s == 0) _ t in
     let y = and_parts (nat_lt i (size w) && (is_none (chosen_at w.chosen i) && guard (configuration w) i rule)) _ x.1 in
-    let z = and_parts (nat_lt i (size w)) (is_none (chosen_at w.chosen i) && guard (configuration w) i rule) y.0 in
-    let owner : owns r (who.Student s) i ≡ true = subst (λ s. owns r (who.Student s) i ≡ true) (sym (eqb-true s 0 x.0)) (owned i (ltb-true i (size w) z.0)) in
-    let rest = sound r (after w (event.Grant s i rule)) es n owned y.1 in
-    let last = rest.1 in
-    (and_from _ _ (and_from _ _ owner y.0) rest.0, omega (arith, last))
+    grind (
+      arith,
+      nat_tests,
+      and_parts (nat_lt i (size w)) (is_none (chosen_at w.chosen i) && guard (configuration w) i rule) y.0,
+      sound r (after w (event.Grant s i rule)) es n owned y.1,
+      eqb-true,
+      ltb-true,
+      and_from,
+    )
 sound r w (event.Close ∷ es) n owned t =
     let x = and_parts (list_any is_some w.chosen) _ t in
     let y = and_parts (nat_le (chosen_among w.network.registers w.chosen) n) _ x.1 in
@@ -161,12 +155,9 @@ triangle_potential = ap (λ linked. whole_potential (shape linked triangle_world
 
 -- ---- the run
 
-one_owner : All (λ s. s < 1) (0 ∷ [])
-one_owner i d lt = grind (arith, nat_tests)
-
 -- the roster of the one student is lawful
 pub roster : IsRoster sole_owner
-roster = grind (arith, nat_tests, one_owner)
+roster = grind (arith, nat_tests)
 
 owns_all : (i : ℕ) → i < size triangle_world → owns sole_owner (who.Student 0) i ≡ true
 owns_all i lt = grind (arith, nat_tests)

@@ -1,24 +1,16 @@
 -- From every world a grant and a close for each move lead to where no node is privileged.
 use Rattle.std.proofs.Common.{◌≡◌, ℕ, zero, suc, ◌+◌, ◌*◌, ◌≤◌, ◌⊎◌, Bool, true, false, List, [], ◌∷◌, set, None, Some, is_some, inl, inr, refl, ap, arith}
-use Rattle.std.proofs.lemmas.Bool.{and_from, and_parts}
-use Rattle.std.proofs.lemmas.List.{get_or-set_same}
+use Rattle.std.proofs.lemmas.{Bool.and_from, Bool.and_parts, Bool.Decides.nat_tests, List.get_or-set_same}
 use Rattle.mml_ids.specs.Search.{some_below}
 use Rattle.mml_ids.proofs.SearchLemmas.{some_below-find, some_below-none}
-use Rattle.mml_rules.specs.declared.rule.Rule.{Rule}
-use Rattle.mml_rules.specs.Rules.{is_privileged}
-use Rattle.mml_rules.specs.Matching.{IsStable}
-use Rattle.mml_lab.specs.Labs.{link_count}
-use Rattle.mml_lab.specs.Rosters.{RosterValue}
-use Rattle.mml_board.specs.declared.event.Event.{Event}
-use Rattle.mml_board.specs.declared.event.Event.TheVariants as event
-use Rattle.mml_board.specs.World.{World, size, configuration, chosen_at, IsWorld}
-use Rattle.mml_board.specs.Events.{is_any_chosen, is_legal, after}
+use Rattle.mml_rules.specs.{declared.rule.Rule.Rule, Rules.is_privileged, Matching.IsStable}
+use Rattle.mml_lab.specs.{Labs.link_count, Rosters.RosterValue}
+use Rattle.mml_board.specs.{declared.event.Event.Event, World.World, World.size, World.configuration, World.chosen_at, World.IsWorld, Events.is_any_chosen, Events.is_legal, Events.after}
 use Rattle.mml_board.proofs.WorldLemmas.{after-world, size-after, none_at}
-use Rattle.mml_convergence.specs.Potential.{whole_potential}
-use Rattle.mml_convergence.specs.Rest.{is_grant_or_close, EachHasOwner, LeadsToRest}
+use Rattle.mml_convergence.specs.{Potential.whole_potential, Rest.is_grant_or_close, Rest.EachHasOwner, Rest.LeadsToRest}
 use Rattle.mml_convergence.proofs.AppliedLemmas.{close_moves, close_pays, network_most}
 use Rattle.mml_convergence.proofs.RestLemmas.{none_chosen, any_chosen, may_move, first_owner}
-use Rattle.std.proofs.lemmas.Bool.Decides.{nat_tests}
+use Rattle.mml_board.specs.declared.event.Event.TheVariants as event
 
 abbrev IsQuiet : World → Type 0
 IsQuiet w = (i : ℕ) → chosen_at w.chosen i ≡ None
@@ -103,9 +95,14 @@ reached r w k owned = go (is_any_chosen w) refl
 
     go : (b : Bool) → is_any_chosen w ≡ b → Reached r w (4 * link_count w.network + 6 * size w)
     go false e =
-        let most = network_most w.network k.network in
-        let rest = by_moves (whole_potential (configuration w)) r w ready (λ i. none_chosen w.chosen i e) (omega arith) in
-        (rest.0, within r w _ _ rest.0 (omega (arith, most)) rest.1)
+        grind (
+          arith,
+          nat_tests,
+          network_most w.network k.network,
+          by_moves (whole_potential (configuration w)) r w ready (λ i. none_chosen w.chosen i e) (omega arith),
+          none_chosen,
+          within,
+        )
     go true e =
         let most = network_most w.network k.network in
         let less = close_lowers r w k e in

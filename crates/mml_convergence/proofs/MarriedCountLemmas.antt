@@ -1,16 +1,10 @@
 -- How many nodes are married: they come in pairs, so a step makes two more or none.
-use Rattle.std.proofs.Common.{◌≡◌, ℕ, zero, suc, ◌+◌, ◌<◌, ◌≤◌, ◌⊎◌, Bool, true, false, Option, Some, refl}
-use Rattle.std.proofs.Common.{sym, ◌∙◌, subst, arith}
-use Rattle.std.proofs.lemmas.Bool.{both_ways}
-use Rattle.std.proofs.lemmas.Bool.{false≢true, false_from_ne_true}
-use Rattle.std.proofs.lemmas.Bool.Decides.{nat_tests}
+use Rattle.std.proofs.Common.{◌≡◌, ℕ, zero, suc, ◌+◌, ◌<◌, ◌≤◌, ◌⊎◌, Bool, true, false, Option, Some, refl, sym, ◌∙◌, subst, arith}
+use Rattle.std.proofs.lemmas.Bool.{both_ways, false≢true, false_from_ne_true, Decides.nat_tests}
 use Rattle.mml_ids.specs.Search.{count_below}
 use Rattle.mml_ids.proofs.SearchLemmas.{some_below-find}
-use Rattle.mml_rules.specs.declared.rule.Rule.{Rule}
-use Rattle.mml_rules.specs.Configuration.{Configuration, IsLawful}
-use Rattle.mml_rules.specs.Rules.{is_married, step, AllHold}
-use Rattle.mml_rules.proofs.RulesLemmas.{married-partner, married-from}
-use Rattle.mml_rules.proofs.StepLemmas.{step-lawful}
+use Rattle.mml_rules.specs.{declared.rule.Rule.Rule, Configuration.Configuration, Configuration.IsLawful, Rules.is_married, Rules.step, Rules.AllHold}
+use Rattle.mml_rules.proofs.{RulesLemmas.married-partner, RulesLemmas.married-from, StepLemmas.step-lawful}
 use Rattle.mml_convergence.proofs.StepLemmas.{step-keeps, step-married}
 
 -- ---- counts
@@ -26,8 +20,7 @@ count_more (suc n) a t u le lt off on = grind (arith, count_more n a t u le, cou
 count_two : (n a b : ℕ) (t u : ℕ → Bool) → ((j : ℕ) → t j ≡ true → u j ≡ true) → (a ≡ b → ⊥) → a < n → b < n
     → t a ≡ false → t b ≡ false → u a ≡ true → u b ≡ true → count_below n t + 2 ≤ count_below n u
 count_two zero a b t u le apart a_in b_in ta tb ua ub = absurd (omega arith)
-count_two (suc n) a b t u le apart a_in b_in ta tb ua ub =
-    grind (arith, count_two n a b t u le apart, count_more n a t u le, count_more n b t u le, le n)
+count_two (suc n) a b t u le apart a_in b_in ta tb ua ub = grind (arith, count_two n a b t u le apart, count_more n a t u le, count_more n b t u le, le n)
 
 count_all : (n : ℕ) → count_below n (λ j. true) ≤ n
 count_all zero = omega arith
@@ -58,17 +51,14 @@ pair_counts c i l e =
     omega (arith, two)
 
 -- two linked nodes that aren't married leave room for two
-pub open_counts : (c : Configuration) (a b : ℕ) → IsLawful c → c.linked a b ≡ true → is_married c a ≡ false → is_married c b ≡ false
-    → married_count c + 2 ≤ c.size
+pub open_counts : (c : Configuration) (a b : ℕ) → IsLawful c → c.linked a b ≡ true → is_married c a ≡ false → is_married c b ≡ false → married_count c + 2 ≤ c.size
 open_counts c a b l linked ea eb =
     let range = l.in_range a b linked in
-    let two = count_two c.size a b (is_married c) (λ j. true) (λ j e. refl) (apart c a b l linked) range.0 range.1 ea eb refl refl in
-    omega (arith, two, count_all c.size)
+    grind (arith, nat_tests, count_two c.size a b (is_married c) (λ j. true) (λ j e. refl) (apart c a b l linked) range.0 range.1 ea eb refl refl, apart, count_all)
 
 -- where some node isn't married, fewer than all nodes are
 pub single_counts : (c : Configuration) (i : ℕ) → i < c.size → is_married c i ≡ false → married_count c + 1 ≤ c.size
-single_counts c i lt e =
-    omega (arith, count_more c.size i (is_married c) (λ j. true) (λ j e. refl) lt e refl, count_all c.size)
+single_counts c i lt e = omega (arith, count_more c.size i (is_married c) (λ j. true) (λ j e. refl) lt e refl, count_all c.size)
 
 -- no more nodes are married than there are
 pub most : (c : Configuration) → married_count c ≤ c.size
@@ -105,6 +95,5 @@ new_pair c chosen l h x new old =
     back z y e a b = married-from c x y l (subst (λ v. c.p v ≡ Some y) e b) (subst (λ v. c.p y ≡ Some v) e a)
 
 -- two more nodes are married, or none
-pub grows : (c : Configuration) (chosen : ℕ → Option Rule) → IsLawful c → AllHold c chosen
-    → (married_count c + 2 ≤ married_count (step c chosen)) ⊎ Calm c chosen
+pub grows : (c : Configuration) (chosen : ℕ → Option Rule) → IsLawful c → AllHold c chosen → (married_count c + 2 ≤ married_count (step c chosen)) ⊎ Calm c chosen
 grows c chosen l h = grind (arith, nat_tests, some_below-find, new_pair, married_in, step-lawful)

@@ -1,14 +1,10 @@
 -- What guards say, and over which links a move makes or takes back a pointer.
-use Rattle.std.proofs.Common.{◌≡◌, ◌==◌, ℕ, ◌<◌, Bool, true, false, not, ◌&&◌, ◌⊎◌, inl, inr, Option, None, Some, is_some, is_none, refl, subst, nat_lt, arith}
-use Rattle.std.proofs.lemmas.Bool.{and_parts, or_cases, not-true, both_ways, false≢true, ltb-true, eqb-true}
-use Rattle.mml_rules.specs.declared.rule.Rule.{Rule}
-use Rattle.mml_rules.specs.Configuration.{Configuration, holds}
+use Rattle.std.proofs.Common.{◌≡◌, ◌==◌, ℕ, ◌<◌, Bool, true, false, not, ◌&&◌, ◌⊎◌, Option, None, Some, is_some, is_none, refl, nat_lt, arith}
+use Rattle.std.proofs.lemmas.Bool.{and_parts, or_cases, not-true, both_ways, false≢true, ltb-true, eqb-true, Decides.nat_tests}
+use Rattle.mml_rules.specs.{declared.rule.Rule.Rule, Configuration.Configuration, Configuration.holds}
 use Rattle.mml_rules.specs.Rules.{is_married, has_suitor, greatest_candidate, m_is_right, guard, moved}
-use Rattle.mml_rules.proofs.ConfigurationLemmas.{holds-true, holds-from}
-use Rattle.mml_rules.proofs.RulesLemmas.{none-null, greatest-is}
-use Rattle.mml_rules.proofs.MeaningLemmas.{beq-true}
+use Rattle.mml_rules.proofs.{ConfigurationLemmas.holds-true, ConfigurationLemmas.holds-from, RulesLemmas.none-null, RulesLemmas.greatest-is, MeaningLemmas.beq-true}
 use Rattle.mml_convergence.proofs.StepLemmas.{beq-false}
-use Rattle.std.proofs.lemmas.Bool.Decides.{nat_tests}
 
 -- the guard of a move holds, if there is one
 abbrev pub Holds : Configuration → ℕ → Option Rule → Type 0
@@ -37,12 +33,17 @@ pub record Seduces (c : Configuration) (i j : ℕ) : Type 0 where
 -- a node that may seduce has m right and points nowhere; its greatest candidate is higher, and points nowhere too
 pub seduces : (c : Configuration) (i j : ℕ) → guard c i Rule.Seduction ≡ true → greatest_candidate c i ≡ Some j → Seduces c i j
 seduces c i j h e =
-    let x = and_parts (m_is_right c i) (is_none (c.p i) && (not (has_suitor c i) && is_some (greatest_candidate c i))) h in
-    let y = and_parts (is_none (c.p i)) (not (has_suitor c i) && is_some (greatest_candidate c i)) x.1 in
-    let a = and_parts (c.linked i j) (nat_lt i j && (is_none (c.p j) && not (c.m j))) (greatest-is c i j e) in
-    let b = and_parts (nat_lt i j) (is_none (c.p j) && not (c.m j)) a.1 in
-    let d = and_parts (is_none (c.p j)) (not (c.m j)) b.1 in
-    record { right = beq-true _ _ x.0; null = none-null (c.p i) y.0; linked = a.0; higher = ltb-true i j b.0; free = none-null (c.p j) d.0; m = not-true _ d.1 }
+    grind (
+      arith,
+      nat_tests,
+      and_parts (m_is_right c i) (is_none (c.p i) && (not (has_suitor c i) && is_some (greatest_candidate c i))) h,
+      and_parts (c.linked i j) (nat_lt i j && (is_none (c.p j) && not (c.m j))) (greatest-is c i j e),
+      greatest-is,
+      beq-true,
+      none-null,
+      ltb-true,
+      not-true,
+    )
 
 -- a node that may seduce has a greatest candidate
 pub seduced : (c : Configuration) (i : ℕ) → guard c i Rule.Seduction ≡ true → (j : ℕ) × (greatest_candidate c i ≡ Some j)
@@ -99,23 +100,14 @@ pub record Makes (c : Configuration) (i j : ℕ) : Type 0 where
 pub makes : (c : Configuration) (i j : ℕ) (o : Option Rule) → Holds c i o → holds (c.p i) j ≡ false → (moved c i o).p ≡ Some j → Makes c i j
 makes c i j None h off e = absurd (both_ways (holds (c.p i) j) off (holds-from (c.p i) j e))
 makes c i j (Some Rule.Update) h off e = absurd (both_ways (holds (c.p i) j) off (holds-from (c.p i) j e))
-makes c i j (Some (Rule.Marriage k)) h off e =
-    let same : k ≡ j = cc in
-    let g = marries c i k (h (Rule.Marriage k) refl) in
-    record { right = g.right; null = g.null; partner = inl (subst (λ z. c.p z ≡ Some i) same g.suitor) }
-makes c i j (Some Rule.Seduction) h off e =
-    let g = seduces c i j (h Rule.Seduction refl) e in
-    record { right = g.right; null = g.null; partner = inr (g.higher, g.free, g.m) }
+makes c i j (Some (Rule.Marriage k)) h off e = grind (arith, nat_tests, marries c i k (h (Rule.Marriage k) refl))
+makes c i j (Some Rule.Seduction) h off e = grind (arith, nat_tests, seduces c i j (h Rule.Seduction refl) e)
 makes c i j (Some Rule.Abandonment) h off e = cc
 
 -- a pointer that i has before the move and has not after it: i abandons j
-pub drops : (c : Configuration) (i j : ℕ) (o : Option Rule) → Holds c i o → c.p i ≡ Some j → holds (moved c i o).p j ≡ false
-    → Abandons c i j × ((moved c i o).m ≡ c.m i)
+pub drops : (c : Configuration) (i j : ℕ) (o : Option Rule) → Holds c i o → c.p i ≡ Some j → holds (moved c i o).p j ≡ false → Abandons c i j × ((moved c i o).m ≡ c.m i)
 drops c i j None h e off = absurd (both_ways (holds (c.p i) j) off (holds-from (c.p i) j e))
 drops c i j (Some Rule.Update) h e off = absurd (both_ways (holds (c.p i) j) off (holds-from (c.p i) j e))
 drops c i j (Some (Rule.Marriage k)) h e off = let g = marries c i k (h (Rule.Marriage k) refl) in let null = g.null in cc
-drops c i j (Some Rule.Seduction) h e off =
-    let some = seduced c i (h Rule.Seduction refl) in
-    let g = seduces c i some.0 (h Rule.Seduction refl) some.1 in
-    let null = g.null in cc
+drops c i j (Some Rule.Seduction) h e off = let some = seduced c i (h Rule.Seduction refl) in grind (arith, nat_tests, seduces c i some.0 (h Rule.Seduction refl) some.1)
 drops c i j (Some Rule.Abandonment) h e off = (abandons c i j (h Rule.Abandonment refl) e, refl)

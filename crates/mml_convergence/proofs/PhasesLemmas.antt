@@ -1,15 +1,11 @@
 -- What a node's turn brings, while no more nodes are married, or at any time.
 use Rattle.std.proofs.Common.{◌≡◌, ℕ, ◌+◌, ◌<◌, ◌≤◌, ◌⊎◌, inl, inr, false, Option, Some, arith, rules}
 use Rattle.std.proofs.lemmas.Bool.Decides.{nat_tests}
-use Rattle.mml_rules.specs.declared.rule.Rule.{Rule}
-use Rattle.mml_rules.specs.Configuration.{Configuration, IsLawful}
-use Rattle.mml_rules.specs.Rules.{is_privileged, step, AllHold}
+use Rattle.mml_rules.specs.{declared.rule.Rule.Rule, Configuration.Configuration, Configuration.IsLawful, Rules.is_privileged, Rules.step, Rules.AllHold}
 use Rattle.mml_convergence.proofs.MarriedCountLemmas.{married_count, married_kept, grows, Calm}
-use Rattle.mml_convergence.proofs.StagesLemmas.{Modest, Upward, Aware, Hopeful, Each, IsOpen, IsCourting, IsCourted, IsLone, IsRising, IsFacing}
-use Rattle.mml_convergence.proofs.StagesLemmas.{facing_idle, rising_stays, facing_moves, facing_stays, lone_stays, modest_idle, upward_idle, aware_idle}
-use Rattle.mml_convergence.proofs.StagesLemmas.{hopeful_idle, courting_idle, courted_idle, modest_stays, modest_moves, upward_stays, upward_moves}
-use Rattle.mml_convergence.proofs.StagesLemmas.{aware_stays, aware_moves, hopeful_stays, hopeful_moves, open_stays, courting_stays, courting_moves}
-use Rattle.mml_convergence.proofs.StagesLemmas.{courted_moves, courted_kept}
+use Rattle.mml_convergence.proofs.StagesLemmas.{Modest, Upward, Aware, Hopeful, Each, IsOpen, IsCourting, IsCourted, IsLone, IsRising, IsFacing, facing_idle, rising_stays, facing_moves, facing_stays}
+use Rattle.mml_convergence.proofs.StagesLemmas.{lone_stays, modest_idle, upward_idle, aware_idle, hopeful_idle, courting_idle, courted_idle, modest_stays, modest_moves, upward_stays, upward_moves}
+use Rattle.mml_convergence.proofs.StagesLemmas.{aware_stays, aware_moves, hopeful_stays, hopeful_moves, open_stays, courting_stays, courting_moves, courted_moves, courted_kept}
 
 -- ---- at any time
 

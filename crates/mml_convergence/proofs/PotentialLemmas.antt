@@ -1,22 +1,16 @@
 -- In a step each node's potential falls by what is charged to it: its own move, but for a marriage with a lower node, and a marriage of a higher node with it.
 use Rattle.std.proofs.Common.{◌≡◌, ℕ, ◌+◌, ◌<◌, ◌≤◌, Bool, true, false, cond, not, inl, inr, Option, None, Some, sym, refl, ap, ◌∙◌, subst, arith, nat_lt}
 use Rattle.std.specs.Option.{option_map_or}
-use Rattle.std.proofs.lemmas.Bool.{and_parts, and_from, both_ways, false≢true, ltb-true, lt-ltb, cases_Bool, cases_order}
-use Rattle.std.proofs.lemmas.Bool.Decides.{nat_tests}
+use Rattle.std.proofs.lemmas.Bool.{and_parts, and_from, both_ways, false≢true, ltb-true, lt-ltb, cases_Bool, cases_order, Decides.nat_tests}
 use Rattle.mml_ids.specs.Search.{some_below, count_below}
 use Rattle.mml_ids.proofs.SearchLemmas.{some_below-find, some_below-none}
-use Rattle.mml_rules.specs.declared.rule.Rule.{Rule}
-use Rattle.mml_rules.specs.Configuration.{Configuration, IsLawful, holds}
-use Rattle.mml_rules.specs.Rules.{is_married, moved, step, AllHold}
-use Rattle.mml_rules.proofs.ConfigurationLemmas.{holds-true, holds-from}
-use Rattle.mml_rules.proofs.RulesLemmas.{married-null, married-at, married-from}
-use Rattle.mml_rules.proofs.StepLemmas.{step-lawful}
+use Rattle.mml_rules.specs.{declared.rule.Rule.Rule, Configuration.Configuration, Configuration.IsLawful, Configuration.holds, Rules.is_married, Rules.moved, Rules.step, Rules.AllHold}
+use Rattle.mml_rules.proofs.{ConfigurationLemmas.holds-true, ConfigurationLemmas.holds-from, RulesLemmas.married-null, RulesLemmas.married-at, RulesLemmas.married-from, StepLemmas.step-lawful}
 use Rattle.mml_convergence.proofs.StepLemmas.{step-keeps, step-married, step-free, moved-m}
 use Rattle.mml_convergence.specs.Potential.{sum_below, points_down, own_part, is_above, link_part, potential}
-use Rattle.mml_convergence.proofs.PartsLemmas.{IsMoved, IsStep, own_kept, own_updated, own_abandoned, link_kept, link_fell, link_answered}
+use Rattle.mml_convergence.proofs.PartsLemmas.{IsMoved, own_kept, own_updated, own_abandoned, link_kept, link_fell, link_answered}
 use Rattle.mml_convergence.proofs.SumsLemmas.{sum_kept, sum_fell, count_none, count_one_at_most}
-use Rattle.mml_convergence.proofs.MovesLemmas.{pays, marries_lower, marries_lower-means, updates, Marries, marries, seduces, seduced, abandons, abandoned}
-use Rattle.mml_convergence.proofs.MovesLemmas.{makes, drops}
+use Rattle.mml_convergence.proofs.MovesLemmas.{pays, marries_lower, marries_lower-means, updates, Marries, marries, seduces, seduced, abandons, abandoned, makes, drops}
 
 cond_kept : (b : Bool) (x y : ℕ) → (b ≡ true → x ≤ y) → cond b x 0 ≤ cond b y 0
 cond_kept b x y le = grind arith
@@ -57,8 +51,7 @@ module _ (c : Configuration) (chosen : ℕ → Option Rule) (l : IsLawful c) (h 
         | inr off ↦
             let made = makes c i j (chosen i) (h i) off e in
             elim made.partner [
-              | inl suitor ↦ absurd
-                  (both_ways (is_married next i) unmarried (lower_pair i j (made.right ∙ married-null c i made.null) suitor e (ltb-true j i d)))
+              | inl suitor ↦ absurd (both_ways (is_married next i) unmarried (lower_pair i j (made.right ∙ married-null c i made.null) suitor e (ltb-true j i d)))
               | inr higher ↦ let up = higher.0 in let lt = ltb-true j i d in absurd (omega arith)
             ]
       ]
@@ -69,32 +62,31 @@ module _ (c : Configuration) (chosen : ℕ → Option Rule) (l : IsLawful c) (h 
   m_stays : (j : ℕ) → is_married c j ≡ true → c.m j ≡ true → next.m j ≡ true
   m_stays j e m = elim (m_moved j) [ inl same ↦ same ∙ m | inr changed ↦ changed.0 ∙ e ]
 
-  m_found : (j : ℕ) → next.m j ≡ true → is_married next j ≡ false → (c.m j ≡ true) × (is_married c j ≡ false)
-  m_found j m e = grind (arith, nat_tests, m_moved, step-free)
-
   m_off : (j : ℕ) → is_married c j ≡ false → c.m j ≡ false → next.m j ≡ false
   m_off j e m = elim (m_moved j) [ inl same ↦ same ∙ m | inr changed ↦ changed.0 ∙ e ]
-
-  pair_stays : (i j : ℕ) → holds (c.p i) j ≡ true → holds (c.p j) i ≡ true → (holds (next.p i) j ≡ true) × (holds (next.p j) i ≡ true)
-  pair_stays i j a b =
-      let r = step-keeps c chosen h i j (holds-true (c.p i) j a, holds-true (c.p j) i b) in
-      (holds-from (next.p i) j r.0, holds-from (next.p j) i r.1)
-
-  pointer_made : (i j : ℕ) → holds (c.p i) j ≡ false → holds (next.p i) j ≡ true → (is_married c j ≡ false) × (holds (next.p j) i ≡ false → next.m j ≡ false)
-  pointer_made i j off on = grind (arith, nat_tests, makes, holds-true, married-at, drops, married-null, m_off)
-
-  pointer_dropped : (i j : ℕ) → i < j → holds (c.p i) j ≡ true → holds (next.p i) j ≡ false → c.m j ≡ true
-  pointer_dropped i j lt on off = grind (arith, nat_tests, drops, holds-true)
-
-  link_step : (i j : ℕ) → i < j
-      → IsStep (holds (c.p i) j) (holds (c.p j) i) (c.m j) (is_married c j) (holds (next.p i) j) (holds (next.p j) i) (next.m j) (is_married next j)
-  link_step i j lt = grind (arith, nat_tests, married, m_stays, m_found, pair_stays, pointer_made, pointer_dropped)
 
   above_lt : (i j : ℕ) → is_above c i j ≡ true → i < j
   above_lt i j e = ltb-true i j (and_parts (c.linked i j) (nat_lt i j) e).1
 
   link_part_kept : (i j : ℕ) → cond (is_above c i j) (link_part next i j) 0 ≤ cond (is_above c i j) (link_part c i j) 0
-  link_part_kept i j = cond_kept (is_above c i j) _ _ (λ e. link_kept _ _ _ _ _ _ _ _ (link_step i j (above_lt i j e)))
+  link_part_kept i j = cond_kept (is_above c i j) _ _
+      (λ e. link_kept _ _ _ _ _ _ _ _ (grind (
+        arith,
+        nat_tests,
+        married,
+        m_stays,
+        m_moved,
+        step-free,
+        step-keeps,
+        holds-from,
+        makes,
+        holds-true,
+        married-at,
+        drops,
+        married-null,
+        m_off,
+        above_lt i j e,
+      )))
 
   -- the parts of the links of i to higher nodes, before the step and after it
   abbrev links_before : ℕ → ℕ
@@ -114,7 +106,23 @@ module _ (c : Configuration) (chosen : ℕ → Option Rule) (l : IsLawful c) (h 
       (λ j lt. link_part_kept i j) (l.in_range i j linked).1 here
 
   pointer_fell : (i j : ℕ) → c.linked i j ≡ true → i < j → holds (next.p i) j ≡ not (holds (c.p i) j) → links_after i + 1 ≤ links_before i
-  pointer_fell i j linked lt turned = links_fell i j linked lt (link_fell _ _ _ _ _ _ _ _ (link_step i j lt) turned)
+  pointer_fell i j linked lt turned = links_fell i j linked lt
+      (link_fell _ _ _ _ _ _ _ _ (grind (
+        arith,
+        nat_tests,
+        married,
+        m_stays,
+        m_moved,
+        step-free,
+        step-keeps,
+        holds-from,
+        makes,
+        holds-true,
+        married-at,
+        drops,
+        married-null,
+        m_off,
+      )) turned)
 
   apart : (i j : ℕ) → c.linked i j ≡ true → i ≡ j → ⊥
   apart i j linked e = both_ways (c.linked i i) (l.no_loop i) (subst (λ x. c.linked i x ≡ true) (sym e) linked)
@@ -141,41 +149,33 @@ module _ (c : Configuration) (chosen : ℕ → Option Rule) (l : IsLawful c) (h 
   marriage_paid : (i j : ℕ) → chosen i ≡ Some (Rule.Marriage j) → (b : Bool) → nat_lt j i ≡ b → Pays i (cond (not b) 1 0)
   marriage_paid i j e true lower = pays_nothing i
   marriage_paid i j e false up =
-      let g = marries c i j (h i (Rule.Marriage j) e) in
-      let to : next.p i ≡ Some j = ap (λ o. (moved c i o).p) e in
-      elim (cases_order i j) [
-        | inl same ↦ absurd (apart i j g.linked same)
-        | inr o ↦ elim o [
-          | inl lt ↦ by_links i (pointer_fell i j g.linked lt (holds-from (next.p i) j to ∙ sym (ap (λ o. not (holds o j)) g.null)))
-          | inr gt ↦ absurd (both_ways (nat_lt j i) up (lt-ltb j i gt))
-        ]
-      ]
+      grind (arith, nat_tests, marries c i j (h i (Rule.Marriage j) e), ap (λ o. (moved c i o).p) e, cases_order, apart, by_links, pointer_fell, holds-from, both_ways, lt-ltb)
 
   seduction_paid : (i : ℕ) → chosen i ≡ Some Rule.Seduction → Pays i 1
   seduction_paid i e =
       let some = seduced c i (h i Rule.Seduction e) in
-      let g = seduces c i some.0 (h i Rule.Seduction e) some.1 in
-      let to : next.p i ≡ Some some.0 = ap (λ o. (moved c i o).p) e ∙ some.1 in
-      by_links i (pointer_fell i some.0 g.linked g.higher (holds-from (next.p i) some.0 to ∙ sym (ap (λ o. not (holds o some.0)) g.null)))
+      grind (arith, nat_tests, seduces c i some.0 (h i Rule.Seduction e) some.1, ap (λ o. (moved c i o).p) e ∙ some.1, by_links, pointer_fell, holds-from)
 
   abandonment_paid : (i : ℕ) → chosen i ≡ Some Rule.Abandonment → Pays i 1
   abandonment_paid i e =
       let some = abandoned c i (h i Rule.Abandonment e) in
       let j = some.0 in
-      let g = abandons c i j (h i Rule.Abandonment e) some.1 in
-      let alone = married-at c i j l some.1 ∙ g.unanswered in
-      let off = g.right ∙ alone in
-      let null : next.p i ≡ None = ap (λ o. (moved c i o).p) e in
-      let linked = l.to_linked i j some.1 in
-      elim (cases_order i j) [
-        | inl same ↦ absurd (apart i j linked same)
-        | inr o ↦ elim o [
-          | inl up ↦ by_links i (pointer_fell i j linked up (ap (λ o. holds o j) null ∙ sym (ap not (holds-from (c.p i) j some.1))))
-          | inr down ↦ by_own_part i (own_abandoned (is_married c i) (c.m i) (points_down c i) (is_married next i) (next.m i) (points_down next i) alone off
-              (ap (λ o. option_map_or (λ j. nat_lt j i) o false) some.1 ∙ lt-ltb j i down) (ap (λ o. (moved c i o).m) e ∙ off)
-              (ap (λ o. option_map_or (λ j. nat_lt j i) o false) null))
-        ]
-      ]
+      grind (
+        arith,
+        nat_tests,
+        abandons c i j (h i Rule.Abandonment e) some.1,
+        ap (λ o. (moved c i o).p) e,
+        l.to_linked i j some.1,
+        married-at,
+        cases_order,
+        apart,
+        by_links,
+        pointer_fell,
+        holds-from,
+        by_own_part,
+        own_abandoned,
+        lt-ltb,
+      )
 
   -- by the four rules
   move_paid : (i : ℕ) (o : Option Rule) → chosen i ≡ o → Pays i (cond (pays o i) 1 0)
@@ -191,10 +191,7 @@ module _ (c : Configuration) (chosen : ℕ → Option Rule) (l : IsLawful c) (h 
     unmarried : is_married c k ≡ false
 
   lower_marriage : (k i : ℕ) → marries_lower (chosen k) k i ≡ true → MarriesLower k i
-  lower_marriage k i e =
-      let w = marries_lower-means (chosen k) k i e in
-      let g = marries c k i (h k (Rule.Marriage i) w.0) in
-      record { higher = w.1; chooses = w.0; guarded = g; unmarried = married-null c k g.null }
+  lower_marriage k i e = let w = marries_lower-means (chosen k) k i e in grind (arith, nat_tests, marries c k i (h k (Rule.Marriage i) w.0), married-null)
 
   -- i goes on pointing at k, which points back: the link's part falls from 1 to 0
   answer_lowers : (k i : ℕ) → MarriesLower k i → links_after i + 1 ≤ links_before i
@@ -205,10 +202,7 @@ module _ (c : Configuration) (chosen : ℕ → Option Rule) (l : IsLawful c) (h 
   both_paid k i w None e = by_links i (answer_lowers k i w)
   both_paid k i w (Some Rule.Update) e = let own = own_part_updated i e in let links = answer_lowers k i w in omega (arith, own, links)
   both_paid k i w (Some (Rule.Marriage j)) e = let g = marries c i j (h i (Rule.Marriage j) e) in let null = g.null in let suitor = w.guarded.suitor in cc
-  both_paid k i w (Some Rule.Seduction) e =
-      let some = seduced c i (h i Rule.Seduction e) in
-      let g = seduces c i some.0 (h i Rule.Seduction e) some.1 in
-      let null = g.null in let suitor = w.guarded.suitor in cc
+  both_paid k i w (Some Rule.Seduction) e = let some = seduced c i (h i Rule.Seduction e) in grind (arith, nat_tests, seduces c i some.0 (h i Rule.Seduction e) some.1)
   both_paid k i w (Some Rule.Abandonment) e = elim (abandons c i k (h i Rule.Abandonment e) w.guarded.suitor).vain [
     | inl m ↦ absurd (both_ways (c.m k) (w.guarded.right ∙ w.unmarried) m)
     | inr lt ↦ let gt = w.higher in absurd (omega arith)
@@ -228,12 +222,17 @@ module _ (c : Configuration) (chosen : ℕ → Option Rule) (l : IsLawful c) (h 
     where
       go : (b : Bool) → some_below c.size (λ k. marries_lower (chosen k) k i) ≡ b → Pays i (cond (pays (chosen i) i) 1 0 + marriages_with i)
       go false e =
-          let none = count_none c.size (λ k. marries_lower (chosen k) k i) (λ k lt. some_below-none c.size k (λ k. marries_lower (chosen k) k i) e lt) in
-          omega (arith, none, move_paid i (chosen i) refl)
+          grind (
+            arith,
+            nat_tests,
+            count_none c.size (λ k. marries_lower (chosen k) k i) (λ k lt. some_below-none c.size k (λ k. marries_lower (chosen k) k i) e lt),
+            marries_lower,
+            some_below-none,
+            move_paid,
+          )
       go true e =
           let found = some_below-find c.size (λ k. marries_lower (chosen k) k i) e in
-          let w = lower_marriage found.0 i found.2 in
-          omega (arith, one_marriage found.0 i w, both_paid found.0 i w (chosen i) refl)
+          grind (arith, nat_tests, lower_marriage found.0 i found.2, one_marriage, both_paid)
 
   -- the potential of i falls by what is charged to it
   pub potential_fell : (i : ℕ) → potential next i + (cond (pays (chosen i) i) 1 0 + count_below c.size (λ k. marries_lower (chosen k) k i)) ≤ potential c i

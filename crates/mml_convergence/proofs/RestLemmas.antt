@@ -1,25 +1,17 @@
 -- A run that is over has ended where no node is privileged; each run can be led there.
 use Rattle.std.proofs.Common.{◌≡◌, ℕ, zero, suc, ◌<◌, true, false, ◌==◌, List, [], ◌∷◌, length, Option, None, Some, is_some, sym, refl, ap, ◌∙◌, arith}
 use Rattle.std.specs.List.{list_any}
-use Rattle.std.proofs.lemmas.Bool.{false≢true, both_ways, or_left, eq-eqb, false_from_ne_true, and_right}
-use Rattle.std.proofs.lemmas.Bool.Decides.{nat_tests}
-use Rattle.mml_rules.specs.declared.rule.Rule.{Rule}
-use Rattle.mml_rules.specs.Rules.{guard, is_privileged}
-use Rattle.mml_rules.specs.Matching.{IsStable, IsMaximal}
-use Rattle.mml_rules.proofs.EnabledKindLemmas.{idle-guard}
-use Rattle.mml_rules.proofs.MeaningLemmas.{privileged-means}
-use Rattle.mml_lab.specs.declared.who.Who.TheVariants as who
+use Rattle.std.proofs.lemmas.Bool.{false≢true, both_ways, or_left, eq-eqb, false_from_ne_true, and_right, Decides.nat_tests}
+use Rattle.mml_rules.specs.{declared.rule.Rule.Rule, Rules.guard, Rules.is_privileged, Matching.IsStable, Matching.IsMaximal}
+use Rattle.mml_rules.proofs.{EnabledKindLemmas.idle-guard, MeaningLemmas.privileged-means}
 use Rattle.mml_lab.specs.Rosters.{RosterValue, owners_of, owns}
-use Rattle.mml_board.specs.declared.event.Event.{Event}
-use Rattle.mml_board.specs.declared.event.Event.TheVariants as event
+use Rattle.mml_board.specs.{declared.event.Event.Event, Events.has_right_asker, Events.is_possible, Events.is_legal, Events.after, Runs.is_legal_list, Runs.world_of}
 use Rattle.mml_board.specs.World.{World, size, configuration, chosen_at, IsWorld}
-use Rattle.mml_board.specs.Events.{has_right_asker, is_possible, is_legal, after}
-use Rattle.mml_board.specs.Runs.{is_legal_list, world_of}
-use Rattle.mml_board.proofs.WorldLemmas.{size-after, chosen_node}
-use Rattle.mml_board.proofs.RunsLemmas.{list-world}
-use Rattle.mml_convergence.specs.Runs.{is_of_step}
+use Rattle.mml_board.proofs.{WorldLemmas.size-after, WorldLemmas.chosen_node, RunsLemmas.list-world}
+use Rattle.mml_convergence.specs.{Runs.is_of_step, Rest.EachHasOwner, Rest.IsOver}
 use Rattle.mml_stable.proofs.MatchingLemmas.{maximal}
-use Rattle.mml_convergence.specs.Rest.{EachHasOwner, IsOver}
+use Rattle.mml_lab.specs.declared.who.Who.TheVariants as who
+use Rattle.mml_board.specs.declared.event.Event.TheVariants as event
 
 -- ---- what is chosen
 
@@ -54,8 +46,7 @@ stable_unchosen w k stable i = go (chosen_at w.chosen i) refl
   where
     go : (o : Option Rule) → chosen_at w.chosen i ≡ o → is_some (chosen_at w.chosen i) ≡ false
     go None e = ap is_some e
-    go (Some rule) e =
-        absurd (both_ways (guard (configuration w) i rule) (stable_guard w k stable i rule (chosen_node w i k.choices (ap is_some e))) (k.hold i rule e))
+    go (Some rule) e = absurd (both_ways (guard (configuration w) i rule) (stable_guard w k stable i rule (chosen_node w i k.choices (ap is_some e))) (k.hold i rule e))
 
 stable_impossible : (w : World) (e : Event) → IsWorld w → IsStable (configuration w) → is_of_step e ≡ true → is_possible w e ≡ false
 stable_impossible w (event.Grant s i rule) k stable of_step = grind (arith, nat_tests, stable_guard)

@@ -1,41 +1,27 @@
 -- Four rounds make two more nodes married, so four for each two nodes lead to where no node is privileged.
-use Rattle.std.proofs.Common.{◌≡◌, ℕ, zero, suc, ◌+◌, ◌*◌, ◌-◌, ◌<◌, ◌≤◌, ◌⊎◌, inl, inr, Bool, true, false, not, List, [], ◌∷◌, Option, None, Some}
-use Rattle.std.proofs.Common.{sym, refl, ap, ◌∙◌, subst, arith}
+use Rattle.std.proofs.Common.{◌≡◌, ℕ, zero, suc, ◌+◌, ◌*◌, ◌-◌, ◌<◌, ◌≤◌, ◌⊎◌, inl, inr, Bool, true, false, not, List, [], ◌∷◌, Option, None, Some, sym, refl, ap, ◌∙◌, subst, arith}
 use Rattle.std.specs.List.{list_all}
-use Rattle.std.proofs.lemmas.List.{append-nil}
-use Rattle.std.proofs.lemmas.Bool.{or_right, both_ways, false_from_ne_true, cases_lt, cases_order}
-use Rattle.std.proofs.lemmas.Bool.Decides.{nat_tests}
+use Rattle.std.proofs.lemmas.{List.append-nil, Bool.or_right, Bool.both_ways, Bool.false_from_ne_true, Bool.cases_lt, Bool.cases_order, Bool.Decides.nat_tests}
 use Rattle.mml_ids.specs.Search.{some_below}
 use Rattle.mml_ids.proofs.SearchLemmas.{some_below-find, some_below-none}
-use Rattle.mml_rules.specs.declared.rule.Rule.{Rule}
+use Rattle.mml_rules.specs.{declared.rule.Rule.Rule, Rules.is_married, Rules.is_privileged, Rules.guard, Matching.IsStable, Matching.IsMaximal}
 use Rattle.mml_rules.specs.Configuration.{Configuration, IsLawful, holds}
-use Rattle.mml_rules.specs.Rules.{is_married, is_privileged, guard}
-use Rattle.mml_rules.specs.Matching.{IsStable, IsMaximal}
-use Rattle.mml_rules.proofs.RulesLemmas.{married-null, married-at}
-use Rattle.mml_rules.proofs.MeaningLemmas.{privileged-means}
+use Rattle.mml_rules.proofs.{RulesLemmas.married-null, RulesLemmas.married-at, MeaningLemmas.privileged-means}
 use Rattle.mml_lab.specs.Rosters.{RosterValue}
-use Rattle.mml_board.specs.declared.event.Event.{Event}
-use Rattle.mml_board.specs.World.{World, size, configuration, IsWorld}
-use Rattle.mml_board.specs.Events.{after}
-use Rattle.mml_board.specs.Runs.{is_legal_list, world_of}
-use Rattle.mml_board.proofs.WorldLemmas.{size-after}
-use Rattle.mml_board.proofs.RunsLemmas.{world_of-append}
-use Rattle.mml_convergence.specs.Runs.{is_of_step}
+use Rattle.mml_board.specs.{declared.event.Event.Event, World.World, World.size, World.configuration, World.IsWorld, Events.after, Runs.is_legal_list, Runs.world_of}
+use Rattle.mml_board.proofs.{WorldLemmas.size-after, RunsLemmas.world_of-append}
+use Rattle.mml_convergence.specs.{Runs.is_of_step, Rounds.IsRound, Rounds.Rounds, Rounds.rounds_for}
 use Rattle.mml_stable.proofs.MatchingLemmas.{maximal}
-use Rattle.mml_convergence.proofs.MovesLemmas.{updates, marries, seduces, seduced, abandons, abandoned}
-use Rattle.mml_convergence.specs.Rounds.{IsRound, Rounds, rounds_for}
+use Rattle.mml_convergence.proofs.{MovesLemmas.updates, MovesLemmas.marries, MovesLemmas.seduces, MovesLemmas.seduced, MovesLemmas.abandons, MovesLemmas.abandoned, RestLemmas.same_size}
 use Rattle.mml_convergence.proofs.MarriedCountLemmas.{married_count, apart, married_kept, pair_counts, open_counts, single_counts, most}
 use Rattle.mml_convergence.proofs.StagesLemmas.{Modest, Upward, Aware, Hopeful, Each, IsOpen, IsCourting, IsLone, IsRising, IsFacing, courted, self}
-use Rattle.mml_convergence.proofs.PhasesLemmas.{Stays, IsDawning, dawning_calm, dawning_brings, Any, any_stays, IsSettled, IsAware, IsHopeful, IsReady}
-use Rattle.mml_convergence.proofs.PhasesLemmas.{IsWooed, Never, modest_brings, modest_each, upward_brings, settled_stays, settled_calm, aware_calm}
-use Rattle.mml_convergence.proofs.PhasesLemmas.{ready_calm, wooed_calm, aware_brings, hopeful_brings, courting_brings, wedding_brings}
-use Rattle.mml_convergence.proofs.RestLemmas.{same_size}
+use Rattle.mml_convergence.proofs.PhasesLemmas.{Stays, IsDawning, dawning_calm, dawning_brings, Any, any_stays, IsSettled, IsAware, IsHopeful, IsReady, IsWooed, Never, modest_brings, modest_each}
+use Rattle.mml_convergence.proofs.PhasesLemmas.{upward_brings, settled_stays, settled_calm, aware_calm, ready_calm, wooed_calm, aware_brings, hopeful_brings, courting_brings, wedding_brings}
 use Rattle.mml_convergence.proofs.ServedLemmas.{IsRun, run_parts, run_end, stable_end, stays_over, round_brings, calm_round, calm_turn}
 
 -- ---- no node is privileged, or two linked nodes aren't married
 
-open_link : (c : Configuration) (i j : ℕ) → IsLawful c → c.linked i j ≡ true → is_married c i ≡ false → is_married c j ≡ false
-    → (a : ℕ) × (b : ℕ) × IsOpen a b c
+open_link : (c : Configuration) (i j : ℕ) → IsLawful c → c.linked i j ≡ true → is_married c i ≡ false → is_married c j ≡ false → (a : ℕ) × (b : ℕ) × IsOpen a b c
 open_link c i j l linked ei ej = elim (cases_order i j) [
   | inl same ↦ absurd (apart c i j l linked same)
   | inr o ↦ elim o [
@@ -55,22 +41,12 @@ stable_or_open c l k = go (some_below c.size (is_privileged c)) refl
     by_rule i lt (Rule.Marriage j) g =
         let m = marries c i j g in
         open_link c i j l m.linked (married-null c i m.null) (married-at c j i l m.suitor ∙ ap (λ o. holds o j) m.null)
-    by_rule i lt Rule.Seduction g =
-        let s = seduced c i g in
-        let m = seduces c i s.0 g s.1 in
-        open_link c i s.0 l m.linked (married-null c i m.null) (married-null c s.0 m.free)
-    by_rule i lt Rule.Abandonment g =
-        let s = abandoned c i g in
-        let m = abandons c i s.0 g s.1 in
-        let free = married-at c i s.0 l s.1 ∙ m.unanswered in
-        open_link c i s.0 l (l.to_linked i s.0 s.1) free (k.hopeful i lt free s.0 s.1)
+    by_rule i lt Rule.Seduction g = let s = seduced c i g in grind (arith, nat_tests, seduces c i s.0 g s.1, open_link, married-null)
+    by_rule i lt Rule.Abandonment g = grind (arith, nat_tests, abandoned c i g, abandons, married-at, open_link)
 
     go : (b : Bool) → some_below c.size (is_privileged c) ≡ b → IsStable c ⊎ ((a : ℕ) × (b : ℕ) × IsOpen a b c)
     go false e = inl (λ i lt. some_below-none c.size i (is_privileged c) e lt)
-    go true e =
-        let found = some_below-find c.size (is_privileged c) e in
-        let move = (privileged-means c found.0 l).0 found.2 in
-        inr (by_rule found.0 found.1 move.0 move.1)
+    go true e = let found = some_below-find c.size (is_privileged c) e in let move = (privileged-means c found.0 l).0 found.2 in inr (by_rule found.0 found.1 move.0 move.1)
 
 -- ---- a round, and what follows it
 
@@ -87,19 +63,7 @@ record IsTurn (r : RosterValue) (w : World) (es : List Event) (k : ℕ) : Type 0
 
 turn : (r : RosterValue) (w : World) (es : List Event) (k : ℕ) → 0 < k → IsRun r w es → Rounds k w es → IsTurn r w es k
 turn r w es zero lt run rounds = absurd (omega arith)
-turn r w es (suc k) lt run rounds =
-    let parts = run_parts r w rounds.0 rounds.1 (subst (λ x. IsRun r w x) rounds.2 run) in
-    record {
-      first = rounds.0;
-      rest = rounds.1;
-      left = k;
-      is = omega arith;
-      here = parts.0;
-      round = rounds.3;
-      on = parts.1;
-      rounds = rounds.4;
-      same = sym (world_of-append w rounds.0 rounds.1) ∙ ap (world_of w) (sym rounds.2);
-    }
+turn r w es (suc k) lt run rounds = grind (arith, nat_tests, run_parts r w rounds.0 rounds.1 (subst (λ x. IsRun r w x) rounds.2 run), IsRun, world_of-append)
 
 abbrev EndsStable : World → List Event → Type 0
 EndsStable w es = IsStable (configuration (world_of w es))
@@ -207,8 +171,7 @@ module _ (r : RosterValue) (n m b : ℕ) (enough : Enough r n (m + 2) b) where
             from_hopeful (world_of w u.first) u.rest u.left u.on (same ∙ here) still (record {
               settled = q.1.0;
               aware = λ i lt. q.1.1 i lt lt;
-              hopeful = λ i lt free. let one = single_counts (configuration (world_of w u.first)) i lt free in
-                  absurd (omega (arith, one, still, same, here, full));
+              hopeful = λ i lt free. let one = single_counts (configuration (world_of w u.first)) i lt free in absurd (omega (arith, one, still, same, here, full));
             }) (λ fits. absurd (omega (arith, fits, full))) u.rounds
       ])
 
@@ -243,8 +206,7 @@ descend (suc n) x z c l room e = go (λ y. descend n z y c l) (c.p z) refl (case
 
     go : ((y : ℕ) → z < n → c.p z ≡ Some y → IsDawn c) → (o : Option ℕ) → c.p z ≡ o → (x ≡ z) ⊎ ((x < z) ⊎ (z < x)) → IsDawn c
     go further o f (inl same) = absurd (apart c x z l linked same)
-    go further o f (inr (inl up)) =
-        record { low = x; high = z; up = up; within = (l.in_range x z linked).1; either = inl (record { who = x; whom = z; points = e; up = up }) }
+    go further o f (inr (inl up)) = record { low = x; high = z; up = up; within = (l.in_range x z linked).1; either = inl (record { who = x; whom = z; points = e; up = up }) }
     go further None f (inr (inr down)) = record {
       low = z;
       high = x;
@@ -260,24 +222,12 @@ stable_or_dawn c l modest lone = go (some_below c.size (is_privileged c)) refl
     by_rule : (i : ℕ) → i < c.size → (r : Rule) → guard c i r ≡ true → IsDawn c
     by_rule i lt Rule.Update g = absurd (self (is_married c i) (lone i ∙ sym (modest i lt (lone i)) ∙ updates c i g))
     by_rule i lt (Rule.Marriage j) g = let m = marries c i j g in descend (suc j) j i c l (omega arith) m.suitor
-    by_rule i lt Rule.Seduction g =
-        let s = seduced c i g in
-        let m = seduces c i s.0 g s.1 in
-        record {
-          low = i;
-          high = s.0;
-          up = m.higher;
-          within = (l.in_range i s.0 m.linked).1;
-          either = inr (record { linked = m.linked; up = m.higher; null = m.null; either = inl m.free });
-        }
+    by_rule i lt Rule.Seduction g = let s = seduced c i g in grind (arith, nat_tests, seduces c i s.0 g s.1)
     by_rule i lt Rule.Abandonment g = let s = abandoned c i g in descend (suc i) i s.0 c l (omega arith) s.1
 
     go : (b : Bool) → some_below c.size (is_privileged c) ≡ b → IsStable c ⊎ IsDawn c
     go false e = inl (λ i lt. some_below-none c.size i (is_privileged c) e lt)
-    go true e =
-        let found = some_below-find c.size (is_privileged c) e in
-        let move = (privileged-means c found.0 l).0 found.2 in
-        inr (by_rule found.0 found.1 move.0 move.1)
+    go true e = let found = some_below-find c.size (is_privileged c) e in let move = (privileged-means c found.0 l).0 found.2 in inr (by_rule found.0 found.1 move.0 move.1)
 
 -- ---- from any world
 

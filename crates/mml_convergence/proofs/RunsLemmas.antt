@@ -1,32 +1,23 @@
 -- Over grants, releases and closes m changes at most twice at a node.
-use Rattle.std.proofs.Common.{◌≡◌, ℕ, ◌≤◌, ◌+◌, Bool, true, List, [], ◌∷◌, sym, subst, arith}
-use Rattle.std.specs.List.{list_all}
-use Rattle.std.proofs.lemmas.Bool.{false≢true}
-use Rattle.mml_rules.specs.Configuration.{Configuration}
-use Rattle.mml_rules.specs.Rules.{is_married}
+use Rattle.std.proofs.Common.{◌≡◌, ℕ, ◌≤◌, ◌+◌, true, List, [], ◌∷◌, sym, subst, arith}
+use Rattle.std.{specs.List.list_all, proofs.lemmas.Bool.false≢true, proofs.lemmas.Bool.Decides.nat_tests}
+use Rattle.mml_rules.specs.{Configuration.Configuration, Rules.is_married}
 use Rattle.mml_lab.specs.Rosters.{RosterValue}
-use Rattle.mml_board.specs.declared.event.Event.{Event}
-use Rattle.mml_board.specs.declared.event.Event.TheVariants as event
-use Rattle.mml_board.specs.World.{World, configuration, chosen_at, IsWorld}
-use Rattle.mml_board.specs.Events.{after}
-use Rattle.mml_board.specs.Runs.{is_legal_list}
+use Rattle.mml_board.specs.{declared.event.Event.Event, World.World, World.configuration, World.chosen_at, World.IsWorld, Events.after, Runs.is_legal_list}
 use Rattle.mml_convergence.specs.Runs.{is_of_step, changes_of_m}
 use Rattle.mml_convergence.proofs.StepLemmas.{weight, change, step-weight, weight_at_most}
 use Rattle.mml_board.proofs.WorldLemmas.{closed-step, after-world}
-use Rattle.std.proofs.lemmas.Bool.Decides.{nat_tests}
+use Rattle.mml_board.specs.declared.event.Event.TheVariants as event
 
 -- how often m may still change at i
 abbrev weight_at : World → ℕ → ℕ
 weight_at w i = weight ((configuration w).m i) (is_married (configuration w) i)
 
-same_m : (b : Bool) (x : ℕ) → change b b + x ≤ x
-same_m b x = grind arith
-
 -- each change of m is paid for
 step_pays : (w : World) (e : Event) (i : ℕ) → IsWorld w → is_of_step e ≡ true
     → change ((configuration w).m i) ((configuration (after w e)).m i) + weight_at (after w e) i ≤ weight_at w i
-step_pays w (event.Grant s node rule) i k of_step = same_m _ _
-step_pays w (event.Release node) i k of_step = same_m _ _
+step_pays w (event.Grant s node rule) i k of_step = grind arith
+step_pays w (event.Release node) i k of_step = grind arith
 step_pays w event.Close i k of_step =
     let pays = step-weight (configuration w) (chosen_at w.chosen) k.network.lawful k.hold i in
     subst (λ (c : Configuration). change ((configuration w).m i) (c.m i) + weight (c.m i) (is_married c i) ≤ weight_at w i) (sym (closed-step w k.choices)) pays
@@ -38,6 +29,5 @@ changes_paid r i w [] k legal steps = omega arith
 changes_paid r i w (e ∷ es) k legal steps = grind (arith, step_pays w e i k, changes_paid r i (after w e) es, after-world w e k)
 
 -- over grants, releases and closes m changes at most twice at a node
-pub twice_at_most : (r : RosterValue) (w : World) (es : List Event) (i : ℕ) → IsWorld w → is_legal_list r w es ≡ true → list_all is_of_step es ≡ true
-    → changes_of_m i w es ≤ 2
+pub twice_at_most : (r : RosterValue) (w : World) (es : List Event) (i : ℕ) → IsWorld w → is_legal_list r w es ≡ true → list_all is_of_step es ≡ true → changes_of_m i w es ≤ 2
 twice_at_most r w es i k legal steps = grind (arith, nat_tests, changes_paid, weight_at_most)

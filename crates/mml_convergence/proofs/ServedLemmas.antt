@@ -1,24 +1,16 @@
 -- Over grants, releases and closes: what stays, and what a round brings.
 use Rattle.std.proofs.Common.{◌≡◌, ℕ, ◌+◌, ◌<◌, inl, inr, true, ◌&&◌, List, [], ◌∷◌, ◌++◌, Option, None, Some, is_some, sym, refl, subst, arith}
 use Rattle.std.specs.List.{list_all}
-use Rattle.std.proofs.lemmas.Bool.{and_parts, or_cases, not-true, false≢true, both_ways, cases_lt}
-use Rattle.std.proofs.lemmas.Bool.Decides.{nat_tests}
-use Rattle.mml_rules.specs.declared.rule.Rule.{Rule}
-use Rattle.mml_rules.specs.Configuration.{Configuration}
-use Rattle.mml_rules.specs.Matching.{IsStable}
+use Rattle.std.proofs.lemmas.Bool.{and_parts, or_cases, not-true, false≢true, both_ways, cases_lt, Decides.nat_tests}
+use Rattle.mml_rules.specs.{declared.rule.Rule.Rule, Configuration.Configuration, Matching.IsStable}
 use Rattle.mml_lab.specs.Rosters.{RosterValue}
-use Rattle.mml_board.specs.declared.event.Event.{Event}
-use Rattle.mml_board.specs.declared.event.Event.TheVariants as event
-use Rattle.mml_board.specs.World.{World, size, configuration, chosen_at, IsWorld}
+use Rattle.mml_board.specs.{declared.event.Event.Event, World.World, World.size, World.configuration, World.chosen_at, World.IsWorld, Runs.is_legal_list, Runs.world_of}
 use Rattle.mml_board.specs.Events.{has_right_asker, is_possible, is_legal, is_chosen, after}
-use Rattle.mml_board.specs.Runs.{is_legal_list, world_of}
 use Rattle.mml_board.proofs.WorldLemmas.{closed-step, after-world}
-use Rattle.mml_convergence.specs.Runs.{is_of_step}
-use Rattle.mml_convergence.specs.Moves.{is_close}
-use Rattle.mml_convergence.proofs.RestLemmas.{stable_final, same_size}
-use Rattle.mml_convergence.specs.Rounds.{is_served, IsRound}
-use Rattle.mml_convergence.proofs.MarriedCountLemmas.{married_count}
+use Rattle.mml_convergence.specs.{Runs.is_of_step, Moves.is_close, Rounds.is_served, Rounds.IsRound}
+use Rattle.mml_convergence.proofs.{RestLemmas.stable_final, RestLemmas.same_size, MarriedCountLemmas.married_count}
 use Rattle.mml_convergence.proofs.PhasesLemmas.{Stays, Brings, Within, CalmStays, CalmBrings, calm_stays, calm_brings}
+use Rattle.mml_board.specs.declared.event.Event.TheVariants as event
 
 -- a legal list of grants, releases and closes from a lawful world
 pub record IsRun (r : RosterValue) (w : World) (es : List Event) : Type 0 where
@@ -58,8 +50,7 @@ stable_end r w (e ∷ es) k stable = absurd (both_ways (is_legal r w e) (stable_
 
 -- ---- what stays
 
-stays_after : (P : Configuration → Type 0) → Stays P → (w : World) (e : Event) → IsWorld w → is_of_step e ≡ true → P (configuration w)
-    → P (configuration (after w e))
+stays_after : (P : Configuration → Type 0) → Stays P → (w : World) (e : Event) → IsWorld w → is_of_step e ≡ true → P (configuration w) → P (configuration (after w e))
 stays_after P stays w (event.Grant s i rule) k of_step p = p
 stays_after P stays w (event.Release i) k of_step p = p
 stays_after P stays w event.Close k of_step p = subst P (sym (closed-step w k.choices)) (stays (configuration w) (chosen_at w.chosen) k.network.lawful k.hold p)
@@ -121,16 +112,7 @@ calm_round n P Q stays b r w es k round p =
       | inl more ↦ inl more
       | inr q ↦ let le = q.0 in elim (cases_lt (married_count (configuration (world_of w es))) (n + 2)) [
         | inr more ↦ inl more
-        | inl less ↦ inr (
-          le,
-          (
-            q.1,
-            λ i lt. elim (each i lt) [
-              | inl more ↦ absurd (omega (arith, less, more))
-              | inr x ↦ x.1
-            ],
-          ),
-        )
+        | inl less ↦ inr (le, (q.1, λ i lt. elim (each i lt) [ inl more ↦ absurd (omega (arith, less, more)) | inr x ↦ x.1 ]))
       ]
     ]
 
@@ -139,12 +121,12 @@ pub calm_turn : (n : ℕ) (P Q : Configuration → Type 0) (i : ℕ) → CalmSta
     → (r : RosterValue) (w : World) (es : List Event) → IsRun r w es → IsRound w es → i < size w → Within n P (configuration w)
     → Within n (λ c. P c × Q c) (configuration (world_of w es))
 calm_turn n P Q i stays b r w es k round i_in p =
-    let after = stays_over (Within n P) (calm_stays n P stays) r w es k p in
-    let here = served (Within n P) (Within n Q) i (calm_stays n P stays) (calm_brings n P Q i b) r w es k p (round i i_in) in
-    elim after [
-      | inl more ↦ inl more
-      | inr q ↦ elim here [
-        | inl more ↦ inl more
-        | inr x ↦ inr (q.0, (q.1, x.1))
-      ]
-    ]
+    grind (
+      arith,
+      nat_tests,
+      stays_over (Within n P) (calm_stays n P stays) r w es k p,
+      served (Within n P) (Within n Q) i (calm_stays n P stays) (calm_brings n P Q i b) r w es k p (round i i_in),
+      Within,
+      calm_stays,
+      calm_brings,
+    )

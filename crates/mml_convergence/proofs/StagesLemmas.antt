@@ -1,18 +1,13 @@
 -- What one step does to a free node, and to a married one.
 use Rattle.std.proofs.Common.{◌≡◌, ℕ, zero, suc, ◌+◌, ◌<◌, ◌≤◌, ◌⊎◌, inl, inr, Bool, true, false, not, Option, None, Some, sym, refl, ap, ◌∙◌, arith}
-use Rattle.std.proofs.lemmas.Bool.{both_ways, false≢true, false_from_ne_true, cases_Bool, cases_order}
-use Rattle.std.proofs.lemmas.Bool.Decides.{nat_tests}
-use Rattle.mml_rules.specs.declared.rule.Rule.{Rule}
-use Rattle.mml_rules.specs.Configuration.{Configuration, IsLawful, holds}
+use Rattle.std.proofs.lemmas.Bool.{both_ways, false≢true, false_from_ne_true, cases_Bool, cases_order, Decides.nat_tests}
+use Rattle.mml_rules.specs.{declared.rule.Rule.Rule, Configuration.Configuration, Configuration.IsLawful, Configuration.holds}
 use Rattle.mml_rules.specs.Rules.{is_married, is_privileged, guard, effect, moved, step, AllHold}
-use Rattle.mml_rules.proofs.ConfigurationLemmas.{holds-true}
+use Rattle.mml_rules.proofs.{ConfigurationLemmas.holds-true, StepLemmas.step-lawful}
 use Rattle.mml_rules.proofs.RulesLemmas.{married-null, married-at, married-from, suitor-from, pointee_in}
-use Rattle.mml_rules.proofs.StepLemmas.{step-lawful}
-use Rattle.mml_convergence.proofs.StepLemmas.{step-free, moved-m}
+use Rattle.mml_convergence.proofs.{StepLemmas.step-free, StepLemmas.moved-m, PotentialLemmas.suitor_kept, MarriedCountLemmas.Calm, MarriedCountLemmas.apart}
 use Rattle.mml_stable.proofs.MatchingLemmas.{idle-quiet, idle-settled, quiet-vain, quiet-alone, no_open_link}
 use Rattle.mml_convergence.proofs.MovesLemmas.{updates, marries, seduces, seduced, abandons, abandoned, makes}
-use Rattle.mml_convergence.proofs.PotentialLemmas.{suitor_kept}
-use Rattle.mml_convergence.proofs.MarriedCountLemmas.{Calm, apart}
 
 -- ---- what may be so of a node
 
@@ -84,8 +79,7 @@ effect_right : (c : Configuration) (i : ℕ) (r : Rule) → guard c i r ≡ true
 effect_right c i r g = grind (arith, nat_tests, marries, seduced, seduces, abandoned, abandons)
 
 -- a node that isn't married, with m false, takes its pointer back if it moves
-lets_go : (c : Configuration) (i j k : ℕ) (r : Rule) → guard c i r ≡ true → is_married c i ≡ false → c.m i ≡ false → c.p i ≡ Some j
-    → (effect c i r).p ≡ Some k → ⊥
+lets_go : (c : Configuration) (i j k : ℕ) (r : Rule) → guard c i r ≡ true → is_married c i ≡ false → c.m i ≡ false → c.p i ≡ Some j → (effect c i r).p ≡ Some k → ⊥
 lets_go c i j k r g free off e to = grind (arith, nat_tests, self, updates, marries, seduced, seduces)
 
 -- ---- pointers, upwards
@@ -102,10 +96,7 @@ climb (suc n) x y c l upward hopeful room free e = go (λ z. climb n y z c l upw
     go : ((z : ℕ) → c.size ≤ y + n → is_married c y ≡ false → c.p y ≡ Some z → (s : ℕ) × (t : ℕ) × IsCourted s t c) → (o : Option ℕ) → c.p y ≡ o
         → (s : ℕ) × (t : ℕ) × IsCourted s t c
     go further None f = (x, y, record { suitor = e; null = f })
-    go further (Some z) f =
-        let range = l.in_range x y (l.to_linked x y e) in
-        let up = upward x range.0 free y e in
-        further z (omega (arith, up)) (hopeful x range.0 free y e) f
+    go further (Some z) f = grind (arith, nat_tests, l.in_range x y (l.to_linked x y e))
 
 -- where free nodes point only upwards and at free ones, and one does point, some node that points nowhere has a suitor
 pub courted : (c : Configuration) → IsLawful c → Each Upward c → Each Hopeful c → IsCourting c → (s : ℕ) × (t : ℕ) × IsCourted s t c
@@ -180,10 +171,6 @@ module _ (c : Configuration) (chosen : ℕ → Option Rule) (l : IsLawful c) (h 
         ]
       ]
 
-  -- and to a node that wasn't married
-  made_free : (i j : ℕ) → holds (c.p i) j ≡ false → next.p i ≡ Some j → is_married c j ≡ false
-  made_free i j off to = grind (arith, nat_tests, makes, married-at, married-null)
-
   -- a node that moved and isn't married has no pointer but a new one
   pointer_new : (i j : ℕ) (r : Rule) → Modest i c → chosen i ≡ Some r → is_married next i ≡ false → next.p i ≡ Some j → holds (c.p i) j ≡ false
   pointer_new i j r modest e free to = false_from_ne_true (holds (c.p i) j) (λ on.
@@ -224,11 +211,11 @@ module _ (c : Configuration) (chosen : ℕ → Option Rule) (l : IsLawful c) (h 
     pub hopeful_stays : (i : ℕ) → Hopeful i c → Hopeful i next
     hopeful_stays i hopeful free j to = elim (cases_Bool (holds (c.p i) j)) [
       | inl on ↦ free_after j (hopeful (free_before i free) j (holds-true (c.p i) j on))
-      | inr off ↦ free_after j (made_free i j off to)
+      | inr off ↦ free_after j (grind (arith, nat_tests, makes, married-at, married-null))
     ]
 
     pub hopeful_moves : (i : ℕ) (r : Rule) → Modest i c → chosen i ≡ Some r → Hopeful i next
-    hopeful_moves i r modest e free j to = free_after j (made_free i j (pointer_new i j r modest e free to) to)
+    hopeful_moves i r modest e free j to = free_after j (grind (arith, nat_tests, makes, married-at, married-null, pointer_new i j r modest e free to))
 
     pub open_stays : (a b : ℕ) → IsOpen a b c → IsOpen a b next
     open_stays a b k = record { linked = k.linked; up = k.up; low = free_after a k.low; high = free_after b k.high }
@@ -250,9 +237,7 @@ module _ (c : Configuration) (chosen : ℕ → Option Rule) (l : IsLawful c) (h 
         by_rule Rule.Update g none = absurd (self (is_married c a) (k.low ∙ sym (modest a (l.in_range a b k.linked).0 k.low) ∙ updates c a g))
         by_rule (Rule.Marriage j) g none = cc
         by_rule Rule.Seduction g none = let s = seduced c a g in let some = s.1 in cc
-        by_rule Rule.Abandonment g none =
-            let s = abandoned c a g in
-            courting_stays modest upward hopeful (record { who = a; whom = s.0; free = k.low; points = s.1 })
+        by_rule Rule.Abandonment g none = grind (arith, nat_tests, abandoned c a g, courting_stays)
 
         go : (o : Option ℕ) → next.p a ≡ o → IsCourting next
         go (Some y) f = record { who = a; whom = y; free = free_after a k.low; points = f }

@@ -57,8 +57,7 @@ sum_zero zero = refl
 sum_zero (suc n) = omega (arith, sum_zero n)
 
 -- the last column
-pub one_column : (R : ℕ → ℕ → Bool) (r n : ℕ)
-    → sum_below r (λ i. count_below (suc n) (R i)) ≡ count_below r (λ i. R i n) + sum_below r (λ i. count_below n (R i))
+pub one_column : (R : ℕ → ℕ → Bool) (r n : ℕ) → sum_below r (λ i. count_below (suc n) (R i)) ≡ count_below r (λ i. R i n) + sum_below r (λ i. count_below n (R i))
 one_column R zero n = refl
 one_column R (suc r) n = omega (arith, one_column R r n)
 

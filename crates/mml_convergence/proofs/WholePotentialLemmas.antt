@@ -1,22 +1,14 @@
 -- All potentials together: they fall by the moves of a step, and are 2 for each link and 3 for each node at the most.
-use Rattle.std.proofs.Common.{◌≡◌, ◌==◌, ℕ, zero, suc, ◌+◌, ◌*◌, ◌<◌, ◌≤◌, Bool, true, false, cond, not, ◌&&◌, Option, None, Some, is_some, inl, inr}
-use Rattle.std.proofs.Common.{refl, sym, ap, ◌∙◌, arith, nat_lt}
+use Rattle.std.proofs.Common.{◌≡◌, ◌==◌, ℕ, zero, suc, ◌+◌, ◌*◌, ◌<◌, ◌≤◌, Bool, true, false, cond, not, ◌&&◌, Option, None, Some, is_some, inl, inr, refl, sym, ap, arith, nat_lt}
 use Rattle.std.specs.Option.{option_map_or}
-use Rattle.std.proofs.lemmas.Bool.{and_parts, and_from, and_right, ltb-true, lt-ltb, le-ltb, eqb-true, eq-eqb, false_from_ne_true, cases_Bool}
-use Rattle.std.proofs.lemmas.Bool.Decides.{nat_tests}
+use Rattle.std.proofs.lemmas.Bool.{and_parts, and_from, and_right, ltb-true, lt-ltb, le-ltb, eqb-true, eq-eqb, false_from_ne_true, cases_Bool, Decides.nat_tests}
 use Rattle.mml_ids.specs.Search.{count_below}
 use Rattle.mml_ids.proofs.SearchLemmas.{same_bool}
-use Rattle.mml_rules.specs.declared.rule.Rule.{Rule}
-use Rattle.mml_rules.specs.Configuration.{Configuration, IsLawful, holds}
-use Rattle.mml_rules.specs.Rules.{is_married, step, AllHold}
+use Rattle.mml_rules.specs.{declared.rule.Rule.Rule, Configuration.Configuration, Configuration.IsLawful, Configuration.holds, Rules.is_married, Rules.step, Rules.AllHold}
 use Rattle.mml_lab.specs.Labs.{links_below}
-use Rattle.mml_convergence.specs.Potential.{sum_below, points_down, is_above, link_part, potential, whole_potential}
-use Rattle.mml_convergence.specs.Moves.{moves}
-use Rattle.mml_convergence.proofs.PartsLemmas.{own_most, link_most}
-use Rattle.mml_convergence.proofs.SumsLemmas.{sum_kept, sum_charged, sum_most, sum_parts, sum_split, sum_turned, sum_of_tests, one_column, count_none}
-use Rattle.mml_convergence.proofs.SumsLemmas.{count_some, count_one_at_most, count_same}
-use Rattle.mml_convergence.proofs.MovesLemmas.{pays, marries_lower}
-use Rattle.mml_convergence.proofs.PotentialLemmas.{potential_fell}
+use Rattle.mml_convergence.specs.{Potential.sum_below, Potential.points_down, Potential.is_above, Potential.link_part, Potential.potential, Potential.whole_potential, Moves.moves}
+use Rattle.mml_convergence.proofs.{PartsLemmas.own_most, PartsLemmas.link_most, MovesLemmas.pays, MovesLemmas.marries_lower, PotentialLemmas.potential_fell}
+use Rattle.mml_convergence.proofs.SumsLemmas.{sum_kept, sum_charged, sum_most, sum_parts, sum_split, sum_turned, sum_of_tests, one_column, count_none, count_some, count_one_at_most, count_same}
 
 -- ---- a step
 
@@ -31,8 +23,14 @@ one_charged (Some (Rule.Marriage j)) k n lt = go (nat_lt j k) refl
     go : (b : Bool) → nat_lt j k ≡ b → 1 ≤ cond (not b) 1 0 + count_below n (marries_lower (Some (Rule.Marriage j)) k)
     go true lower =
         let below = ltb-true j k lower in
-        let counted = count_some n j (marries_lower (Some (Rule.Marriage j)) k) (omega arith) (and_from (j == j) (nat_lt j k) (eq-eqb j j refl) lower) in
-        omega (arith, counted)
+        grind (
+          arith,
+          nat_tests,
+          count_some n j (marries_lower (Some (Rule.Marriage j)) k) (omega arith) (and_from (j == j) (nat_lt j k) (eq-eqb j j refl) lower),
+          marries_lower,
+          and_from,
+          eq-eqb,
+        )
     go false up = omega arith
 one_charged _ k n lt = omega arith
 
@@ -55,8 +53,7 @@ whole_fell c chosen l h = grind (arith, nat_tests, sum_charged, potential_fell, 
 -- ---- the bound
 
 -- a pointer leads to one higher node or to a lower one
-one_pointer : (c : Configuration) (i n : ℕ) (o : Option ℕ)
-    → count_below n (λ j. is_above c i j && holds o j) + cond (option_map_or (λ j. nat_lt j i) o false) 1 0 ≤ 1
+one_pointer : (c : Configuration) (i n : ℕ) (o : Option ℕ) → count_below n (λ j. is_above c i j && holds o j) + cond (option_map_or (λ j. nat_lt j i) o false) 1 0 ≤ 1
 one_pointer c i n None = let none = count_none n (λ j. is_above c i j && false) (λ j lt. and_right (is_above c i j) false refl) in omega (arith, none)
 one_pointer c i n (Some k) = elim (cases_Bool (nat_lt k i)) [
   | inl down ↦
@@ -87,17 +84,21 @@ and_on x y e = grind (arith, nat_tests)
 pub counted_above : (c : Configuration) (n : ℕ) → IsLawful c → sum_below n (λ i. count_below n (is_above c i)) ≡ links_below c n
 counted_above c zero l = refl
 counted_above c (suc n) l =
-    let rest = counted_above c n l in
-    let columns = one_column (is_above c) n n in
-    let top = count_none (suc n) (is_above c n) (λ j lt. and_right (c.linked n j) (nat_lt n j) (le-ltb n j (omega arith))) in
-    let turned =
-    count_same n (λ i. is_above c i n) (c.linked n)
-    (λ i lt. and_on (c.linked i n) (nat_lt i n) (lt-ltb i n lt) ∙ same_bool _ _ (λ e. l.symmetric i n e) (λ e. l.symmetric n i e)) in
-    omega (arith, rest, columns, top, turned)
+    grind (
+      arith,
+      nat_tests,
+      counted_above c n l,
+      one_column (is_above c) n n,
+      count_none (suc n) (is_above c n) (λ j lt. and_right (c.linked n j) (nat_lt n j) (le-ltb n j (omega arith))),
+      and_right,
+      le-ltb,
+      count_same,
+      and_on,
+      lt-ltb,
+      same_bool,
+    )
 
 -- all potentials together are 2 for each link and 3 for each node at the most
 pub whole_most : (c : Configuration) → IsLawful c → whole_potential c ≤ 2 * links_below c c.size + 3 * c.size
 unfolding whole_potential
-whole_most c l =
-    let most = sum_most c.size (potential c) (λ i. count_below c.size (is_above c i)) (potential_most c) in
-    omega (arith, most, counted_above c c.size l)
+whole_most c l = let most = sum_most c.size (potential c) (λ i. count_below c.size (is_above c i)) (potential_most c) in omega (arith, most, counted_above c c.size l)

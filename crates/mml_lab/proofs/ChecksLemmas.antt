@@ -1,29 +1,15 @@
 -- Links are looked up by rank, and put into the rows of neighbours one after the other.
-use Rattle.std.proofs.lemmas.Bool.Decides.{nat_tests}
-use Rattle.std.proofs.Common.{◌≡◌, ℕ, ℤ, pos, ◌-◌, ◌<◌, ◌≤◌, true, not, ◌&&◌, List, length, get_or, take, map, Option, Some, None}
-use Rattle.std.proofs.Common.{Ok, Err, ap, subst, arith}
-use Rattle.std.specs.Prelude.{is_some, slice_index, position}
-use Rattle.std.specs.FinSet.{FinSet}
-use Rattle.std.specs.Ordering.{nat_cmp, int_eq}
-use Rattle.std.proofs.lemmas.Bool.{and_parts, and_from, not-false, false≢true, lt-ltb}
-use Rattle.std.proofs.lemmas.Bool.Decides.{Decides-int_eq}
-use Rattle.std.proofs.lemmas.List.{take_all}
-use Rattle.std.proofs.lemmas.Option.{slice_get-get_or}
-use Rattle.std.proofs.lemmas.List.Quantifiers.{position-Some}
-use Rattle.mml_ids.specs.Search.{first_from, first_below}
-use Rattle.mml_ids.specs.Ids.{in_order, rank_in, IsTable}
-use Rattle.mml_ids.proofs.GivesLemmas.{map_none}
-use Rattle.mml_ids.proofs.IdsLemmas.{id_of_rank}
-use Rattle.mml_ids.proofs.SearchLemmas.{position-none, position-None, first_here, first_end}
-use Rattle.mml_lab.specs.declared.lab_fault.LabFault.{LabFault}
+use Rattle.std.proofs.lemmas.Bool.{Decides.nat_tests, Decides.Decides-int_eq, and_parts, and_from, not-false, false≢true, lt-ltb}
+use Rattle.std.proofs.Common.{◌≡◌, ℕ, ℤ, pos, ◌-◌, ◌<◌, ◌≤◌, true, not, ◌&&◌, List, length, get_or, take, map, Option, Some, None, Ok, Err, ap, subst, arith}
+use Rattle.std.specs.{Prelude.is_some, Prelude.slice_index, Prelude.position, FinSet.FinSet, Ordering.nat_cmp, Ordering.int_eq}
+use Rattle.std.proofs.lemmas.{List.take_all, List.Quantifiers.position-Some, Option.slice_get-get_or}
+use Rattle.mml_ids.specs.{Search.first_from, Search.first_below, Ids.in_order, Ids.rank_in, Ids.IsTable}
+use Rattle.mml_ids.proofs.{GivesLemmas.map_none, IdsLemmas.id_of_rank, SearchLemmas.position-none, SearchLemmas.position-None, SearchLemmas.first_here, SearchLemmas.first_end}
+use Rattle.mml_lab.specs.{declared.lab_fault.LabFault.LabFault, Shape.Account, Shape.NodeSpec, Shape.RawSpec, Labs.number_of, Labs.file_ids, Labs.is_node, Labs.is_linked, Labs.lacks_end}
+use Rattle.mml_lab.specs.{Labs.is_link_again, Labs.neighbours_of, Labs.ends_fault, Labs.again_fault, Labs.pass_unless, Labs.pointers_fault, Labs.identified, Labs.enrolled, Labs.owned, Labs.linked}
+use Rattle.mml_lab.specs.{Labs.limited, Labs.checked, Labs.lab_from, Labs.lab_in, Labs.network_in, inside.Checks.rank_at, inside.Checks.lacks_rank, inside.Checks.are_near, inside.Checks.lab_with}
+use Rattle.mml_lab.proofs.{LabInLemmas.positive, LabMeaningLemmas.any_means, LabMeaningLemmas.ranked, NeighboursLemmas.AreRows, NeighboursLemmas.has-neighbours_of, NeighboursLemmas.all_rows}
 use Rattle.mml_lab.specs.declared.lab_fault.LabFault.TheVariants as fault
-use Rattle.mml_lab.specs.Shape.{Account, NodeSpec, RawSpec}
-use Rattle.mml_lab.specs.Labs.{number_of, file_ids, is_node, is_linked, lacks_end, is_link_again, neighbours_of, ends_fault, again_fault, pass_unless}
-use Rattle.mml_lab.specs.Labs.{pointers_fault, identified, enrolled, owned, linked, limited, checked, lab_from, lab_in, network_in}
-use Rattle.mml_lab.specs.inside.Checks.{rank_at, lacks_rank, are_near, lab_with}
-use Rattle.mml_lab.proofs.LabInLemmas.{positive}
-use Rattle.mml_lab.proofs.LabMeaningLemmas.{any_means, ranked}
-use Rattle.mml_lab.proofs.NeighboursLemmas.{AreRows, has-neighbours_of, all_rows}
 
 some_rank : (o : Option ℕ) → is_some o ≡ true → (j : ℕ) × (o ≡ Some j)
 some_rank o h = grind (arith, false≢true)
@@ -59,8 +45,7 @@ all-ranked nodes table links right = position-none (lacks_rank (in_order (file_i
     none_in o h = grind arith
 
     has : (z : ℤ) → is_node nodes z ≡ true → is_some (rank_in (in_order (file_ids nodes)) (number_of z)) ≡ true
-    has z holds =
-        ap is_some (ranked nodes table z ((any_means (λ node. int_eq node.id z) (λ node. node.id ≡ z) (λ node. Decides-int_eq node.id z) nodes).0 holds)).2
+    has z holds = ap is_some (ranked nodes table z ((any_means (λ node. int_eq node.id z) (λ node. node.id ≡ z) (λ node. Decides-int_eq node.id z) nodes).0 holds)).2
 
 -- ---- the rows, link after link
 

@@ -2,25 +2,18 @@
 use Rattle.std.proofs.Common.{◌≡◌, ℕ, ◌+◌, ◌≤◌, ◌<◌, List, [], ◌∷◌, ◌++◌, Bool, length, drop, get_or, Result, Ok, Err, MatchBool, append_assoc, arith}
 use Rattle.std.proofs.lemmas.List.{append-nil, drop_all}
 use Rattle.mml_ids.specs.Gives.{◌>>=◌}
-use Rattle.toml.specs.declared.value.Value.{Value}
-use Rattle.toml.specs.Data.{Data}
-use Rattle.toml.specs.View.{view, items_view}
+use Rattle.toml.specs.{declared.value.Value.Value, Data.Data, View.view, View.items_view}
 use Rattle.toml.proofs.Views.{items_view-drop}
-use Rattle.mml_lab.specs.declared.lab_fault.LabFault.{LabFault}
-use Rattle.mml_lab.specs.Shape.{each}
+use Rattle.mml_lab.specs.{declared.lab_fault.LabFault.LabFault, Shape.each}
 
 -- what was read before, and what is still read
 abbrev pub with_front : {A : Type 0} → List A → Result (List A) LabFault → Result (List A) LabFault
 with_front front read = read >>= λ xs. Ok (front ++ xs)
 
-regroup : {A : Type 0} (front : List A) (x : A) (read : Result (List A) LabFault)
-    → with_front front (read >>= λ xs. Ok (x ∷ xs)) ≡ with_front (front ++ x ∷ []) read
-regroup front x read = grind (arith, append_assoc)
-
 pub goes_on : {A : Type 0} (f : Data → Result A LabFault) (vs : List Value) (i : ℕ) (d : Value) (x : A) (front : List A) (total : Result (List A) LabFault)
     → i < length vs → f (view (get_or vs i d)) ≡ Ok x
     → with_front front (each f (items_view (drop i vs))) ≡ total → with_front (front ++ x ∷ []) (each f (items_view (drop (i + 1) vs))) ≡ total
-goes_on f vs i d x front total lt h so_far = grind (arith, items_view-drop, regroup)
+goes_on f vs i d x front total lt h so_far = grind (arith, items_view-drop, append_assoc)
 
 -- what follows where an error isn't out of memory
 pub weaker : (b : Bool) {P Q : Type 0} → (P → Q) → MatchBool b (Unit {0}) P → MatchBool b (Unit {0}) Q

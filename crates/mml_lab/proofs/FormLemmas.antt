@@ -1,15 +1,9 @@
 -- The forms of names and keys.
-use Rattle.std.proofs.lemmas.Bool.Decides.{nat_tests}
-use Rattle.std.proofs.lemmas.Grind.{common_steps}
+use Rattle.std.proofs.lemmas.Bool.{Decides.nat_tests, and_from, and_parts, or_cases, eqb-true, eq-eqb, leb-true, le-leb, ltb-true, lt-ltb}
+use Rattle.std.proofs.lemmas.{Grind.common_steps, List.Elements.All-weaker, List.Elements.All-tail, List.Elements.All-cons, List.Sums.AllPass-from_list_all, List.Sums.list_all-from_AllPass}
 use Rattle.std.proofs.Common.{◌≡◌, ◌↔◌, ℕ, List, [], ◌∷◌, length, Bool, true, ◌||◌, arith, All, nat_le, rules}
-use Rattle.std.specs.List.{list_all}
-use Rattle.std.specs.Int.{is_in_range, IsInRange}
-use Rattle.std.proofs.lemmas.Bool.{and_from, and_parts, or_cases, eqb-true, eq-eqb, leb-true, le-leb, ltb-true, lt-ltb}
-use Rattle.std.proofs.lemmas.List.Elements.{All-weaker, All-tail, All-cons}
-use Rattle.std.proofs.lemmas.List.Sums.{AllPass-from_list_all, list_all-from_AllPass}
-use Rattle.mml_lab.specs.declared.TheConstants.{MAX_NAME}
-use Rattle.mml_lab.specs.Rosters.{is_name, is_key, is_name_byte}
-use Rattle.mml_lab.specs.RosterMeaning.{IsName, IsKey, IsNameByte}
+use Rattle.std.specs.{List.list_all, Int.is_in_range, Int.IsInRange}
+use Rattle.mml_lab.specs.{declared.TheConstants.MAX_NAME, Rosters.is_name, Rosters.is_key, Rosters.is_name_byte, RosterMeaning.IsName, RosterMeaning.IsKey, RosterMeaning.IsNameByte}
 
 in_range : (low high b : ℕ) → is_in_range low high b ≡ true → IsInRange low high b
 in_range low high b is = let parts = and_parts (nat_le low b) (nat_le b high) is in (leb-true low b parts.0, leb-true b high parts.1)
@@ -23,9 +17,6 @@ or_left a b e = rw e
 or_right : (a b : Bool) → b ≡ true → (a || b) ≡ true
 or_right a b e = grind arith
 
-name_byte : (b : ℕ) → is_name_byte b ≡ true → IsNameByte b
-name_byte b is = grind (arith, or_cases, in_range, eqb-true)
-
 from_name_byte : (b : ℕ) → IsNameByte b → is_name_byte b ≡ true
 from_name_byte b y = grind (arith, or_left, from_range, or_right, eq-eqb)
 
@@ -37,7 +28,7 @@ all_pass p P means bs all = list_all-from_AllPass p bs (All-weaker P (λ b. p b 
 
 name-is : (name : List ℕ) → is_name name ≡ true → IsName name
 name-is [] is = absurd cc
-name-is (b ∷ bs) is = grind (arith, common_steps, nat_tests, and_parts, in_range, leb-true, All-cons, each_passes, name_byte)
+name-is (b ∷ bs) is = grind (arith, common_steps, nat_tests, and_parts, in_range, leb-true, All-cons, each_passes, or_cases, eqb-true)
 
 from_name : (name : List ℕ) → IsName name → is_name name ≡ true
 from_name [] form = let some = form.some in absurd (omega arith)
@@ -49,12 +40,9 @@ from_name (b ∷ bs) form =
 pub name-means : (name : List ℕ) → (is_name name ≡ true) ↔ IsName name
 name-means name = (name-is name, from_name name)
 
-key-is : (key : List ℕ) → is_key key ≡ true → IsKey key
-key-is key is = grind (arith, common_steps, nat_tests, and_parts, ltb-true, leb-true, each_passes, in_range)
-
 from_key : (key : List ℕ) → IsKey key → is_key key ≡ true
 from_key key form = search (rules, and_from, lt-ltb, le-leb, all_pass, from_range)
 
 -- a key is found of its form exactly where it is
 pub key-means : (key : List ℕ) → (is_key key ≡ true) ↔ IsKey key
-key-means key = (key-is key, from_key key)
+key-means key = (grind (arith, common_steps, nat_tests, and_parts, ltb-true, leb-true, each_passes, in_range), from_key key)

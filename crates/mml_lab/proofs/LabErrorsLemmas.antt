@@ -1,15 +1,11 @@
 -- The errors of a lab file are told in their order.
-use Rattle.std.proofs.lemmas.Bool.Decides.{nat_tests}
-use Rattle.std.proofs.Common.{◌≡◌, ◌<◌, ◌+◌, ℕ, suc, Bool, List, [], ◌∷◌, ◌++◌, Option, Some, None, Result, Ok, Err, option_map, not, nat_lt, nat_le}
-use Rattle.std.proofs.Common.{sym, ◌∙◌, subst, arith}
+use Rattle.std.proofs.lemmas.Bool.{Decides.nat_tests, cases_lt, lt-ltb, le-ltb, lt-leb, le-leb}
+use Rattle.std.proofs.Common.{◌≡◌, ◌<◌, ◌+◌, ℕ, suc, List, [], ◌∷◌, ◌++◌, Option, Some, None, Result, Ok, Err, option_map, nat_lt, nat_le, sym, ◌∙◌, subst, arith}
 use Rattle.std.specs.List.{slice_get}
-use Rattle.std.proofs.lemmas.Bool.{cases_lt, lt-ltb, le-ltb, lt-leb, le-leb}
 use Rattle.mml_ids.specs.Gives.{◌>>◌, need, first_fault, fault_if}
-use Rattle.mml_lab.specs.declared.lab_fault.LabFault.{LabFault}
-use Rattle.mml_lab.specs.Shape.{RawSpec}
-use Rattle.mml_lab.specs.Labs.{both_fault, ids_fault, forms_fault, no_owner_fault, owner_twice_fault, ends_fault, loops_fault, again_fault, pointers_fault, pass_unless}
-use Rattle.mml_lab.specs.Labs.{identified, enrolled, owned, linked, limited, checked, error_of, lab_fault}
-use Rattle.mml_lab.specs.LabErrors.{order_of, errors_of, IsFirstError}
+use Rattle.mml_lab.specs.{declared.lab_fault.LabFault.LabFault, Shape.RawSpec, LabErrors.order_of, LabErrors.errors_of, LabErrors.IsFirstError}
+use Rattle.mml_lab.specs.Labs.{both_fault, ids_fault, forms_fault, no_owner_fault, owner_twice_fault, ends_fault, loops_fault, again_fault, pointers_fault, pass_unless, identified, enrolled, owned}
+use Rattle.mml_lab.specs.Labs.{linked, limited, checked, error_of, lab_fault}
 
 -- the first of a list of errors
 abbrev pub first_of : List (Option LabFault) → Option LabFault
@@ -24,9 +20,6 @@ HasOrder n t = (f : LabFault) → t ≡ Some f → order_of f ≡ n
 mapped : {A : Type 0} (n : ℕ) (make : A → LabFault) (o : Option A) → ((x : A) → order_of (make x) ≡ n) → HasOrder n (option_map make o)
 mapped n make o each f h = grind arith
 
-tested : (n : ℕ) (b : Bool) (e : LabFault) → order_of e ≡ n → HasOrder n (fault_if b e)
-tested n b e is f h = grind arith
-
 abbrev HaveOrder : ℕ → List (Option LabFault) → Type 0
 HaveOrder n [] = Unit {0}
 HaveOrder n (t ∷ ts) = HasOrder n t × HaveOrder (n + 1) ts
@@ -36,7 +29,7 @@ and_also a b = (a, b)
 
 have_order : (raw : RawSpec) → HaveOrder 0 (errors_of raw)
 unfolding both_fault ids_fault forms_fault no_owner_fault owner_twice_fault ends_fault loops_fault again_fault pointers_fault
-have_order raw = grind (arith, nat_tests, and_also, mapped, tested)
+have_order raw = grind (arith, nat_tests, and_also, mapped)
 
 -- ---- the first one
 
@@ -63,9 +56,6 @@ pub record EndsIn (r : Result (Unit {0}) LabFault) (ts : List (Option LabFault))
 one : (t : Option LabFault) → EndsIn (pass_unless t) (t ∷ [])
 one t = grind arith
 
-one_if : (b : Bool) (e : LabFault) → EndsIn (need b e) (fault_if (not b) e ∷ [])
-one_if b e = grind arith
-
 one_above : (n greatest : ℕ) (e : LabFault) → EndsIn (need (nat_le n greatest) e) (fault_if (nat_lt greatest n) e ∷ [])
 one_above n greatest e = grind (arith, nat_tests, cases_lt, lt-ltb, lt-leb, le-ltb, le-leb)
 
@@ -83,7 +73,7 @@ more r s {ts} {us} a b = record { first = by r ts a.first }
 -- the first error of a file is the first of those that it has
 pub first_error : (raw : RawSpec) → EndsIn (checked raw) (errors_of raw)
 unfolding checked identified enrolled owned linked limited
-first_error raw = grind (arith, more, one, one_if, one_above)
+first_error raw = grind (arith, more, one, one_above)
 
 -- it is told before those that come after it in the order
 pub told_in_order : (raw : RawSpec) (f : LabFault) → lab_fault raw ≡ Some f → IsFirstError raw f

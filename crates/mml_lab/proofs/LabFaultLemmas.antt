@@ -1,21 +1,14 @@
 -- What a file without an error is.
 use Rattle.std.proofs.Common.{◌≡◌, ◌≤◌, ℕ, zero, suc, Bool, true, not, List, [], ◌∷◌, length, Option, Some, None, Ok, Err, refl, sym, ap, ◌∙◌, arith}
-use Rattle.std.specs.List.{position, slice_get}
-use Rattle.std.proofs.lemmas.Bool.{ltb-false}
-use Rattle.mml_ids.specs.Gives.{fault_if}
-use Rattle.mml_ids.specs.Search.{first_below}
+use Rattle.std.{specs.List.position, specs.List.slice_get, proofs.lemmas.Bool.ltb-false}
+use Rattle.mml_ids.specs.{Gives.fault_if, Search.first_below, Ids.id_fault}
 use Rattle.mml_ids.proofs.GivesLemmas.{bind-ok, if_none, map_none}
-use Rattle.mml_ids.specs.Ids.{id_fault}
-use Rattle.mml_lab.specs.declared.TheConstants.{MAX_EVENTS, MAX_SESSIONS, MAX_STUDENTS}
-use Rattle.mml_lab.specs.declared.lab_fault.LabFault.{LabFault}
-use Rattle.mml_lab.specs.declared.lab_fault.LabFault.TheVariants as fault
-use Rattle.mml_lab.specs.Shape.{NodeSpec, RawSpec}
-use Rattle.mml_lab.specs.Rosters.{is_account, name_twice}
-use Rattle.mml_lab.specs.Labs.{LabValue, file_ids, lacks_owner, lacks_end, is_loop, is_link_again, points_at_unlinked, is_within, are_one_twice, both_fault, ids_fault}
-use Rattle.mml_lab.specs.Labs.{forms_fault, no_owner_fault, owner_twice_fault, ends_fault, loops_fault, again_fault, pointers_fault, checked, error_of, lab_fault}
-use Rattle.mml_lab.specs.Labs.{lab_in, lab_from}
-use Rattle.mml_lab.specs.LabErrors.{errors_of}
+use Rattle.mml_lab.specs.declared.{TheConstants.MAX_EVENTS, TheConstants.MAX_SESSIONS, TheConstants.MAX_STUDENTS, lab_fault.LabFault.LabFault}
+use Rattle.mml_lab.specs.{Shape.NodeSpec, Shape.RawSpec, Rosters.is_account, Rosters.name_twice, LabErrors.errors_of}
+use Rattle.mml_lab.specs.Labs.{LabValue, file_ids, lacks_owner, lacks_end, is_loop, is_link_again, points_at_unlinked, is_within, are_one_twice, both_fault, ids_fault, forms_fault, no_owner_fault}
+use Rattle.mml_lab.specs.Labs.{owner_twice_fault, ends_fault, loops_fault, again_fault, pointers_fault, checked, error_of, lab_fault, lab_in, lab_from}
 use Rattle.mml_lab.proofs.LabErrorsLemmas.{first_of, first_error}
+use Rattle.mml_lab.specs.declared.lab_fault.LabFault.TheVariants as fault
 
 pub record IsFaultless (raw : RawSpec) : Type 0 where
   pub single : position (λ (node : NodeSpec). node.both) raw.nodes ≡ None

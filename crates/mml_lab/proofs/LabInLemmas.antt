@@ -1,44 +1,26 @@
 -- The lab of a file without an error is a lab.
-use Rattle.std.proofs.Common.{◌≡◌, ℕ, ℤ, pos, negsuc, ◌<◌, ◌≤◌, ◌==◌, true, false, not, ◌&&◌, ltb, List, [], length, get_or, map, Option, Some}
-use Rattle.std.proofs.Common.{Ok, None, inl, inr, refl, sym, ap, ◌∙◌, subst, arith, All}
-use Rattle.std.specs.Prelude.{slice_index, position}
-use Rattle.std.specs.List.{list_any}
-use Rattle.std.specs.Option.{option_and_then, option_map_or}
+use Rattle.std.proofs.Common.{◌≡◌, ℕ, ℤ, pos, negsuc, ◌<◌, ◌≤◌, ◌==◌, true, false, not, ◌&&◌, ltb, List, [], length, get_or, map, Option, Some, Ok, None, inl, inr, refl, sym, ap, ◌∙◌, subst, arith}
+use Rattle.std.proofs.Common.{All}
+use Rattle.std.specs.{Prelude.slice_index, Prelude.position, List.list_any, Option.option_and_then, Option.option_map_or}
 use Rattle.std.proofs.lemmas.Bool.{cases_lt, cases_Bool, lt-ltb, ltb-true, leb-true, eqb-true, eq-eqb, and_parts, and_from, not-false, both_ways}
-use Rattle.std.proofs.lemmas.List.{get_or-map, get_or_past, length-map}
-use Rattle.std.proofs.lemmas.List.Elements.{All-map, All-from_get_or}
-use Rattle.std.proofs.lemmas.List.Folds.{list_any_at}
-use Rattle.std.proofs.lemmas.List.Sorted.{list_any-IsPermutation}
-use Rattle.std.proofs.lemmas.List.Quantifiers.{position-Some}
-use Rattle.mml_ids.specs.Ids.{in_order, rank_in, IsTable}
-use Rattle.mml_ids.specs.inside.WordsLemmas.{has_empty}
-use Rattle.mml_ids.proofs.IdsLemmas.{id_of_rank}
-use Rattle.mml_rules.specs.declared.regs.Regs.{Regs}
-use Rattle.mml_rules.specs.Network.{Network, no_regs, registers_at, configuration_of, IsNetwork}
-use Rattle.mml_lab.specs.declared.TheConstants.{MAX_EVENTS, MAX_SESSIONS}
-use Rattle.mml_lab.specs.Shape.{Account, NodeSpec, RawSpec}
+use Rattle.std.proofs.lemmas.List.{get_or-map, get_or_past, length-map, Elements.All-map, Elements.All-from_get_or, Folds.list_any_at, Sorted.list_any-IsPermutation, Quantifiers.position-Some}
+use Rattle.mml_ids.specs.{Ids.in_order, Ids.rank_in, Ids.IsTable, inside.WordsLemmas.has_empty}
+use Rattle.mml_ids.proofs.{IdsLemmas.id_of_rank, MapLemmas.list_any-map, SearchLemmas.position-None, InOrderLemmas.in_order-moves, InOrderTableLemmas.in_order-table}
+use Rattle.mml_rules.specs.{declared.regs.Regs.Regs, Network.Network, Network.no_regs, Network.registers_at, Network.configuration_of, Network.IsNetwork}
+use Rattle.mml_lab.specs.{declared.TheConstants.MAX_EVENTS, declared.TheConstants.MAX_SESSIONS, Shape.Account, Shape.NodeSpec, Shape.RawSpec}
 use Rattle.mml_lab.specs.Rosters.{has_name, no_account, with_owners, IsRoster}
-use Rattle.mml_lab.specs.Labs.{IsLab, number_of, file_ids, joins, is_linked, is_loop, is_within, lacks_owner, points_at_unlinked, node_with, student_index, owners_in}
-use Rattle.mml_lab.specs.Labs.{owners_with, registers_in, registers_with, neighbours_of, network_in, lab_in, lab_from, LabValue}
-use Rattle.mml_ids.proofs.MapLemmas.{list_any-map}
-use Rattle.mml_ids.proofs.SearchLemmas.{position-None}
-use Rattle.mml_lab.proofs.RosterMeaningLemmas.{is_roster}
-use Rattle.mml_lab.proofs.NeighboursLemmas.{has-neighbours_of}
-use Rattle.mml_ids.proofs.InOrderLemmas.{in_order-moves}
-use Rattle.mml_ids.proofs.InOrderTableLemmas.{in_order-table}
-use Rattle.mml_lab.proofs.LabFaultLemmas.{IsFaultless, faultless, made}
+use Rattle.mml_lab.specs.Labs.{IsLab, number_of, file_ids, joins, is_linked, is_loop, is_within, lacks_owner, points_at_unlinked, node_with, student_index, owners_in, owners_with, registers_in}
+use Rattle.mml_lab.specs.Labs.{registers_with, neighbours_of, network_in, lab_in, lab_from, LabValue}
+use Rattle.mml_lab.proofs.{RosterMeaningLemmas.is_roster, NeighboursLemmas.has-neighbours_of, LabFaultLemmas.IsFaultless, LabFaultLemmas.faultless, LabFaultLemmas.made}
 use Rattle.mml_ids.proofs.FindLemmas.{IsFound, find-is, find-some, list_any-found, list_any-same}
 
 -- a number that is some natural number above 0 is not negative
 pub positive : (z : ℤ) (n : ℕ) → number_of z ≡ n → 0 < n → z ≡ pos n
 positive z n e h = grind (arith, pos, negsuc)
 
-pub joins_turned : (a b : ℤ) (link : ℤ × ℤ) → joins a b link ≡ joins b a link
-joins_turned a b link = grind arith
-
 -- a link joins its ends in either order
 pub is_linked_turned : (links : List (ℤ × ℤ)) (a b : ℤ) → is_linked links a b ≡ is_linked links b a
-is_linked_turned links a b = list_any-same (joins a b) (joins b a) links (joins_turned a b)
+is_linked_turned links a b = list_any-same (joins a b) (joins b a) links (grind arith)
 
 -- without a loop no link joins a node to itself
 pub no_loop : (links : List (ℤ × ℤ)) (a : ℤ) → position is_loop links ≡ None → is_linked links a a ≡ false
@@ -56,14 +38,14 @@ pub index-position : (students : List Account) (name : List ℕ) → list_any (h
 index-position students name some = grind (arith, IsFound, list_any-found, both_ways, position-None)
 
 -- each owner is a student
-pub owners-known : (students : List Account) (node : NodeSpec) → lacks_owner students node ≡ false
-    → All (λ name. list_any (has_name name) students ≡ true) node.owners
+pub owners-known : (students : List Account) (node : NodeSpec) → lacks_owner students node ≡ false → All (λ name. list_any (has_name name) students ≡ true) node.owners
 owners-known students node right k d lt = grind (arith, cases_Bool, both_ways, list_any_at)
 
 owners-in : (students : List Account) (node : NodeSpec) → lacks_owner students node ≡ false → All (λ s. s < length students) (owners_in students node)
 owners-in students node right = All-map (λ s. s < length students) (student_index students) node.owners
     (λ k d lt. let name = get_or node.owners k d in
-    (position-Some (has_name name) students (student_index students name) no_account (index-position students name (owners-known students node right k d lt))).0)
+    (position-Some (has_name name) students (student_index students name) no_account
+    (index-position students name (owners-known students node right k d lt))).0)
 
 module _ (raw : RawSpec) (right : IsFaultless raw) where
   abbrev pub ids : List ℕ
@@ -90,12 +72,9 @@ module _ (raw : RawSpec) (right : IsFaultless raw) where
       → (configuration_of net).linked i j ≡ (ltb j (length ids) && is_linked raw.links (pos (slice_index ids i)) (pos (slice_index ids j)))
   linked-in i j lt = grind (arith, get_or-map, has-neighbours_of)
 
-  linked-past : (i j : ℕ) → length ids ≤ i → (configuration_of net).linked i j ≡ false
-  linked-past i j past = grind (arith, length-map, get_or_past, has_empty)
-
   both_in : (i j : ℕ) → (configuration_of net).linked i j ≡ true
       → (i < length ids) × (j < length ids) × (is_linked raw.links (pos (slice_index ids i)) (pos (slice_index ids j)) ≡ true)
-  both_in i j holds = grind (arith, cases_lt, and_parts, pos, linked-in, ltb-true, both_ways, linked-past)
+  both_in i j holds = grind (arith, cases_lt, and_parts, pos, linked-in, ltb-true, both_ways, length-map, get_or_past, has_empty)
 
   from_in : (i j : ℕ) → i < length ids → j < length ids → is_linked raw.links (pos (slice_index ids i)) (pos (slice_index ids j)) ≡ true
       → (configuration_of net).linked i j ≡ true

@@ -1,34 +1,21 @@
 -- What the definitions of a lab mean.
-use Rattle.std.proofs.lemmas.Bool.Decides.{nat_tests}
-use Rattle.std.proofs.Common.{◌≡◌, ◌≢◌, ◌↔◌, ℕ, ℤ, pos, ◌<◌, ◌==◌, Bool, true, false, not, ◌&&◌, List, [], length, get_or, map}
-use Rattle.std.proofs.Common.{Option, Some, None, Ok, ◌⊎◌, inl, inr, sym, ap, ◌∙◌, subst, arith, Contains}
-use Rattle.std.specs.Prelude.{slice_index, position, unwrap_or}
-use Rattle.std.specs.List.{list_any, Any}
-use Rattle.std.specs.Option.{option_and_then, option_map_or}
-use Rattle.std.specs.Ordering.{int_eq}
-use Rattle.std.proofs.lemmas.Bool.{cases_Bool, cases_order, eqb-true, eq-eqb, and_parts, and_from, or_cases, not-false, both_ways, lt-ltb}
-use Rattle.std.proofs.lemmas.Bool.Decides.{Decides-int_eq}
+use Rattle.std.proofs.lemmas.Bool.{Decides.nat_tests, Decides.Decides-int_eq, cases_Bool, cases_order, eqb-true, eq-eqb, and_parts, and_from, or_cases, not-false, both_ways, lt-ltb}
+use Rattle.std.proofs.Common.{◌≡◌, ◌≢◌, ◌↔◌, ℕ, ℤ, pos, ◌<◌, ◌==◌, Bool, true, false, not, ◌&&◌, List, [], length, get_or, map, Option, Some, None, Ok, ◌⊎◌, inl, inr, sym, ap, ◌∙◌, subst, arith}
+use Rattle.std.proofs.Common.{Contains}
+use Rattle.std.specs.{Prelude.slice_index, Prelude.position, Prelude.unwrap_or, List.list_any, List.Any, Option.option_and_then, Option.option_map_or, Ordering.int_eq}
 use Rattle.std.proofs.lemmas.List.{get_or-map, get_or_default, get_or-take, length-map, length-take-le}
-use Rattle.std.proofs.lemmas.List.Folds.{list_any_at, Any-from_list_any, list_any-from_Any}
-use Rattle.std.proofs.lemmas.List.Sorted.{list_any-IsPermutation}
-use Rattle.mml_ids.proofs.GivesLemmas.{bind-ok}
+use Rattle.std.proofs.lemmas.List.{Folds.list_any_at, Folds.Any-from_list_any, Folds.list_any-from_Any, Sorted.list_any-IsPermutation}
+use Rattle.mml_ids.proofs.{GivesLemmas.bind-ok, IdsLemmas.rank_of_id, IdsLemmas.sound, MapLemmas.list_any-map, InOrderLemmas.in_order-moves, FindLemmas.list_any-found}
 use Rattle.mml_ids.specs.Ids.{in_order, rank_in, is_again_at, IsTable}
-use Rattle.mml_ids.proofs.IdsLemmas.{rank_of_id, sound}
-use Rattle.mml_rules.specs.declared.regs.Regs.{Regs}
-use Rattle.mml_rules.specs.Network.{no_regs, registers_at, configuration_of}
-use Rattle.mml_lab.specs.declared.who.Who.TheVariants as who
-use Rattle.mml_lab.specs.Shape.{NodeSpec, RawSpec, spelled}
+use Rattle.mml_rules.specs.{declared.regs.Regs.Regs, Network.no_regs, Network.registers_at, Network.configuration_of}
+use Rattle.mml_lab.specs.{Shape.NodeSpec, Shape.RawSpec, Shape.spelled, LabMeaning.Joins, LabMeaning.HasLink, LabMeaning.HasNode, LabMeaning.JoinNodes}
 use Rattle.mml_lab.specs.Rosters.{RosterValue, has_name, with_owners, owns, owners_of, name_of}
-use Rattle.mml_lab.specs.Labs.{LabValue, IsLab, number_of, file_ids, is_node, joins, is_linked, is_loop, lacks_owner, lacks_end, points_at_unlinked}
-use Rattle.mml_lab.specs.Labs.{node_with, registers_in, student_index, owners_in, owners_with, lab_from, lab_of}
-use Rattle.mml_lab.specs.LabMeaning.{Joins, HasLink, HasNode, JoinNodes}
-use Rattle.mml_ids.proofs.MapLemmas.{list_any-map}
+use Rattle.mml_lab.specs.Labs.{LabValue, IsLab, number_of, file_ids, is_node, joins, is_linked, is_loop, lacks_owner, lacks_end, points_at_unlinked, node_with, registers_in, student_index, owners_in}
+use Rattle.mml_lab.specs.Labs.{owners_with, lab_from, lab_of}
 use Rattle.mml_ids.proofs.SearchLemmas.{position-None, position-none, none-is}
-use Rattle.mml_lab.proofs.RosterMeaningLemmas.{student_of_name, name_of_student}
-use Rattle.mml_ids.proofs.InOrderLemmas.{in_order-moves}
-use Rattle.mml_lab.proofs.LabFaultLemmas.{IsFaultless}
-use Rattle.mml_ids.proofs.FindLemmas.{list_any-found}
+use Rattle.mml_lab.proofs.{RosterMeaningLemmas.student_of_name, RosterMeaningLemmas.name_of_student, LabFaultLemmas.IsFaultless}
 use Rattle.mml_lab.proofs.LabInLemmas.{positive, lawful_from, node_at, IsNodeAt, linked-in, registers-in, net, table, roster, index-position, owners-known}
+use Rattle.mml_lab.specs.declared.who.Who.TheVariants as who
 
 -- a link is found to join two numbers exactly where it does
 pub joins-means : (a b : ℤ) (link : ℤ × ℤ) → (joins a b link ≡ true) ↔ Joins a b link
@@ -124,8 +111,7 @@ module _ (raw : RawSpec) (right : IsFaultless raw) where
       get_or-map (λ node. number_of node.id) raw.nodes j x 0 (omega arith) ∙ ap (λ (n : NodeSpec). number_of n.id) at_j in
       grind (arith, nat_tests, get_or-map, length-take-le, both_ways, list_any_at, eq-eqb, get_or-take)
 
-  pub node_is : (i : ℕ) (node : NodeSpec) → i < length ids → Contains raw.nodes node → node.id ≡ pos (slice_index ids i)
-      → node_with raw.nodes (slice_index ids i) ≡ Some node
+  pub node_is : (i : ℕ) (node : NodeSpec) → i < length ids → Contains raw.nodes node → node.id ≡ pos (slice_index ids i) → node_with raw.nodes (slice_index ids i) ≡ Some node
   node_is i node lt stands named = n.1.found ∙ ap Some (by (cases_order n.1.stands.index stands.0))
     where
       n : (x : NodeSpec) × IsNodeAt raw.nodes (slice_index ids i) x
@@ -135,8 +121,7 @@ module _ (raw : RawSpec) (right : IsFaultless raw) where
       same = ap number_of (n.1.named ∙ sym named)
 
       by : (n.1.stands.index ≡ stands.0) ⊎ ((n.1.stands.index < stands.0) ⊎ (stands.0 < n.1.stands.index)) → n.0 ≡ node
-      by (inl here) =
-          sym n.1.stands.there ∙ get_or_default raw.nodes n.1.stands.index n.0 node n.1.stands.within ∙ ap (λ k. get_or raw.nodes k node) here ∙ stands.2
+      by (inl here) = sym n.1.stands.there ∙ get_or_default raw.nodes n.1.stands.index n.0 node n.1.stands.within ∙ ap (λ k. get_or raw.nodes k node) here ∙ stands.2
       by (inr (inl less)) = absurd (one_index n.1.stands.index stands.0 n.0 node less stands.1 n.1.stands.there stands.2 same)
       by (inr (inr less)) = absurd (one_index stands.0 n.1.stands.index node n.0 less n.1.stands.within stands.2 n.1.stands.there (sym same))
 
@@ -149,14 +134,12 @@ module _ (raw : RawSpec) (right : IsFaultless raw) where
       → ((configuration_of (net raw right)).linked i j ≡ true) ↔ HasLink raw (pos (slice_index ids i)) (pos (slice_index ids j))
   links-are i j in_i in_j = grind (arith, linked-in, linked-means, pos, and_parts, and_from, lt-ltb)
 
-  pub m-is : (i : ℕ) (node : NodeSpec) → i < length ids → Contains raw.nodes node → node.id ≡ pos (slice_index ids i)
-      → (configuration_of (net raw right)).m i ≡ node.m
+  pub m-is : (i : ℕ) (node : NodeSpec) → i < length ids → Contains raw.nodes node → node.id ≡ pos (slice_index ids i) → (configuration_of (net raw right)).m i ≡ node.m
   m-is i node lt stands named = ap (λ (r : Regs). r.m) (registers-are i node lt stands named)
 
   pub p-null : (i : ℕ) (node : NodeSpec) → i < length ids → Contains raw.nodes node → node.id ≡ pos (slice_index ids i) → node.p ≡ None
       → (configuration_of (net raw right)).p i ≡ None
-  p-null i node lt stands named null =
-      ap (λ (r : Regs). r.p) (registers-are i node lt stands named) ∙ ap (option_and_then (λ p. rank_in ids (number_of p))) null
+  p-null i node lt stands named null = ap (λ (r : Regs). r.p) (registers-are i node lt stands named) ∙ ap (option_and_then (λ p. rank_in ids (number_of p))) null
 
   pub p-is : (i : ℕ) (node : NodeSpec) (z : ℤ) → i < length ids → Contains raw.nodes node → node.id ≡ pos (slice_index ids i) → node.p ≡ Some z
       → (j : ℕ) × ((configuration_of (net raw right)).p i ≡ Some j) × (z ≡ pos (slice_index ids j)) × ((configuration_of (net raw right)).linked i j ≡ true)

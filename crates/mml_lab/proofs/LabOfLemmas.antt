@@ -1,19 +1,13 @@
 -- Which bytes are read as a lab, and what the error of a file tells: never that memory ran out.
 use Rattle.std.proofs.Common.{◌≡◌, ◌≢◌, ◌↔◌, ℕ, List, length, Bool, Option, Some, None, Ok, arith}
 use Rattle.std.specs.Prelude.{option_map}
-use Rattle.mml_ids.specs.Gives.{first_fault, fault_if}
-use Rattle.mml_ids.specs.Search.{first_below}
-use Rattle.mml_ids.specs.Ids.{id_fault}
-use Rattle.mml_ids.specs.declared.id_table.IdFault.{IdFault}
-use Rattle.mml_ids.specs.declared.id_table.IdFault.TheVariants as id
+use Rattle.mml_ids.specs.{Gives.fault_if, Search.first_below, Ids.id_fault, declared.id_table.IdFault.IdFault}
 use Rattle.mml_ids.proofs.GivesLemmas.{bind-ok, bind-from}
-use Rattle.mml_lab.specs.declared.lab_fault.LabFault.TheVariants as fault
-use Rattle.mml_lab.specs.Shape.{RawSpec}
+use Rattle.mml_lab.specs.{Shape.RawSpec, LabMeaning.IsLabOfFile, LabMeaning.IsFirstLinkAgain}
 use Rattle.mml_lab.specs.Labs.{LabValue, file_ids, is_link_again, ids_fault, again_fault, lab_fault, lab_of}
-use Rattle.mml_lab.specs.LabMeaning.{IsLabOfFile, IsFirstLinkAgain}
-use Rattle.mml_lab.proofs.LabErrorsLemmas.{told_in_order}
-use Rattle.mml_lab.proofs.LabFaultLemmas.{made, makes}
-use Rattle.mml_lab.proofs.LinksFaultLemmas.{first-means}
+use Rattle.mml_lab.proofs.{LabErrorsLemmas.told_in_order, LabFaultLemmas.made, LabFaultLemmas.makes, LinksFaultLemmas.first-means}
+use Rattle.mml_ids.specs.declared.id_table.IdFault.TheVariants as id
+use Rattle.mml_lab.specs.declared.lab_fault.LabFault.TheVariants as fault
 
 -- bytes are read as a lab exactly where they spell a file without an error, whose lab it is
 pub of_file : (bytes : List ℕ) (lab : LabValue) → (lab_of bytes ≡ Ok lab) ↔ ((raw : RawSpec) × IsLabOfFile bytes raw lab)
@@ -33,9 +27,6 @@ abbrev OfFault : {E : Type 0} → (E → Type 0) → Option E → Type 0
 OfFault P None = Unit {0}
 OfFault P (Some f) = P f
 
-of_first : {E : Type 0} (P : E → Type 0) (a b : Option E) → OfFault P a → OfFault P b → OfFault P (first_fault a b)
-of_first P a b p q = grind arith
-
 of_if : {E : Type 0} (P : E → Type 0) (b : Bool) (f : E) → P f → OfFault P (fault_if b f)
 of_if P b f p = grind arith
 
@@ -43,7 +34,7 @@ of_index : {E : Type 0} (P : E → Type 0) (f : ℕ → E) → ((k : ℕ) → P 
 of_index P f all o = grind arith
 
 of_ids : (ns : List ℕ) → OfFault Tells (id_fault ns)
-of_ids ns = grind (arith, of_first, of_if, of_index)
+of_ids ns = grind (arith, of_if, of_index)
 
 -- the error of a file is never that memory ran out for the identifiers
 pub no_memory_of_ids : (raw : RawSpec) → lab_fault raw ≢ Some (fault.Id id.Memory)
@@ -60,9 +51,7 @@ no_memory raw is = let here = (told_in_order raw fault.Memory is).here in absurd
 -- a file whose error is a link twice has there the first link that stood before
 pub twice-told : (raw : RawSpec) (k : ℕ) → lab_fault raw ≡ Some (fault.LinkTwice k) → IsFirstLinkAgain raw.links k
 unfolding again_fault
-twice-told raw k is =
-    by (first_below (is_link_again raw.links) (length raw.links)) ((first-means raw.links k).0) (told_in_order raw (fault.LinkTwice k) is).here
+twice-told raw k is = by (first_below (is_link_again raw.links) (length raw.links)) ((first-means raw.links k).0) (told_in_order raw (fault.LinkTwice k) is).here
   where
-    by : (o : Option ℕ) → (o ≡ Some k → IsFirstLinkAgain raw.links k) → Some (option_map fault.LinkTwice o) ≡ Some (Some (fault.LinkTwice k))
-        → IsFirstLinkAgain raw.links k
+    by : (o : Option ℕ) → (o ≡ Some k → IsFirstLinkAgain raw.links k) → Some (option_map fault.LinkTwice o) ≡ Some (Some (fault.LinkTwice k)) → IsFirstLinkAgain raw.links k
     by o means here = grind arith

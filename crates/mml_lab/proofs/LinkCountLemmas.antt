@@ -1,27 +1,16 @@
 -- A network has as many links as its file, where the file has no error.
-use Rattle.std.proofs.lemmas.Bool.Decides.{nat_tests}
-use Rattle.std.proofs.Common.{◌≡◌, ◌≢◌, ℕ, ℤ, pos, zero, suc, ◌+◌, ◌<◌, ◌≤◌, ◌==◌, ◌⊎◌, Bool, true, false, ◌||◌, ◌&&◌, List, length, get_or, take, Option}
-use Rattle.std.proofs.Common.{sym, ap, ◌∙◌, subst, arith, inl, inr, add-one}
-use Rattle.std.specs.Prelude.{slice_index}
-use Rattle.std.specs.List.{list_any}
-use Rattle.std.specs.Option.{option_map_or}
-use Rattle.std.proofs.Math.Seq.{take-length}
-use Rattle.std.proofs.lemmas.Bool.{cases_Bool, cases_order, eqb-true, eq-eqb, lt-ltb}
-use Rattle.std.proofs.lemmas.Option.{slice_get-get_or}
-use Rattle.std.proofs.lemmas.List.{get_or_default, length-map}
-use Rattle.std.proofs.lemmas.List.Folds.{list_any_more, Any-from_list_any, list_any-from_Any}
-use Rattle.std.proofs.lemmas.List.Sorted.{list_any-IsPermutation}
+use Rattle.std.proofs.lemmas.{Bool.Decides.nat_tests, Bool.cases_Bool, Bool.cases_order, Bool.eqb-true, Bool.eq-eqb, Bool.lt-ltb, Option.slice_get-get_or}
+use Rattle.std.proofs.Common.{◌≡◌, ◌≢◌, ℕ, ℤ, pos, zero, suc, ◌+◌, ◌<◌, ◌≤◌, ◌==◌, ◌⊎◌, Bool, true, false, ◌||◌, ◌&&◌, List, length, get_or, take, Option, sym, ap, ◌∙◌, subst, arith, inl, inr}
+use Rattle.std.proofs.Common.{add-one}
+use Rattle.std.{specs.Prelude.slice_index, specs.List.list_any, specs.Option.option_map_or, proofs.Math.Seq.take-length}
+use Rattle.std.proofs.lemmas.List.{get_or_default, length-map, Folds.list_any_more, Folds.Any-from_list_any, Folds.list_any-from_Any, Sorted.list_any-IsPermutation}
 use Rattle.mml_ids.specs.Ids.{in_order, IsTable}
 use Rattle.mml_rules.specs.Network.{configuration_of}
-use Rattle.mml_lab.specs.Shape.{NodeSpec, RawSpec}
+use Rattle.mml_lab.specs.{Shape.NodeSpec, Shape.RawSpec, LabMeaning.Joins, LabMeaning.HasNode}
 use Rattle.mml_lab.specs.Labs.{number_of, file_ids, joins, is_linked, is_link_again, registers_with, network_in, lab_in, link_count}
-use Rattle.mml_lab.specs.LabMeaning.{Joins, HasNode}
-use Rattle.mml_ids.proofs.MapLemmas.{list_any-map}
-use Rattle.mml_ids.proofs.SearchLemmas.{none-is}
-use Rattle.mml_ids.proofs.InOrderLemmas.{in_order-moves}
-use Rattle.mml_lab.proofs.LabFaultLemmas.{IsFaultless}
+use Rattle.mml_ids.proofs.{MapLemmas.list_any-map, SearchLemmas.none-is, InOrderLemmas.in_order-moves}
+use Rattle.mml_lab.proofs.{LabFaultLemmas.IsFaultless, LabMeaningLemmas.joins-means, LabMeaningLemmas.all-join}
 use Rattle.mml_lab.proofs.LabInLemmas.{positive, is_linked_turned, linked-in, net, table}
-use Rattle.mml_lab.proofs.LabMeaningLemmas.{joins-means, all-join}
 use Rattle.mml_lab.proofs.LinksBelowLemmas.{pairs_below, links_below-pairs, pairs_same, pairs_one, no_pairs}
 
 abbrev Link : Type 0
@@ -86,9 +75,7 @@ one_link ids rises links k link a b lt here ranks apart =
     ∙ or_false (near ids (take k links) i j)))
   where
     more : (i j : ℕ) → near ids (take (k + 1) links) i j ≡ (near ids (take k links) i j || joins (end_of ids i) (end_of ids j) link)
-    more i j =
-        list_any_more (joins (end_of ids i) (end_of ids j)) links k link lt
-        ∙ ap (λ l. near ids (take k links) i j || joins (end_of ids i) (end_of ids j) l) here
+    more i j = list_any_more (joins (end_of ids i) (end_of ids j)) links k link lt ∙ ap (λ l. near ids (take k links) i j || joins (end_of ids i) (end_of ids j) l) here
 
     off : Joins (end_of ids a) (end_of ids b) link → near ids (take k links) a b ≡ false
     off (inl p) = (λ t. is_linked (take k links) (sym p.0 t) (sym p.1 t)) ∙ apart
@@ -97,8 +84,7 @@ one_link ids rises links k link a b lt here ranks apart =
     elsewhere : (i j : ℕ) → i < length ids → j < i → ¬ ((i ≡ a) × (j ≡ b))
         → (joins (end_of ids i) (end_of ids j) link ≡ true) ⊎ (joins (end_of ids i) (end_of ids j) link ≡ false)
         → joins (end_of ids i) (end_of ids j) link ≡ false
-    elsewhere i j in_i below other (inl holds) =
-        absurd (other (joins_one ids rises link a b i j ranks in_i below ((joins-means (end_of ids i) (end_of ids j) link).0 holds)))
+    elsewhere i j in_i below other (inl holds) = absurd (other (joins_one ids rises link a b i j ranks in_i below ((joins-means (end_of ids i) (end_of ids j) link).0 holds)))
     elsewhere i j in_i below other (inr apart) = apart
 
 module _ (raw : RawSpec) (right : IsFaultless raw) where
@@ -118,10 +104,7 @@ module _ (raw : RawSpec) (right : IsFaultless raw) where
   ranks_of link first second differ =
       let i = rank_of_end link.0 first in
       let j = rank_of_end link.1 second in
-      elim (cases_order i.0 j.0) [
-        | inl same ↦ absurd (differ (i.2 ∙ ap (end_of ids) same ∙ sym j.2))
-        | inr o ↦ grind arith
-      ]
+      elim (cases_order i.0 j.0) [ inl same ↦ absurd (differ (i.2 ∙ ap (end_of ids) same ∙ sym j.2)) | inr o ↦ grind arith ]
 
   counted_to : (k : ℕ) → k ≤ length raw.links → pairs_below (near ids (take k raw.links)) (length ids) ≡ k
   counted_to zero le = no_pairs (length ids)

@@ -1,22 +1,14 @@
 -- The error of a link that stands twice.
-use Rattle.std.proofs.lemmas.Bool.Decides.{nat_tests}
+use Rattle.std.proofs.lemmas.{Bool.Decides.nat_tests, Bool.cases_Bool, Bool.both_ways, Option.slice_get_within, Option.get_or_from_slice_get, Option.slice_get_read}
 use Rattle.std.proofs.Common.{◌≡◌, ◌↔◌, ℕ, ℤ, ◌<◌, true, false, List, length, get_or, take, Option, Some, None, Result, Ok, Err, refl, ◌∙◌, arith}
-use Rattle.std.specs.Prelude.{option_map, slice_get}
-use Rattle.std.specs.Option.{option_map_or}
-use Rattle.std.proofs.lemmas.Bool.{cases_Bool, both_ways}
-use Rattle.std.proofs.lemmas.Option.{slice_get_within, get_or_from_slice_get, slice_get_read}
-use Rattle.std.proofs.lemmas.List.{get_or-take, length-take, length-take-le}
-use Rattle.std.proofs.lemmas.List.Folds.{list_any_at}
-use Rattle.mml_ids.specs.Gives.{◌>>◌}
-use Rattle.mml_ids.specs.Search.{first_below}
-use Rattle.mml_lab.specs.declared.lab_fault.LabFault.{LabFault}
-use Rattle.mml_lab.specs.declared.lab_fault.LabFault.TheVariants as fault
-use Rattle.mml_lab.specs.Shape.{RawSpec}
+use Rattle.std.specs.{Prelude.option_map, Prelude.slice_get, Option.option_map_or}
+use Rattle.std.proofs.lemmas.List.{get_or-take, length-take, length-take-le, Folds.list_any_at}
+use Rattle.mml_ids.specs.{Gives.◌>>◌, Search.first_below}
+use Rattle.mml_lab.specs.{declared.lab_fault.LabFault.LabFault, Shape.RawSpec, LabMeaning.JoinNodes, LabMeaning.IsLinkAgain, LabMeaning.IsFirstLinkAgain}
 use Rattle.mml_lab.specs.Labs.{is_linked, is_link_again, ends_fault, loops_fault, again_fault, pass_unless, linked}
-use Rattle.mml_lab.specs.LabMeaning.{JoinNodes, IsLinkAgain, IsFirstLinkAgain}
-use Rattle.mml_ids.proofs.SearchLemmas.{first-is, first-at, none-is, none-at}
-use Rattle.mml_ids.proofs.FindLemmas.{list_any-found}
+use Rattle.mml_ids.proofs.{SearchLemmas.first-is, SearchLemmas.first-at, SearchLemmas.none-is, SearchLemmas.none-at, FindLemmas.list_any-found}
 use Rattle.mml_lab.proofs.LabMeaningLemmas.{joins-means, join-means}
+use Rattle.mml_lab.specs.declared.lab_fault.LabFault.TheVariants as fault
 
 abbrev Link : Type 0
 Link = ℤ × ℤ

@@ -1,20 +1,13 @@
 -- The first name that stands before it already, met student after student.
-use Rattle.std.proofs.lemmas.Bool.Decides.{nat_tests}
-use Rattle.std.proofs.Common.{◌≡◌, ℕ, suc, ◌+◌, ◌-◌, ◌<◌, ◌≤◌, List, [], ◌∷◌, ◌++◌, length, get_or, take, map, Option, None, Bool, true, false}
-use Rattle.std.proofs.Common.{◌||◌, Ok, Err, refl, sym, ap, ◌∙◌, arith, string_bytes, String, Global, is_some, true≢false, append-nil, length-append, rules}
-use Rattle.std.specs.Prelude.{bytes_eq}
-use Rattle.std.specs.List.{list_any}
-use Rattle.std.specs.Map.{lookup}
-use Rattle.std.proofs.lemmas.List.{length-map}
-use Rattle.mml_ids.specs.Gives.{unless_fault}
-use Rattle.mml_ids.specs.Search.{first_from, first_below}
+use Rattle.std.{proofs.lemmas.Bool.Decides.nat_tests, proofs.lemmas.List.length-map, specs.Prelude.bytes_eq, specs.List.list_any, specs.Map.lookup}
+use Rattle.std.proofs.Common.{◌≡◌, ℕ, suc, ◌+◌, ◌-◌, ◌<◌, List, [], ◌∷◌, ◌++◌, length, get_or, take, map, None, Bool, true, false, ◌||◌, Ok, Err, refl, sym, ap, ◌∙◌, arith, string_bytes, String}
+use Rattle.std.proofs.Common.{Global, is_some, true≢false, append-nil, length-append, rules}
+use Rattle.mml_ids.specs.{Gives.unless_fault, Search.first_from, Search.first_below}
 use Rattle.mml_ids.proofs.SearchLemmas.{first_here, first_next, first_end}
-use Rattle.mml_lab.specs.declared.raw_lab.Account.{Account as KeptAccount}
-use Rattle.mml_lab.specs.declared.lab_fault.LabFault.TheVariants as fault
-use Rattle.mml_lab.specs.Shape.{Account}
-use Rattle.mml_lab.specs.inside.Raw.{account_view, entry_account}
+use Rattle.mml_lab.specs.{declared.raw_lab.Account.Account as KeptAccount, Shape.Account, inside.Raw.account_view, inside.Raw.entry_account}
 use Rattle.mml_lab.specs.Rosters.{has_name, is_name_again, name_twice}
 use Rattle.mml_lab.proofs.StudentNamedLemmas.{Entry}
+use Rattle.mml_lab.specs.declared.lab_fault.LabFault.TheVariants as fault
 
 -- the name is the teacher's or that of an entry
 abbrev pub is_taken : List ℕ → List Entry → List ℕ → Bool
@@ -36,11 +29,6 @@ lookup_any : (name : List ℕ) (es : List Entry) → is_some (lookup (λ k. byte
 lookup_any name [] = refl
 lookup_any name (e ∷ es) = grind (arith, string_bytes, lookup_any name es)
 
--- the test at the account after those before
-again_at : (teacher : Account) (before : List Account) (a : Account) (after : List Account)
-    → is_name_again (teacher ∷ before ++ a ∷ after) (suc (length before)) ≡ (bytes_eq a.name teacher.name || list_any (has_name a.name) before)
-again_at teacher before a after = grind (arith, at_middle, take_middle)
-
 -- the test at a student, by the map of those before
 pub taken_at : (teacher : KeptAccount) (all done rest : List KeptAccount) (x : KeptAccount) (es : List Entry) (t name : List ℕ) (r b : Bool)
     → done ++ x ∷ rest ≡ all → map entry_account es ≡ map account_view done → t ≡ string_bytes teacher.name → name ≡ string_bytes x.name
@@ -51,7 +39,7 @@ taken_at teacher all done rest x es t name r b parts seen same_teacher same is a
     let index : length done + 1 ≡ suc (length (map account_view done)) = omega (arith, length-map done account_view) in
     let here : is_name_again (account_view teacher ∷ map account_view all) (length done + 1)
     ≡ (bytes_eq (string_bytes x.name) (string_bytes teacher.name) || list_any (has_name (string_bytes x.name)) (map account_view done)) =
-    rw (accounts, index) (again_at (account_view teacher) (map account_view done) (account_view x) (map account_view rest)) in
+    rw (accounts, index) (grind (arith, at_middle, take_middle, account_view teacher, map account_view done, account_view x, map account_view rest)) in
     grind (arith, nat_tests, lookup_any)
 
 -- nothing stands before the teacher
@@ -64,8 +52,7 @@ pub next_at : (accounts : List Account) (k j : ℕ) → j ≡ k + 1 → k < leng
     → first_from (is_name_again accounts) j (length accounts - j) ≡ first_below (is_name_again accounts) (length accounts)
 next_at accounts k j e lt fresh so_far = rw e (first_next (is_name_again accounts) k (length accounts) lt fresh ∙ so_far)
 
-pub is_within : (teacher : Account) (all done rest : List KeptAccount) (x : KeptAccount) → done ++ x ∷ rest ≡ all
-    → length done + 1 < length (teacher ∷ map account_view all)
+pub is_within : (teacher : Account) (all done rest : List KeptAccount) (x : KeptAccount) → done ++ x ∷ rest ≡ all → length done + 1 < length (teacher ∷ map account_view all)
 is_within teacher all done rest x parts = let whole = ap length parts in omega (arith, length-map all account_view, length-append done (x ∷ rest))
 
 pub fault_at : {X : Type 0} (accounts : List Account) (x : X) (k : ℕ) → k < length accounts → is_name_again accounts k ≡ true
@@ -73,21 +60,13 @@ pub fault_at : {X : Type 0} (accounts : List Account) (x : X) (k : ℕ) → k < 
     → unless_fault (name_twice accounts) x ≡ Err (fault.NameTwice k)
 fault_at accounts x k lt again so_far = grind (arith, first_here)
 
-pub no_fault : {X : Type 0} (accounts : List Account) (x : X) (k : ℕ) → length accounts ≤ k
-    → first_from (is_name_again accounts) k (length accounts - k) ≡ first_below (is_name_again accounts) (length accounts)
-    → unless_fault (name_twice accounts) x ≡ Ok x
-no_fault accounts x k le so_far = grind (arith, first_end)
-
-none_from_is_some : {X : Type 0} (o : Option X) → is_some o ≡ false → o ≡ None
-none_from_is_some o h = grind (arith, true≢false)
-
 second_false : (a b : Bool) → (a || b) ≡ false → b ≡ false
 second_false a b h = grind (arith, true≢false)
 
 -- a name that isn't taken has no entry
 pub absent : (teacher : List ℕ) (es : List Entry) (name : List ℕ) (k : String Global) (r : Bool) → string_bytes k ≡ name → r ≡ is_taken teacher es name
     → r ≡ false → lookup (λ q. bytes_eq (string_bytes k) (string_bytes q)) es ≡ None
-absent teacher es name k r same is at = rw same (none_from_is_some _ (second_false (bytes_eq name teacher) _ (sym is ∙ at)))
+absent teacher es name k r same is at = rw same (grind (arith, true≢false, second_false (bytes_eq name teacher) _ (sym is ∙ at)))
 
 pub one_more : (done : List KeptAccount) (x : KeptAccount) (es new : List Entry) (n v : String Global) → map entry_account es ≡ map account_view done
     → new ≡ es ++ (n, v) ∷ [] → entry_account (n, v) ≡ account_view x → map entry_account new ≡ map account_view (done ++ x ∷ [])
@@ -126,4 +105,4 @@ module _ (teacher : KeptAccount) (all done rest : List KeptAccount) (x : KeptAcc
 -- once no student is left, no name stood twice and the map holds all students
 pub at_end : (teacher : KeptAccount) (all done rest : List KeptAccount) (es : List Entry) → IsSoFar teacher all done es → done ++ rest ≡ all → length rest ≡ 0
     → unless_fault (name_twice (account_view teacher ∷ map account_view all)) (map account_view all) ≡ Ok (map entry_account es)
-at_end teacher all done rest es so_far parts nothing = grind (arith, append-nil, nothing_left, length-map, no_fault)
+at_end teacher all done rest es so_far parts nothing = grind (arith, append-nil, nothing_left, length-map, first_end)

@@ -1,24 +1,15 @@
 -- The rows of neighbours, as links are put into them one after the other.
-use Rattle.std.proofs.lemmas.Bool.Decides.{nat_tests}
-use Rattle.std.proofs.lemmas.Grind.{common_steps}
-use Rattle.std.proofs.Common.{◌≡◌, ℕ, ℤ, pos, negsuc, ◌+◌, ◌<◌, ◌&&◌, ◌||◌, eqb, ltb, List, [], length, get_or, set, take, map}
-use Rattle.std.proofs.Common.{sym, ◌∙◌, arith, rules}
-use Rattle.std.specs.Prelude.{slice_index, replicate}
-use Rattle.std.specs.Ordering.{nat_cmp, int_eq}
-use Rattle.std.specs.FinSet as sets
-use Rattle.std.specs.FinSet.{FinSet}
-use Rattle.std.proofs.lemmas.Bool.{and_right, cases_lt, cases_eq, eq-eqb, ne_eqb, eqb-true, lt-ltb, le-ltb}
+use Rattle.std.proofs.lemmas.Bool.{Decides.nat_tests, and_right, cases_lt, cases_eq, eq-eqb, ne_eqb, eqb-true, lt-ltb, le-ltb}
+use Rattle.std.proofs.lemmas.{Grind.common_steps, List.Folds.list_any_more, List.Quantifiers.position-Some}
+use Rattle.std.proofs.Common.{◌≡◌, ℕ, ℤ, pos, negsuc, ◌+◌, ◌<◌, ◌&&◌, ◌||◌, eqb, ltb, List, [], length, get_or, set, take, map, sym, ◌∙◌, arith, rules}
+use Rattle.std.specs.{Prelude.slice_index, Prelude.replicate, Ordering.nat_cmp, Ordering.int_eq, FinSet.FinSet}
 use Rattle.std.proofs.lemmas.List.{get_or-set_same, get_or-set_other, get_or_default, get_or-replicate, length-replicate, get_or-map, length-map, same_lists}
-use Rattle.std.proofs.lemmas.List.Folds.{list_any_more}
-use Rattle.std.proofs.lemmas.List.Quantifiers.{position-Some}
-use Rattle.mml_ids.specs.Ids.{rank_in, IsTable}
-use Rattle.mml_ids.specs.inside.WordsLemmas.{has_empty, has_insert, has-those_below, same_ranks}
-use Rattle.mml_ids.proofs.IdsLemmas.{rank_of_id, id_of_rank}
-use Rattle.mml_rules.specs.Configuration.{holds}
-use Rattle.mml_rules.specs.Network.{neighbours_at}
-use Rattle.mml_ids.proofs.SearchLemmas.{same_bool}
+use Rattle.mml_ids.specs.{Ids.rank_in, Ids.IsTable, inside.WordsLemmas.has_empty, inside.WordsLemmas.has_insert, inside.WordsLemmas.has-those_below, inside.WordsLemmas.same_ranks}
+use Rattle.mml_ids.proofs.{IdsLemmas.rank_of_id, IdsLemmas.id_of_rank, SearchLemmas.same_bool}
+use Rattle.mml_rules.specs.{Configuration.holds, Network.neighbours_at}
 use Rattle.mml_rules.proofs.ConfigurationLemmas.{holds-true, holds-from}
 use Rattle.mml_lab.specs.Labs.{number_of, joins, is_linked, neighbours_of}
+use Rattle.std.specs.FinSet as sets
 
 abbrev pub Rows : Type 0
 Rows = List (FinSet nat_cmp)
@@ -26,8 +17,7 @@ Rows = List (FinSet nat_cmp)
 -- a row into which b is put has b besides what it had, and all other rows are as before
 pub inserted : (rows : Rows) (a b : ℕ) (old new : FinSet nat_cmp) → a < length rows → old ≡ get_or rows a old → new ≡ sets.insert old b → (i q : ℕ)
     → sets.contains (neighbours_at (set rows a new) i) q ≡ (sets.contains (neighbours_at rows i) q || (eqb a i && eqb b q))
-inserted rows a b old new lt here is i q =
-    grind (arith, cases_eq, get_or_default, get_or-set_same, has_insert, eq-eqb, get_or-set_other, ne_eqb, same_bool, eqb-true)
+inserted rows a b old new lt here is i q = grind (arith, cases_eq, get_or_default, get_or-set_same, has_insert, eq-eqb, get_or-set_other, ne_eqb, same_bool, eqb-true)
 
 -- an end is a node's identifier exactly where it has the node's rank
 pub end_at : (ids : List ℕ) → IsTable ids → (z : ℤ) (i : ℕ) → i < length ids → int_eq z (pos (slice_index ids i)) ≡ holds (rank_in ids (number_of z)) i
@@ -61,7 +51,20 @@ pub one_more : (ids : List ℕ) → IsTable ids → (links : List (ℤ × ℤ)) 
     || ((holds (rank_in ids (number_of link.0)) i && holds (rank_in ids (number_of link.1)) q)
     || (holds (rank_in ids (number_of link.1)) i && holds (rank_in ids (number_of link.0)) q))))
     → AreRows ids (take k links) rows → AreRows ids (take (k + 1) links) new
-one_more ids table links k link rows new lt is long step so_far = grind (arith, common_steps, nat_tests, has-neighbours_of, cases_lt, position-Some, ne_eqb, and_right, lt-ltb, list_any_more, joins_at, le-ltb)
+one_more ids table links k link rows new lt is long step so_far = grind (
+  arith,
+  common_steps,
+  nat_tests,
+  has-neighbours_of,
+  cases_lt,
+  position-Some,
+  ne_eqb,
+  and_right,
+  lt-ltb,
+  list_any_more,
+  joins_at,
+  le-ltb,
+)
 
 -- the rows of all links hold each node's neighbours
 pub all_rows : (ids : List ℕ) (links : List (ℤ × ℤ)) (rows : Rows) → AreRows ids links rows → rows ≡ map (neighbours_of ids links) ids

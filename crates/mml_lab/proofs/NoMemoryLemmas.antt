@@ -1,18 +1,14 @@
 -- No bytes spell out of memory: neither a file without its keys nor one with an error.
-use Rattle.std.proofs.Common.{◌≡◌, ◌≢◌, ◌⊎◌, inl, inr, ℕ, List, Bool, cond, Option, Some, Result, Err, subst, arith}
+use Rattle.std.proofs.Common.{◌≡◌, ◌≢◌, ◌⊎◌, inl, inr, ℕ, List, Option, Some, Result, Err, subst, arith}
 use Rattle.std.specs.Prelude.{codes, ok_or, IfErr}
 use Rattle.toml.specs.Data.{Data, Items, no_items, item, Members, as_table, as_array}
 use Rattle.mml_ids.specs.Gives.{◌>>=◌}
+use Rattle.mml_lab.specs.{declared.lab_fault.LabFault.LabFault, declared.lab_fault.Key.Key, Labs.lab_fault, Labs.lab_of}
+use Rattle.mml_lab.specs.Shape.{of_kind, needed, optional_of, each, account_in, student_of, names_of, node_of, link_of, RawSpec, links_of, teacher_of, students_of, nodes_of, raw_of, table_in, spelled}
+use Rattle.mml_lab.proofs.{LabFaultLemmas.refuses, LabOfLemmas.no_memory, LabOfLemmas.no_memory_of_ids}
 use Rattle.mml_ids.specs.declared.id_table.IdFault.TheVariants as id
-use Rattle.mml_lab.specs.declared.lab_fault.LabFault.{LabFault}
 use Rattle.mml_lab.specs.declared.lab_fault.LabFault.TheVariants as fault
-use Rattle.mml_lab.specs.declared.lab_fault.Key.{Key}
 use Rattle.mml_lab.specs.declared.lab_fault.Key.TheVariants as key
-use Rattle.mml_lab.specs.Shape.{of_kind, needed, optional, optional_of, each, account_in, student_of, names_of, node_of, link_of}
-use Rattle.mml_lab.specs.Shape.{RawSpec, links_of, teacher_of, students_of, nodes_of, raw_of, table_in, spelled}
-use Rattle.mml_lab.specs.Labs.{lab_fault, lab_of}
-use Rattle.mml_lab.proofs.LabFaultLemmas.{refuses}
-use Rattle.mml_lab.proofs.LabOfLemmas.{no_memory, no_memory_of_ids}
 
 -- the error is not out of memory
 abbrev Tells : LabFault → Type 0
@@ -30,20 +26,14 @@ then r f first rest = grind arith
 or_fault : {A : Type 0} (o : Option A) (f : LabFault) → Tells f → OfResult (ok_or o f)
 or_fault o f tells = grind arith
 
-of_cond : {A : Type 0} (b : Bool) (r s : Result A LabFault) → OfResult r → OfResult s → OfResult (cond b r s)
-of_cond b r s p q = grind arith
-
 kind : {A : Type 0} (key : Key) (f : Data → Option A) (value : Data) → OfResult (of_kind key f value)
 kind key f value = or_fault (f value) (fault.WrongKind key) tt
 
 there : {A : Type 0} (key : Key) (name : List ℕ) (f : Data → Option A) (members : Members) → OfResult (needed key name f members)
 there key name f members = grind (arith, then, or_fault, kind)
 
-may_lack : {A : Type 0} (read : Data → Result A LabFault) (o : Option Data) → ((value : Data) → OfResult (read value)) → OfResult (optional read o)
-may_lack read o h = grind (arith, then)
-
 may_lack_kind : {A : Type 0} (key : Key) (f : Data → Option A) (o : Option Data) → OfResult (optional_of key f o)
-may_lack_kind key f o = may_lack (of_kind key f) o (kind key f)
+may_lack_kind key f o = grind (arith, then, of_kind key f, kind key f)
 
 in_turn : {A : Type 0} (f : Data → Result A LabFault) (items : Items) → ((value : Data) → OfResult (f value)) → OfResult (each f items)
 in_turn f no_items h = tt
@@ -59,11 +49,11 @@ student value = then (of_kind key.Student as_table value) _ (kind key.Student as
 
 names : (value : Data) → OfResult (names_of value)
 unfolding names_of
-names value = grind (arith, then, kind, in_turn, of_cond)
+names value = grind (arith, then, kind, in_turn)
 
 node : (value : Data) → OfResult (node_of value)
 unfolding node_of
-node value = grind (arith, then, kind, there, may_lack_kind, may_lack, names, or_fault)
+node value = grind (arith, then, kind, there, may_lack_kind, names, or_fault)
 
 link : (value : Data) → OfResult (link_of value)
 unfolding link_of
@@ -99,14 +89,8 @@ refused bytes f = grind (arith, raw, refuses)
 
 -- no bytes are refused because memory ran out
 pub spells_no_memory : (bytes : List ℕ) → lab_of bytes ≢ Err fault.Memory
-spells_no_memory bytes is = elim (refused bytes fault.Memory is) [
-  | inl e ↦ subst OfResult e (file bytes)
-  | inr r ↦ no_memory r.0 r.1
-]
+spells_no_memory bytes is = elim (refused bytes fault.Memory is) [ inl e ↦ subst OfResult e (file bytes) | inr r ↦ no_memory r.0 r.1 ]
 
 -- nor because it ran out for the identifiers
 pub spells_no_memory_of_ids : (bytes : List ℕ) → lab_of bytes ≢ Err (fault.Id id.Memory)
-spells_no_memory_of_ids bytes is = elim (refused bytes (fault.Id id.Memory) is) [
-  | inl e ↦ subst OfResult e (file bytes)
-  | inr r ↦ no_memory_of_ids r.0 r.1
-]
+spells_no_memory_of_ids bytes is = elim (refused bytes (fault.Id id.Memory) is) [ inl e ↦ subst OfResult e (file bytes) | inr r ↦ no_memory_of_ids r.0 r.1 ]

@@ -1,17 +1,13 @@
 -- The rows of what each student owns, as nodes are put into them one after the other.
 use Rattle.std.proofs.Common.{◌≡◌, ℕ, ◌+◌, ◌<◌, ◌≤◌, Bool, false, ◌&&◌, ◌||◌, eqb, ltb, List, [], length, get_or, set, take, ◌⊎◌, sym, ap, ◌∙◌, arith, All}
-use Rattle.std.specs.Prelude.{replicate}
-use Rattle.std.specs.List.{list_any}
-use Rattle.std.specs.Ordering.{nat_cmp}
-use Rattle.std.specs.FinSet as sets
-use Rattle.std.specs.FinSet.{FinSet}
+use Rattle.std.specs.{Prelude.replicate, List.list_any, Ordering.nat_cmp, FinSet.FinSet}
 use Rattle.std.proofs.lemmas.Bool.{cases_lt, cases_eq, eq-eqb, ne_eqb, eqb-true, lt-ltb, le-ltb}
-use Rattle.std.proofs.lemmas.List.{get_or_past, get_or-replicate, length-replicate}
-use Rattle.std.proofs.lemmas.List.Folds.{list_any_more, list_any_none}
+use Rattle.std.proofs.lemmas.List.{get_or_past, get_or-replicate, length-replicate, Folds.list_any_more, Folds.list_any_none}
 use Rattle.mml_ids.specs.inside.WordsLemmas.{has_empty}
 use Rattle.mml_ids.proofs.SearchLemmas.{same_bool}
 use Rattle.mml_lab.specs.inside.Owned.{row_at, is_owner, AreOwned}
 use Rattle.mml_lab.proofs.NeighboursLemmas.{Rows, inserted}
+use Rattle.std.specs.FinSet as sets
 
 or_false : (b : Bool) → (b || false) ≡ b
 or_false b = grind arith
@@ -51,11 +47,7 @@ pub all_nodes : (students n : ℕ) (owners : List (List ℕ)) (rows : Rows) → 
     → ((s i : ℕ) → sets.contains (row_at rows s) i ≡ (ltb i n && is_owner owners s i)) → AreOwned students owners rows
 all_nodes students n owners rows end count each = grind (arith, cases_lt, lt-ltb, le-ltb, get_or_past)
 
--- nobody past the last student owns a node
-nobody_past : (students s i : ℕ) (owners : List (List ℕ)) → All (All (λ o. o < students)) owners → students ≤ s → is_owner owners s i ≡ false
-nobody_past students s i owners known past = grind (arith, cases_lt, list_any_none, ne_eqb, get_or_past)
-
 -- the row at an index, or the empty one where it is past the last student
 pub owned_by : (students s index i : ℕ) (owners : List (List ℕ)) (rows : Rows) → AreOwned students owners rows → All (All (λ o. o < students)) owners
     → ((s ≤ students) × (index ≡ s)) ⊎ ((students ≤ s) × (index ≡ students)) → sets.contains (row_at rows index) i ≡ is_owner owners s i
-owned_by students s index i owners rows are known at = grind (arith, nobody_past)
+owned_by students s index i owners rows are known at = grind (arith, cases_lt, list_any_none, ne_eqb, get_or_past)

@@ -1,16 +1,8 @@
 -- What the values that were read stand for, under the tests of a lab.
 use Rattle.std.proofs.Common.{◌≡◌, ℕ, List, [], ◌∷◌, map, None, Ok, Err, MatchBool, refl, String, Global, string_bytes, arith}
-use Rattle.std.specs.Prelude.{option_map, is_some, bytes_eq, ◌==◌}
-use Rattle.std.specs.List.{list_any, find}
-use Rattle.std.specs.Map.{lookup}
-use Rattle.mml_ids.specs.Gives.{Faults}
-use Rattle.mml_ids.specs.Ids.{id_fault, is_id_memory}
-use Rattle.mml_ids.specs.declared.id_table.IdFault.{IdFault}
-use Rattle.mml_lab.specs.declared.raw_lab.RawNode.{RawNode}
-use Rattle.mml_lab.specs.Shape.{NodeSpec, is_lab_memory}
-use Rattle.mml_lab.specs.inside.Raw.{node_view, entry_account}
-use Rattle.mml_lab.specs.Rosters.{has_name}
-use Rattle.mml_lab.specs.Faults.{id_fault_as}
+use Rattle.std.specs.{Prelude.option_map, Prelude.is_some, Prelude.bytes_eq, Prelude.◌==◌, List.list_any, List.find, Map.lookup}
+use Rattle.mml_ids.specs.{Gives.Faults, Ids.id_fault, Ids.is_id_memory, declared.id_table.IdFault.IdFault}
+use Rattle.mml_lab.specs.{declared.raw_lab.RawNode.RawNode, Shape.NodeSpec, Shape.is_lab_memory, inside.Raw.node_view, inside.Raw.entry_account, Rosters.has_name, Faults.id_fault_as}
 use Rattle.mml_lab.specs.Labs.{number_of, file_ids, node_with, ids_fault, pass_unless}
 use Rattle.mml_ids.proofs.MapLemmas.{find-map, map-map}
 

@@ -1,26 +1,16 @@
 -- What the roster's definitions mean.
-use Rattle.std.proofs.Common.{◌≡◌, ◌↔◌, ℕ, suc, ◌<◌, ◌≤◌, List, ◌∷◌, length, get_or, Option, Some, None, true, false, not, ◌⊎◌, inl}
-use Rattle.std.proofs.Common.{inr, refl, sym, ap, ◌∙◌, arith, true≢false, All, Contains}
-use Rattle.std.specs.List.{position}
-use Rattle.std.specs.Option.{option_map}
-use Rattle.std.proofs.lemmas.Bool.Decides.{nat_tests}
-use Rattle.std.proofs.lemmas.Bool.{cases_Bool, cases_order, cases_lt, and_from, and_parts, not-false, eqb-true, eq-eqb}
-use Rattle.std.proofs.lemmas.List.{length-take-le, get_or-take, get_or_default, get_or_past}
-use Rattle.std.proofs.lemmas.List.Elements.{All-get_or}
-use Rattle.std.proofs.lemmas.List.Folds.{list_any_at, Any-from_list_any}
-use Rattle.std.proofs.lemmas.List.Quantifiers.{position-Some}
-use Rattle.std.proofs.lemmas.Slice.Eq.{bytes_eq-Decides}
+use Rattle.std.proofs.Common.{◌≡◌, ◌↔◌, ℕ, suc, ◌<◌, ◌≤◌, List, ◌∷◌, length, get_or, Option, Some, None, true, false, not, ◌⊎◌, inl, inr, refl, sym, ap, ◌∙◌, arith, true≢false, All, Contains}
+use Rattle.std.{specs.List.position, specs.Option.option_map, proofs.lemmas.Slice.Eq.bytes_eq-Decides}
+use Rattle.std.proofs.lemmas.Bool.{Decides.nat_tests, cases_Bool, cases_order, cases_lt, and_from, and_parts, not-false, eqb-true, eq-eqb}
+use Rattle.std.proofs.lemmas.List.{length-take-le, get_or-take, get_or_default, get_or_past, Elements.All-get_or, Folds.list_any_at, Folds.Any-from_list_any, Quantifiers.position-Some}
 use Rattle.mml_ids.specs.Search.{first_below}
-use Rattle.mml_lab.specs.declared.TheConstants.{MAX_STUDENTS}
-use Rattle.mml_lab.specs.declared.who.Who.{Who}
-use Rattle.mml_lab.specs.declared.who.Who.TheVariants as who
-use Rattle.mml_lab.specs.declared.lab_fault.LabFault.TheVariants as fault
-use Rattle.mml_lab.specs.Shape.{Account}
-use Rattle.mml_lab.specs.Rosters.{RosterValue, IsRoster, IsPrincipal, principal, owns, owners_of, name_of, account_of, student_named, with_owners, is_account}
-use Rattle.mml_lab.specs.Rosters.{has_name, has_name_and_key, no_account, is_name_again, name_twice}
-use Rattle.mml_lab.specs.RosterMeaning.{IsKnownAs, IsFirstAgain, AreDistinctBelow, name_at}
+use Rattle.mml_lab.specs.{declared.TheConstants.MAX_STUDENTS, declared.who.Who.Who, Shape.Account, Rosters.RosterValue, Rosters.IsRoster, Rosters.IsPrincipal, Rosters.principal, Rosters.owns}
+use Rattle.mml_lab.specs.{Rosters.owners_of, Rosters.name_of, Rosters.account_of, Rosters.student_named, Rosters.with_owners, Rosters.is_account, Rosters.has_name, Rosters.has_name_and_key}
+use Rattle.mml_lab.specs.{Rosters.no_account, Rosters.is_name_again, Rosters.name_twice, RosterMeaning.IsKnownAs, RosterMeaning.IsFirstAgain, RosterMeaning.AreDistinctBelow, RosterMeaning.name_at}
 use Rattle.mml_ids.proofs.SearchLemmas.{position-only, position-None, first-is, first-at, none-is, none-at}
 use Rattle.mml_lab.proofs.StudentNamedLemmas.{student_is}
+use Rattle.mml_lab.specs.declared.who.Who.TheVariants as who
+use Rattle.mml_lab.specs.declared.lab_fault.LabFault.TheVariants as fault
 
 -- ---- who greets
 
@@ -29,9 +19,6 @@ has_both name key a both = grind (arith, and_parts, bytes_eq-Decides)
 
 from_both : (name key : List ℕ) (a : Account) → a.name ≡ name → a.key ≡ key → has_name_and_key name key a ≡ true
 from_both name key a named keyed = and_from _ _ ((bytes_eq-Decides name a.name).1 (sym named)) ((bytes_eq-Decides key a.key).1 (sym keyed))
-
-found_is_known : (r : RosterValue) (name key : List ℕ) (w : Who) → principal r name key ≡ Some w → IsKnownAs r w name key
-found_is_known r name key w found = grind (arith, position-Some, has_both)
 
 known_is_found : (r : RosterValue) (name key : List ℕ) (w : Who) → IsRoster r → IsKnownAs r w name key → principal r name key ≡ Some w
 known_is_found r name key who.Teacher roster known = rw (from_both name key r.teacher known.named known.keyed)
@@ -56,7 +43,7 @@ known_is_found r name key (who.Student s) roster known = by (cases_Bool (has_nam
 
 -- the one who is found by a name and a key is the one who takes part under them
 pub principal-one : (r : RosterValue) (name key : List ℕ) (w : Who) → IsRoster r → (principal r name key ≡ Some w) ↔ IsKnownAs r w name key
-principal-one r name key w roster = (found_is_known r name key w, known_is_found r name key w roster)
+principal-one r name key w roster = (grind (arith, position-Some, has_both), known_is_found r name key w roster)
 
 -- nobody is found by a name and a key exactly where nobody takes part under them
 pub principal-nobody : (r : RosterValue) (name key : List ℕ) → IsRoster r → (principal r name key ≡ None) ↔ ((w : Who) → ¬ IsKnownAs r w name key)
@@ -68,7 +55,7 @@ principal-nobody r name key roster =
 
     by : (o : Option Who) → principal r name key ≡ o → ((w : Who) → ¬ IsKnownAs r w name key) → principal r name key ≡ None
     by None is nobody = is
-    by (Some w) is nobody = absurd (nobody w (found_is_known r name key w is))
+    by (Some w) is nobody = absurd (nobody w (grind (arith, position-Some, has_both)))
 
 -- ---- owners
 
@@ -101,19 +88,12 @@ name_of_student r name s found = (student_is r name s found).1
 
 -- ---- the first name that stands before
 
-again_means : (accounts : List Account) (k : ℕ) → k < length accounts → is_name_again accounts k ≡ true
-    → (j : ℕ) × (j < k) × (name_at accounts j ≡ name_at accounts k)
+again_means : (accounts : List Account) (k : ℕ) → k < length accounts → is_name_again accounts k ≡ true → (j : ℕ) × (j < k) × (name_at accounts j ≡ name_at accounts k)
 again_means accounts k within is = grind (arith, nat_tests, Any-from_list_any, length-take-le, get_or_default, get_or-take, bytes_eq-Decides)
-
-is_again : (accounts : List Account) (j k : ℕ) → j < k → k < length accounts → name_at accounts j ≡ name_at accounts k → is_name_again accounts k ≡ true
-is_again accounts j k lt within same = grind (arith, get_or-take, bytes_eq-Decides, list_any_at, length-take-le)
 
 -- up to n no name stands before, exactly where the first n differ
 fresh-differ : (accounts : List Account) (n : ℕ) → n ≤ length accounts → ((k : ℕ) → k < n → is_name_again accounts k ≡ false) → AreDistinctBelow accounts n
-fresh-differ accounts n le fresh j k lt within same = true≢false (sym (is_again accounts j k lt (omega arith) same) ∙ fresh k within)
-
-differ-fresh : (accounts : List Account) (n : ℕ) → n ≤ length accounts → AreDistinctBelow accounts n → (k : ℕ) → k < n → is_name_again accounts k ≡ false
-differ-fresh accounts n le differ k lt = grind (arith, cases_Bool, again_means)
+fresh-differ accounts n le fresh j k lt within same = true≢false (sym (grind (arith, get_or-take, bytes_eq-Decides, list_any_at, length-take-le)) ∙ fresh k within)
 
 -- the error is a name twice exactly where it is the first name that stood before
 pub name_twice-fault : (accounts : List Account) (k : ℕ) → (name_twice accounts ≡ Some (fault.NameTwice k)) ↔ IsFirstAgain accounts k
@@ -123,8 +103,8 @@ name_twice-fault accounts k = (
       record { within = at.0; again = again_means accounts k at.0 at.1; first = fresh-differ accounts k (omega arith) at.2 },
   λ first.
       let here : first_below (is_name_again accounts) (length accounts) ≡ Some k =
-      first-at (is_name_again accounts) (length accounts) k first.within (is_again accounts first.again.0 k first.again.1 first.within first.again.2)
-      (differ-fresh accounts k (omega arith) first.first) in
+      first-at (is_name_again accounts) (length accounts) k first.within (grind (arith, get_or-take, bytes_eq-Decides, list_any_at, length-take-le))
+      (grind (arith, cases_Bool, again_means)) in
       ap (option_map fault.NameTwice) here,
 )
   where
@@ -136,7 +116,7 @@ pub name_twice-none : (accounts : List Account) → (name_twice accounts ≡ Non
 name_twice-none accounts = (
   λ none. fresh-differ accounts (length accounts) (omega arith)
       (none-is (is_name_again accounts) (length accounts) (below (first_below (is_name_again accounts) (length accounts)) none)),
-  λ differ. ap (option_map fault.NameTwice) (none-at (is_name_again accounts) (length accounts) (differ-fresh accounts (length accounts) (omega arith) differ)),
+  λ differ. ap (option_map fault.NameTwice) (none-at (is_name_again accounts) (length accounts) (grind (arith, cases_Bool, again_means, length accounts))),
 )
   where
     below : (o : Option ℕ) → option_map fault.NameTwice o ≡ None → o ≡ None
@@ -144,28 +124,18 @@ name_twice-none accounts = (
 
 -- ---- a roster of accounts that have their forms and differ
 
-same_index : (accounts : List Account) → AreDistinctBelow accounts (length accounts) → (j k : ℕ) → j < length accounts → k < length accounts
-    → name_at accounts j ≡ name_at accounts k → j ≡ k
-same_index accounts differ j k in_j in_k same = grind (arith, cases_order)
-
 -- accounts of their forms, each name once, and owners who are students make a lawful roster
 pub is_roster : (teacher : Account) (students : List Account) (owners : List (List ℕ)) → length students ≤ MAX_STUDENTS
     → position (λ a. not (is_account a)) (teacher ∷ students) ≡ None → name_twice (teacher ∷ students) ≡ None → All (All (λ s. s < length students)) owners
     → IsRoster (with_owners teacher students owners)
-is_roster teacher students owners few formed twice owned = record {
-  few = few;
-  formed = form;
-  differ = differ;
-  owned = owned;
-}
+is_roster teacher students owners few formed twice owned = record { few = few; formed = form; differ = differ; owned = owned }
   where
     form : (w : Who) → IsPrincipal (with_owners teacher students owners) w → is_account (account_of (with_owners teacher students owners) w) ≡ true
     form who.Teacher member = not-false _ (position-None (λ a. not (is_account a)) (teacher ∷ students) no_account formed 0 (omega arith))
     form (who.Student s) member = not-false _ (position-None (λ a. not (is_account a)) (teacher ∷ students) no_account formed (suc s) (omega arith))
 
-    one_index : (j k : ℕ) → j < length (teacher ∷ students) → k < length (teacher ∷ students)
-        → name_at (teacher ∷ students) j ≡ name_at (teacher ∷ students) k → j ≡ k
-    one_index = same_index (teacher ∷ students) ((name_twice-none (teacher ∷ students)).0 twice)
+    one_index : (j k : ℕ) → j < length (teacher ∷ students) → k < length (teacher ∷ students) → name_at (teacher ∷ students) j ≡ name_at (teacher ∷ students) k → j ≡ k
+    one_index = grind (arith, cases_order, teacher ∷ students, (name_twice-none (teacher ∷ students)).0 twice)
 
     differ : (a b : Who) → IsPrincipal (with_owners teacher students owners) a → IsPrincipal (with_owners teacher students owners) b
         → name_of (with_owners teacher students owners) a ≡ name_of (with_owners teacher students owners) b → a ≡ b

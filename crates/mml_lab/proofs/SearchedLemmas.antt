@@ -1,8 +1,6 @@
 -- What a loop over a list has found so far.
 use Rattle.std.proofs.Common.{◌≡◌, ℕ, ◌+◌, ◌<◌, ◌≤◌, List, length, get_or, Option, Some, None, Bool, true, false, sym, arith}
-use Rattle.std.specs.Prelude.{is_some, IfSome}
-use Rattle.std.specs.List.{position}
-use Rattle.std.proofs.lemmas.Bool.{cases_order}
+use Rattle.std.{specs.Prelude.is_some, specs.Prelude.IfSome, specs.List.position, proofs.lemmas.Bool.cases_order}
 use Rattle.mml_ids.proofs.SearchLemmas.{position-none, position-at}
 
 -- the first of the first n elements that passes, or that none of them does

@@ -1,12 +1,8 @@
 use Rattle.std.proofs.Common.{◌≡◌, ℕ, List, [], ◌∷◌, length, ◌≢◌, Bool, true, cond, Option, Some, None, Err, refl, arith}
-use Rattle.std.specs.Str.{is_utf8, IsUtf8}
-use Rattle.std.proofs.lemmas.Str.{is_utf8-from_IsUtf8, IsUtf8-from_is_utf8}
-use Rattle.toml.specs.declared.value.Value.{Value}
-use Rattle.toml.specs.Data.{Members}
-use Rattle.toml.specs.View.{items_view}
-use Rattle.toml.specs.Parse.{parse_document}
-use Rattle.mml_lab.specs.declared.lab_fault.LabFault.TheVariants as fault
+use Rattle.std.{specs.Str.is_utf8, specs.Str.IsUtf8, proofs.lemmas.Str.is_utf8-from_IsUtf8, proofs.lemmas.Str.IsUtf8-from_is_utf8}
+use Rattle.toml.specs.{declared.value.Value.Value, Data.Members, View.items_view, Parse.parse_document}
 use Rattle.mml_lab.specs.Shape.{two_of, spelled, table_in, raw_of}
+use Rattle.mml_lab.specs.declared.lab_fault.LabFault.TheVariants as fault
 
 -- values that aren't two are no pair
 pub two_none : (vs : List Value) → length vs ≢ 2 → two_of (items_view vs) ≡ None

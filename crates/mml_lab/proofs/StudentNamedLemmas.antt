@@ -1,14 +1,9 @@
 -- Names among accounts, and among the entries of the students' map.
-use Rattle.std.proofs.Common.{◌≡◌, ℕ, ◌<◌, List, [], ◌∷◌, length, get_or, map, Option, Some, None, refl, sym, ap, ◌∙◌, string_bytes, String, Global, arith}
-use Rattle.std.specs.Prelude.{bytes_eq, IfSome}
-use Rattle.std.specs.List.{position, position_or_len}
-use Rattle.std.specs.Map.{keys_of}
-use Rattle.std.proofs.lemmas.List.Quantifiers.{position-Some}
-use Rattle.std.proofs.lemmas.Slice.Eq.{bytes_eq-Decides}
-use Rattle.mml_lab.specs.Shape.{Account}
-use Rattle.mml_lab.specs.inside.Raw.{entry_account}
+use Rattle.std.proofs.lemmas.{Bool.Decides.nat_tests, List.Quantifiers.position-Some, Slice.Eq.bytes_eq-Decides}
+use Rattle.std.proofs.Common.{◌≡◌, ℕ, ◌<◌, List, [], ◌∷◌, length, get_or, map, Option, Some, refl, ap, ◌∙◌, string_bytes, String, Global, arith}
+use Rattle.std.specs.{Prelude.bytes_eq, Prelude.IfSome, List.position, List.position_or_len, Map.keys_of}
+use Rattle.mml_lab.specs.{Shape.Account, inside.Raw.entry_account, Rosters.RosterValue, Rosters.has_name, Rosters.no_account, Rosters.name_of, Rosters.student_named}
 use Rattle.mml_lab.specs.declared.who.Who.TheVariants as who
-use Rattle.mml_lab.specs.Rosters.{RosterValue, has_name, no_account, name_of, student_named}
 
 -- a student's name and key, as the map keeps them
 abbrev pub Entry : Type 0
@@ -17,8 +12,7 @@ Entry = String Global × String Global
 abbrev pub account_at : List Account → ℕ → Account
 account_at accounts k = get_or accounts k no_account
 
-index_same : (name : List ℕ) (es : List Entry)
-    → position_or_len (λ k. bytes_eq name (string_bytes k)) (keys_of es) ≡ position_or_len (has_name name) (map entry_account es)
+index_same : (name : List ℕ) (es : List Entry) → position_or_len (λ k. bytes_eq name (string_bytes k)) (keys_of es) ≡ position_or_len (has_name name) (map entry_account es)
 index_same name [] = refl
 index_same name (e ∷ es) = rw (index_same name es)
 
@@ -27,8 +21,7 @@ length_same [] = refl
 length_same (e ∷ es) = rw (length_same es)
 
 -- the map's search for a name is the roster's
-pub position_same : (name : List ℕ) (es : List Entry)
-    → position (λ k. bytes_eq name (string_bytes k)) (keys_of es) ≡ position (has_name name) (map entry_account es)
+pub position_same : (name : List ℕ) (es : List Entry) → position (λ k. bytes_eq name (string_bytes k)) (keys_of es) ≡ position (has_name name) (map entry_account es)
 position_same name es = rw (index_same name es, length_same es)
 
 -- the map's search for a name, where the map holds the roster's students
@@ -43,5 +36,4 @@ student_is r name s found = grind (arith, position-Some, bytes_eq-Decides)
 -- whoever a name finds is one of the students, and has that name
 pub whoever_is : (r : RosterValue) (name : List ℕ) (o : Option ℕ) → o ≡ student_named r name
     → IfSome o (λ s. s < length r.students) × IfSome o (λ s. name_of r (who.Student s) ≡ name)
-whoever_is r name None found = (tt, tt)
-whoever_is r name (Some s) found = student_is r name s (sym found)
+whoever_is r name o found = grind (arith, nat_tests, student_is)

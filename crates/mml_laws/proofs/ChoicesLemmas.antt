@@ -1,23 +1,15 @@
 -- What is chosen at a node was granted there last.
+use Rattle.std.{proofs.lemmas.Grind.common_steps, proofs.lemmas.List.get_or-set_same, proofs.lemmas.List.get_or-set_other, specs.List.list_all}
 use Rattle.std.proofs.Common.{◌≡◌, ◌≢◌, ◌↔◌, ◌⊎◌, ◌<◌, ℕ, true, List, [], ◌∷◌, ◌++◌, length, Option, None, Some, inl, inr, refl, sym, ap, subst, arith}
-use Rattle.std.specs.List.{list_all}
-use Rattle.std.proofs.lemmas.Bool.{and_parts, and_from, false≢true, ltb-true, cases_eq, eq-eqb, ne_eqb}
-use Rattle.std.proofs.lemmas.List.{get_or-set_same, get_or-set_other}
+use Rattle.std.proofs.lemmas.Bool.{and_parts, and_from, false≢true, ltb-true, cases_eq, eq-eqb, ne_eqb, Decides.nat_tests}
 use Rattle.mml_rules.specs.declared.rule.Rule.{Rule}
-use Rattle.mml_lab.specs.Labs.{LabValue, IsLab}
-use Rattle.mml_lab.specs.Rosters.{RosterValue}
-use Rattle.mml_board.specs.declared.event.Event.{Event}
-use Rattle.mml_board.specs.declared.event.Event.TheVariants as event
-use Rattle.mml_board.specs.World.{World, IsWorld, size, chosen_at, opening_of}
-use Rattle.mml_board.specs.Events.{is_legal, is_node, after}
-use Rattle.mml_board.specs.Runs.{is_legal_list, world_of}
-use Rattle.mml_board.proofs.WorldLemmas.{after-world, none_at, chosen_node}
-use Rattle.mml_board.proofs.EventsLemmas.{dropped}
-use Rattle.mml_board.proofs.RunsLemmas.{legal-possible}
+use Rattle.mml_lab.specs.{Labs.LabValue, Labs.IsLab, Rosters.RosterValue}
+use Rattle.mml_board.specs.{declared.event.Event.Event, World.World, World.IsWorld, World.size, World.chosen_at, World.opening_of, Events.is_legal, Events.after, Runs.is_legal_list, Runs.world_of}
+use Rattle.mml_board.proofs.{WorldLemmas.after-world, WorldLemmas.none_at, WorldLemmas.chosen_node, EventsLemmas.dropped, RunsLemmas.legal-possible}
 use Rattle.mml_audit.proofs.AuditMeaningLemmas.{reached_first}
 use Rattle.mml_tally.specs.Meaning.{leaves}
 use Rattle.mml_laws.specs.Choices.{IsGrantedLast}
-use Rattle.std.proofs.lemmas.Bool.Decides.{nat_tests}
+use Rattle.mml_board.specs.declared.event.Event.TheVariants as event
 
 -- the rule was chosen by the event, or before it and kept by it
 abbrev IsFrom : World → Event → ℕ → Rule → Type 0
@@ -37,16 +29,9 @@ module _ (w : World) (is : IsWorld w) where
   by_release j i q lt h = grind (arith, nat_tests, cases_eq, get_or-set_same, none_some, get_or-set_other, ne_eqb)
 
   one_back : (r : RosterValue) (e : Event) (i : ℕ) (q : Rule) → is_legal r w e ≡ true → chosen_at (after w e).chosen i ≡ Some q → IsFrom w e i q
-  one_back r (event.Grant s j p) i q legal h =
-      by_grant s j i p q (ltb-true j (size w) (and_parts (is_node w j) _ (legal-possible r w (event.Grant s j p) legal)).0) h
-  one_back r (event.Release j) i q legal h = by_release j i q (chosen_node w j is.choices legal) h
-  one_back r event.Close i q legal h = absurd (none_some _ q (dropped w event.Close i refl) h)
-  one_back r (event.Fault j registers) i q legal h = absurd (none_some _ q (dropped w (event.Fault j registers) i refl) h)
-  one_back r (event.Link a b) i q legal h = absurd (none_some _ q (dropped w (event.Link a b) i refl) h)
-  one_back r (event.Cut a b) i q legal h = absurd (none_some _ q (dropped w (event.Cut a b) i refl) h)
+  one_back r e i q legal h = grind (arith, common_steps, by_grant, ltb-true, and_parts, legal-possible, by_release, chosen_node, none_some, dropped)
 
-  granted_here : (r : RosterValue) (s i : ℕ) (q : Rule) → is_legal r w (event.Grant s i q) ≡ true
-      → chosen_at (after w (event.Grant s i q)).chosen i ≡ Some q
+  granted_here : (r : RosterValue) (s i : ℕ) (q : Rule) → is_legal r w (event.Grant s i q) ≡ true → chosen_at (after w (event.Grant s i q)).chosen i ≡ Some q
   granted_here r s i q legal = grind (arith, nat_tests, ltb-true, and_parts, legal-possible, get_or-set_same)
 
   -- a grant isn't legal where a move is chosen

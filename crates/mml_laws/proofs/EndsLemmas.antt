@@ -1,38 +1,23 @@
 -- How runs end.
 use Rattle.std.proofs.Common.{◌≡◌, ◌≢◌, ◌<◌, ◌≤◌, ◌+◌, ◌*◌, ℕ, Bool, true, false, List, ◌++◌, length, None, Some, Ok, refl, sym, ap, ◌∙◌, subst, arith}
-use Rattle.std.specs.List.{list_all}
-use Rattle.std.proofs.lemmas.Bool.{and_parts, false_from_ne_true}
+use Rattle.std.{specs.List.list_all, proofs.lemmas.Bool.and_parts, proofs.lemmas.Bool.false_from_ne_true, proofs.lemmas.Bool.Decides.nat_tests}
 use Rattle.mml_rules.specs.Matching.{IsStable}
 use Rattle.mml_lab.specs.Labs.{LabValue, IsLab, lab_of, link_count}
-use Rattle.mml_lab.proofs.LabMeaningLemmas.{lawful}
-use Rattle.mml_lab.proofs.OwnersLemmas.{one_or_two}
-use Rattle.mml_board.specs.declared.event.Event.{Event}
-use Rattle.mml_board.specs.declared.event.Event.TheVariants as event
+use Rattle.mml_lab.proofs.{LabMeaningLemmas.lawful, OwnersLemmas.one_or_two}
+use Rattle.mml_board.specs.{declared.event.Event.Event, Events.is_legal, Events.done_by, Runs.is_legal_list, Runs.world_of, Lists.world_in, Lists.world_in}
 use Rattle.mml_board.specs.World.{World, IsWorld, size, configuration, opening_of}
-use Rattle.mml_board.specs.Events.{is_legal, done_by}
-use Rattle.mml_board.specs.Runs.{is_legal_list, world_of}
 use Rattle.mml_board.proofs.RunsLemmas.{list-world, legal-append, place-world_of}
-use Rattle.mml_policy.specs.Alike.{IsWorldOf}
-use Rattle.mml_policy.specs.Asking.{asker, command_of, id_of, asked_of}
-use Rattle.mml_policy.specs.Rulings.{event_of}
+use Rattle.mml_policy.specs.{Alike.IsWorldOf, Asking.asker, Asking.command_of, Asking.id_of, Asking.asked_of, Rulings.event_of}
 use Rattle.mml_policy.proofs.AskingLemmas.{granted_iff}
-use Rattle.mml_board.specs.Lists.{world_in, world_in}
 use Rattle.mml_audit.specs.AuditMeaning.{IsJournalOf}
-use Rattle.mml_stable.specs.Listed.{IsMaximalMatching}
-use Rattle.mml_convergence.specs.Moves.{applied_over, count_closes}
-use Rattle.mml_stable.specs.Reports.{report_of}
-use Rattle.mml_convergence.specs.Rest.{IsOver}
-use Rattle.mml_convergence.specs.Runs.{is_of_step}
-use Rattle.mml_convergence.proofs.AppliedLemmas.{moves_bounded, closes_bounded}
-use Rattle.mml_stable.proofs.ListedLemmas.{listed_matching}
-use Rattle.mml_stable.proofs.MatchingLemmas.{stable-means}
-use Rattle.mml_convergence.proofs.RestLemmas.{ended}
+use Rattle.mml_stable.specs.{Listed.IsMaximalMatching, Reports.report_of}
+use Rattle.mml_convergence.specs.{Moves.applied_over, Moves.count_closes, Rest.IsOver, Runs.is_of_step}
+use Rattle.mml_convergence.proofs.{AppliedLemmas.moves_bounded, AppliedLemmas.closes_bounded, RestLemmas.ended}
+use Rattle.mml_stable.proofs.{ListedLemmas.listed_matching, MatchingLemmas.stable-means}
 use Rattle.mml_window.specs.Rulings.{ruling_while}
 use Rattle.mml_laws.specs.Ends.{GrantsNoStep}
-use Rattle.mml_laws.proofs.ChoicesLemmas.{opening}
-use Rattle.mml_laws.proofs.RestWithinLemmas.{size-world_of}
-use Rattle.mml_laws.proofs.RuledLemmas.{ruled_granted}
-use Rattle.std.proofs.lemmas.Bool.Decides.{nat_tests}
+use Rattle.mml_laws.proofs.{ChoicesLemmas.opening, RestWithinLemmas.size-world_of, RuledLemmas.ruled_granted}
+use Rattle.mml_board.specs.declared.event.Event.TheVariants as event
 
 some_not_none : (e : Event) → Some e ≢ None
 some_not_none e h = cc
@@ -51,23 +36,24 @@ module _ (lab : LabValue) (is : IsLab lab) (es : List Event) (legal : is_legal_l
 
 -- ---- a house that is over
 
-module _ (lab : LabValue) (is : IsLab lab) (w : World) (in_w : IsWorldOf lab.ids w) (halted : Bool) (room : w.place < lab.events) (running : halted ≡ false) where
-  -- a legal event is granted to the one who asks for it
-  pub legal_takes_place : (e : Event) → is_legal lab.roster w e ≡ true → event_of (ruling_while lab halted w (asker e) (command_of lab.ids w e)) ≡ Some e
-  legal_takes_place e legal =
-      ap event_of ((ruled_granted lab.ids lab.roster lab.events halted w (asker e) (command_of lab.ids w e) e (done_by w e)).1
-      ((granted_iff lab.ids is.ids w in_w lab.roster e).0 legal, room, running, refl))
+module _ (lab : LabValue) (is : IsLab lab) (w : World) (in_w : IsWorldOf lab.ids w) (halted : Bool) (room : w.place < lab.events) (running : halted ≡ false)
+  where
+    -- a legal event is granted to the one who asks for it
+    pub legal_takes_place : (e : Event) → is_legal lab.roster w e ≡ true → event_of (ruling_while lab halted w (asker e) (command_of lab.ids w e)) ≡ Some e
+    legal_takes_place e legal =
+        ap event_of ((ruled_granted lab.ids lab.roster lab.events halted w (asker e) (command_of lab.ids w e) e (done_by w e)).1
+        ((granted_iff lab.ids is.ids w in_w lab.roster e).0 legal, room, running, refl))
 
-  over : GrantsNoStep lab halted w → IsOver lab.roster w
-  over none = record {
-    no_grant =
-        λ s i rule. false_from_ne_true (is_legal lab.roster w (event.Grant s i rule)) (λ legal.
-        some_not_none (event.Grant s i rule)
-        (sym (legal_takes_place (event.Grant s i rule) legal) ∙ none.no_move s (id_of lab.ids i) (asked_of lab.ids rule) w.number));
-    no_close =
-        false_from_ne_true (is_legal lab.roster w event.Close) (λ legal.
-        some_not_none event.Close (sym (legal_takes_place event.Close legal) ∙ none.no_close));
-  }
+    over : GrantsNoStep lab halted w → IsOver lab.roster w
+    over none = record {
+      no_grant =
+          λ s i rule. false_from_ne_true (is_legal lab.roster w (event.Grant s i rule)) (λ legal.
+          some_not_none (event.Grant s i rule)
+          (sym (legal_takes_place (event.Grant s i rule) legal) ∙ none.no_move s (id_of lab.ids i) (asked_of lab.ids rule) w.number));
+      no_close =
+          false_from_ne_true (is_legal lab.roster w event.Close) (λ legal.
+          some_not_none event.Close (sym (legal_takes_place event.Close legal) ∙ none.no_close));
+    }
 
 pub over_is_stable : (bytes : List ℕ) (lab : LabValue) (es : List Event) (w : World) (halted : Bool) → lab_of bytes ≡ Ok lab
     → is_legal_list lab.roster (opening_of lab.network) es ≡ true → w ≡ world_in lab es → length es < lab.events → halted ≡ false
@@ -88,23 +74,33 @@ over_is_stable bytes lab es w halted spelled legal here room running none =
         (over lab is (world_in lab es) (in_lab lab is es legal) halted place running (subst (GrantsNoStep lab halted) here none))).0
 
     matching : IsMaximalMatching (configuration (world_in lab es)) (report_of (world_in lab es)).pairs
-    matching =
-        listed_matching _ (world_there lab is es legal).network.lawful ((stable-means (configuration (world_in lab es))).1 stable)
+    matching = listed_matching _ (world_there lab is es legal).network.lawful ((stable-means (configuration (world_in lab es))).1 stable)
 
 -- ---- the moves that follow
 
-module _ (lab : LabValue) (es fs : List Event) (bytes : List ℕ) (is : IsLab lab) (journal : IsJournalOf lab (es ++ fs) bytes) (steps : list_all is_of_step fs ≡ true) where
+module _ (lab : LabValue) (es fs : List Event) (bytes : List ℕ) (is : IsLab lab) (journal : IsJournalOf lab (es ++ fs) bytes)
+    (steps : list_all is_of_step fs ≡ true) where
   both_legal : (is_legal_list lab.roster (opening_of lab.network) es ≡ true) × (is_legal_list lab.roster (world_in lab es) fs ≡ true)
   both_legal = grind (arith, nat_tests, and_parts, legal-append)
 
   pub few_moves : applied_over (world_in lab es) fs ≤ 2 * link_count (world_in lab es).network + 3 * length lab.ids
   few_moves =
-      let few = moves_bounded lab.roster (world_in lab es) fs (world_there lab is es both_legal.0) both_legal.1 steps in
-      let nodes = nodes_there lab is es both_legal.0 in
-      omega (arith, few, nodes)
+      grind (
+        arith,
+        nat_tests,
+        moves_bounded lab.roster (world_in lab es) fs (world_there lab is es both_legal.0) both_legal.1 steps,
+        nodes_there lab is es both_legal.0,
+        world_there,
+        both_legal,
+      )
 
   pub few_closes : count_closes fs ≤ 2 * link_count (world_in lab es).network + 3 * length lab.ids
   few_closes =
-      let few = closes_bounded lab.roster (world_in lab es) fs (world_there lab is es both_legal.0) both_legal.1 steps in
-      let nodes = nodes_there lab is es both_legal.0 in
-      omega (arith, few, nodes)
+      grind (
+        arith,
+        nat_tests,
+        closes_bounded lab.roster (world_in lab es) fs (world_there lab is es both_legal.0) both_legal.1 steps,
+        nodes_there lab is es both_legal.0,
+        world_there,
+        both_legal,
+      )

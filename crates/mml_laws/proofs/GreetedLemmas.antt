@@ -1,27 +1,17 @@
 -- Who a connection is known as, in a hall and in a session.
 use Rattle.std.proofs.Common.{◌≡◌, ◌⊎◌, ℕ, List, Option, None, Some, Ok, ap, ◌∙◌, arith}
-use Rattle.std.proofs.lemmas.List.{set-get_or}
-use Rattle.mml_lab.specs.declared.who.Who.{Who}
-use Rattle.mml_lab.specs.Labs.{LabValue}
-use Rattle.mml_lab.specs.Rosters.{RosterValue, IsRoster}
-use Rattle.mml_lab.specs.RosterMeaning.{IsKnownAs}
+use Rattle.std.proofs.lemmas.{List.set-get_or, Bool.Decides.nat_tests}
+use Rattle.mml_lab.specs.{declared.who.Who.Who, Labs.LabValue, Rosters.RosterValue, Rosters.IsRoster, RosterMeaning.IsKnownAs}
 use Rattle.mml_lab.proofs.RosterMeaningLemmas.{principal-nobody}
-use Rattle.mml_policy.specs.declared.command.Command.{Command}
-use Rattle.mml_policy.specs.declared.denial.Denial.{Denial}
+use Rattle.mml_policy.specs.{declared.command.Command.Command, declared.denial.Denial.Denial, Rulings.ruling}
+use Rattle.mml_codec.specs.declared.{greeting.Greeting.Greeting, greeting.Greeting.TheVariants.Answered, greeting.Greeting.TheVariants.LeftToJudge, request.Request.Request, reply.Reply.Reply}
+use Rattle.mml_codec.specs.{Greetings.admitted, Greetings.greeting, Lines.request_in}
+use Rattle.mml_laws.specs.Greeted.{IsTold, IsDenied}
 use Rattle.mml_policy.specs.declared.denial.Denial.TheVariants as denial
-use Rattle.mml_policy.specs.Rulings.{ruling}
-use Rattle.mml_codec.specs.declared.greeting.Greeting.{Greeting}
-use Rattle.mml_codec.specs.declared.greeting.Greeting.TheVariants.{Answered, LeftToJudge}
-use Rattle.mml_codec.specs.declared.request.Request.{Request}
 use Rattle.mml_codec.specs.declared.request.Request.TheVariants as requests
-use Rattle.mml_codec.specs.declared.reply.Reply.{Reply}
 use Rattle.mml_codec.specs.declared.reply.Reply.TheVariants as reply
-use Rattle.mml_codec.specs.Greetings.{admitted, greeting}
-use Rattle.mml_codec.specs.Lines.{request_in}
 use Rattle.mml_hall.specs.Turns as hall
 use Rattle.mml_session.specs.Turns as session
-use Rattle.mml_laws.specs.Greeted.{IsTold, IsDenied}
-use Rattle.std.proofs.lemmas.Bool.Decides.{nat_tests}
 
 pub nobody_greets : (r : RosterValue) (name key : List ℕ) → IsRoster r → ((w : Who) → ¬ IsKnownAs r w name key)
     → greeting r None (requests.Hello name key) ≡ Answered (reply.Deny denial.Unknown) None
@@ -38,13 +28,11 @@ module _ (lab : LabValue) (st : hall.State) (k : ℕ) where
   denied_so d x e = λ j. record { reply = reply.Deny d; state = same_known x e j }
 
   module _ (line : List ℕ) where
-    plain_so : (q : Request) (g : Greeting) → request_in line ≡ Ok q → greeting lab.roster (hall.known_on st k) q ≡ g
-        → hall.plain_turn lab st k line ≡ hall.settled lab st k g
+    plain_so : (q : Request) (g : Greeting) → request_in line ≡ Ok q → greeting lab.roster (hall.known_on st k) q ≡ g → hall.plain_turn lab st k line ≡ hall.settled lab st k g
     unfolding hall.plain_turn
     plain_so q g asked e = ap (hall.answer_to lab st k) asked ∙ ap (hall.settled lab st k) e
 
-    told_so : (d : Denial) (out : hall.Outcome) → hall.plain_turn lab st k line ≡ hall.replied st (reply.Deny d) → hall.Turn lab st k line out
-        → IsTold st (reply.Deny d) out
+    told_so : (d : Denial) (out : hall.Outcome) → hall.plain_turn lab st k line ≡ hall.replied st (reply.Deny d) → hall.Turn lab st k line out → IsTold st (reply.Deny d) out
     told_so d out plain fact = grind (arith, nat_tests)
 
     pub hall_again : (out : hall.Outcome) (x : Who) (name key : List ℕ) → hall.known_on st k ≡ Some x → request_in line ≡ Ok (requests.Hello name key)
@@ -58,8 +46,7 @@ module _ (lab : LabValue) (st : hall.State) (k : ℕ) where
 
     pub hall_judged : (x : Who) (c : Command) → hall.known_on st k ≡ Some x → request_in line ≡ Ok (requests.Do c)
         → hall.plain_turn lab st k line ≡ hall.outcome_of st (ruling lab.ids lab.roster lab.events st.halted st.world x c)
-    hall_judged x c known asked =
-        plain_so (requests.Do c) (LeftToJudge x c) asked (ap (λ (y : Option Who). greeting lab.roster y (requests.Do c)) known)
+    hall_judged x c known asked = plain_so (requests.Do c) (LeftToJudge x c) asked (ap (λ (y : Option Who). greeting lab.roster y (requests.Do c)) known)
 
     pub hall_unknown : (out : hall.Outcome) (c : Command) → hall.known_on st k ≡ None → request_in line ≡ Ok (requests.Do c)
         → hall.Turn lab st k line out → IsTold st (reply.Deny denial.NotGreeted) out
@@ -77,16 +64,14 @@ module _ (lab : LabValue) (st next : session.Standing) (line : List ℕ) (r : Re
       → session.Settles lab st g r next ⊎ session.Unread st r next
   settles_so q g asked e fact = grind (arith, nat_tests)
 
-  denied_in : (d : Denial) (x : Option Who) → st.known ≡ x → session.Settles lab st (Answered (reply.Deny d) x) r next ⊎ session.Unread st r next
-      → IsDenied d st r next
+  denied_in : (d : Denial) (x : Option Who) → st.known ≡ x → session.Settles lab st (Answered (reply.Deny d) x) r next ⊎ session.Unread st r next → IsDenied d st r next
   denied_in d x known fact = grind (arith, nat_tests)
 
   pub session_again : (x : Who) (name key : List ℕ) → st.known ≡ Some x → request_in line ≡ Ok (requests.Hello name key)
       → session.Turn lab st line r next → IsDenied denial.Greeted st r next
   session_again x name key known asked t = grind (arith, nat_tests, denied_in, settles_so)
 
-  pub session_unknown : (c : Command) → st.known ≡ None → request_in line ≡ Ok (requests.Do c)
-      → session.Turn lab st line r next → IsDenied denial.NotGreeted st r next
+  pub session_unknown : (c : Command) → st.known ≡ None → request_in line ≡ Ok (requests.Do c) → session.Turn lab st line r next → IsDenied denial.NotGreeted st r next
   session_unknown c known asked t = grind (arith, nat_tests, denied_in, settles_so)
 
   judged_in : (x : Who) (c : Command) → st.known ≡ Some x → session.Settles lab st (LeftToJudge x c) r next ⊎ session.Unread st r next

@@ -1,33 +1,23 @@
 -- The places that the replies of a hall name.
 use Rattle.std.proofs.Common.{◌≡◌, ◌≤◌, ◌+◌, ℕ, suc, true, List, [], ◌∷◌, ◌++◌, length, flat_map, None, Some, Result, inl, inr, refl, sym, ap, ◌∙◌, subst, arith, length-append}
-use Rattle.std.specs.List.{range_with_len}
+use Rattle.std.{specs.List.range_with_len, proofs.lemmas.Bool.Decides.nat_tests}
 use mathlib.Core.List.{IsPrefix}
 use Rattle.mml_lab.specs.Labs.{LabValue, IsLab}
 use Rattle.mml_lines.proofs.RunsLemmas.{run_keeps, run_at_each}
-use Rattle.mml_board.specs.declared.event.Event.{Event}
-use Rattle.mml_board.specs.World.{World, size}
-use Rattle.mml_board.specs.Events.{is_legal, after}
+use Rattle.mml_board.specs.{declared.event.Event.Event, World.World, World.size, Events.is_legal, Events.after, Lists.is_legal_in, Lists.world_in}
 use Rattle.mml_board.proofs.EventsLemmas.{next_place}
-use Rattle.mml_policy.specs.declared.ruling.Ruling.TheVariants.{Granted}
-use Rattle.mml_policy.specs.Rulings.{ruling, event_of}
+use Rattle.mml_policy.specs.{declared.ruling.Ruling.TheVariants.Granted, Rulings.ruling, Rulings.event_of}
 use Rattle.mml_policy.proofs.RulingsLemmas.{legal_event}
-use Rattle.mml_codec.specs.declared.request.LineFault.{LineFault}
-use Rattle.mml_codec.specs.declared.request.Request.{Request}
-use Rattle.mml_codec.specs.declared.reply.Reply.{Reply}
-use Rattle.mml_codec.specs.Lines.{request_in}
-use Rattle.mml_codec.specs.Replies.{place_in, as_list}
-use Rattle.mml_codec.specs.Rulings.{reply_of_done}
+use Rattle.mml_codec.specs.declared.{request.LineFault.LineFault, request.Request.Request, reply.Reply.Reply}
+use Rattle.mml_codec.specs.{Lines.request_in, Replies.place_in, Replies.as_list, Rulings.reply_of_done}
 use Rattle.mml_codec.proofs.RulingsLemmas.{place_of_done}
-use Rattle.mml_hall.specs.Halls.{IsHall}
+use Rattle.mml_hall.specs.{Halls.IsHall, Turns.State, Turns.Outcome, Turns.Turn, Turns.TurnOf, Turns.RequestLine, Turns.Run, Turns.known_on}
 use Rattle.mml_hall.proofs.TurnsLemmas.{IsQuiet, IsGranting, turn_does}
-use Rattle.mml_hall.specs.Turns.{State, Outcome, Turn, TurnOf, RequestLine, Run, known_on}
 use Rattle.mml_session.specs.Turns.{places_in}
-use Rattle.mml_board.specs.Lists.{is_legal_in, world_in}
-use Rattle.mml_window.proofs.ListLemmas as lists
 use Rattle.mml_window.proofs.PrefixLemmas.{prefix_self, prefix_trans}
 use Rattle.mml_laws.specs.Told.{IsToldAt, NamesItsEvent, EachNamesItsEvent}
 use Rattle.mml_laws.proofs.ToldAtLemmas.{told_at, longer}
-use Rattle.std.proofs.lemmas.Bool.Decides.{nat_tests}
+use Rattle.mml_window.proofs.ListLemmas as lists
 
 -- ---- states on the way
 
@@ -58,10 +48,7 @@ module _ (lab : LabValue) (is : IsLab lab) where
       })
 
   on_next : (st : State) (k : ℕ) (line : List ℕ) (out : Outcome) → IsOn lab st → Turn lab st k line out → IsOn lab out.state
-  on_next st k line out on turn = elim (turn_does lab st k line out turn) [
-    | inl q ↦ on_quiet st out on q
-    | inr g ↦ on_granting st k (request_in line) out on g
-  ]
+  on_next st k line out on turn = elim (turn_does lab st k line out turn) [ inl q ↦ on_quiet st out on q | inr g ↦ on_granting st k (request_in line) out on g ]
 
   kept_next : (st : State) (k : ℕ) (line : List ℕ) (out : Outcome) → Turn lab st k line out → IsPrefix st.events out.state.events
   kept_next st k line out turn = elim (turn_does lab st k line out turn) [
@@ -142,30 +129,24 @@ module _ (lab : LabValue) (is : IsLab lab) where
             ap place_in g.reply ∙ place_of_done (after st.world g.event).number (after st.world g.event).place g.done ∙ ap Some place in (
               suc rest.0,
               omega (arith, rest.1, longer),
-              ap (λ o. as_list o ++ flat_map places_in rs) named
-                  ∙ ap (λ ps. (length st.events + 1) ∷ ps) (rest.2 ∙ ap (λ n. range_with_len (n + 1) rest.0) longer),
+              ap (λ o. as_list o ++ flat_map places_in rs) named ∙ ap (λ ps. (length st.events + 1) ∷ ps) (rest.2 ∙ ap (λ n. range_with_len (n + 1) rest.0) longer),
             )
       ]
 
   named_once : (st end : State) (lines : List RequestLine) (rs : List Reply) (more : ℕ) → IsOn lab st → Run lab st lines rs end
       → length end.events ≡ length st.events + more → flat_map places_in rs ≡ range_with_len (length st.events + 1) more
   unfolding Counted
-  named_once st end lines rs more on run count =
-      let c = counted st end lines rs on run in
-      c.2 ∙ ap (range_with_len (length st.events + 1)) (omega (arith, count, c.1))
+  named_once st end lines rs more on run count = grind (arith, nat_tests, counted)
 
 -- ---- in a hall
 
 pub hall_names : (lab : LabValue) (st end : State) (lines : List RequestLine) (rs : List Reply) (run : Run lab st lines rs end) → IsHall lab st
     → EachNamesItsEvent lab end.events st lines rs end run
-hall_names lab st end lines rs run is =
-    let on = on_end lab is.is_lab st end lines rs run (on_hall lab st is) in
-    names_run lab is.is_lab end.events on.legal on.few st end lines rs run (on_hall lab st is) (prefix_self end.events)
+hall_names lab st end lines rs run is = grind (arith, nat_tests, on_end, on_hall, names_run, prefix_self)
 
 pub hall_once : (lab : LabValue) (st end : State) (lines : List RequestLine) (rs : List Reply) (more : ℕ) → IsHall lab st → Run lab st lines rs end
     → length end.events ≡ length st.events + more → flat_map places_in rs ≡ range_with_len (length st.events + 1) more
 hall_once lab st end lines rs more is run count = named_once lab is.is_lab st end lines rs more (on_hall lab st is) run count
 
-pub hall_kept : (lab : LabValue) (st end : State) (lines : List RequestLine) (rs : List Reply) → IsHall lab st → Run lab st lines rs end
-    → IsPrefix st.events end.events
+pub hall_kept : (lab : LabValue) (st end : State) (lines : List RequestLine) (rs : List Reply) → IsHall lab st → Run lab st lines rs end → IsPrefix st.events end.events
 hall_kept lab st end lines rs is run = run_kept lab is.is_lab st end lines rs run

@@ -1,24 +1,16 @@
 -- One journal has one list.
 use Rattle.std.proofs.Common.{◌≡◌, ◌≢◌, ◌<◌, ◌≤◌, ◌+◌, ℕ, true, List, [], ◌∷◌, length, Result, Ok, Err, refl, sym, ap, ◌∙◌, subst, arith}
-use Rattle.std.proofs.lemmas.Bool.{and_parts}
+use Rattle.std.proofs.lemmas.Bool.{and_parts, Decides.nat_tests}
 use Rattle.mml_ids.specs.Lines.{IsUnbroken}
 use Rattle.mml_lines.specs.LinesOf.{lines_of}
 use Rattle.mml_lines.proofs.LinesOfLemmas.{line_first}
 use Rattle.mml_lab.specs.Labs.{LabValue, IsLab}
-use Rattle.mml_board.specs.declared.event.Event.{Event}
-use Rattle.mml_board.specs.World.{World, opening_of}
-use Rattle.mml_board.specs.Events.{is_legal, after}
-use Rattle.mml_board.specs.Runs.{is_legal_list}
+use Rattle.mml_board.specs.{declared.event.Event.Event, World.World, World.opening_of, Events.is_legal, Events.after, Runs.is_legal_list}
 use Rattle.mml_board.proofs.EventsLemmas.{next_place}
-use Rattle.mml_journal.specs.declared.journal_fault.JournalFault.{JournalFault}
-use Rattle.mml_journal.specs.EventLines.{event_line, said_by}
-use Rattle.mml_journal.specs.JournalText.{journal_text}
-use Rattle.mml_journal.proofs.EventLineLemmas.{text_is_read}
-use Rattle.mml_journal.proofs.LengthLemmas.{line_unbroken}
-use Rattle.mml_journal.proofs.MemberLemmas.{legal_member}
+use Rattle.mml_journal.specs.{declared.journal_fault.JournalFault.JournalFault, EventLines.event_line, EventLines.said_by, JournalText.journal_text}
+use Rattle.mml_journal.proofs.{EventLineLemmas.text_is_read, LengthLemmas.line_unbroken, MemberLemmas.legal_member}
 use Rattle.mml_audit.specs.AuditMeaning.{IsJournalOf}
 use Rattle.mml_audit.proofs.AuditMeaningLemmas.{IsReached, reached_next, reached_first}
-use Rattle.std.proofs.lemmas.Bool.Decides.{nat_tests}
 
 nothing_else : (line : List ℕ) (lines : List (List ℕ)) → [] ≢ line ∷ lines
 nothing_else line lines h = cc
@@ -59,11 +51,9 @@ module _ (lab : LabValue) (is : IsLab lab) where
       → w.place + length es ≤ lab.events → w.place + length fs ≤ lab.events → lines w es ≡ lines w fs → es ≡ fs
   same_lists w [] [] on legal other few few' h = refl
   same_lists w [] (f ∷ fs) on legal other few few' h =
-      let both = and_parts (is_legal lab.roster w f) (is_legal_list lab.roster (after w f) fs) other in
-      absurd (nothing_else _ _ (h ∙ lines_next w f fs on both.0 (omega (arith, few'))))
+      grind (arith, nat_tests, and_parts (is_legal lab.roster w f) (is_legal_list lab.roster (after w f) fs) other, nothing_else, lines_next)
   same_lists w (e ∷ es) [] on legal other few few' h =
-      let both = and_parts (is_legal lab.roster w e) (is_legal_list lab.roster (after w e) es) legal in
-      absurd (nothing_else _ _ (sym h ∙ lines_next w e es on both.0 (omega (arith, few))))
+      grind (arith, nat_tests, and_parts (is_legal lab.roster w e) (is_legal_list lab.roster (after w e) es) legal, nothing_else, lines_next)
   same_lists w (e ∷ es) (f ∷ fs) on legal other few few' h =
       let one = and_parts (is_legal lab.roster w e) (is_legal_list lab.roster (after w e) es) legal in
       let two = and_parts (is_legal lab.roster w f) (is_legal_list lab.roster (after w f) fs) other in

@@ -1,42 +1,25 @@
 -- A look is whole.
-use Rattle.std.proofs.Common.{◌≡◌, ◌↔◌, ◌⊎◌, ◌<◌, ◌+◌, ℕ, zero, suc, Bool, true, false, cond, ◌||◌, List, [], ◌∷◌, ◌++◌, Option, Some, option_map, Result, Ok, inl, inr, refl, sym, ap, ◌∙◌, subst, arith, add-one}
+use Rattle.std.proofs.lemmas.{Grind.common_steps, Bool.cases_eq, Bool.both_ways, Bool.or_cases, Bool.or_left, Bool.or_right, Bool.Decides.nat_tests}
+use Rattle.std.proofs.Common.{◌≡◌, ◌↔◌, ◌⊎◌, ◌<◌, ◌+◌, ℕ, zero, suc, Bool, true, false, cond, ◌||◌, List, [], ◌∷◌, ◌++◌, Option, Some, option_map, Result, Ok, inl, inr, refl, sym, ap, ◌∙◌, subst}
+use Rattle.std.proofs.Common.{arith, add-one}
 use Rattle.std.specs.List.{All, Contains}
-use Rattle.std.proofs.lemmas.Bool.{cases_eq, both_ways, or_cases, or_left, or_right}
-use Rattle.std.proofs.lemmas.List.Elements.{All-nil, All-cons, All-append, All-head, All-tail, All-weaker, All-contains}
-use Rattle.std.proofs.lemmas.List.Elements.{Contains-append_left, Contains-append_right, Contains-push}
+use Rattle.std.proofs.lemmas.List.Elements.{All-nil, All-cons, All-append, All-head, All-tail, All-weaker, All-contains, Contains-append_left, Contains-append_right, Contains-push}
 use Rattle.mml_ids.specs.Ids.{rank_in}
 use Rattle.mml_ids.proofs.GivesLemmas.{bind-ok, bind-from, need-ok, need-from}
-use Rattle.mml_rules.specs.declared.regs.Regs.{Regs}
-use Rattle.mml_rules.specs.declared.rule.Kind.{Kind}
-use Rattle.mml_rules.specs.declared.rule.Rule.{Rule}
-use Rattle.mml_rules.specs.Configuration.{IsLawful}
-use Rattle.mml_rules.specs.Network.{registers_at}
-use Rattle.mml_rules.specs.Rules.{kind_of, enabled_kind}
-use Rattle.mml_rules.proofs.EnabledKindLemmas.{guard-kind, kind-guard}
-use Rattle.mml_rules.proofs.MeaningLemmas.{guard-means}
-use Rattle.mml_lab.specs.declared.who.Who.{Who}
-use Rattle.mml_lab.specs.declared.who.Who.TheVariants as who
-use Rattle.mml_lab.specs.Rosters.{RosterValue, owns}
-use Rattle.mml_board.specs.declared.event.Event.{Event}
-use Rattle.mml_board.specs.World.{World, size, configuration, chosen_at}
-use Rattle.mml_board.specs.Events.{done_by}
-use Rattle.mml_policy.specs.declared.command.Command.TheVariants as command
-use Rattle.mml_policy.specs.declared.denial.Denial.{Denial}
-use Rattle.mml_policy.specs.declared.look.Look as TheLook
-use Rattle.mml_policy.specs.declared.see.See as TheSee
+use Rattle.mml_rules.specs.{declared.regs.Regs.Regs, declared.rule.Kind.Kind, declared.rule.Rule.Rule, Configuration.IsLawful, Network.registers_at, Rules.kind_of, Rules.enabled_kind}
+use Rattle.mml_rules.proofs.{EnabledKindLemmas.guard-kind, EnabledKindLemmas.kind-guard, MeaningLemmas.guard-means}
+use Rattle.mml_lab.specs.{declared.who.Who.Who, Rosters.RosterValue, Rosters.owns}
+use Rattle.mml_board.specs.{declared.event.Event.Event, World.World, World.size, World.configuration, World.chosen_at, Events.done_by}
+use Rattle.mml_policy.specs.declared.{denial.Denial.Denial, verdict.Leave.Leave, verdict.Leave.TheVariants.Look}
 use Rattle.mml_policy.specs.declared.ruling.Ruling.TheVariants.{Full, Journal, Granted, Seen, Looked}
-use Rattle.mml_policy.specs.declared.verdict.Leave.{Leave}
-use Rattle.mml_policy.specs.declared.verdict.Leave.TheVariants.{Look}
-use Rattle.mml_policy.specs.Rulings.{ruled, ruling}
-use Rattle.mml_policy.specs.Shown.{look_of, near, near_below}
-use Rattle.mml_policy.specs.Visible.{is_teacher}
-use Rattle.mml_policy.proofs.ClausesLemmas.{node-ok}
-use Rattle.mml_policy.proofs.NearLemmas.{passing_with, passing_without, shown}
-use Rattle.mml_policy.proofs.SeenLemmas.{see_shows}
-use Rattle.mml_policy.proofs.VisibleLemmas.{teacher_is}
+use Rattle.mml_policy.specs.{Rulings.ruled, Rulings.ruling, Shown.look_of, Shown.near, Shown.near_below, Visible.is_teacher}
+use Rattle.mml_policy.proofs.{ClausesLemmas.node-ok, NearLemmas.passing_with, NearLemmas.passing_without, NearLemmas.shown, SeenLemmas.see_shows, VisibleLemmas.teacher_is}
 use Rattle.mml_stable.specs.Listed.{Rises}
 use Rattle.mml_laws.specs.Looks.{IsLinkedWith, IsEnabledKind, IsWholeLook}
-use Rattle.std.proofs.lemmas.Bool.Decides.{nat_tests}
+use Rattle.mml_lab.specs.declared.who.Who.TheVariants as who
+use Rattle.mml_policy.specs.declared.command.Command.TheVariants as command
+use Rattle.mml_policy.specs.declared.look.Look as TheLook
+use Rattle.mml_policy.specs.declared.see.See as TheSee
 
 -- ---- the nodes near
 
@@ -61,31 +44,14 @@ module _ (w : World) (i : ℕ) where
     rising : Rises Before ns
 
   one_with : (n : ℕ) → (configuration w).linked i n ≡ true → IsNearBelow n (near_below w i n) → IsNearBelow (suc n) (near_below w i n ++ shown w n ∷ [])
-  one_with n linked h = record {
-    only =
-        All-append (λ x. (x.0 < suc n) × IsLinkedWith w i x) (near_below w i n) (shown w n ∷ [])
-        (All-weaker (λ x. (x.0 < n) × IsLinkedWith w i x) (λ x. (x.0 < suc n) × IsLinkedWith w i x) (λ x k. (omega (arith, k.0), k.1)) (near_below w i n) h.only)
-        (All-cons (λ x. (x.0 < suc n) × IsLinkedWith w i x) (shown w n) [] (omega arith, (linked, refl)) (All-nil (λ x. (x.0 < suc n) × IsLinkedWith w i x)));
-    all = λ j lt l. elim (cases_eq j n) [
-      | inl e ↦ Contains-append_right (near_below w i n) (shown w n ∷ []) (shown w j)
-          (subst (λ k. Contains (shown w n ∷ []) (shown w k)) (sym e) (Contains-push [] (shown w n)))
-      | inr ne ↦ Contains-append_left (near_below w i n) (shown w n ∷ []) (shown w j) (h.all j (omega (arith, lt, ne)) l)
-    ];
-    rising =
-        rises_push Before (near_below w i n) (shown w n) h.rising
-        (All-weaker (λ x. (x.0 < n) × IsLinkedWith w i x) (λ x. x.0 < n) (λ x k. k.0) (near_below w i n) h.only);
-  }
+  one_with n linked h =
+      grind (arith, common_steps, All-append, shown, All-weaker, All-cons, All-nil, cases_eq, Contains-append_right, Contains-push, Contains-append_left, rises_push)
 
   one_without : (n : ℕ) → (configuration w).linked i n ≡ false → IsNearBelow n (near_below w i n) → IsNearBelow (suc n) (near_below w i n)
   one_without n apart h = grind (arith, nat_tests, cases_eq, both_ways)
 
   near_step : (n : ℕ) (b : Bool) → (configuration w).linked i n ≡ b → IsNearBelow n (near_below w i n) → IsNearBelow (n + 1) (near_below w i (n + 1))
-  near_step n true e h =
-      subst (λ k. IsNearBelow k (near_below w i (n + 1))) (sym (add-one n))
-      (subst (IsNearBelow (suc n)) (sym (passing_with ((configuration w).linked i) (shown w) n e)) (one_with n e h))
-  near_step n false e h =
-      subst (λ k. IsNearBelow k (near_below w i (n + 1))) (sym (add-one n))
-      (subst (IsNearBelow (suc n)) (sym (passing_without ((configuration w).linked i) (shown w) n e)) (one_without n e h))
+  near_step n b e h = grind (arith, nat_tests, add-one, passing_with, shown, one_with, passing_without, one_without)
 
   near_is : (n : ℕ) → IsNearBelow n (near_below w i n)
   near_is zero = record { only = All-nil (λ x. (x.0 < 0) × IsLinkedWith w i x); all = λ j lt l. absurd (omega (arith, lt)); rising = tt }
@@ -105,10 +71,7 @@ module _ (w : World) (i : ℕ) where
     enabled kind = grind (arith, nat_tests, kind-guard, guard-means, guard-kind)
 
     near_exact : (n : ℕ × Regs) → Contains (near w i) n ↔ IsLinkedWith w i n
-    near_exact n = (
-      (λ h. (All-contains (λ x. (x.0 < size w) × IsLinkedWith w i x) (near w i) n near_whole.only h).1),
-      (λ h. subst (Contains (near w i)) (λ k. (n.0, sym h.1 k)) (near_whole.all n.0 (lawful.in_range i n.0 h.0).1 h.0)),
-    )
+    near_exact n = grind (arith, nat_tests, All-contains, near_whole)
 
     pub look_whole : IsWholeLook w i (look_of w i)
     look_whole = record {

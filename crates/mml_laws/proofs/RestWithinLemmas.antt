@@ -1,42 +1,28 @@
 -- Grants and closes are paid for by twice the potential.
-use Rattle.std.proofs.Common.{◌≡◌, ◌≢◌, ◌⊎◌, ◌<◌, ◌≤◌, ◌+◌, ◌*◌, min, ℕ, zero, suc, Bool, true, false, cond, List, [], ◌∷◌, ◌++◌, length, Option, None, Some, Ok, is_some, is_none, inl, inr, refl, sym, ap, ◌∙◌, subst, arith}
+use Rattle.std.proofs.lemmas.{Bool.Decides.nat_tests, Bool.and_parts, Bool.and_from, Bool.false≢true, Bool.ltb-true, Bool.cases_eq, List.get_or-set_same, List.get_or-set_other}
+use Rattle.std.proofs.Common.{◌≡◌, ◌≢◌, ◌⊎◌, ◌<◌, ◌≤◌, ◌+◌, ◌*◌, min, ℕ, zero, suc, Bool, true, false, cond, List, [], ◌∷◌, ◌++◌, length, Option, None, Some, Ok, is_some, is_none, inl, inr, refl, sym}
+use Rattle.std.proofs.Common.{ap, ◌∙◌, subst, arith}
 use Rattle.std.specs.List.{list_all}
-use Rattle.std.proofs.lemmas.Bool.{and_parts, and_from, false≢true, ltb-true, cases_eq}
-use Rattle.std.proofs.lemmas.List.{get_or-set_same, get_or-set_other}
 use Rattle.mml_ids.specs.Search.{count_below, some_below}
 use Rattle.mml_ids.proofs.SearchLemmas.{some_below-find, some_below-none}
-use Rattle.mml_rules.specs.declared.rule.Rule.{Rule}
-use Rattle.mml_rules.specs.Configuration.{Configuration}
-use Rattle.mml_rules.specs.Rules.{is_privileged}
-use Rattle.mml_rules.specs.Matching.{IsStable}
-use Rattle.mml_lab.specs.Labs.{LabValue, lab_of, link_count}
-use Rattle.mml_lab.proofs.LabMeaningLemmas.{lawful}
-use Rattle.mml_lab.proofs.OwnersLemmas.{one_or_two}
-use Rattle.mml_lab.specs.Rosters.{RosterValue}
-use Rattle.mml_board.specs.declared.event.Event.{Event}
-use Rattle.mml_board.specs.declared.event.Event.TheVariants as event
+use Rattle.mml_rules.specs.{declared.rule.Rule.Rule, Configuration.Configuration, Rules.is_privileged, Matching.IsStable}
+use Rattle.mml_lab.specs.{Labs.LabValue, Labs.lab_of, Labs.link_count, Rosters.RosterValue}
+use Rattle.mml_lab.proofs.{LabMeaningLemmas.lawful, OwnersLemmas.one_or_two}
+use Rattle.mml_board.specs.{declared.event.Event.Event, Events.is_legal, Events.is_node, Events.is_chosen, Events.after, Events.chosen_count, Runs.is_legal_list, Runs.world_of}
 use Rattle.mml_board.specs.World.{World, IsWorld, size, configuration, chosen_at, opening_of}
-use Rattle.mml_board.specs.Events.{is_legal, is_node, is_chosen, after, chosen_count}
-use Rattle.mml_board.specs.Runs.{is_legal_list, world_of}
-use Rattle.mml_board.proofs.WorldLemmas.{after-world, size-after}
-use Rattle.mml_board.proofs.RunsLemmas.{legal-possible, list-world, legal-one_more, place-world_of}
-use Rattle.mml_convergence.specs.Potential.{whole_potential}
-use Rattle.mml_convergence.specs.Rest.{EachHasOwner, is_grant_or_close}
-use Rattle.mml_convergence.proofs.SumsLemmas.{count_same}
+use Rattle.mml_board.proofs.{WorldLemmas.after-world, WorldLemmas.size-after, RunsLemmas.legal-possible, RunsLemmas.list-world, RunsLemmas.legal-one_more, RunsLemmas.place-world_of}
+use Rattle.mml_convergence.specs.{Potential.whole_potential, Rest.EachHasOwner, Rest.is_grant_or_close}
+use Rattle.mml_convergence.proofs.{SumsLemmas.count_same, WholePotentialLemmas.whole_fell, RestLemmas.any_chosen, RestLemmas.may_move, RestLemmas.first_owner}
 use Rattle.mml_convergence.proofs.AppliedLemmas.{Falls, close_paid, close_moves, network_most}
-use Rattle.mml_convergence.proofs.WholePotentialLemmas.{whole_fell}
-use Rattle.mml_convergence.proofs.RestLemmas.{any_chosen, may_move, first_owner}
-use Rattle.mml_bounds.specs.Courtships.{most_courtships, courting_potential}
-use Rattle.mml_bounds.proofs.NumbersLemmas.{courtships_kept, courtships_even}
-use Rattle.mml_bounds.proofs.WholeLemmas.{courting_fell, courting_most}
-use Rattle.mml_bounds.specs.Most.{events_to_rest}
+use Rattle.mml_bounds.specs.{Courtships.courting_potential, Most.events_to_rest}
+use Rattle.mml_bounds.proofs.{NumbersLemmas.courtships_kept, NumbersLemmas.courtships_even, WholeLemmas.courting_fell, WholeLemmas.courting_most}
 use Rattle.mml_laws.proofs.ChoicesLemmas.{opening}
+use Rattle.mml_board.specs.declared.event.Event.TheVariants as event
 
 -- ---- one more is chosen
 
 -- a test that is true of one number more counts one more
-count_one_more : (n i : ℕ) (t u : ℕ → Bool) → i < n → t i ≡ false → u i ≡ true → ((j : ℕ) → j ≢ i → u j ≡ t j)
-    → count_below n u ≡ count_below n t + 1
+count_one_more : (n i : ℕ) (t u : ℕ → Bool) → i < n → t i ≡ false → u i ≡ true → ((j : ℕ) → j ≢ i → u j ≡ t j) → count_below n u ≡ count_below n t + 1
 count_one_more zero i t u lt off on same = absurd (omega arith)
 count_one_more (suc n) i t u lt off on same = elim (cases_eq i n) [
   | inl here ↦
@@ -93,21 +79,23 @@ least a n l q by_links by_nodes = grind (arith, by_links, by_nodes)
 pub events_few : (r : RosterValue) (w : World) (es : List Event) → IsWorld w → is_legal_list r w es ≡ true → list_all is_grant_or_close es ≡ true
     → length es + chosen_count w ≤ events_to_rest (size w) (link_count w.network)
 events_few r w es k legal forward =
-    let by_links = events_paid whole_potential whole_fell r w es k legal forward in
-    let links_most = network_most w.network k.network in
-    let by_nodes = events_paid courting_potential courting_fell r w es k legal forward in
-    let nodes_most = courting_most (configuration w) in
-    least (length es + chosen_count w) (size w) (link_count w.network) (most_courtships (size w)) (omega (arith, by_links, links_most))
-    (omega (arith, by_nodes, nodes_most))
+    grind (
+      arith,
+      nat_tests,
+      events_paid whole_potential whole_fell r w es k legal forward,
+      network_most w.network k.network,
+      events_paid courting_potential courting_fell r w es k legal forward,
+      courting_most (configuration w),
+      whole_fell,
+      courting_fell,
+      least,
+    )
 
 within : (n l q : ℕ) → n ≤ 256 → q ≤ 16384 → 6 * n + 4 * min l q ≤ 67072
 within n l q few small = grind (arith, few, small)
 
 pub events_most : (nodes links : ℕ) → nodes ≤ 256 → events_to_rest nodes links ≤ 67072
-events_most nodes links few =
-    let kept = courtships_kept nodes 256 few in
-    let whole : most_courtships 256 ≡ 16384 = courtships_even 128 in
-    within nodes links (most_courtships nodes) few (omega (arith, kept, whole))
+events_most nodes links few = grind (arith, nat_tests, courtships_kept, courtships_even, within)
 
 -- ---- until a run rests, one event more is legal
 
@@ -128,16 +116,13 @@ next_event r w k owned = go (some_below (size w) (is_privileged (configuration w
 
     go : (b : Bool) → some_below (size w) (is_privileged (configuration w)) ≡ b → IsStable (configuration w) ⊎ NextEvent r w
     go false e = inl (λ i lt. some_below-none (size w) i (is_privileged (configuration w)) e lt)
-    go true e =
-        let found = some_below-find (size w) (is_privileged (configuration w)) e in
-        inr (at found.0 found.1 found.2 (chosen_at w.chosen found.0) refl)
+    go true e = let found = some_below-find (size w) (is_privileged (configuration w)) e in inr (at found.0 found.1 found.2 (chosen_at w.chosen found.0) refl)
 
 pub size-world_of : (w : World) (es : List Event) → size (world_of w es) ≡ size w
 size-world_of w [] = refl
 size-world_of w (e ∷ es) = size-world_of (after w e) es ∙ size-after w e
 
-all_more : (es : List Event) (e : Event) → list_all is_grant_or_close es ≡ true → is_grant_or_close e ≡ true
-    → list_all is_grant_or_close (es ++ e ∷ []) ≡ true
+all_more : (es : List Event) (e : Event) → list_all is_grant_or_close es ≡ true → is_grant_or_close e ≡ true → list_all is_grant_or_close (es ++ e ∷ []) ≡ true
 all_more [] e h g = and_from (is_grant_or_close e) true g refl
 all_more (f ∷ es) e h g =
     let both = and_parts (is_grant_or_close f) (list_all is_grant_or_close es) h in
@@ -162,18 +147,10 @@ fewer r w es k owned legal forward restless =
 pub room_left : (r : RosterValue) (w : World) (es : List Event) (limit : ℕ) → IsWorld w → EachHasOwner r (size w) → is_legal_list r w es ≡ true
     → list_all is_grant_or_close es ≡ true → w.place + events_to_rest (size w) (link_count w.network) ≤ limit
     → ¬ IsStable (configuration (world_of w es)) → (world_of w es).place < limit
-room_left r w es limit k owned legal forward room restless =
-    let few = fewer r w es k owned legal forward restless in
-    let place = place-world_of w es in
-    omega (arith, few, place, room)
+room_left r w es limit k owned legal forward room restless = grind (arith, nat_tests, fewer, place-world_of)
 
 pub room_in_lab : (bytes : List ℕ) (lab : LabValue) (es : List Event) → lab_of bytes ≡ Ok lab
     → is_legal_list lab.roster (opening_of lab.network) es ≡ true → list_all is_grant_or_close es ≡ true
     → events_to_rest (length lab.ids) (link_count lab.network) ≤ lab.events → ¬ IsStable (configuration (world_of (opening_of lab.network) es))
     → length es < lab.events
-room_in_lab bytes lab es spelled legal forward room restless =
-    let is = lawful bytes lab spelled in
-    let few = fewer lab.roster (opening_of lab.network) es (opening lab is) (λ i lt. (one_or_two bytes lab i spelled (omega (arith, lt, is.nodes))).0) legal forward restless in
-    let nodes : events_to_rest (size (opening_of lab.network)) (link_count lab.network) ≡ events_to_rest (length lab.ids) (link_count lab.network) =
-    ap (λ n. events_to_rest n (link_count lab.network)) is.nodes in
-    omega (arith, few, room, nodes)
+room_in_lab bytes lab es spelled legal forward room restless = grind (arith, nat_tests, lawful, fewer, opening, one_or_two)

@@ -1,23 +1,13 @@
 -- What comes of a command, by its verdict.
 use Rattle.std.proofs.Common.{◌≡◌, ◌≢◌, ◌↔◌, ◌<◌, ◌≤◌, ℕ, Bool, true, false, cond, nat_le, List, Result, Ok, Err, refl, arith}
-use Rattle.std.proofs.lemmas.Bool.{leb-true, leb-false, le-leb, lt-leb}
-use Rattle.mml_lab.specs.declared.who.Who.{Who}
-use Rattle.mml_lab.specs.Rosters.{RosterValue}
-use Rattle.mml_board.specs.declared.done.Done.{Done}
-use Rattle.mml_board.specs.declared.event.Event.{Event}
-use Rattle.mml_board.specs.World.{World}
-use Rattle.mml_board.specs.Events.{done_by}
-use Rattle.mml_policy.specs.declared.command.Command.{Command}
-use Rattle.mml_policy.specs.declared.denial.Denial.{Denial}
-use Rattle.mml_policy.specs.declared.ruling.Ruling.{Ruling}
-use Rattle.mml_policy.specs.declared.ruling.Ruling.TheVariants.{Denied, Full, Journal, Granted}
-use Rattle.mml_policy.specs.declared.verdict.Leave.{Leave}
-use Rattle.mml_policy.specs.declared.verdict.Leave.TheVariants.{See, Look, Report, Grant}
-use Rattle.mml_policy.specs.declared.verdict.Verdict.TheVariants as verdicts
-use Rattle.mml_policy.specs.Rulings.{ruled, ruling}
-use Rattle.mml_policy.specs.Verdicts.{clauses, settled, verdict}
+use Rattle.std.proofs.lemmas.Bool.{leb-true, leb-false, le-leb, lt-leb, Decides.nat_tests}
+use Rattle.mml_lab.specs.{declared.who.Who.Who, Rosters.RosterValue}
+use Rattle.mml_board.specs.{declared.done.Done.Done, declared.event.Event.Event, World.World, Events.done_by}
+use Rattle.mml_policy.specs.{declared.command.Command.Command, declared.denial.Denial.Denial, Rulings.ruled, Rulings.ruling, Verdicts.clauses, Verdicts.settled, Verdicts.verdict}
+use Rattle.mml_policy.specs.declared.ruling.Ruling.{Ruling, TheVariants.Denied, TheVariants.Full, TheVariants.Journal, TheVariants.Granted}
+use Rattle.mml_policy.specs.declared.verdict.Leave.{Leave, TheVariants.See, TheVariants.Look, TheVariants.Report, TheVariants.Grant}
 use Rattle.mml_laws.specs.Ruled.{IsGrantable, IsShown}
-use Rattle.std.proofs.lemmas.Bool.Decides.{nat_tests}
+use Rattle.mml_policy.specs.declared.verdict.Verdict.TheVariants as verdicts
 
 -- an event that the clauses give leave to, by whether the place has reached the limit and the journal is halted
 abbrev entered : Bool → Bool → World → Event → Ruling
@@ -36,8 +26,7 @@ module _ (w : World) (e : Event) where
   when_journal : (full halted : Bool) → entered full halted w e ≡ Journal → (full ≡ false) × (halted ≡ true)
   when_journal full halted h = grind (arith, nat_tests)
 
-  when_granted : (full halted : Bool) (f : Event) (done : Done) → entered full halted w e ≡ Granted f done
-      → (e ≡ f) × (full ≡ false) × (halted ≡ false) × (done ≡ done_by w e)
+  when_granted : (full halted : Bool) (f : Event) (done : Done) → entered full halted w e ≡ Granted f done → (e ≡ f) × (full ≡ false) × (halted ≡ false) × (done ≡ done_by w e)
   when_granted full halted f done h = grind (arith, nat_tests)
 
 module _ (w : World) (limit : ℕ) (halted : Bool) where
@@ -63,18 +52,14 @@ module _ (w : World) (limit : ℕ) (halted : Bool) where
   from_full : (s : Result Leave Denial) → ((e : Event) × (settled s ≡ verdicts.Grant e)) × (limit ≤ w.place) → ruled limit halted w s ≡ Full
   from_full s h = grind (arith, nat_tests, le-leb)
 
-  to_journal : (s : Result Leave Denial) → ruled limit halted w s ≡ Journal
-      → ((e : Event) × (settled s ≡ verdicts.Grant e)) × (w.place < limit) × (halted ≡ true)
+  to_journal : (s : Result Leave Denial) → ruled limit halted w s ≡ Journal → ((e : Event) × (settled s ≡ verdicts.Grant e)) × (w.place < limit) × (halted ≡ true)
   to_journal (Ok (See i)) h = absurd cc
   to_journal (Ok (Look i)) h = absurd cc
   to_journal (Ok Report) h = absurd cc
-  to_journal (Ok (Grant e)) h =
-      let two = when_journal w e (nat_le limit w.place) halted h in
-      ((e, refl), leb-false limit w.place two.0, two.1)
+  to_journal (Ok (Grant e)) h = let two = when_journal w e (nat_le limit w.place) halted h in ((e, refl), leb-false limit w.place two.0, two.1)
   to_journal (Err f) h = absurd cc
 
-  from_journal : (s : Result Leave Denial) → ((e : Event) × (settled s ≡ verdicts.Grant e)) × (w.place < limit) × (halted ≡ true)
-      → ruled limit halted w s ≡ Journal
+  from_journal : (s : Result Leave Denial) → ((e : Event) × (settled s ≡ verdicts.Grant e)) × (w.place < limit) × (halted ≡ true) → ruled limit halted w s ≡ Journal
   from_journal s h = grind (arith, nat_tests, lt-leb)
 
   to_granted : (s : Result Leave Denial) (e : Event) (done : Done) → ruled limit halted w s ≡ Granted e done

@@ -1,20 +1,13 @@
 -- No student is told more closes than the run has.
 use Rattle.std.proofs.Common.{◌≡◌, ℕ, ◌+◌, ◌<◌, ◌≤◌, Bool, true, false, cond, eqb, List, [], ◌∷◌, length, refl, ap, arith}
-use Rattle.std.specs.Prelude.{count_by}
-use Rattle.std.specs.List.{filter}
-use Rattle.std.proofs.lemmas.List.Sums.{sum_by-cons}
-use Rattle.std.proofs.lemmas.Bool.{cases_eq, eq-eqb, ne_eqb}
-use Rattle.mml_rules.specs.declared.rule.Rule.{Rule}
-use Rattle.mml_rules.specs.Rules.{kind_of}
+use Rattle.std.specs.{Prelude.count_by, List.filter}
+use Rattle.std.proofs.lemmas.{List.Sums.sum_by-cons, Bool.cases_eq, Bool.eq-eqb, Bool.ne_eqb, Bool.Decides.nat_tests}
+use Rattle.mml_rules.specs.{declared.rule.Rule.Rule, Rules.kind_of}
 use Rattle.mml_board.specs.declared.event.Event.{Event}
-use Rattle.mml_board.specs.declared.event.Event.TheVariants as event
 use Rattle.mml_convergence.specs.Moves.{is_close}
-use Rattle.mml_tally.specs.declared.granted_move.Move.{Move}
-use Rattle.mml_tally.specs.Moves.{fate_of, moves_from, moves}
-use Rattle.mml_tally.specs.Marks.{count_applying_closes}
-use Rattle.mml_tally.specs.inside.Closes.{close_of, count_new}
+use Rattle.mml_tally.specs.{declared.granted_move.Move.Move, Moves.fate_of, Moves.moves_from, Moves.moves, Marks.count_applying_closes, inside.Closes.close_of, inside.Closes.count_new}
 use Rattle.mml_tally.proofs.ClosesLemmas.{next_close, IsNext, fate_next, closes_counted}
-use Rattle.std.proofs.lemmas.Bool.Decides.{nat_tests}
+use Rattle.mml_board.specs.declared.event.Event.TheVariants as event
 
 -- one event more at the front of those that are counted
 more : (p : Event → Bool) (e : Event) (es : List Event) → count_by p (e ∷ es) ≡ cond (p e) 1 0 + count_by p es
@@ -58,27 +51,13 @@ module _ (test : Move → Bool) where
       go rest false e =
           passed last q (event.Grant s i rule) es
           (ap (λ c. count_new last (cond c (move_of q s i rule es ∷ own_from (q + 1) es) (own_from (q + 1) es))) e) refl closes (rest last)
-      go rest true e =
-          let k = close_of last (fate_of i (q + 1) es) in
-          let both = granted last q k es (fate_next last i (q + 1) es) (rest k) in
-          let here : counted last q (event.Grant s i rule ∷ es) ≡ count_new last (move_of q s i rule es ∷ own_from (q + 1) es) =
-          ap (λ c. count_new last (cond c (move_of q s i rule es ∷ own_from (q + 1) es) (own_from (q + 1) es))) e in
-          record {
-            most = omega (arith, here, closes, both.0);
-            fewer = λ at lt. let fewer = both.1 at (omega (arith, lt)) in omega (arith, here, closes, fewer);
-          }
-  few last q (event.Close ∷ es) =
-      let rest = few last (q + 1) es in
-      let closes = more is_close event.Close es in
-      record { most = omega (arith, closes, rest.most); fewer = λ at lt. omega (arith, closes, rest.most) }
-  few last q (event.Release i ∷ es) =
-      let e = more is_close (event.Release i) es in passed last q (event.Release i) es refl refl (omega (arith, e)) (few last (q + 1) es)
+      go rest true e = grind (arith, nat_tests, close_of last (fate_of i (q + 1) es), granted, fate_next)
+  few last q (event.Close ∷ es) = grind (arith, nat_tests, few last (q + 1) es, more is_close event.Close es)
+  few last q (event.Release i ∷ es) = let e = more is_close (event.Release i) es in passed last q (event.Release i) es refl refl (omega (arith, e)) (few last (q + 1) es)
   few last q (event.Fault i registers ∷ es) =
       let e = more is_close (event.Fault i registers) es in passed last q (event.Fault i registers) es refl refl (omega (arith, e)) (few last (q + 1) es)
-  few last q (event.Link a b ∷ es) =
-      let e = more is_close (event.Link a b) es in passed last q (event.Link a b) es refl refl (omega (arith, e)) (few last (q + 1) es)
-  few last q (event.Cut a b ∷ es) =
-      let e = more is_close (event.Cut a b) es in passed last q (event.Cut a b) es refl refl (omega (arith, e)) (few last (q + 1) es)
+  few last q (event.Link a b ∷ es) = let e = more is_close (event.Link a b) es in passed last q (event.Link a b) es refl refl (omega (arith, e)) (few last (q + 1) es)
+  few last q (event.Cut a b ∷ es) = let e = more is_close (event.Cut a b) es in passed last q (event.Cut a b) es refl refl (omega (arith, e)) (few last (q + 1) es)
 
 pub closes_of_run : (test : Move → Bool) (es : List Event) → count_applying_closes (length es) (filter test (moves es)) ≤ count_by is_close es
 closes_of_run test es = let counted = closes_counted test es in let most = (few test 0 1 es).most in omega (arith, counted, most)

@@ -1,18 +1,14 @@
 -- The places that the replies of a house name.
-use Rattle.std.proofs.Common.{◌≡◌, ℕ, List, [], ◌∷◌, ◌++◌, length, flat_map, Option, refl, sym, ap, ◌∙◌, subst, append_assoc, append-nil}
-use Rattle.std.proofs.lemmas.List.Concat.{flat_map-append}
+use Rattle.std.proofs.lemmas.{Bool.Decides.nat_tests, List.Concat.flat_map-append}
+use Rattle.std.proofs.Common.{◌≡◌, ℕ, List, [], ◌∷◌, ◌++◌, length, flat_map, Option, refl, sym, ap, ◌∙◌, append_assoc, append-nil, arith}
 use Rattle.mml_lab.specs.Labs.{LabValue}
 use Rattle.mml_board.specs.declared.event.Event.{Event}
 use Rattle.mml_codec.specs.declared.reply.Reply.{Reply}
-use Rattle.mml_window.specs.Tallies.{told_of, IsEachOnceFrom}
-use Rattle.mml_window.specs.Windows.{WindowValue, window}
-use Rattle.mml_session.specs.declared.session.SessionEnd.{SessionEnd}
-use Rattle.mml_session.specs.declared.session.SessionEnd.TheVariants as end
-use Rattle.mml_session.specs.Turns.{Standing, places_in}
-use Rattle.mml_session.specs.Talks.{Talk, LineTurn, nobody_known}
-use Rattle.mml_session.specs.Ends.{Ended}
+use Rattle.mml_window.specs.{Tallies.told_of, Tallies.IsEachOnceFrom, Windows.WindowValue, Windows.window}
+use Rattle.mml_session.specs.{declared.session.SessionEnd.SessionEnd, Turns.Standing, Turns.places_in, Talks.Talk, Talks.LineTurn, Talks.nobody_known, Ends.Ended}
 use Rattle.mml_session.proofs.TalkLemmas.{talk_places, turn_places}
 use Rattle.mml_laws.specs.Served.{replies_in, IsSession, AreSessions, AreServed, named_in, named_by}
+use Rattle.mml_session.specs.declared.session.SessionEnd.TheVariants as end
 
 module _ (lab : LabValue) where
   talked : (old new : WindowValue) (t : Talk lab (nobody_known old)) → t.end.window ≡ new → new.places ≡ old.places ++ flat_map places_in t.replies
@@ -40,8 +36,7 @@ module _ (lab : LabValue) where
   ended_places end.Memory old new input left wrote wrote' e = ap (λ (w : WindowValue). w.places) e.0 ∙ sym (append-nil old.places)
 
   session_places : (old new : WindowValue) (replies : List Reply) → IsSession lab old new replies → new.places ≡ old.places ++ flat_map places_in replies
-  session_places old new replies s =
-      ended_places s.end old new s.input s.left s.wrote s.wrote' s.ended ∙ ap (λ (l : List Reply). old.places ++ flat_map places_in l) (sym s.all)
+  session_places old new replies s = grind (arith, nat_tests, ended_places)
 
   sessions_places : (old new : WindowValue) (sessions : List (List Reply)) → AreSessions lab old sessions new → new.places ≡ old.places ++ named_in sessions
   sessions_places old new [] is = ap (λ (w : WindowValue). w.places) is ∙ sym (append-nil old.places)
@@ -62,5 +57,4 @@ module _ (lab : LabValue) where
 pub house_once : (lab : LabValue) (begun : List Event) (most : ℕ) (sessions : List (List (List Reply))) (windows : List WindowValue)
     → AreServed lab begun sessions windows
     → IsEachOnceFrom (length begun) most (told_of windows) → IsEachOnceFrom (length begun) most (named_by sessions)
-house_once lab begun most sessions windows served once =
-    subst (IsEachOnceFrom (length begun) most) (house_places lab begun sessions windows served) once
+house_once lab begun most sessions windows served once = grind (arith, nat_tests, house_places)

@@ -1,34 +1,21 @@
 -- The places that the replies of a session name.
-use Rattle.std.proofs.Common.{◌≡◌, ◌⊎◌, ◌≤◌, ◌+◌, ℕ, true, false, List, [], ◌∷◌, ◌++◌, length, Option, None, Some, Result, Ok, Err, inl, inr, refl, sym, ap, ◌∙◌, subst}
+use Rattle.std.proofs.Common.{◌≡◌, ◌⊎◌, ◌≤◌, ◌+◌, ℕ, true, false, List, [], ◌∷◌, ◌++◌, length, Option, None, Some, Result, Ok, Err, inl, inr, refl, sym, ap, ◌∙◌, subst, arith}
 use mathlib.Core.List.{IsPrefix}
-use Rattle.mml_lab.specs.declared.who.Who.{Who}
-use Rattle.mml_lab.specs.Labs.{LabValue, IsLab}
-use Rattle.mml_board.specs.declared.event.Event.{Event}
-use Rattle.mml_board.specs.Events.{after}
-use Rattle.mml_policy.specs.declared.command.Command.{Command}
-use Rattle.mml_policy.specs.declared.ruling.Ruling.{Ruling}
-use Rattle.mml_policy.specs.Rulings.{event_of, after_ruling}
-use Rattle.mml_codec.specs.declared.request.LineFault.{LineFault}
-use Rattle.mml_codec.specs.declared.request.Request.{Request}
-use Rattle.mml_codec.specs.declared.request.Request.TheVariants as requests
-use Rattle.mml_codec.specs.declared.reply.Reply.{Reply}
-use Rattle.mml_codec.specs.Greetings.{admitted, greeting}
-use Rattle.mml_codec.specs.Lines.{request_in}
-use Rattle.mml_codec.specs.Replies.{place_in}
-use Rattle.mml_codec.specs.Rulings.{reply_of, reply_of_done}
-use Rattle.mml_lab.specs.Rosters.{principal}
+use Rattle.mml_lab.specs.{declared.who.Who.Who, Labs.LabValue, Labs.IsLab, Rosters.principal}
+use Rattle.mml_board.specs.{declared.event.Event.Event, Events.after, Lists.is_legal_in, Lists.world_in}
+use Rattle.mml_policy.specs.{declared.command.Command.Command, declared.ruling.Ruling.Ruling, Rulings.event_of, Rulings.after_ruling}
+use Rattle.mml_codec.specs.declared.{request.LineFault.LineFault, request.Request.Request, reply.Reply.Reply}
+use Rattle.mml_codec.specs.{Greetings.admitted, Greetings.greeting, Replies.place_in, Rulings.reply_of, Rulings.reply_of_done}
 use Rattle.mml_lines.proofs.RunsLemmas.{run_at_each}
-use Rattle.mml_board.specs.Lists.{is_legal_in, world_in}
 use Rattle.mml_window.specs.Rulings.{ruling_at}
-use Rattle.mml_window.proofs.ListLemmas as lists
 use Rattle.mml_window.proofs.PrefixLemmas.{prefix_trans}
-use Rattle.mml_session.specs.Talks.{Talk, LineTurn}
-use Rattle.mml_session.specs.Turns.{Standing, entered, Told, Plainly, Refuses, Settles, Asked, Turn}
+use Rattle.mml_session.specs.{Talks.Talk, Talks.LineTurn, Turns.Standing, Turns.entered, Turns.Told, Turns.Plainly, Turns.Refuses, Turns.Settles, Turns.Asked, Turns.Turn}
 use Rattle.mml_session.proofs.TalkLemmas.{turn_on}
 use Rattle.mml_laws.specs.Told.{IsToldAt, NamesItsEventIn, EachNamesItsEventIn}
 use Rattle.mml_laws.proofs.ToldAtLemmas.{names_grant, told_at, longer}
 use Rattle.std.proofs.lemmas.Bool.Decides.{nat_tests}
-use Rattle.std.proofs.Common.{arith}
+use Rattle.mml_codec.specs.declared.request.Request.TheVariants as requests
+use Rattle.mml_window.proofs.ListLemmas as lists
 
 none_named : (r : Reply) (p : ℕ) → place_in r ≡ None → place_in r ≡ Some p → ⊥
 none_named r p none some = cc
@@ -78,8 +65,7 @@ module _ (lab : LabValue) (is : IsLab lab) (l : List Event) (legal : is_legal_in
   asked_names st next (Ok q) r p h begins named = greeting_names st next st.known q r p refl h begins named
 
   turn_names : (st next : Standing) (line : List ℕ) (r : Reply) → Turn lab st line r next → IsPrefix next.window.seen l → NamesItsEventIn lab l st line r
-  turn_names st next line r (inl h) begins p named = asked_names st next (request_in line) r p h begins named
-  turn_names st next line r (inr h) begins p named = absurd (none_named r p (ap place_in h.0) named)
+  turn_names st next line r h4 begins p named = grind (arith, nat_tests, asked_names, none_named)
 
 pub talk_names : (lab : LabValue) (st : Standing) (t : Talk lab st) (l : List Event) → IsLab lab → is_legal_in lab l ≡ true → length l ≤ lab.events
     → IsPrefix t.end.window.seen l → EachNamesItsEventIn lab l st t.lines t.replies t.end t.run

@@ -1,42 +1,27 @@
 -- The event that a reply names.
 use Rattle.std.proofs.Common.{◌≡◌, ◌≤◌, ◌+◌, ℕ, Bool, true, false, List, [], ◌∷◌, ◌++◌, length, Some, refl, sym, ap, ◌∙◌, subst, arith, append_assoc}
-use Rattle.std.specs.List.{slice_get}
-use Rattle.std.proofs.lemmas.Bool.{and_parts}
+use Rattle.std.{specs.List.slice_get, proofs.lemmas.Bool.and_parts, proofs.lemmas.Bool.Decides.nat_tests}
 use mathlib.Core.List.{IsPrefix}
-use Rattle.mml_lab.specs.declared.who.Who.{Who}
-use Rattle.mml_lab.specs.Labs.{LabValue, IsLab}
-use Rattle.mml_board.specs.declared.done.Done.{Done}
-use Rattle.mml_board.specs.declared.event.Event.{Event}
-use Rattle.mml_board.specs.World.{World, opening_of}
-use Rattle.mml_board.specs.Events.{is_legal, after}
-use Rattle.mml_board.specs.Runs.{is_legal_list, world_of}
+use Rattle.mml_lab.specs.{declared.who.Who.Who, Labs.LabValue, Labs.IsLab}
+use Rattle.mml_board.specs.declared.{done.Done.Done, event.Event.Event}
+use Rattle.mml_board.specs.{World.World, World.opening_of, Events.is_legal, Events.after, Runs.is_legal_list, Runs.world_of, Lists.is_legal_in, Lists.world_in}
 use Rattle.mml_board.proofs.EventsLemmas.{next_place}
-use Rattle.mml_policy.specs.declared.command.Command.{Command}
-use Rattle.mml_policy.specs.declared.ruling.Ruling.{Ruling}
-use Rattle.mml_policy.specs.declared.ruling.Ruling.TheVariants.{Granted}
-use Rattle.mml_policy.specs.Rulings.{after_ruling}
+use Rattle.mml_policy.specs.{declared.command.Command.Command, declared.ruling.Ruling.Ruling, declared.ruling.Ruling.TheVariants.Granted, Rulings.after_ruling}
 use Rattle.mml_journal.specs.EventLines.{event_line}
 use Rattle.mml_audit.proofs.AuditMeaningLemmas.{IsReached, reached_next, reached_first}
-use Rattle.mml_codec.specs.declared.reply.Reply.{Reply}
-use Rattle.mml_codec.specs.Replies.{place_in}
-use Rattle.mml_codec.specs.Rulings.{reply_of, reply_of_done}
+use Rattle.mml_codec.specs.{declared.reply.Reply.Reply, Replies.place_in, Rulings.reply_of, Rulings.reply_of_done}
 use Rattle.mml_codec.proofs.RulingsLemmas.{place_of_done}
-use Rattle.mml_board.specs.Lists.{is_legal_in, world_in}
 use Rattle.mml_window.specs.Rulings.{ruling_while}
-use Rattle.mml_window.proofs.ListLemmas as lists
 use Rattle.mml_laws.specs.Told.{IsToldAt}
-use Rattle.mml_laws.proofs.JournalsLemmas.{lines, lines_next, line}
-use Rattle.mml_laws.proofs.RuledLemmas.{ruled_granted}
-use Rattle.std.proofs.lemmas.Bool.Decides.{nat_tests}
+use Rattle.mml_laws.proofs.{JournalsLemmas.lines, JournalsLemmas.lines_next, JournalsLemmas.line, RuledLemmas.ruled_granted}
+use Rattle.mml_window.proofs.ListLemmas as lists
 
 -- ---- the line of an event
 
 line_at : (lab : LabValue) (is : IsLab lab) (w : World) (before : List Event) (e : Event) (later : List Event) → IsReached lab w
     → is_legal_list lab.roster w (before ++ e ∷ later) ≡ true → w.place + length (before ++ e ∷ later) ≤ lab.events
     → slice_get (lines lab is w (before ++ e ∷ later)) (length before) ≡ Some (line lab is (world_of w before) e)
-line_at lab is w [] e later on legal few =
-    let both = and_parts (is_legal lab.roster w e) (is_legal_list lab.roster (after w e) later) legal in
-    ap (λ (ls : List (List ℕ)). slice_get ls 0) (lines_next lab is w e later on both.0 (omega (arith, few)))
+line_at lab is w [] e later on legal few = grind (arith, nat_tests, and_parts (is_legal lab.roster w e) (is_legal_list lab.roster (after w e) later) legal, lines_next)
 line_at lab is w (f ∷ before) e later on legal few =
     let both = and_parts (is_legal lab.roster w f) (is_legal_list lab.roster (after w f) (before ++ e ∷ later)) legal in
     ap (λ (ls : List (List ℕ)). slice_get ls (length (f ∷ before))) (lines_next lab is w f (before ++ e ∷ later) on both.0 (omega (arith, few)))

@@ -1,14 +1,10 @@
 -- From which end a witness is sought.
 use Rattle.std.proofs.Common.{◌≡◌, ◌<◌, ℕ, true, false, Option, Some, None, inl, refl, ap, subst, arith}
-use Rattle.std.proofs.lemmas.Bool.{and_parts, both_ways, not-true}
-use Rattle.mml_rules.specs.declared.rule.Kind.{Kind}
-use Rattle.mml_rules.specs.Configuration.{Configuration, IsLawful}
-use Rattle.mml_rules.specs.Rules.{enabled_kind, is_married}
-use Rattle.mml_stable.specs.Reports.{is_open}
-use Rattle.mml_stable.specs.Walk.{certificate, LeadsTo, privileged, null, onward, top, walk, unless_seduction}
+use Rattle.std.proofs.lemmas.Bool.{and_parts, both_ways, not-true, Decides.nat_tests}
+use Rattle.mml_rules.specs.{declared.rule.Kind.Kind, Configuration.Configuration, Configuration.IsLawful, Rules.enabled_kind, Rules.is_married}
+use Rattle.mml_stable.specs.{Reports.is_open, Walk.certificate, Walk.LeadsTo, Walk.privileged, Walk.null, Walk.onward, Walk.top, Walk.walk, Walk.unless_seduction}
 use Rattle.mml_stable.proofs.WalkLemmas.{top-ends}
 use Rattle.mml_laws.specs.Witnesses.{EndsIn, IsIdle}
-use Rattle.std.proofs.lemmas.Bool.Decides.{nat_tests}
 
 next_same : (o : Option ℕ) (i j : ℕ) → o ≡ Some i → o ≡ Some j → i ≡ j
 next_same o i j e f = cc
@@ -58,8 +54,7 @@ module _ (c : Configuration) where
     unfolding certificate
     from_neither x y leads none leads_b none_b = grind (arith, nat_tests, parts, idle)
 
-pub sought_lower : (c : Configuration) (a b x : ℕ) (kind : Kind) → IsLawful c → is_open c a b ≡ true → LeadsTo c a x → EndsIn c x kind
-    → certificate c a b ≡ (x, kind)
+pub sought_lower : (c : Configuration) (a b x : ℕ) (kind : Kind) → IsLawful c → is_open c a b ≡ true → LeadsTo c a x → EndsIn c x kind → certificate c a b ≡ (x, kind)
 sought_lower c a b x kind lawful is_it leads ends = from_lower c a b lawful is_it x kind leads ends
 
 pub sought_higher : (c : Configuration) (a b x y : ℕ) (kind : Kind) → IsLawful c → is_open c a b ≡ true → LeadsTo c a x → IsIdle c x → LeadsTo c b y

@@ -1,29 +1,17 @@
 -- What asks each request, what a reader finds in a reply, and which replies tell registers.
 use Rattle.std.proofs.Common.{◌≡◌, ◌↔◌, ℕ, Bool, false, List, Option, Some, subst, arith}
-use Rattle.std.specs.List.{list_any}
-use Rattle.std.proofs.lemmas.Bool.{false≢true}
-use Rattle.serde_json.specs.Data.{Data}
-use Rattle.serde_json.specs.Find.{get}
-use Rattle.serde_json.specs.Read.{read}
+use Rattle.std.{specs.List.list_any, proofs.lemmas.Bool.false≢true, proofs.lemmas.Bool.Decides.nat_tests}
+use Rattle.serde_json.specs.{Data.Data, Find.get, Read.read}
 use Rattle.mml_ids.specs.Ids.{IsTable}
 use Rattle.mml_rules.specs.declared.rule.Kind.{Kind}
 use Rattle.mml_lab.specs.Rosters.{RosterValue, IsRoster}
-use Rattle.mml_policy.specs.declared.look.Look.{Look}
-use Rattle.mml_policy.specs.declared.denial.Denial.{Denial}
-use Rattle.mml_codec.specs.declared.request.Request.{Request}
-use Rattle.mml_codec.specs.declared.reply.Refused.{Refused}
-use Rattle.mml_codec.specs.declared.reply.Reply.{Reply}
-use Rattle.mml_codec.specs.declared.reply.Reply.TheVariants as reply
-use Rattle.mml_codec.specs.Facts.{kind_or_null_value, pointer_value}
-use Rattle.mml_codec.specs.Fields.{Has, HasEach}
-use Rattle.mml_codec.specs.Requests.{fields_of, request}
-use Rattle.mml_codec.specs.Replies as written
-use Rattle.mml_codec.specs.Replies.{IsAbout}
-use Rattle.mml_codec.specs.ReplyValues.{reply_value, AreWritableCounts}
-use Rattle.mml_codec.proofs.RequestsLemmas.{asked_there, there_asked}
-use Rattle.mml_codec.proofs.ReplyValuesLemmas.{read-reply}
+use Rattle.mml_policy.specs.declared.{look.Look.Look, denial.Denial.Denial}
+use Rattle.mml_codec.specs.{declared.request.Request.Request, declared.reply.Refused.Refused, declared.reply.Reply.Reply, Facts.kind_or_null_value, Facts.pointer_value, Fields.Has, Fields.HasEach}
+use Rattle.mml_codec.specs.{Requests.fields_of, Requests.request, Replies.IsAbout, ReplyValues.reply_value, ReplyValues.AreWritableCounts}
+use Rattle.mml_codec.proofs.{RequestsLemmas.asked_there, RequestsLemmas.there_asked, ReplyValuesLemmas.read-reply}
 use Rattle.mml_laws.specs.Words.{asked_fields, rule_field, register_field, found_fields, tells_registers, is_view}
-use Rattle.std.proofs.lemmas.Bool.Decides.{nat_tests}
+use Rattle.mml_codec.specs.declared.reply.Reply.TheVariants as reply
+use Rattle.mml_codec.specs.Replies as written
 
 some_same : {A : Type 0} (x y : A) → Some x ≡ Some y → x ≡ y
 some_same x y h = cc

@@ -1,11 +1,8 @@
 -- Guards and effects at a node read the node and its neighbours alone.
 use Rattle.std.proofs.Common.{◌≡◌, ℕ, ◌<◌, Bool, true, ◌&&◌, is_some, is_none, nat_lt, ap, ◌∙◌, arith}
-use Rattle.std.specs.Bool.{beq}
-use Rattle.std.proofs.lemmas.Bool.{and_parts}
-use Rattle.mml_rules.specs.declared.rule.Rule.{Rule}
-use Rattle.mml_rules.specs.Configuration.{Configuration, IsLawful}
+use Rattle.std.{specs.Bool.beq, proofs.lemmas.Bool.and_parts}
+use Rattle.mml_rules.specs.{declared.rule.Rule.Rule, Configuration.Configuration, Configuration.IsLawful, Around.AgreeAround}
 use Rattle.mml_rules.specs.Rules.{is_married, has_suitor, greatest_candidate, m_is_right, points_in_vain, guard, effect, enabled_kind}
-use Rattle.mml_rules.specs.Around.{AgreeAround}
 use Rattle.mml_rules.proofs.EnabledKindLemmas.{choose}
 use Rattle.mml_ids.proofs.SearchLemmas.{some_below_alike, greatest_below_alike}
 

@@ -1,16 +1,13 @@
 -- Each test of the rules is true exactly where the fact that it stands for holds.
 use Rattle.std.proofs.Common.{◌≡◌, ◌↔◌, ℕ, ◌<◌, Bool, true, not, ◌&&◌, inl, inr, nat_lt, Option, None, Some, is_some, is_none, refl, ap, arith}
 use Rattle.std.specs.Bool.{beq}
-use Rattle.std.proofs.lemmas.Bool.{and_parts, and_from, or_cases, or_left, or_right, not-true, false_from_ne_true, both_ways, false≢true, lt-ltb}
-use Rattle.std.proofs.lemmas.Bool.{ltb-true, cases_order}
-use Rattle.mml_rules.specs.declared.rule.Rule.{Rule}
-use Rattle.mml_rules.specs.Configuration.{Configuration, IsLawful, holds}
+use Rattle.std.proofs.lemmas.Bool.{and_parts, and_from, or_cases, or_left, or_right, not-true, false_from_ne_true, both_ways, false≢true, lt-ltb, ltb-true, cases_order}
+use Rattle.mml_rules.specs.{declared.rule.Rule.Rule, Configuration.Configuration, Configuration.IsLawful, Configuration.holds}
 use Rattle.mml_rules.specs.Rules.{is_married, has_suitor, is_candidate, greatest_candidate, m_is_right, points_in_vain, guard, is_privileged}
 use Rattle.mml_rules.specs.Meaning.{IsMarried, IsMRight, HasSuitor, IsCandidate, IsGreatestCandidate, PointsInVain, MayApply}
 use Rattle.mml_ids.proofs.SearchLemmas.{same_bool, some_below-find, some_below-at, greatest_below-some, greatest_below-none, greatest_above, greatest_is}
-use Rattle.mml_rules.proofs.ConfigurationLemmas.{holds-true, holds-from}
+use Rattle.mml_rules.proofs.{ConfigurationLemmas.holds-true, ConfigurationLemmas.holds-from, EnabledKindLemmas.guard-kind, EnabledKindLemmas.kind-guard}
 use Rattle.mml_rules.proofs.RulesLemmas.{suitor-from, suitor-find, none-null, null-none}
-use Rattle.mml_rules.proofs.EnabledKindLemmas.{guard-kind, kind-guard}
 
 -- tests that are found equal are equal
 pub beq-true : (a b : Bool) → beq a b ≡ true → a ≡ b
@@ -132,8 +129,7 @@ pub vain-means : (c : Configuration) (i : ℕ) → (points_in_vain c i ≡ true)
 vain-means c i = (vain-to c i, vain-back c i)
 
 guard-to : (c : Configuration) (i : ℕ) (r : Rule) → IsLawful c → guard c i r ≡ true → MayApply c i r
-guard-to c i r l h =
-    grind (arith, both_ways, not-true, right-back, and_parts, is_none, right-to, none-null, holds-true, suitor-back, some-to, vain-to)
+guard-to c i r l h = grind (arith, both_ways, not-true, right-back, and_parts, is_none, right-to, none-null, holds-true, suitor-back, some-to, vain-to)
 
 guard-back : (c : Configuration) (i : ℕ) (r : Rule) → IsLawful c → MayApply c i r → guard c i r ≡ true
 guard-back c i r l h = grind (arith, false_from_ne_true, right-to, and_from, right-back, null-none, holds-from, suitor-to, some-back, vain-back)

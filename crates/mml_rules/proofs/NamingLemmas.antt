@@ -1,17 +1,13 @@
 -- Names that keep the order change no guard and no effect.
-use Rattle.std.proofs.Common.{◌≡◌, ℕ, ◌<◌, Bool, true, false, not, ◌&&◌, ◌||◌, eqb, ltb, Option, None, Some, is_some, is_none, sym, refl, ap, ◌∙◌}
-use Rattle.std.proofs.Common.{arith, inl, inr}
-use Rattle.std.specs.Bool.{beq}
-use Rattle.std.specs.Option.{option_map_or}
+use Rattle.std.proofs.Common.{◌≡◌, ℕ, ◌<◌, Bool, true, false, not, ◌&&◌, ◌||◌, eqb, ltb, Option, None, Some, is_some, is_none, sym, refl, ap, ◌∙◌, arith, inl, inr}
+use Rattle.std.specs.{Bool.beq, Option.option_map_or}
 use Rattle.std.proofs.lemmas.Bool.{cases_order, cases_eq, eq-eqb, ne_eqb, lt-ltb, le-ltb, and_parts, both_ways, false_from_ne_true}
 use Rattle.mml_ids.specs.Search.{some_below, greatest_below}
-use Rattle.mml_rules.specs.declared.rule.Rule.{Rule}
-use Rattle.mml_rules.specs.Configuration.{Configuration, IsLawful, holds}
+use Rattle.mml_rules.specs.{declared.rule.Rule.Rule, Configuration.Configuration, Configuration.IsLawful, Configuration.holds}
 use Rattle.mml_rules.specs.Rules.{is_married, has_suitor, is_candidate, greatest_candidate, m_is_right, points_in_vain, guard, effect, enabled_kind, IsWithin}
 use Rattle.mml_rules.specs.Naming.{renamed, renamed_regs, renamed_rule, IsRenamed}
 use Rattle.mml_ids.proofs.SearchLemmas.{same_bool, some_below-find, some_below-at, greatest_below-some, greatest_below-none, greatest_is, greatest_above}
-use Rattle.mml_rules.proofs.RulesLemmas.{pointee_in}
-use Rattle.mml_rules.proofs.EnabledKindLemmas.{choose}
+use Rattle.mml_rules.proofs.{RulesLemmas.pointee_in, EnabledKindLemmas.choose}
 
 module _ (f : ℕ → ℕ) (c d : Configuration) (l : IsLawful c) (r : IsRenamed f c d) where
   pub apart : (i j : ℕ) → i < c.size → j < c.size → f i ≡ f j → i ≡ j
@@ -39,8 +35,7 @@ module _ (f : ℕ → ℕ) (c d : Configuration) (l : IsLawful c) (r : IsRenamed
   pointing_named i a = ap is_some (r.p i a) ∙ some_named (c.p i)
 
   -- a search among the neighbours of a node finds the same under the names
-  search_named : (t u : ℕ → Bool) (x : ℕ) → ((k : ℕ) → k < c.size → u (f k) ≡ t k) → ((y : ℕ) → u y ≡ true → d.linked x y ≡ true)
-      → some_below d.size u ≡ some_below c.size t
+  search_named : (t u : ℕ → Bool) (x : ℕ) → ((k : ℕ) → k < c.size → u (f k) ≡ t k) → ((y : ℕ) → u y ≡ true → d.linked x y ≡ true) → some_below d.size u ≡ some_below c.size t
   search_named t u x same near = same_bool _ _
       (λ h. let y = some_below-find d.size u h in
       let n = r.named x y.0 (near y.0 y.2) in
@@ -78,9 +73,7 @@ module _ (f : ℕ → ℕ) (c d : Configuration) (l : IsLawful c) (r : IsRenamed
 
   suitor_named : (i : ℕ) → i < c.size → has_suitor d (f i) ≡ has_suitor c i
   unfolding has_suitor
-  suitor_named i a = search_named _ _ (f i)
-      (λ k b. λ z. r.links i k a b z && points_named k i b a z)
-      (λ y h. (and_parts (d.linked (f i) y) (holds (d.p y) (f i)) h).0)
+  suitor_named i a = search_named _ _ (f i) (λ k b. λ z. r.links i k a b z && points_named k i b a z) (λ y h. (and_parts (d.linked (f i) y) (holds (d.p y) (f i)) h).0)
 
   candidate_named : (i : ℕ) → i < c.size → greatest_candidate d (f i) ≡ renamed f (greatest_candidate c i)
   unfolding greatest_candidate

@@ -1,22 +1,18 @@
 -- What a change of a network leaves, and that it keeps the network lawful.
-use Rattle.std.proofs.Common.{◌≡◌, ℕ, ◌<◌, true, false, cond, not, ◌&&◌, ◌||◌, eqb, Some, List, length, set, sym}
-use Rattle.std.proofs.Common.{subst, arith, length-set, get_or-set_same, get_or-set_other}
+use Rattle.std.proofs.Common.{◌≡◌, ℕ, ◌<◌, true, false, cond, not, ◌&&◌, ◌||◌, eqb, Some, List, length, set, sym, subst, arith, length-set, get_or-set_same, get_or-set_other}
 use Rattle.std.proofs.lemmas.Bool.{cases_eq, eq-eqb, ne_eqb, eqb-true, and_parts, and_from, or_cases, or_left, or_right, both_ways, false_from_ne_true}
-use Rattle.std.specs.FinSet as sets
-use Rattle.std.specs.FinSet.{FinSet}
-use Rattle.std.specs.Ordering.{nat_cmp}
+use Rattle.std.specs.{FinSet.FinSet, Ordering.nat_cmp}
 use Rattle.mml_ids.specs.inside.WordsLemmas.{has_insert, has_remove}
 use Rattle.mml_rules.specs.declared.regs.Regs.{Regs}
-use Rattle.mml_rules.specs.Network.{Network, neighbours_at, registers_at, configuration_of, IsNetwork, with_neighbour, without_neighbour, unpointed}
-use Rattle.mml_rules.specs.Network.{with_registers, with_link, without_link}
+use Rattle.mml_rules.specs.Network.{Network, neighbours_at, registers_at, configuration_of, IsNetwork, with_neighbour, without_neighbour, unpointed, with_registers, with_link, without_link}
+use Rattle.std.specs.FinSet as sets
 
 pub neighbours_at-set : (neighbours : List (FinSet nat_cmp)) (a i : ℕ) (s : FinSet nat_cmp) → a < length neighbours
     → neighbours_at (set neighbours a s) i ≡ cond (eqb i a) s (neighbours_at neighbours i)
 neighbours_at-set neighbours a i s l = grind (arith, cases_eq, get_or-set_same, eq-eqb, get_or-set_other, ne_eqb)
 
 -- registers that are set stand at their node, and all others are as before
-pub registers_at-set : (registers : List Regs) (a i : ℕ) (r : Regs) → a < length registers
-    → registers_at (set registers a r) i ≡ cond (eqb i a) r (registers_at registers i)
+pub registers_at-set : (registers : List Regs) (a i : ℕ) (r : Regs) → a < length registers → registers_at (set registers a r) i ≡ cond (eqb i a) r (registers_at registers i)
 registers_at-set registers a i r l = grind (arith, cases_eq, get_or-set_same, eq-eqb, get_or-set_other, ne_eqb)
 
 -- which nodes are in the rows with one more neighbour
@@ -66,8 +62,7 @@ are_both i a j b e f = and_from _ _ (eq-eqb i a e) (eq-eqb j b f)
 
 -- a lawful network stays one with a link between two different nodes
 pub with_link-lawful : (n : Network) (a b : ℕ) → IsNetwork n → a < length n.registers → b < length n.registers → (a ≡ b → ⊥) → IsNetwork (with_link n a b)
-with_link-lawful n a b w la lb apart =
-    grind (arith, length-with_neighbour, or_right, linked-with_link, or_cases, both_are, or_left, are_both, false_from_ne_true, both_ways)
+with_link-lawful n a b w la lb apart = grind (arith, length-with_neighbour, or_right, linked-with_link, or_cases, both_are, or_left, are_both, false_from_ne_true, both_ways)
 
 -- a pointer that is left stood before, and was not the one that is dropped
 pub pointer_left : (registers : List Regs) (a b i j : ℕ) → a < length registers → (registers_at (unpointed registers a b) i).p ≡ Some j

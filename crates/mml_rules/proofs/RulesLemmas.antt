@@ -54,8 +54,7 @@ vain-some c i h = grind (arith, nat_lt, false≢true)
 -- a linked node that points at i makes it a node with a suitor
 pub suitor-from : (c : Configuration) (i k : ℕ) → IsLawful c → c.linked i k ≡ true → c.p k ≡ Some i → has_suitor c i ≡ true
 unfolding has_suitor
-suitor-from c i k l linked h =
-    some_below-at c.size k (λ k. c.linked i k && holds (c.p k) i) (l.in_range i k linked).1 (and_from _ _ linked (holds-from (c.p k) i h))
+suitor-from c i k l linked h = some_below-at c.size k (λ k. c.linked i k && holds (c.p k) i) (l.in_range i k linked).1 (and_from _ _ linked (holds-from (c.p k) i h))
 
 -- a node with a suitor is linked to a node that points at it
 pub suitor-find : (c : Configuration) (i : ℕ) → has_suitor c i ≡ true → (k : ℕ) × (c.linked i k ≡ true) × (c.p k ≡ Some i)

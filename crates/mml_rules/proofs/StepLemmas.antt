@@ -1,10 +1,8 @@
 -- What a step changes, that it stays lawful, and that pairs are a matching.
 use Rattle.std.proofs.Common.{◌≡◌, ℕ, true, not, ◌&&◌, Option, None, Some, is_none, nat_lt, sym, refl, ap, ◌∙◌, arith}
 use Rattle.std.proofs.lemmas.Bool.{and_parts}
-use Rattle.mml_rules.specs.declared.rule.Rule.{Rule}
-use Rattle.mml_rules.specs.Configuration.{Configuration, IsLawful}
+use Rattle.mml_rules.specs.{declared.rule.Rule.Rule, Configuration.Configuration, Configuration.IsLawful, Matching.IsMatching}
 use Rattle.mml_rules.specs.Rules.{guard, effect, registers_of, moved, step, AllHold}
-use Rattle.mml_rules.specs.Matching.{IsMatching}
 use Rattle.mml_rules.proofs.RulesLemmas.{greatest-is}
 
 -- no node is in two pairs, in whatever configuration

@@ -3,15 +3,11 @@ use Rattle.std.proofs.Common.{◌≡◌, ◌↔◌, ◌⊎◌, ℕ, ◌<◌, Boo
 use Rattle.std.proofs.lemmas.Bool.{eqb-true, eq-eqb, and_parts, both_ways, false_from_ne_true}
 use Rattle.mml_ids.specs.Search.{some_below}
 use Rattle.mml_ids.proofs.SearchLemmas.{some_below-find, some_below-none}
-use Rattle.mml_rules.specs.declared.rule.Rule.{Rule}
-use Rattle.mml_rules.specs.Configuration.{Configuration, IsLawful}
+use Rattle.mml_rules.specs.{declared.rule.Rule.Rule, Configuration.Configuration, Configuration.IsLawful, Matching.IsPair, Matching.IsStable, Naming.renamed, Naming.IsRenamed}
 use Rattle.mml_rules.specs.Rules.{has_suitor, greatest_candidate, enabled_kind, is_privileged, moved, step}
-use Rattle.mml_rules.specs.Matching.{IsPair, IsStable}
-use Rattle.mml_rules.specs.Naming.{renamed, IsRenamed}
 use Rattle.mml_rules.specs.UnderNames.{renamed_move, AreRenamedMoves, IsNoName, IsEmptyElsewhere}
 use Rattle.mml_rules.proofs.RulesLemmas.{pointee_in, married-null, greatest-is}
-use Rattle.mml_rules.proofs.EnabledKindLemmas.{choose}
-use Rattle.mml_rules.proofs.NamingLemmas.{apart, kind_named, effect_named}
+use Rattle.mml_rules.proofs.{EnabledKindLemmas.choose, NamingLemmas.apart, NamingLemmas.kind_named, NamingLemmas.effect_named}
 
 module _ (f : ℕ → ℕ) (c d : Configuration) (l : IsLawful c) (r : IsRenamed f c d) where
   -- ---- a step
@@ -75,8 +71,5 @@ module _ (f : ℕ → ℕ) (c d : Configuration) (l : IsLawful c) (r : IsRenamed
     pub stable_named : IsStable d ↔ IsStable c
     stable_named = (
       (λ s i a. sym (privileged_named i a) ∙ s (f i) (r.within i a)),
-      (λ s y _. elim (is_name y) [
-        | inl k ↦ subst (λ x. is_privileged d x ≡ false) k.2 (privileged_named k.0 k.1 ∙ s k.0 k.1)
-        | inr none ↦ idle_elsewhere y none
-      ]),
+      (λ s y _. elim (is_name y) [ inl k ↦ subst (λ x. is_privileged d x ≡ false) k.2 (privileged_named k.0 k.1 ∙ s k.0 k.1) | inr none ↦ idle_elsewhere y none ]),
     )

@@ -1,11 +1,8 @@
 -- The rules that are enabled at the nodes are found one after another.
 use Rattle.std.proofs.Common.{◌≡◌, ◌+◌, ◌<◌, ℕ, List, Option, length, set, arith, get_or-set_same, get_or-set_other}
-use Rattle.std.proofs.lemmas.Bool.{cases_eq}
-use Rattle.mml_rules.specs.declared.rule.Kind.{Kind}
-use Rattle.mml_rules.specs.Configuration.{Configuration}
-use Rattle.mml_rules.specs.Rules.{enabled_kind}
+use Rattle.std.proofs.lemmas.Bool.{cases_eq, Decides.nat_tests}
+use Rattle.mml_rules.specs.{declared.rule.Kind.Kind, Configuration.Configuration, Rules.enabled_kind}
 use Rattle.mml_stable.specs.inside.Kinds.{AreFound}
-use Rattle.std.proofs.lemmas.Bool.Decides.{nat_tests}
 
 -- that of the next node is put instead
 pub one_found : (c : Configuration) (n : ℕ) (kinds : List (Option Kind)) (o : Option Kind) → n < length kinds → AreFound c n kinds → o ≡ enabled_kind c n

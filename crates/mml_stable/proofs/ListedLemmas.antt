@@ -1,27 +1,15 @@
 -- What stands in the lists of a report, and in which order.
-use Rattle.std.proofs.Common.{◌≡◌, ◌↔◌, ℕ, zero, suc, ◌<◌, Bool, true, ◌&&◌, ltb, List, [], ◌∷◌, ◌++◌, Option, None, Some, inl, inr, arith}
-use Rattle.std.proofs.Common.{refl, sym, ap, ◌∙◌, subst, rules}
+use Rattle.std.proofs.Common.{◌≡◌, ◌↔◌, ℕ, zero, suc, ◌<◌, Bool, true, ◌&&◌, ltb, List, [], ◌∷◌, ◌++◌, Option, None, Some, inl, inr, arith, refl, sym, ap, ◌∙◌, subst, rules}
 use Rattle.std.specs.List.{All, Contains}
-use Rattle.std.proofs.lemmas.Bool.{and_parts, and_from, ltb-true, lt-ltb, not-true, not_from_false, false_from_ne_true, both_ways, cases_eq, cases_order}
-use Rattle.std.proofs.lemmas.List.Elements.{All-nil, All-cons, All-append, All-head, All-tail, All-weaker, All-contains, Contains-append_left}
-use Rattle.std.proofs.lemmas.List.Elements.{Contains-append_right, Contains-append_cases}
-use Rattle.mml_rules.specs.declared.rule.Kind.{Kind}
-use Rattle.mml_rules.specs.Configuration.{Configuration, IsLawful, holds}
-use Rattle.mml_rules.specs.Rules.{is_married, enabled_kind}
-use Rattle.mml_rules.specs.Matching.{IsPair}
-use Rattle.mml_rules.specs.Meaning.{IsMarried}
+use Rattle.std.proofs.lemmas.Bool.{and_parts, and_from, ltb-true, lt-ltb, not-true, not_from_false, false_from_ne_true, both_ways, cases_eq, cases_order, Decides.nat_tests}
+use Rattle.std.proofs.lemmas.List.Elements.{All-nil, All-cons, All-append, All-head, All-tail, All-weaker, All-contains, Contains-append_left, Contains-append_right, Contains-append_cases}
+use Rattle.mml_rules.specs.{declared.rule.Kind.Kind, Configuration.Configuration, Configuration.IsLawful, Configuration.holds, Rules.is_married, Rules.enabled_kind, Matching.IsPair, Meaning.IsMarried}
 use Rattle.mml_rules.proofs.ConfigurationLemmas.{holds-true, holds-from}
-use Rattle.mml_rules.proofs.RulesLemmas.{pointee_in}
-use Rattle.mml_rules.proofs.EnabledKindLemmas.{guard-kind, kind-guard}
-use Rattle.mml_rules.proofs.MeaningLemmas.{married-means, guard-means}
-use Rattle.mml_stable.specs.declared.open_link.OpenLink.{OpenLink}
-use Rattle.mml_stable.specs.Walk.{certificate}
-use Rattle.mml_stable.specs.Reports.{each_below, listed_if, pair_at, pairs, is_free, free_nodes, privileged_at, privileged_nodes, is_open, open_link}
-use Rattle.mml_stable.specs.Reports.{open_links_at, open_links, is_stable}
+use Rattle.mml_rules.proofs.{RulesLemmas.pointee_in, EnabledKindLemmas.guard-kind, EnabledKindLemmas.kind-guard, MeaningLemmas.married-means, MeaningLemmas.guard-means}
+use Rattle.mml_stable.specs.{declared.open_link.OpenLink.OpenLink, Walk.certificate}
+use Rattle.mml_stable.specs.Reports.{each_below, listed_if, pair_at, pairs, is_free, free_nodes, privileged_at, privileged_nodes, is_open, open_link, open_links_at, open_links, is_stable}
 use Rattle.mml_stable.specs.Listed.{IsPairInOrder, IsFreeNode, IsPrivilegedBy, IsOpenLink, Rises, IsLinkBefore, HasEnd, IsMatched, IsMaximalMatching}
-use Rattle.mml_stable.proofs.MatchingLemmas.{maximal, stable-means}
-use Rattle.mml_stable.proofs.NamedLemmas.{all_listed, all_below}
-use Rattle.std.proofs.lemmas.Bool.Decides.{nat_tests}
+use Rattle.mml_stable.proofs.{MatchingLemmas.maximal, MatchingLemmas.stable-means, NamedLemmas.all_listed, NamedLemmas.all_below}
 
 -- ---- what a list has
 
@@ -154,10 +142,7 @@ module _ (c : Configuration) (l : IsLawful c) where
   listed_matching s = record {
     linked = λ p h. l.to_linked p.0 p.1 ((pairs_listed p).0 h).1.0;
     apart = λ p q i hp hq ep eq. one p q i ((pairs_listed p).0 hp) ((pairs_listed q).0 hq) ep eq;
-    maximal = λ a b linked. elim (maximal c l ((stable-means c).0 s) a b linked) [
-      | inl j ↦ inl (matched a j.0 j.1)
-      | inr j ↦ inr (matched b j.0 j.1)
-    ];
+    maximal = λ a b linked. elim (maximal c l ((stable-means c).0 s) a b linked) [ inl j ↦ inl (matched a j.0 j.1) | inr j ↦ inr (matched b j.0 j.1) ];
   }
     where
       matched : (i j : ℕ) → IsPair c i j → IsMatched (pairs c) i

@@ -1,22 +1,15 @@
 -- Where no node is privileged, the pairs are a maximal matching.
-use Rattle.std.proofs.Common.{◌≡◌, ℕ, zero, suc, ◌<◌, ◌≤◌, ◌+◌, Bool, true, false, not, ◌&&◌, ◌||◌, ◌⊎◌, ◌↔◌, inl, inr, Option, None, Some, is_some}
-use Rattle.std.proofs.Common.{sym, refl, ap, ◌∙◌, subst, arith, nat_lt}
+use Rattle.std.proofs.Common.{◌≡◌, ℕ, zero, suc, ◌<◌, ◌≤◌, ◌+◌, Bool, true, false, not, ◌&&◌, ◌||◌, ◌⊎◌, ◌↔◌, inl, inr, Option, None, Some, is_some, sym, refl, ap, ◌∙◌, subst, arith, nat_lt}
 use Rattle.std.specs.Option.{option_map_or}
-use Rattle.std.proofs.lemmas.Bool.{and_from, or_parts, not-true, not-false, false_from_ne_true, both_ways, lt-ltb, ltb-false, cases_order}
+use Rattle.std.proofs.lemmas.Bool.{and_from, or_parts, not-true, not-false, false_from_ne_true, both_ways, lt-ltb, ltb-false, cases_order, Decides.nat_tests}
 use Rattle.mml_ids.specs.Search.{some_below}
 use Rattle.mml_ids.proofs.SearchLemmas.{some_below-find, some_below-at}
-use Rattle.mml_rules.specs.declared.rule.Rule.{Rule}
-use Rattle.mml_rules.specs.declared.rule.Kind.{Kind}
+use Rattle.mml_rules.specs.{declared.rule.Rule.Rule, declared.rule.Kind.Kind, Matching.IsPair, Matching.IsStable, Matching.IsMaximal, Meaning.IsMarried}
 use Rattle.mml_rules.specs.Configuration.{Configuration, IsLawful, holds}
 use Rattle.mml_rules.specs.Rules.{is_married, has_suitor, is_candidate, greatest_candidate, m_is_right, points_in_vain, guard, kind_of, is_privileged}
-use Rattle.mml_rules.specs.Matching.{IsPair, IsStable, IsMaximal}
-use Rattle.mml_rules.specs.Meaning.{IsMarried}
-use Rattle.mml_rules.proofs.ConfigurationLemmas.{holds-from}
+use Rattle.mml_rules.proofs.{ConfigurationLemmas.holds-from, EnabledKindLemmas.idle-guard, MeaningLemmas.beq-true, MeaningLemmas.beq-same, MeaningLemmas.married-means}
 use Rattle.mml_rules.proofs.RulesLemmas.{married-partner, married-at, null-none, suitor-find, greatest-none}
-use Rattle.mml_rules.proofs.EnabledKindLemmas.{idle-guard}
-use Rattle.mml_rules.proofs.MeaningLemmas.{beq-true, beq-same, married-means}
 use Rattle.mml_stable.specs.Reports.{is_stable}
-use Rattle.std.proofs.lemmas.Bool.Decides.{nat_tests}
 
 -- no other rule than a seduction is enabled at i
 pub record IsQuiet (c : Configuration) (i : ℕ) : Type 0 where

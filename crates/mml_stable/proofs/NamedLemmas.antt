@@ -1,17 +1,13 @@
 -- What a report names are nodes of its world.
 use Rattle.std.proofs.Common.{◌≡◌, ℕ, zero, suc, ◌<◌, Bool, true, ◌&&◌, ltb, List, Option, None, Some, Result, arith, rules}
-use Rattle.std.specs.Result.{IfOk}
-use Rattle.std.specs.List.{All}
-use Rattle.std.proofs.lemmas.Bool.{and_parts, ltb-true, not-true}
-use Rattle.std.proofs.lemmas.List.Elements.{All-nil, All-append}
-use Rattle.mml_rules.specs.declared.rule.Kind.{Kind}
-use Rattle.mml_rules.specs.Configuration.{Configuration, IsLawful, holds}
+use Rattle.std.specs.{Result.IfOk, List.All}
+use Rattle.std.proofs.lemmas.{Bool.and_parts, Bool.ltb-true, Bool.not-true, Bool.Decides.nat_tests, List.Elements.All-nil, List.Elements.All-append}
+use Rattle.mml_rules.specs.{declared.rule.Kind.Kind, Configuration.Configuration, Configuration.IsLawful, Configuration.holds}
 use Rattle.mml_rules.proofs.RulesLemmas.{pointee_in}
 use Rattle.mml_board.specs.World.{World, IsWorld, size, configuration}
 use Rattle.mml_stable.specs.declared.stability_report.Report.{Report}
 use Rattle.mml_stable.specs.Reports.{each_below, listed_if, pair_at, privileged_at, is_open, open_link, report_of, IsPairOf, IsOpenLinkOf, NamesNodes}
 use Rattle.mml_stable.proofs.WalkLemmas.{certified}
-use Rattle.std.proofs.lemmas.Bool.Decides.{nat_tests}
 
 -- a list of one element or none has what the element has where it is listed
 pub all_listed : {X : Type 0} (P : X → Type 0) (b : Bool) (x : X) → (b ≡ true → P x) → All P (listed_if b x)

@@ -1,22 +1,12 @@
 -- The lists of a report: the open links of a node from rows of sets, and that no node is privileged.
-use Rattle.std.proofs.Common.{◌≡◌, ◌≢◌, ℕ, zero, suc, ◌+◌, ◌<◌, Bool, true, false, cond, not, ◌&&◌, eqb, ltb, [], ◌∷◌, ◌++◌, length, map, sym, refl, ap}
-use Rattle.std.proofs.Common.{◌∙◌, arith, add-one, Option, length-append}
-use Rattle.std.proofs.lemmas.List.{append-nil}
-use Rattle.std.specs.Prelude.{is_some}
-use Rattle.std.proofs.lemmas.Bool.{lt-ltb, le-ltb, eq-eqb, ne_eqb, and_parts, cases_eq, cases_lt}
-use Rattle.std.proofs.lemmas.List.Elements.{filter_agree}
-use Rattle.std.specs.Ordering.{nat_cmp}
-use Rattle.std.specs.FinSet as sets
-use Rattle.std.specs.FinSet.{FinSet}
-use Rattle.mml_ids.specs.Search.{some_below}
-use Rattle.mml_ids.specs.Sets.{those_below}
-use Rattle.mml_ids.specs.inside.WordsLemmas.{has-those_below, has_remove}
+use Rattle.std.proofs.Common.{◌≡◌, ◌≢◌, ℕ, zero, suc, ◌+◌, ◌<◌, Bool, true, false, cond, not, ◌&&◌, eqb, ltb, [], ◌∷◌, ◌++◌, length, map, sym, refl, ap, ◌∙◌, arith, add-one, Option, length-append}
+use Rattle.std.proofs.lemmas.{List.append-nil, List.Elements.filter_agree, Bool.lt-ltb, Bool.le-ltb, Bool.eq-eqb, Bool.ne_eqb, Bool.and_parts, Bool.cases_eq, Bool.cases_lt, Bool.Decides.nat_tests}
+use Rattle.std.specs.{Prelude.is_some, Ordering.nat_cmp, FinSet.FinSet}
+use Rattle.mml_ids.specs.{Search.some_below, Sets.those_below, inside.WordsLemmas.has-those_below, inside.WordsLemmas.has_remove}
 use Rattle.mml_ids.proofs.SetsLemmas.{ranks_in, passing, passing_more}
-use Rattle.mml_rules.specs.declared.rule.Kind.{Kind}
-use Rattle.mml_rules.specs.Configuration.{Configuration, IsLawful}
-use Rattle.mml_stable.specs.inside.Rest.{IsFreeFrom}
-use Rattle.mml_stable.specs.Reports.{each_below, listed_if, privileged_at, is_free, is_open, open_link, open_links_at}
-use Rattle.std.proofs.lemmas.Bool.Decides.{nat_tests}
+use Rattle.mml_rules.specs.{declared.rule.Kind.Kind, Configuration.Configuration, Configuration.IsLawful}
+use Rattle.mml_stable.specs.{inside.Rest.IsFreeFrom, Reports.each_below, Reports.listed_if, Reports.privileged_at, Reports.is_free, Reports.is_open, Reports.open_link, Reports.open_links_at}
+use Rattle.std.specs.FinSet as sets
 
 -- what is listed of the numbers below n that pass
 listed_below : {A : Type 0} (t : ℕ → Bool) (f : ℕ → A) (n : ℕ) → passing t f n ≡ each_below n (λ b. listed_if (t b) (f b))

@@ -1,17 +1,11 @@
 -- The walk rises, ends at a privileged node or one that points at no node, and gives an open link its witness.
-use Rattle.std.proofs.Common.{◌≡◌, ℕ, zero, suc, ◌<◌, ◌≤◌, ◌+◌, Bool, true, false, cond, ◌⊎◌, inl, inr, Option, None, Some}
-use Rattle.std.proofs.Common.{unwrap_or, sym, refl, ap, ◌∙◌, subst, arith, add-one}
-use Rattle.std.proofs.lemmas.Bool.{both_ways, and_parts}
-use Rattle.mml_rules.specs.declared.rule.Rule.{Rule}
-use Rattle.mml_rules.specs.declared.rule.Kind.{Kind}
-use Rattle.mml_rules.specs.Configuration.{Configuration, IsLawful}
+use Rattle.std.proofs.Common.{◌≡◌, ℕ, zero, suc, ◌<◌, ◌≤◌, ◌+◌, Bool, true, false, cond, ◌⊎◌, inl, inr, Option, None, Some, unwrap_or, sym, refl, ap, ◌∙◌, subst, arith, add-one}
+use Rattle.std.proofs.lemmas.Bool.{both_ways, and_parts, Decides.nat_tests}
+use Rattle.mml_rules.specs.{declared.rule.Rule.Rule, declared.rule.Kind.Kind, Configuration.Configuration, Configuration.IsLawful}
 use Rattle.mml_rules.specs.Rules.{is_married, guard, kind_of, enabled_kind, is_privileged}
-use Rattle.mml_rules.proofs.RulesLemmas.{none-null}
-use Rattle.mml_rules.proofs.EnabledKindLemmas.{guard-kind, kind-guard}
-use Rattle.mml_stable.specs.Walk.{climb, top, unless_seduction, walk, certificate, LeadsTo}
-use Rattle.mml_stable.specs.Walk.LeadsTo.{privileged, null, onward}
+use Rattle.mml_rules.proofs.{RulesLemmas.none-null, EnabledKindLemmas.guard-kind, EnabledKindLemmas.kind-guard}
+use Rattle.mml_stable.specs.Walk.{climb, top, unless_seduction, walk, certificate, LeadsTo, LeadsTo.privileged, LeadsTo.null, LeadsTo.onward}
 use Rattle.mml_stable.proofs.MatchingLemmas.{IsQuiet, idle-quiet, idle-settled, quiet-settled, quiet-vain, quiet-alone, may_seduce}
-use Rattle.std.proofs.lemmas.Bool.Decides.{nat_tests}
 
 -- where the climb from i is at its end: at i, or where an idle node points
 pub record EndsAt (c : Configuration) (i x : ℕ) : Type 0 where

@@ -1,18 +1,10 @@
 -- The witness of an open link is the same node under names that keep the order.
-use Rattle.std.proofs.Common.{◌≡◌, ◌⊎◌, ℕ, zero, suc, ◌<◌, ◌≤◌, Bool, true, false, Option, None, Some, unwrap_or, is_some, sym, refl, ap}
-use Rattle.std.proofs.Common.{◌∙◌, subst, arith, inl, inr}
-use Rattle.std.proofs.lemmas.Bool.{and_parts, not-true}
-use Rattle.mml_rules.specs.declared.rule.Kind.{Kind}
-use Rattle.mml_rules.specs.Configuration.{Configuration, IsLawful}
-use Rattle.mml_rules.specs.Rules.{is_married, is_privileged}
-use Rattle.mml_rules.specs.Naming.{renamed, IsRenamed}
-use Rattle.mml_rules.proofs.RulesLemmas.{pointee_in}
-use Rattle.mml_rules.proofs.NamingLemmas.{kind_named}
-use Rattle.mml_stable.specs.Walk.{climb, top, unless_seduction, walk, certificate, LeadsTo}
-use Rattle.mml_stable.specs.Walk.LeadsTo.{privileged, null, onward}
-use Rattle.mml_stable.specs.Reports.{is_open}
+use Rattle.std.proofs.Common.{◌≡◌, ◌⊎◌, ℕ, zero, suc, ◌<◌, ◌≤◌, Bool, true, false, Option, None, Some, unwrap_or, is_some, sym, refl, ap, ◌∙◌, subst, arith, inl, inr}
+use Rattle.std.proofs.lemmas.Bool.{and_parts, not-true, Decides.nat_tests}
+use Rattle.mml_rules.specs.{declared.rule.Kind.Kind, Configuration.Configuration, Configuration.IsLawful, Rules.is_married, Rules.is_privileged, Naming.renamed, Naming.IsRenamed}
+use Rattle.mml_rules.proofs.{RulesLemmas.pointee_in, NamingLemmas.kind_named}
+use Rattle.mml_stable.specs.{Walk.climb, Walk.top, Walk.unless_seduction, Walk.walk, Walk.certificate, Walk.LeadsTo, Walk.LeadsTo.privileged, Walk.LeadsTo.null, Walk.LeadsTo.onward, Reports.is_open}
 use Rattle.mml_stable.proofs.WalkLemmas.{top-ends, climb_stops, climb_null, climb_onward}
-use Rattle.std.proofs.lemmas.Bool.Decides.{nat_tests}
 
 module _ (f : ℕ → ℕ) (c d : Configuration) (l : IsLawful c) (r : IsRenamed f c d) where
   privileged_at : (i : ℕ) → i < c.size → is_privileged d (f i) ≡ is_privileged c i

@@ -12,6 +12,7 @@ use mml_rules::{Kind, Scene};
 pub(crate) const PLACES: usize = MAX_NODES as usize;
 
 /// Writes into `kinds`, by rank, the rule that is enabled at each node, or `None`.
+#[tactic(auto, using(crate::proofs::KindsLemmas::one_found, std::proofs::lemmas::Bool::Decides::nat_tests))]
 pub(crate) fn find_kinds(board: &Board, kinds: &mut [Option<Kind>])
     requires room { length board.now.network.registers ≤ length kinds.old }
     ensures kinds { AreKinds (configuration board.now) kinds.new }

@@ -33,6 +33,7 @@ pub fn walk_rises()
 {}
 
 /// Each node that a report names is a node of its world.
+#[tactic(auto, using(crate::proofs::NamedLemmas::report_names))]
 pub fn reports_name_nodes()
     ensures { (w : World) → IsWorld w → NamesNodes (size w) (report_of w) }
 {}
@@ -53,6 +54,7 @@ pub fn lists_are_exact()
 
 /// Each list of a report rises: free and privileged nodes by their ranks, pairs by their first nodes, open links by
 /// their first ends and then by their second. So nothing stands twice in a list.
+#[tactic(auto, using(crate::proofs::ListedLemmas::pairs_rise, crate::proofs::ListedLemmas::free_rise, crate::proofs::ListedLemmas::privileged_rise, crate::proofs::ListedLemmas::open_rise))]
 pub fn lists_rise()
     ensures pairs { (c : Configuration) → Rises (λ p q. p.0 < q.0) (pairs c) }
     ensures free { (c : Configuration) → Rises (λ i j. i < j) (free_nodes c) }
@@ -67,6 +69,7 @@ pub fn stable_reports_list_a_maximal_matching()
 {}
 
 /// The witness of an open link is the same node, with the same kind, under names that keep the order.
+#[tactic(auto, using(crate::proofs::WitnessNamesLemmas::witness_named))]
 pub fn witnesses_keep_under_names()
     ensures { (f : ℕ → ℕ) (c d : Configuration) (a b : ℕ) → IsLawful c → IsRenamed f c d →
         is_open c a b ≡ true →

@@ -1,8 +1,7 @@
-use Rattle.mml_bounds.proofs.CombLemmas.{comb_is_world, comb_size}
-use Rattle.mml_bounds.proofs.CombLinksLemmas.{comb_links, comb_joined}
+use Rattle.mml_bounds.proofs.{CombLemmas.comb_is_world, CombLemmas.comb_size, CombLinksLemmas.comb_links, CombLinksLemmas.comb_joined}
 use Rattle.mml_bounds.proofs.CombReachedLemmas.{trees_reached_even, trees_reached_odd}
-use Rattle.mml_bounds.proofs.laws.a_comb_takes_nearly_the_most_moves.Goals as goal
 use Rattle.std.proofs.Common.{arith}
+use Rattle.mml_bounds.proofs.laws.a_comb_takes_nearly_the_most_moves.Goals as goal
 
 pub returns-clause-world : goal.returns-clause-world
 returns-clause-world c n four few = (comb_is_world n few, comb_size n)

@@ -1,5 +1,4 @@
-use Rattle.mml_bounds.proofs.CrowdLemmas.{crowd_is_world, crowd_size}
-use Rattle.mml_bounds.proofs.MovesReachedLemmas.{moves_reached_even, moves_reached_odd}
+use Rattle.mml_bounds.proofs.{CrowdLemmas.crowd_is_world, CrowdLemmas.crowd_size, MovesReachedLemmas.moves_reached_even, MovesReachedLemmas.moves_reached_odd}
 use Rattle.mml_bounds.proofs.laws.moves_are_reached.Goals as goal
 
 pub returns-clause-world : goal.returns-clause-world

@@ -1,5 +1,4 @@
-use Rattle.mml_convergence.proofs.RestLemmas.{ended}
-use Rattle.mml_convergence.proofs.LeadsToRestLemmas.{reached}
+use Rattle.mml_convergence.proofs.{RestLemmas.ended, LeadsToRestLemmas.reached}
 use Rattle.mml_convergence.proofs.laws.runs_end_stable.Goals as goal
 
 pub returns-clause-ended : goal.returns-clause-ended

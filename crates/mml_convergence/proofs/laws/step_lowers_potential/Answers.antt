@@ -1,5 +1,4 @@
-use Rattle.mml_convergence.proofs.WholePotentialLemmas.{whole_fell}
-use Rattle.mml_convergence.proofs.AppliedLemmas.{network_most}
+use Rattle.mml_convergence.proofs.{WholePotentialLemmas.whole_fell, AppliedLemmas.network_most}
 use Rattle.mml_convergence.proofs.laws.step_lowers_potential.Goals as goal
 
 pub returns-clause-lower : goal.returns-clause-lower

@@ -1,6 +1,5 @@
 use Rattle.std.proofs.Common.{◌≡◌, map, take}
-use Rattle.mml_lab.specs.inside.Raw.{node_view, entry_account}
-use Rattle.mml_lab.specs.Labs.{owners_with}
+use Rattle.mml_lab.specs.{inside.Raw.node_view, inside.Raw.entry_account, Labs.owners_with}
 use Rattle.mml_lab.proofs.build.owners.Given as goal
 
 abbrev pub invariant-loop-index : goal.invariant-loop-index

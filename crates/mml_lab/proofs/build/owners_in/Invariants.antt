@@ -1,6 +1,5 @@
 use Rattle.std.proofs.Common.{◌≡◌, map, take, string_bytes}
-use Rattle.mml_lab.specs.inside.Raw.{entry_account}
-use Rattle.mml_lab.specs.Labs.{student_index}
+use Rattle.mml_lab.specs.{inside.Raw.entry_account, Labs.student_index}
 use Rattle.mml_lab.proofs.build.owners_in.Given as goal
 
 abbrev pub invariant-loop-name : goal.invariant-loop-name

@@ -1,9 +1,6 @@
 use Rattle.std.proofs.Common.{◌∙◌, ap, map, [], Option, Result, string_bytes, arith}
-use Rattle.std.specs.Prelude.{option_map, IfOk}
-use Rattle.std.specs.Option.{option_map_or}
-use Rattle.mml_lab.specs.Shape.{NodeSpec}
-use Rattle.mml_lab.specs.inside.Raw.{node_view, entry_account}
-use Rattle.mml_lab.specs.Labs.{student_index, owners_in}
+use Rattle.std.specs.{Prelude.option_map, Prelude.IfOk, Option.option_map_or}
+use Rattle.mml_lab.specs.{Shape.NodeSpec, inside.Raw.node_view, inside.Raw.entry_account, Labs.student_index, Labs.owners_in}
 use Rattle.mml_ids.proofs.MapLemmas.{map-map}
 use Rattle.mml_lab.proofs.RawLemmas.{node_with-read}
 use Rattle.mml_lab.proofs.build.owners_with.Goals as goal

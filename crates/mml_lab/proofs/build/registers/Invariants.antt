@@ -1,6 +1,5 @@
 use Rattle.std.proofs.Common.{◌≡◌, map, take}
-use Rattle.mml_lab.specs.inside.Raw.{node_view}
-use Rattle.mml_lab.specs.Labs.{registers_with}
+use Rattle.mml_lab.specs.{inside.Raw.node_view, Labs.registers_with}
 use Rattle.mml_lab.proofs.build.registers.Given as goal
 
 abbrev pub invariant-loop-index : goal.invariant-loop-index

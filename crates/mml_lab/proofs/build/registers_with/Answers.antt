@@ -1,10 +1,6 @@
-use Rattle.std.proofs.Common.{◌∙◌, ap, Option}
-use Rattle.std.specs.Prelude.{option_map}
-use Rattle.std.specs.Option.{option_map_or}
+use Rattle.std.{proofs.Common.◌∙◌, proofs.Common.ap, proofs.Common.Option, specs.Prelude.option_map, specs.Option.option_map_or}
 use Rattle.mml_rules.specs.Network.{no_regs}
-use Rattle.mml_lab.specs.Shape.{NodeSpec}
-use Rattle.mml_lab.specs.inside.Raw.{node_view}
-use Rattle.mml_lab.specs.Labs.{registers_in}
+use Rattle.mml_lab.specs.{Shape.NodeSpec, inside.Raw.node_view, Labs.registers_in}
 use Rattle.mml_lab.proofs.RawLemmas.{node_with-read}
 use Rattle.mml_lab.proofs.build.registers_with.Goals as goal
 

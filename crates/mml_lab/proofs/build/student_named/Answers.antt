@@ -1,5 +1,4 @@
-use Rattle.std.proofs.Common.{◌≡◌, ◌∙◌, ap, rules}
-use Rattle.std.specs.Prelude.{unwrap_or}
+use Rattle.std.{proofs.Common.◌≡◌, proofs.Common.◌∙◌, proofs.Common.ap, proofs.Common.rules, specs.Prelude.unwrap_or}
 use Rattle.mml_lab.proofs.StudentNamedLemmas.{position_same}
 use Rattle.mml_lab.proofs.build.student_named.Goals as goal
 

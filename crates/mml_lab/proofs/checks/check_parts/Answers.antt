@@ -1,6 +1,5 @@
 use Rattle.std.proofs.Common.{◌∙◌, ap, map, sym}
-use Rattle.mml_lab.specs.inside.Raw.{account_view, node_view, entry_account}
-use Rattle.mml_lab.specs.Labs.{pass_unless, limited}
+use Rattle.mml_lab.specs.{inside.Raw.account_view, inside.Raw.node_view, inside.Raw.entry_account, Labs.pass_unless, Labs.limited}
 use Rattle.mml_lab.proofs.ChecksLemmas.{gathered}
 use Rattle.mml_lab.proofs.checks.check_parts.Goals as goal
 

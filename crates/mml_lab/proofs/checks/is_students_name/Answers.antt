@@ -1,6 +1,4 @@
-use Rattle.std.proofs.Common.{◌∙◌, ap, List, ℕ, string_bytes}
-use Rattle.std.specs.Prelude.{is_some, bytes_eq}
-use Rattle.std.specs.Map.{lookup}
+use Rattle.std.{proofs.Common.◌∙◌, proofs.Common.ap, proofs.Common.List, proofs.Common.ℕ, proofs.Common.string_bytes, specs.Prelude.is_some, specs.Prelude.bytes_eq, specs.Map.lookup}
 use Rattle.mml_lab.proofs.RawLemmas.{some-lookup}
 use Rattle.mml_lab.proofs.checks.is_students_name.Goals as goal
 

@@ -1,8 +1,7 @@
 use Rattle.std.proofs.Common.{◌≡◌, ◌∙◌, ap, option_map, rules}
-use Rattle.mml_lab.specs.declared.lab_fault.LabFault.TheVariants as fault
-use Rattle.mml_lab.specs.inside.Raw.{node_view}
-use Rattle.mml_lab.specs.Labs.{points_at_unlinked, pointers_fault}
+use Rattle.mml_lab.specs.{inside.Raw.node_view, Labs.points_at_unlinked, Labs.pointers_fault}
 use Rattle.mml_ids.proofs.MapLemmas.{position-map}
+use Rattle.mml_lab.specs.declared.lab_fault.LabFault.TheVariants as fault
 use Rattle.mml_lab.proofs.checks.pointers_fault.Goals as goal
 
 pub returns : goal.returns

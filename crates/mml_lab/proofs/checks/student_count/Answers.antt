@@ -1,5 +1,4 @@
-use Rattle.std.proofs.Common.{◌∙◌, sym}
-use Rattle.std.proofs.lemmas.List.{length-map}
+use Rattle.std.proofs.{Common.◌∙◌, Common.sym, lemmas.List.length-map}
 use Rattle.mml_lab.specs.inside.Raw.{entry_account}
 use Rattle.mml_lab.proofs.checks.student_count.Goals as goal
 

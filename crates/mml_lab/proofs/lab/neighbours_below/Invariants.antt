@@ -4,7 +4,4 @@ use Rattle.mml_ids.specs.Search.{count_below}
 use Rattle.mml_lab.proofs.lab.neighbours_below.Given as goal
 
 abbrev pub invariant-loop-index : goal.invariant-loop-index
-invariant-loop-index l = record {
-  count : l.count ≡ count_below l.index ((configuration_of l.network).linked l.node);
-  few : l.count ≤ l.index;
-}
+invariant-loop-index l = record { count : l.count ≡ count_below l.index ((configuration_of l.network).linked l.node); few : l.count ≤ l.index }

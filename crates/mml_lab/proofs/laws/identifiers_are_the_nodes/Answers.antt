@@ -1,7 +1,5 @@
 use Rattle.mml_lab.specs.Labs.{lab_in}
-use Rattle.mml_lab.proofs.LabFaultLemmas.{faultless}
-use Rattle.mml_lab.proofs.LabInLemmas.{table}
-use Rattle.mml_lab.proofs.LabMeaningLemmas.{ids-same}
+use Rattle.mml_lab.proofs.{LabFaultLemmas.faultless, LabInLemmas.table, LabMeaningLemmas.ids-same}
 use Rattle.mml_lab.proofs.laws.identifiers_are_the_nodes.Goals as goal
 
 pub returns-clause-table : goal.returns-clause-table

@@ -1,6 +1,5 @@
 use Rattle.mml_lab.specs.Labs.{lab_in, network_in}
-use Rattle.mml_lab.proofs.LabFaultLemmas.{faultless}
-use Rattle.mml_lab.proofs.LabMeaningLemmas.{links-are}
+use Rattle.mml_lab.proofs.{LabFaultLemmas.faultless, LabMeaningLemmas.links-are}
 use Rattle.mml_lab.proofs.laws.links_are_those_of_the_file.Goals as goal
 
 pub returns : goal.returns

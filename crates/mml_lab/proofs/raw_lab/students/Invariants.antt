@@ -1,7 +1,6 @@
 use Rattle.std.proofs.Common.{◌≡◌, drop, map}
 use Rattle.toml.specs.View.{items_view}
-use Rattle.mml_lab.specs.inside.Raw.{account_view}
-use Rattle.mml_lab.specs.Shape.{each, student_of}
+use Rattle.mml_lab.specs.{inside.Raw.account_view, Shape.each, Shape.student_of}
 use Rattle.mml_lab.proofs.EachLemmas.{with_front}
 use Rattle.mml_lab.proofs.raw_lab.students.Given as goal
 

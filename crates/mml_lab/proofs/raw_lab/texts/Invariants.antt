@@ -1,6 +1,5 @@
 use Rattle.std.proofs.Common.{◌≡◌, drop, map, string_bytes}
-use Rattle.toml.specs.View.{items_view}
-use Rattle.toml.specs.Data.{as_str}
+use Rattle.toml.specs.{View.items_view, Data.as_str}
 use Rattle.mml_lab.specs.Shape.{each, of_kind}
 use Rattle.mml_lab.proofs.EachLemmas.{with_front}
 use Rattle.mml_lab.proofs.raw_lab.texts.Given as goal

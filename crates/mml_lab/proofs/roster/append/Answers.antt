@@ -1,5 +1,4 @@
-use Rattle.std.proofs.Common.{◌∙◌}
-use Rattle.std.specs.String.{string_eq}
+use Rattle.std.{proofs.Common.◌∙◌, specs.String.string_eq}
 use Rattle.indexmap.proofs.CallerLemmas.{insert_entry-new}
 use Rattle.mml_lab.proofs.roster.append.Goals as goal
 

@@ -1,4 +1,4 @@
-use Rattle.std.proofs.Common.{◌≡◌, ◌∷◌, [], ◌++◌, ◌∙◌, ap, sym, length, arith, append_assoc}
+use Rattle.std.proofs.{lemmas.Bool.Decides.nat_tests, Common.◌≡◌, Common.◌∷◌, Common.[], Common.◌++◌, Common.◌∙◌, Common.ap, Common.sym, Common.length, Common.arith, Common.append_assoc}
 use Rattle.std.specs.Vec.Iter.{into_iter_items}
 use Rattle.mml_lab.proofs.NameTwiceLemmas.{absent, at_start, at_fault, at_next, at_end}
 use Rattle.mml_lab.proofs.roster.fill.Goals as goal
@@ -13,9 +13,7 @@ returns-then-is_taken c =
     search (arith, at_fault)
 
 pub append-requires : goal.append-requires
-append-requires c =
-    absent c.as_str.result.now c.loop-student.found.entries c.as_str-in-loop-student.result.now c.in-Some.student.name c.is_taken.result
-    (sym c.as_str-in-loop-student.ensures.value) c.is_taken.ensures c.if-is_taken.false
+append-requires c = grind (arith, nat_tests, absent)
 
 pub loop-student-preserved : goal.loop-student-preserved
 loop-student-preserved c =

@@ -1,10 +1,9 @@
-use Rattle.std.proofs.Common.{◌≡◌, ◌∙◌, ◌-◌, ◌+◌, ◌<◌, false, Some, sym, arith, rules}
+use Rattle.std.proofs.{Common.◌≡◌, Common.◌∙◌, Common.◌-◌, Common.◌+◌, Common.◌<◌, Common.false, Common.Some, Common.sym, Common.arith, Common.rules, lemmas.Bool.Decides.nat_tests}
 use Rattle.mml_rules.specs.Rules.{is_privileged}
 use Rattle.mml_rules.proofs.RulesLemmas.{pointee_in}
 use Rattle.mml_board.specs.World.{configuration}
 use Rattle.mml_stable.proofs.WalkLemmas.{climb_stops, climb_null, climb_onward, top_is}
 use Rattle.mml_stable.proofs.certificate.top.Goals as goal
-use Rattle.std.proofs.lemmas.Bool.Decides.{nat_tests}
 
 pub returns-then-is_some-clause-top : goal.returns-then-is_some-clause-top
 returns-then-is_some-clause-top c = grind (arith, nat_tests, top_is, climb_stops)

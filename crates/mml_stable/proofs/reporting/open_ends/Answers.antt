@@ -1,9 +1,8 @@
-use Rattle.std.proofs.Common.{◌≡◌, ◌∙◌, ◌&&◌, true, false, sym, ap, rules}
-use Rattle.std.specs.Cmp.{nat_cmp_total}
-use Rattle.std.specs.FinSet as sets
+use Rattle.std.{proofs.Common.◌≡◌, proofs.Common.◌∙◌, proofs.Common.◌&&◌, proofs.Common.true, proofs.Common.false, proofs.Common.sym, proofs.Common.ap, proofs.Common.rules, specs.Cmp.nat_cmp_total}
 use Rattle.mml_ids.specs.inside.WordsLemmas.{has_empty}
 use Rattle.mml_board.specs.World.{configuration}
 use Rattle.mml_stable.proofs.ReportsLemmas.{has_self, open_row, no_row}
+use Rattle.std.specs.FinSet as sets
 use Rattle.mml_stable.proofs.reporting.open_ends.Goals as goal
 
 pub returns-then-has : goal.returns-then-has

@@ -1,7 +1,6 @@
 use Rattle.std.proofs.Common.{◌≡◌}
 use Rattle.mml_board.specs.World.{configuration}
-use Rattle.mml_stable.specs.Reports.{each_below, open_links_at}
-use Rattle.mml_stable.specs.inside.Rest.{IsFreeFrom}
+use Rattle.mml_stable.specs.{Reports.each_below, Reports.open_links_at, inside.Rest.IsFreeFrom}
 use Rattle.mml_stable.proofs.reporting.open_links.Given as goal
 
 abbrev pub invariant-loop-index : goal.invariant-loop-index

@@ -1,13 +1,11 @@
-use Rattle.std.proofs.Common.{◌≡◌, ◌∙◌, ◌<◌, ◌++◌, ◌∷◌, [], true, ap, sym, arith}
-use Rattle.std.specs.FinSet as sets
+use Rattle.std.proofs.{Common.◌≡◌, Common.◌∙◌, Common.◌<◌, Common.◌++◌, Common.◌∷◌, Common.[], Common.true, Common.ap, Common.sym, Common.arith, lemmas.Bool.Decides.nat_tests}
 use Rattle.mml_ids.proofs.SetsLemmas.{one_put, all_put}
 use Rattle.mml_board.specs.World.{size, configuration}
 use Rattle.mml_board.proofs.KeptLemmas.{in_remove}
-use Rattle.mml_stable.specs.declared.open_link.OpenLink.{OpenLink}
-use Rattle.mml_stable.specs.Reports.{is_open, open_link, open_links_at}
+use Rattle.mml_stable.specs.{declared.open_link.OpenLink.OpenLink, Reports.is_open, Reports.open_link, Reports.open_links_at}
 use Rattle.mml_stable.proofs.ReportsLemmas.{links_of_ends, both_ends}
+use Rattle.std.specs.FinSet as sets
 use Rattle.mml_stable.proofs.reporting.put_open_links.Goals as goal
-use Rattle.std.proofs.lemmas.Bool.Decides.{nat_tests}
 
 pub loop-b-init : goal.loop-b-init
 loop-b-init c = grind (arith, nat_tests, links_of_ends)

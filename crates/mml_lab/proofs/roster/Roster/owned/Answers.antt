@@ -1,13 +1,9 @@
 use Rattle.std.proofs.Common.{◌≡◌, ◌∙◌, ◌<◌, ◌≤◌, ◌⊎◌, inl, inr, map, length, ap, sym, arith}
-use Rattle.std.specs.FinSet as sets
-use Rattle.std.proofs.lemmas.Bool.{cases_lt}
-use Rattle.std.proofs.lemmas.List.{get_or_default, length-map}
+use Rattle.std.proofs.lemmas.{Bool.cases_lt, List.get_or_default, List.length-map}
 use Rattle.mml_ids.specs.inside.WordsLemmas.{has_empty}
-use Rattle.mml_lab.specs.inside.Raw.{entry_account}
-use Rattle.mml_lab.specs.inside.Owned.{row_at}
-use Rattle.mml_lab.specs.inside.RosterView.{roster_view}
-use Rattle.mml_lab.specs.Rosters.{owns}
+use Rattle.mml_lab.specs.{inside.Raw.entry_account, inside.Owned.row_at, inside.RosterView.roster_view, Rosters.owns}
 use Rattle.mml_lab.proofs.OwnedLemmas.{owned_by}
+use Rattle.std.specs.FinSet as sets
 use Rattle.mml_lab.proofs.roster.Roster.owned.Goals as goal
 
 pub returns-in-Teacher : goal.returns-in-Teacher
@@ -21,7 +17,8 @@ returns-in-Student c =
     let many : c.len.result ≡ students = c.len.ensures.len ∙ sym (length-map a.students.entries entry_account) in
     let s : c.from.result ≡ c.in-Student.student = c.from.ensures ∙ c.index.ensures in
     let within : at < length a.owned.items = omega (arith, c.min.ensures, many, c.self.invariant.rows.count) in
-    let row : c.index-in-Student.result.now ≡ row_at a.owned.items at = c.index-in-Student.ensures ∙ sym (get_or_default a.owned.items at sets.empty c.index-in-Student.result.now within) in
+    let row : c.index-in-Student.result.now ≡ row_at a.owned.items at = c.index-in-Student.ensures ∙ sym (get_or_default a.owned.items at sets.empty
+    c.index-in-Student.result.now within) in
     let at_row : ((c.in-Student.student ≤ students) × (at ≡ c.in-Student.student)) ⊎ ((students ≤ c.in-Student.student) × (at ≡ students)) =
     elim (cases_lt c.in-Student.student students) [
       | inl below ↦ inl (omega (arith, below), omega (arith, below, c.min.ensures, many, s))

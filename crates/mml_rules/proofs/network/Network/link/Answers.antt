@@ -1,5 +1,4 @@
-use Rattle.std.proofs.Common.{arith}
-use Rattle.std.proofs.lemmas.Grind.{common_steps}
+use Rattle.std.proofs.{Common.arith, lemmas.Grind.common_steps}
 use Rattle.mml_rules.specs.Network.{Network}
 use Rattle.mml_rules.proofs.NetworkLemmas.{node_within, linked_is_lawful}
 use Rattle.mml_rules.proofs.network.Network.link.Goals as goal
