@@ -3,9 +3,10 @@ ghost use Rattle.std.specs.Prelude.{◌≡◌, ◌+◌, length};
 ghost use Rattle.std.specs.Thread.{IsSync, IsSend};
 
 use crate::fault::{Fault, of_record};
+use crate::journal_watch::{JournalWatch, WatchedSink};
 use crate::system::System;
 use mml_ends::Retrying;
-use mml_files::{BegunJournal, OldJournal, file_size_limit};
+use mml_files::OldJournal;
 use mml_hosting::{Recorders, no_recorders};
 use mml_journal::{FileSink, NullSink};
 use mml_lab::Lab;
@@ -19,20 +20,36 @@ use std::net::{Net, TcpListener, TcpStream};
 use std::rt::Files;
 use std::{io, thread};
 
-/// A journal that was opened, with what was read in it.
+/// A journal that was opened, with what was read in it, and what watches it.
 #[derive(Drop)]
 pub(crate) struct Past<'a> {
     pub journal: OldJournal<'a>,
     pub bytes: &'a [u8],
+    pub watch: &'a JournalWatch<'a>,
 }
 
 /// What takes the lines of the events that are granted.
 #[derive(Drop)]
 pub(crate) enum ClassJournal<'a> {
-    /// None, or one that was begun. What isn't a plain file can't be synced.
-    New(Option<BegunJournal>),
+    /// Nothing.
+    None,
+    /// A plain file that was begun, and what watches it.
+    Plain(File, &'a JournalWatch<'a>),
+    /// Another file that was begun, as a pipe, which can be neither synced nor watched.
+    Other(File),
     /// One in which the class goes on.
     Old(Past<'a>),
+}
+
+impl<'a> ClassJournal<'a> {
+    // What watches the journal, if it is a plain file.
+    fn watch(&self) -> Option<&'a JournalWatch<'a>> {
+        match self {
+            ClassJournal::None | ClassJournal::Other(_) => None,
+            ClassJournal::Plain(_, watch) => Some(*watch),
+            ClassJournal::Old(past) => Some(past.watch),
+        }
+    }
 }
 
 /// A class that is ready to be served.
@@ -51,9 +68,44 @@ pub(crate) struct Ready<C: Drop> {
     pub recorders: Recorders<C>,
 }
 
-/// Serves a class until it is over, and records it where there is a folder for that. The error is why the class doesn't
-/// begin or go on, doesn't end well, or isn't wholly recorded.
+/// Serves a class until it is over, records it if there is a folder for that, and watches its journal if that is a plain
+/// file. Returns why the class doesn't begin or go on, doesn't end well, isn't wholly recorded, or lost its journal.
 pub(crate) fn serve_class<
+    R: System + Files<File = File> + Net<Listener = TcpListener, Stream = TcpStream> + Sync,
+>(rt: &R, class: Class<'_>, folder: Option<RecordFolder>) -> Result<(), Fault> {
+    match class.journal.watch() {
+        Some(watch) => serve_watched(rt, class, folder, watch),
+        None => serve_recorded(rt, class, folder),
+    }
+}
+
+// Serves a class, whose journal is watched by a thread of its own; if none can be started, it is looked at once, at the
+// end.
+fn serve_watched<
+    R: System + Files<File = File> + Net<Listener = TcpListener, Stream = TcpStream> + Sync,
+>(
+    rt: &R,
+    class: Class<'_>,
+    folder: Option<RecordFolder>,
+    watch: &JournalWatch<'_>,
+) -> Result<(), Fault> {
+    thread::scope(
+        thread::scope_env(),
+        rt,
+        |scope| -> Result<(), Fault>
+            requires { IsSync R.row }
+        {
+            let is_watched = scope.spawn(move || watch.look_until_over(rt)).is_ok();
+            let served = serve_recorded(rt, class, folder);
+            watch.note_over(rt, is_watched);
+            served
+        },
+    )?;
+    watch.end()
+}
+
+// Serves a class, and records it if there is a folder for that.
+fn serve_recorded<
     R: System + Files<File = File> + Net<Listener = TcpListener, Stream = TcpStream> + Sync,
 >(rt: &R, class: Class<'_>, folder: Option<RecordFolder>) -> Result<(), Fault> {
     match folder {
@@ -162,13 +214,11 @@ fn serve_journaled<
         recorders,
     };
     match journal {
-        ClassJournal::New(None) => ready.begin(rt, NullSink::new(), writer),
-        ClassJournal::New(Some(BegunJournal::Plain(file))) => {
-            ready.begin(rt, FileSink::synced(file, 0, file_size_limit()), writer)
+        ClassJournal::None => ready.begin(rt, NullSink::new(), writer),
+        ClassJournal::Plain(file, watch) => {
+            ready.begin(rt, WatchedSink::new(file, 0, watch), writer)
         }
-        ClassJournal::New(Some(BegunJournal::Other(file))) => {
-            ready.begin(rt, FileSink::new(file), writer)
-        }
+        ClassJournal::Other(file) => ready.begin(rt, FileSink::new(file), writer),
         ClassJournal::Old(past) => ready.go_on(rt, past, writer),
     }
 }

@@ -5,6 +5,7 @@ mod beginning;
 mod class;
 mod fault;
 mod going_on;
+mod journal_watch;
 mod limits;
 mod old_file;
 mod resumed;
@@ -14,6 +15,7 @@ mod words;
 
 pub use beginning::write_listening;
 pub use fault::Fault;
+pub use journal_watch::{JournalLoss, JournalWatch, WatchedSink};
 pub use old_file::OldFile;
 pub use system::System;
 pub use task::run;

@@ -13,8 +13,9 @@ use std::{fs, thread};
 // one that is turned away.
 const FILES: usize = 7;
 
-// How many threads more a class has at least: that of the students' port, and one for a connection at each port.
-const THREADS: usize = 3;
+// How many threads more a class has at least: that of the students' port, that which watches the journal, and one for a
+// connection at each port.
+const THREADS: usize = 4;
 
 /// Tries whether the files that a class needs at least may be open at once, and then whether its threads may be there
 /// at once; the error says which may not, or that memory is lacking. All are given back.

@@ -32,12 +32,17 @@ impl<C: Recorder + Send + Drop> Ready<C> {
     {
         let state = HostState::new(rt.alloc(), &self.lab)?;
         let first = first_line(rt.alloc(), &self.ports)?;
-        let Past { journal, bytes } = past;
+        let Past {
+            journal,
+            bytes,
+            watch,
+        } = past;
         let store = OldFile {
             rt,
             state: &state,
             journal,
             bytes,
+            watch,
         };
         self.go_on_after(rt, bytes, store, first.as_slice(), &state, writer)
     }

@@ -16,7 +16,7 @@ const STRANGERS: usize = 3;
 // How many seats a name may have where others wait for one.
 const SEATS_OF_A_NAME: usize = 4;
 
-// After how many milliseconds of a newcomer's wait a name that has more than `SEATS_OF_A_NAME` gives a seat up: a
+// After how many milliseconds in which newcomers wait a name that has more than `SEATS_OF_A_NAME` gives a seat up: a
 // seat that is being given back is free sooner.
 const MOMENT: u64 = 250;
 
@@ -28,13 +28,13 @@ const GRACE: u64 = 100;
 struct Guest {
     socket: Arc<SharedSocket, Global>,
     since: Instant,
-    // The reply to its hello, which tells its name, once that is granted.
+    // The reply to its hello, which tells its name, once that is granted; at the desk only the teacher's.
     greeting: Option<Vec<u8>>,
     is_leaving: bool,
 }
 
 impl Guest {
-    // Whether the guest hasn't greeted, and isn't leaving.
+    // Whether the guest hasn't greeted, at the desk not as the teacher, and isn't leaving.
     fn is_stranger(&self) -> bool {
         self.greeting.is_none() && !self.is_leaving
     }
@@ -136,9 +136,9 @@ impl Crowd {
         self.is_wanted.load(Ordering::SeqCst)
     }
 
-    /// Does what follows from the denial of a hello: where a newcomer waits for a seat, and those who haven't greeted
-    /// have their share of the seats, the first of them who has had its time is sent away at once.
-    pub fn note_denial<Rt: Wait + Clock>(&self, rt: &Rt) {
+    /// Sends away the first of those who haven't greeted that has had its time, if a newcomer waits for a seat and they
+    /// have their share of the seats. Whoever was just answered calls it, so that a seat is free at once.
+    pub fn make_room<Rt: Wait + Clock>(&self, rt: &Rt) {
         if self.is_wanted()
             && let Ok(now) = Instant::now(rt)
         {
@@ -174,11 +174,11 @@ impl Crowd {
         is_leaving || !self.partings.is_empty(rt)
     }
 
-    /// Whether there is a seat for a newcomer, who has waited for the time `waited`: one is free, and those who
-    /// haven't greeted don't have their share. Where these have their share, the first of them who has had its time is
-    /// sent away; where no seat is free, after a moment and unless a guest is leaving, the last of a name that has too
-    /// many seats.
-    pub fn finds_room<Rt: Wait>(&self, rt: &Rt, now: Instant, waited: Duration) -> bool {
+    /// Whether there is a seat for a newcomer: one is free, and those who haven't greeted don't have their share. If
+    /// these have their share, the first of them who has had its time is sent away. If no seat is free, and seats have
+    /// been waited for, by this newcomer or others before it, for a moment of the time `wanted`, the last of a name that
+    /// has too many seats is sent away, unless a guest is leaving.
+    pub fn finds_room<Rt: Wait>(&self, rt: &Rt, now: Instant, wanted: Duration) -> bool {
         let mut guests = self.guests.lock(rt);
         if self.let_stranger_go_if_full(rt, &mut guests, now) {
             return false;
@@ -186,7 +186,7 @@ impl Crowd {
         if guests.len() < self.seats {
             return true;
         }
-        if waited >= Duration::from_millis(MOMENT)
+        if wanted >= Duration::from_millis(MOMENT)
             && !is_one_leaving(&guests)
             && let Some(at) = one_too_many(&guests)
             && let Some(guest) = guests.get_mut(at)

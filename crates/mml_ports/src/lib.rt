@@ -18,7 +18,7 @@ pub use end_reason::EndReason;
 pub use parting::Partings;
 pub use port::{EndBell, Port};
 pub use shared_socket::SharedSocket;
-pub use socket_reader::{GREETING, Incoming, NEXT_LINE, SocketReader};
+pub use socket_reader::{DESK_GREETING, GREETING, Incoming, NEXT_LINE, SocketReader};
 pub use socket_writer::{ReplyWriter, SocketCutOff, SocketSession, SocketWriter, WRITE_LIMIT};
 pub use state::HostState;
 pub use two_ports::{ListenFault, Ports, TwoPorts, bell_of, listen_at, open_ports};

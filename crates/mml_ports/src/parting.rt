@@ -1,10 +1,11 @@
-//! Those who left their seat before the turn of their denial.
+//! Connections that have left a port, and are looked after until they are closed.
 use crate::end_reason::EndReason;
 use std::alloc::Global;
 use std::collections::VecDeque;
 use std::io::{Read, Write};
 use std::net::{Shutdown, TcpStream};
 use std::sync::{Mutex, Wait};
+use std::thread;
 use std::time::{Clock, Duration, Instant};
 
 /// The reply to a hello whose name and key don't match.
@@ -14,22 +15,27 @@ pub(crate) const UNKNOWN: &[u8] =
 /// How many milliseconds the other side has to take what it was told.
 pub(crate) const PARTING: u64 = 20;
 
-// The most bytes that are taken of what the other side sent before it is let go.
+// The most bytes that are taken of what the other side sent before its connection is closed.
 const PARTING_SIZE: usize = 4096;
 
-// One who has left its seat before the turn of its denial.
+// How many connections are looked after before the oldest that was told all is closed early, so that a flood of
+// connections doesn't use up the descriptors.
+const MANY_PARTINGS: usize = 64;
+
+// A connection that has left its seat, or never had one.
 #[derive(Drop)]
 struct Parting {
     stream: TcpStream,
-    // When it is told the denial, or, once it was told, let go of.
+    // When it is told what it is owed, or closed if it was told all.
     next: Instant,
+    // Whether it was told all, so that only its close is left.
     is_told: bool,
 }
 
 impl Parting {
-    // Where its time has come: tells one who wasn't told it yet the denial, and that there is no seat; lets go of one
-    // who was. Gives what is still to be let go of later; none once nothing is.
-    fn tell_if_due(self, now: Instant) -> Option<Parting> {
+    // Tells the connection the denial that it is owed, and that there is no seat for it, or closes one that was told
+    // all, if the time of that has come. Returns the connection if something is left to do.
+    fn step(self, now: Instant) -> Option<Parting> {
         if now < self.next {
             return Some(self);
         }
@@ -40,17 +46,36 @@ impl Parting {
         }
         tell(&stream, UNKNOWN);
         tell(&stream, EndReason::Busy.line());
-        if stream.shutdown(Shutdown::Write).is_err() {
-            return None;
-        }
-        take_unwanted(&stream);
-        let next = now.checked_add(Duration::from_millis(PARTING))?;
-        Some(Parting {
-            stream,
-            next,
-            is_told: true,
-        })
+        closing(stream, now)
     }
+}
+
+// Says on a stream that doesn't wait that nothing more comes. Returns the connection, which is closed `PARTING`
+// milliseconds after `now`; none if the other side is gone already.
+fn closing(stream: TcpStream, now: Instant) -> Option<Parting> {
+    // It is refused if the other side is gone.
+    if stream.shutdown(Shutdown::Write).is_err() {
+        return None;
+    }
+    take_unwanted(&stream);
+    let next = now.checked_add(Duration::from_millis(PARTING))?;
+    Some(Parting {
+        stream,
+        next,
+        is_told: true,
+    })
+}
+
+// The index of the first connection that was told all; none if there is no such connection.
+fn first_told(all: &VecDeque<Parting>) -> Option<usize> {
+    for index in 0..all.len() {
+        if let Some(parting) = all.get(index)
+            && parting.is_told
+        {
+            return Some(index);
+        }
+    }
+    None
 }
 
 /// Writes a line, or as much of it as the other side takes within the stream's own time limit. An error is passed over.
@@ -67,28 +92,29 @@ pub(crate) fn take_unwanted(stream: &TcpStream) {
     let _ = stream.read(&mut unwanted);
 }
 
-/// Those who have left their seat at a port for a newcomer, and are still owed the denial of their hello.
+/// The connections that have left a port and aren't closed yet: those that are still owed the denial of their hello,
+/// and those that were told all and have a moment to take it. Nothing here waits for the other side.
 #[derive(Drop)]
 pub struct Partings {
     all: Mutex<VecDeque<Parting>>,
 }
 
 impl Partings {
-    /// The partings of a port where nobody is owed a denial.
+    /// The list of a port that nobody has left yet.
     pub fn new(alloc: Global) -> Partings {
         Partings {
             all: Mutex::new(VecDeque::new(alloc)),
         }
     }
 
-    /// Whether nobody is owed a denial, nor still has time to take it.
+    /// Whether no connection is left to look after.
     pub fn is_empty<Rt: Wait>(&self, rt: &Rt) -> bool {
         self.all.lock(rt).is_empty()
     }
 
-    /// Takes the stream of one who has left, and whose denial has this turn. Without memory, or where the system
-    /// doesn't let the stream be used without waits, the stream is closed and the denial isn't told.
-    pub fn add<Rt: Wait>(&self, rt: &Rt, stream: TcpStream, turn: Instant) {
+    /// Takes the stream of a connection that has left, and whose denial has this turn. Without memory, or if the system
+    /// doesn't let the stream be used without waiting, the stream is closed and the denial isn't told.
+    pub fn add_owed<Rt: Wait>(&self, rt: &Rt, stream: TcpStream, turn: Instant) {
         if stream.set_nonblocking(true).is_err() {
             return;
         }
@@ -100,8 +126,36 @@ impl Partings {
         let _ = self.all.lock(rt).push_back(parting);
     }
 
-    /// Tells the denial to those whose turn has come, and lets go of those who had time to take it. It waits for
-    /// nobody; where the clock fails it does nothing.
+    /// Tells a connection why it ends, if a reason is given and its line fits at once, says that nothing more comes, and
+    /// keeps the stream until the other side had time to take that. Without memory or a clock, or if the system doesn't
+    /// let the stream be used without waiting, the stream is closed at once.
+    pub fn add_ending<Rt: Wait + Clock>(&self, rt: &Rt, stream: TcpStream, why: Option<EndReason>) {
+        if stream.set_nonblocking(true).is_err() {
+            return;
+        }
+        if let Some(why) = why {
+            tell(&stream, why.line());
+        }
+        if let Ok(now) = Instant::now(rt)
+            && let Some(parting) = closing(stream, now)
+        {
+            self.keep(rt, parting);
+        }
+    }
+
+    // Keeps a connection that was told all. If there are many, the first of them that was told all is closed early.
+    fn keep<Rt: Wait>(&self, rt: &Rt, parting: Parting) {
+        let mut all = self.all.lock(rt);
+        if all.len() >= MANY_PARTINGS
+            && let Some(index) = first_told(&all)
+        {
+            drop(all.remove(index));
+        }
+        let _ = all.push_back(parting);
+    }
+
+    /// Tells the denial to those whose turn has come, and closes those that had time to take what they were told.
+    /// It waits for nobody; if the clock fails it does nothing.
     pub fn tell_due<Rt: Wait + Clock>(&self, rt: &Rt) {
         let mut all = self.all.lock(rt);
         if all.is_empty() {
@@ -112,7 +166,7 @@ impl Partings {
         };
         for _ in 0..all.len() {
             if let Some(first) = all.pop_front()
-                && let Some(parting) = first.tell_if_due(now)
+                && let Some(parting) = first.step(now)
             {
                 // It has the room that it had.
                 let _ = all.push_back(parting);
@@ -120,14 +174,40 @@ impl Partings {
         }
     }
 
-    /// Lets go of all, since the host is over: who wasn't told its denial yet is told instead that the class has ended.
-    pub fn let_all_go<Rt: Wait>(&self, rt: &Rt) {
+    /// Closes those that were told all before their time, so that their descriptors are free.
+    pub fn close_told<Rt: Wait>(&self, rt: &Rt) {
         let mut all = self.all.lock(rt);
         for _ in 0..all.len() {
-            if let Some(first) = all.pop_front()
-                && !first.is_told
+            if let Some(first) = all.pop_front() {
+                if first.is_told {
+                    take_unwanted(&first.stream);
+                } else {
+                    // It has the room that it had.
+                    let _ = all.push_back(first);
+                }
+            }
+        }
+    }
+
+    /// Closes all connections, since the host is over, once they had `PARTING` milliseconds to take what they were told.
+    /// One that wasn't told its denial yet is told instead that the class has ended.
+    pub fn close_all<Rt: Wait + Clock>(&self, rt: &Rt) {
+        let mut all = self.all.lock(rt);
+        if all.is_empty() {
+            return;
+        }
+        for index in 0..all.len() {
+            if let Some(parting) = all.get(index)
+                && !parting.is_told
             {
-                tell(&first.stream, EndReason::Over.line());
+                tell(&parting.stream, EndReason::Over.line());
+                let _ = parting.stream.shutdown(Shutdown::Write);
+            }
+        }
+        thread::sleep(rt, Duration::from_millis(PARTING));
+        for _ in 0..all.len() {
+            if let Some(parting) = all.pop_front() {
+                take_unwanted(&parting.stream);
             }
         }
     }

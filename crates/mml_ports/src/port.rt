@@ -36,6 +36,8 @@ struct Newcomer<'a, Rt> {
     cut_off: SocketCutOff<'a, Rt>,
     connection: SharedConnection<'a, Rt>,
     since: Instant,
+    // Whether a line was seen to have come.
+    has_spoken: bool,
 }
 
 impl<'a, Rt: Clock + Wait + Eprint> Newcomer<'a, Rt> {
@@ -44,6 +46,14 @@ impl<'a, Rt: Clock + Wait + Eprint> Newcomer<'a, Rt> {
         let mut newcomer = self;
         newcomer.connection.note_end_reason(why);
         newcomer.writer.hang_up();
+    }
+
+    // Looks whether a line has come from the newcomer, and returns that.
+    fn look_for_line(&mut self) -> bool {
+        if !self.has_spoken {
+            self.has_spoken = self.connection.socket.has_line(self.connection.rt);
+        }
+        self.has_spoken
     }
 }
 
@@ -57,8 +67,12 @@ pub struct Port<'a, Rt> {
     crowd: &'a Crowd,
     is_desk: bool,
     listener: TcpListener,
+    // A connection that was accepted before the port was served.
+    first: Option<TcpStream>,
     // Those who wait for a seat, in the order in which they came.
     waiting: VecDeque<Newcomer<'a, Rt>>,
+    // Since when somebody has waited for a seat without a break; none while nobody waits.
+    wanted_since: Option<Instant>,
     // How many have come.
     count: u64,
 }
@@ -67,13 +81,14 @@ pub struct Port<'a, Rt> {
 type Brought<'a, Rt> = Accepted<Incoming<'a, Rt>, ReplyWriter<'a, Rt>, SocketCutOff<'a, Rt>>;
 
 impl<'a, Rt: Clock + Wait + Eprint> Port<'a, Rt> {
-    /// A port to which nobody has come yet.
+    /// A port to which nobody has come yet, but for the connection `first`, if there is one.
     pub fn new(
         rt: &'a Rt,
         alloc: Global,
         state: &'a HostState,
         is_desk: bool,
         listener: TcpListener,
+        first: Option<TcpStream>,
     ) -> Port<'a, Rt> {
         Port {
             rt,
@@ -82,7 +97,9 @@ impl<'a, Rt: Clock + Wait + Eprint> Port<'a, Rt> {
             crowd: state.crowd(is_desk),
             is_desk,
             listener,
+            first,
             waiting: VecDeque::new(alloc),
+            wanted_since: None,
             count: 0,
         }
     }
@@ -94,11 +111,10 @@ impl<'a, Rt: Clock + Wait + Eprint> Port<'a, Rt> {
     }
 
     // Accepts the next connection, which isn't queued yet. While the port is hurried it isn't waited for: the error is
-    // `WouldBlock` where none has come. Otherwise an error is the system's, or that memory is lacking.
+    // `WouldBlock` if none has come. Any other error is the system's, or out of memory.
     fn accept(&mut self) -> io::Result<Newcomer<'a, Rt>> {
-        self.listener.set_nonblocking(self.is_hurried())?;
-        let (stream, _) = self.listener.accept()?;
-        // Where the system refuses this, replies still go out, only later.
+        let stream = self.next_stream()?;
+        // If the system refuses this, replies still go out, only later.
         let _ = stream.set_nodelay(true);
         stream.set_write_timeout(Some(Duration::from_secs(WRITE_LIMIT)))?;
         self.count = self.count.wrapping_add(1);
@@ -123,16 +139,30 @@ impl<'a, Rt: Clock + Wait + Eprint> Port<'a, Rt> {
             cut_off,
             connection,
             since,
+            has_spoken: false,
         })
     }
 
-    // Puts one who has come behind those who wait for a seat. Where too many wait the first is turned away, and
-    // without memory the newcomer.
+    // The stream of the next connection: the one that was accepted before, or one that comes.
+    fn next_stream(&mut self) -> io::Result<TcpStream> {
+        match self.first.take() {
+            Some(stream) => Ok(stream),
+            None => {
+                self.listener.set_nonblocking(self.is_hurried())?;
+                let (stream, _) = self.listener.accept()?;
+                Ok(stream)
+            }
+        }
+    }
+
+    // Puts one who has come behind those who wait for a seat. If too many wait one of them is turned away, of those from
+    // whom no line has come if there are such; without memory the newcomer is.
     fn queue(&mut self, newcomer: Newcomer<'a, Rt>) {
-        if self.waiting.len() >= WAITING
-            && let Some(first) = self.waiting.pop_front()
-        {
-            first.turn_away(EndReason::Busy);
+        if self.waiting.len() >= WAITING {
+            let index = self.find_first(false);
+            if let Some(dropped) = self.waiting.remove(index) {
+                dropped.turn_away(EndReason::Busy);
+            }
         }
         if let Err(refused) = self.waiting.push_back(newcomer) {
             self.state.note_memory(self.rt);
@@ -140,17 +170,24 @@ impl<'a, Rt: Clock + Wait + Eprint> Port<'a, Rt> {
         }
     }
 
-    // Gives one of those who wait, to be served, if there is a seat. Else none: a guest who has to leave is sent away,
-    // and the first who waits is turned away once it has waited for half a second. The crowd is told whether a newcomer
-    // waits for a seat. None too where nobody waits, or, with nothing else done, where the clock fails.
+    // Returns one of those who wait, to be served, if there is a seat. If not, a guest who has to leave is sent away, and
+    // the first who waits is turned away once it has waited for half a second. The crowd is told whether a newcomer
+    // waits for a seat. Returns none too if nobody waits, or, with nothing else done, if the clock fails.
     fn let_in(&mut self) -> Option<Brought<'a, Rt>> {
         let Some(first) = self.waiting.front() else {
+            self.wanted_since = None;
             self.crowd.note_wanted(false);
             return None;
         };
         let now = Instant::now(self.rt).ok()?;
         let waited = now.duration_since(first.since);
-        let has_room = self.crowd.finds_room(self.rt, now, waited);
+        let wanted_since = match self.wanted_since {
+            Some(since) => since,
+            None => now,
+        };
+        self.wanted_since = Some(wanted_since);
+        let wanted = now.duration_since(wanted_since);
+        let has_room = self.crowd.finds_room(self.rt, now, wanted);
         self.crowd.note_wanted(!has_room);
         if has_room {
             return self.bring(now);
@@ -163,12 +200,12 @@ impl<'a, Rt: Clock + Wait + Eprint> Port<'a, Rt> {
         None
     }
 
-    // The index of the one who is let in next of those who wait: the first of whom a line has come, else the first of
-    // all.
-    fn first_to_speak(&self) -> usize {
+    // The index of the first of those who wait from whom a line has come, if `has_spoken`, or has not come; if there is
+    // no such one, that of the first of all.
+    fn find_first(&mut self, has_spoken: bool) -> usize {
         for index in 0..self.waiting.len() {
-            if let Some(newcomer) = self.waiting.get(index)
-                && newcomer.connection.socket.has_line(self.rt)
+            if let Some(newcomer) = self.waiting.get_mut(index)
+                && newcomer.look_for_line() == has_spoken
             {
                 return index;
             }
@@ -180,7 +217,7 @@ impl<'a, Rt: Clock + Wait + Eprint> Port<'a, Rt> {
     fn bring(&mut self, now: Instant) -> Option<Brought<'a, Rt>> {
         // One who waits alone isn't looked at.
         let index = if self.waiting.len() > 1 {
-            self.first_to_speak()
+            self.find_first(true)
         } else {
             0
         };
@@ -191,6 +228,7 @@ impl<'a, Rt: Clock + Wait + Eprint> Port<'a, Rt> {
             cut_off,
             connection,
             since: _,
+            has_spoken: _,
         } = first;
         if self
             .crowd
@@ -202,31 +240,33 @@ impl<'a, Rt: Clock + Wait + Eprint> Port<'a, Rt> {
         Some(Accepted::Came((reader, writer), cut_off))
     }
 
-    // Turns away all who wait, and lets go of all who are owed a denial, since the host is over; gives that it is.
+    // Turns away all who wait, and closes all connections that have left, since the host is over; returns that it is.
     fn turn_all_away(&mut self) -> Brought<'a, Rt> {
         for _ in 0..self.waiting.len() {
             if let Some(first) = self.waiting.pop_front() {
                 first.turn_away(EndReason::Over);
             }
         }
-        self.crowd.partings.let_all_go(self.rt);
+        self.crowd.partings.close_all(self.rt);
         Accepted::Over
     }
 
     // After an accept failed, waits for a tenth of a second at most until a session ends, so that the next may succeed;
-    // not where a signal broke it off. `ended` is how many sessions had ended before the accept. Want of memory is
-    // noted; where the system refused the accept otherwise, the first who waits for a seat is turned away.
+    // not if a signal or the other side broke it off. `ended` is how many sessions had ended before the accept. If memory
+    // ran out, that is noted. If the system refused the accept otherwise, descriptors are given back: the first who waits
+    // for a seat is turned away, and connections that were told all are closed.
     fn put_off(&mut self, kind: ErrorKind, ended: u64) {
         match kind {
             ErrorKind::OutOfMemory => self.state.note_memory(self.rt),
-            ErrorKind::Interrupted | ErrorKind::WouldBlock => {}
+            ErrorKind::Interrupted | ErrorKind::ConnectionAborted | ErrorKind::WouldBlock => {}
             _ => {
+                self.crowd.partings.close_told(self.rt);
                 if let Some(first) = self.waiting.pop_front() {
                     first.turn_away(EndReason::Busy);
                 }
             }
         }
-        if kind != ErrorKind::Interrupted {
+        if !matches!(kind, ErrorKind::Interrupted | ErrorKind::ConnectionAborted) {
             self.state.wait_past(self.rt, ended, self.is_hurried());
         }
     }

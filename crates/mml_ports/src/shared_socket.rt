@@ -22,6 +22,8 @@ pub struct SharedSocket {
     pub(crate) is_served: AtomicBool,
     // Whether a hello was granted.
     pub(crate) is_greeted: AtomicBool,
+    // Whether the connection may stay: a hello was granted, at the desk the teacher's.
+    pub(crate) may_stay: AtomicBool,
     // Whether a reply went out.
     pub(crate) is_answered: AtomicBool,
     // How many of its hellos were denied.
@@ -43,6 +45,7 @@ impl SharedSocket {
             stream: RwLock::new(Some(stream)),
             is_served: AtomicBool::new(false),
             is_greeted: AtomicBool::new(false),
+            may_stay: AtomicBool::new(false),
             is_answered: AtomicBool::new(false),
             denied: AtomicU64::new(0),
             is_writing: AtomicBool::new(false),

@@ -12,8 +12,11 @@ use std::sync::Wait;
 use std::sync::atomic::Ordering;
 use std::time::{Clock, Duration, Instant};
 
-/// How many seconds a connection has until its hello is granted.
+/// How many seconds a connection has at the students' port until its hello is granted.
 pub const GREETING: u64 = 10;
+
+/// How many seconds a connection has at the desk until the teacher's hello is granted there.
+pub const DESK_GREETING: u64 = 5;
 
 /// How many seconds each line of a student's connection may take after the one before. At the desk it may
 /// take any time.
@@ -27,8 +30,9 @@ enum FirstLine {
     Other,
 }
 
-/// The end from which lines are read. A read fails where a line takes too long, however its bytes come. Until a hello
-/// is granted a read gives one line at most, and whatever is said, it fails after ten seconds.
+/// The end from which lines are read. A read fails if a line takes too long, however its bytes come. Until a hello is
+/// granted, at the desk the teacher's, a read returns one line at most, and fails after ten seconds, at the desk five,
+/// whatever is said.
 #[derive(Drop)]
 pub struct SocketReader<'a, Rt> {
     pub(crate) connection: SharedConnection<'a, Rt>,
@@ -36,8 +40,8 @@ pub struct SocketReader<'a, Rt> {
     deadline: Option<Instant>,
     // How long each line after the hello may take, where there is an end to it.
     patience: Option<Duration>,
-    // Whether a hello was granted, as the last read found it.
-    has_greeted: bool,
+    // Whether the connection may stay, as the last read found it.
+    may_stay: bool,
     // How the first line begins.
     first: FirstLine,
     // Whether the first line was read to its end.
@@ -55,16 +59,16 @@ impl<'a, Rt: Clock + Wait> SocketReader<'a, Rt> {
     /// A reader of the connection's socket. The time for its hello begins now; the error is the clock's.
     pub fn new(connection: SharedConnection<'a, Rt>) -> io::Result<Incoming<'a, Rt>> {
         let now = Instant::now(connection.rt)?;
-        let patience = if connection.is_desk {
-            None
+        let (greeting, patience) = if connection.is_desk {
+            (DESK_GREETING, None)
         } else {
-            Some(Duration::from_secs(NEXT_LINE))
+            (GREETING, Some(Duration::from_secs(NEXT_LINE)))
         };
         Ok(Retrying::new(SocketReader {
             connection,
-            deadline: now.checked_add(Duration::from_secs(GREETING)),
+            deadline: now.checked_add(Duration::from_secs(greeting)),
             patience,
-            has_greeted: false,
+            may_stay: false,
             first: FirstLine::Awaited,
             is_first_line_read: false,
             size: 0,
@@ -72,10 +76,10 @@ impl<'a, Rt: Clock + Wait> SocketReader<'a, Rt> {
         }))
     }
 
-    // How long a read may still wait, or none where it may wait for ever. Once a hello was granted, a line that isn't
+    // How long a read may still wait, or none if it may wait for ever. Once the connection may stay, a line that isn't
     // begun has its whole time. The error is that the time is over, or the clock's.
     fn time_left(&self) -> io::Result<Option<Duration>> {
-        if self.has_greeted && self.size == 0 {
+        if self.may_stay && self.size == 0 {
             return Ok(self.patience);
         }
         let Some(deadline) = self.deadline else {
@@ -118,8 +122,8 @@ impl<'a, Rt: Clock + Wait> SocketReader<'a, Rt> {
         }
     }
 
-    // Reads what has come, or comes within the time that is left, up to the end of a line, and gives how many bytes:
-    // before the hello is granted nothing behind that line is taken.
+    // Reads what has come, or comes within the time that is left, up to the end of a line, and returns how many bytes:
+    // before the connection may stay nothing after that line is taken.
     fn read_line_in_time(&mut self, buf: &mut [u8]) -> io::Result<usize>
         ensures { ReadsAtMost result buf.new }
     {
@@ -137,8 +141,8 @@ impl<'a, Rt: Clock + Wait> SocketReader<'a, Rt> {
         }
     }
 
-    // Takes note of bytes that were read: how long the line is, which is kept as the reason of the end where it is too
-    // long; how the first line begins; and, after a granted hello, that the time of the next line begins where one
+    // Takes note of bytes that were read: how long the line is, which is kept as the reason of the end if it is too
+    // long; how the first line begins; and, once the connection may stay, that the time of the next line begins when one
     // ends. The error is the clock's.
     fn note_bytes(&mut self, bytes: &[u8]) -> io::Result<()> {
         let mut has_line = false;
@@ -156,7 +160,7 @@ impl<'a, Rt: Clock + Wait> SocketReader<'a, Rt> {
         if is_long {
             self.connection.note_end_reason(EndReason::Long);
         }
-        if has_line && self.has_greeted {
+        if has_line && self.may_stay {
             self.renew()?;
         }
         Ok(())
@@ -189,11 +193,11 @@ impl<'a, Rt: Clock + Wait> Read for SocketReader<'a, Rt> {
         if socket.is_done() || self.is_first_line_read && self.first == FirstLine::Other {
             return Ok(0);
         }
-        if !self.has_greeted && socket.is_greeted.load(Ordering::SeqCst) {
-            self.has_greeted = true;
+        if !self.may_stay && socket.may_stay.load(Ordering::SeqCst) {
+            self.may_stay = true;
             self.renew()?;
         }
-        let read = if self.has_greeted {
+        let read = if self.may_stay {
             self.read_in_time(buf)
         } else {
             self.read_line_in_time(buf)

@@ -4,14 +4,14 @@ ghost use Rattle.std.specs.Io.{WritesAtMost};
 
 use crate::connection::SharedConnection;
 use crate::end_reason::EndReason;
-use crate::parting::{PARTING, UNKNOWN, take_unwanted, tell};
+use crate::parting::{PARTING, UNKNOWN, tell};
 use crate::socket_reader::Incoming;
 use mml_ends::Retrying;
 use mml_hosting::{CutOff, Keep, ServedSession};
 use mml_serving::{HangUp, linger};
 use mml_session::SessionEnd;
 use std::io::{Error, ErrorKind, Write};
-use std::net::{Shutdown, TcpStream};
+use std::net::TcpStream;
 use std::snapshot::Snapshot;
 use std::sync::Wait;
 use std::sync::atomic::Ordering;
@@ -40,8 +40,9 @@ pub struct SocketWriter<'a, Rt> {
     connection: SharedConnection<'a, Rt>,
     // Whether the teacher has greeted here, at the desk.
     is_teachers: bool,
-    // Whether what was written ends with a whole line, so that a reply begins with the next byte.
-    is_whole: bool,
+    // How many bytes of the line that is being written have gone out, if they begin the reply to a bye; none if the line
+    // is another one.
+    farewell: Option<usize>,
     // Whether the other side has taken nothing for too long.
     is_deaf: bool,
     // The turn of the denial that it is owed when it has left.
@@ -67,9 +68,14 @@ impl<'a, Rt: Clock + Wait + Eprint> SocketWriter<'a, Rt> {
             return Ok(None);
         }
         if let Some(name) = greeted_name(reply) {
-            self.is_teachers = *is_desk && state.is_teachers_name(name);
-            crowd.note_greeting(rt, *alloc, socket.number, reply);
+            let is_teacher = state.is_teachers_name(name);
+            self.is_teachers = *is_desk && is_teacher;
             socket.is_greeted.store(true, Ordering::SeqCst);
+            // At the desk who isn't the teacher stays a stranger.
+            if !*is_desk || is_teacher {
+                crowd.note_greeting(rt, *alloc, socket.number, reply);
+                socket.may_stay.store(true, Ordering::SeqCst);
+            }
         } else if reply == UNKNOWN {
             socket.note_denial();
             if let Some(count) = state.note_denial(rt) {
@@ -77,12 +83,26 @@ impl<'a, Rt: Clock + Wait + Eprint> SocketWriter<'a, Rt> {
                     "host: {count} hellos had no right key: somebody may be guessing"
                 );
             }
-            crowd.note_denial(rt);
+            crowd.make_room(rt);
             let turn = state.turn_of_denial(rt)?;
             self.wait_for_turn(turn)?;
             return Ok(Some(turn));
         }
         Ok(None)
+    }
+
+    // Notes that a reply has gone out. Who may not stay then leaves at once, if a newcomer needs the seat.
+    fn note_answered(&self) {
+        let SharedConnection {
+            rt,
+            crowd,
+            socket,
+            ..
+        } = &self.connection;
+        socket.is_answered.store(true, Ordering::SeqCst);
+        if !socket.may_stay.load(Ordering::SeqCst) {
+            crowd.make_room(*rt);
+        }
     }
 
     // Waits for the turn of a denial; in the last half second before it, only until another thread ends the connection.
@@ -128,8 +148,9 @@ impl<'a, Rt: Clock + Wait + Eprint> SocketWriter<'a, Rt> {
         Ok(buf.len())
     }
 
-    // Writes the reply to the teacher's bye, which ends the class, and gives how many bytes went out: under the lock,
-    // so that a reader that has read something meanwhile waits until it is known whether the reply is out.
+    // Writes bytes that end with the reply to the teacher's bye, which ends the class, and returns how many went out:
+    // under the lock, so that a reader that has read something meanwhile waits until it is known whether the reply is
+    // out.
     fn write_farewell(&mut self, buf: &[u8]) -> io::Result<usize>
         ensures { WritesAtMost result buf.now }
     {
@@ -139,6 +160,64 @@ impl<'a, Rt: Clock + Wait + Eprint> SocketWriter<'a, Rt> {
         *is_dismissed = taken == buf.len();
         Ok(taken)
     }
+
+    // Whether a line begins with the next byte that is written.
+    fn is_at_line(&self) -> bool {
+        match self.farewell {
+            Some(count) => count == 0 || count == BID.len(),
+            None => false,
+        }
+    }
+
+    // Hangs up on the connection whose socket this is. One that leaves for a newcomer, or was never served, is told why,
+    // and its stream is looked after by the port. Any other is waited for here: it has a moment to take what was sent.
+    fn part_from(&self, stream: TcpStream) {
+        let SharedConnection {
+            rt,
+            crowd,
+            socket,
+            ..
+        } = &self.connection;
+        let rt = *rt;
+        if let Some(turn) = self.owed {
+            crowd.partings.add_owed(rt, stream, turn);
+            return;
+        }
+        // A reason within a reply that is cut would be no line.
+        let why = if self.is_at_line() {
+            socket.end_reason(rt)
+        } else {
+            None
+        };
+        if !socket.is_served.load(Ordering::SeqCst) || socket.is_turned_away(rt) {
+            crowd.partings.add_ending(rt, stream, why);
+            return;
+        }
+        if let Some(why) = why {
+            say(&stream, why);
+        }
+        // If a newcomer waits for the seat, not for long.
+        linger(stream, &crowd.is_wanted);
+    }
+}
+
+// How many bytes of the reply to a bye the line has that is being written, after `bytes` more: all of them if that
+// reply was just written, none if the line is another one. `farewell` is how many it had before.
+fn farewell_after(farewell: Option<usize>, bytes: &[u8]) -> Option<usize> {
+    let mut farewell = farewell;
+    for byte in bytes.iter() {
+        let count = match farewell {
+            Some(count) if count < BID.len() => Some(count),
+            Some(_) => Some(0),
+            None => None,
+        };
+        farewell = match count {
+            Some(count) if BID.get(count) == Some(byte) => Some(count + 1),
+            _ if *byte == b'\n' => Some(0),
+            _ => None,
+        };
+    }
+    farewell
 }
 
 // The name in the reply to a hello that is granted; none in another reply.
@@ -147,20 +226,20 @@ fn greeted_name(reply: &[u8]) -> Option<&[u8]> {
 }
 
 impl<'a, Rt: Clock + Wait + Eprint> Write for SocketWriter<'a, Rt> {
-    // Takes note of a reply, holds a denial of a name and key back until its turn, and gives how many bytes went out;
-    // the reply to the teacher's bye dismisses the class. It fails where the other side took nothing for too long, or
-    // the connection is being ended, but for a denial that is told later.
+    // Takes note of a reply, holds a denial of a name and key back until its turn, and returns how many bytes went out;
+    // the reply to the teacher's bye, also behind other replies or in pieces, dismisses the class. It fails if the other
+    // side took nothing for too long, or the connection is being ended, but for a denial that is told later.
     fn write(&mut self, buf: &[u8]) -> io::Result<usize> {
         if self.is_deaf {
             return Err(Error::from(ErrorKind::TimedOut));
         }
-        let turn = if self.is_whole {
+        let turn = if self.is_at_line() {
             self.note_reply(buf)?
         } else {
             None
         };
         let written = if self.connection.socket.begin_write() {
-            if self.is_teachers && self.is_whole && buf == BID {
+            if self.is_teachers && farewell_after(self.farewell, buf) == Some(BID.len()) {
                 self.write_farewell(buf)
             } else {
                 self.write_now(buf)
@@ -168,13 +247,10 @@ impl<'a, Rt: Clock + Wait + Eprint> Write for SocketWriter<'a, Rt> {
         } else {
             self.leave_owed(buf, turn)
         };
-        let socket = &self.connection.socket;
-        socket.end_write();
+        self.connection.socket.end_write();
         let taken = written?;
-        socket.is_answered.store(true, Ordering::SeqCst);
-        if taken > 0 {
-            self.is_whole = buf.get(taken - 1).is_some_and(|byte| *byte == b'\n');
-        }
+        self.note_answered();
+        self.farewell = farewell_after(self.farewell, &buf[..taken]);
         Ok(taken)
     }
 
@@ -197,7 +273,7 @@ impl<'a, Rt: Clock + Wait + Eprint> ReplyWriter<'a, Rt> {
             end: Retrying::new(SocketWriter {
                 connection,
                 is_teachers: false,
-                is_whole: true,
+                farewell: Some(0),
                 is_deaf: false,
                 owed: None,
             }),
@@ -218,9 +294,7 @@ impl<'a, Rt: Clock + Wait + Eprint> Write for ReplyWriter<'a, Rt> {
 }
 
 impl<'a, Rt: Clock + Wait + Eprint> HangUp for ReplyWriter<'a, Rt> {
-    // Gives the socket back. Where a denial is owed, the stream goes to the partings, which tell it; else the other
-    // side is told why the connection ends, if a reason is kept and no line is cut, and then has time to take what was
-    // sent: only a moment where it was turned away or never served. Who was never served leaves the crowd here.
+    // Gives the socket back, and hangs up on the connection, once. Who was never served leaves the crowd here.
     fn hang_up(&mut self) {
         let writer = &self.end.inner;
         let SharedConnection {
@@ -230,27 +304,12 @@ impl<'a, Rt: Clock + Wait + Eprint> HangUp for ReplyWriter<'a, Rt> {
             ..
         } = &writer.connection;
         let rt = *rt;
-        let is_served = socket.is_served.load(Ordering::SeqCst);
         let stream = socket.stream.write(rt).take();
-        match (stream, writer.owed) {
-            (Some(stream), Some(turn)) => crowd.partings.add(rt, stream, turn),
-            (Some(stream), None) => {
-                if writer.is_whole
-                    && let Some(why) = socket.end_reason(rt)
-                {
-                    say(&stream, why);
-                }
-                if is_served && !socket.is_turned_away(rt) {
-                    // Where a newcomer waits for the seat, not for long.
-                    linger(stream, &crowd.is_wanted);
-                } else {
-                    part_from(stream);
-                }
-            }
-            (None, _) => {}
+        if let Some(stream) = stream {
+            writer.part_from(stream);
         }
         // Who was served leaves its seat when that may be used again, in `SocketSession::keep`.
-        if !is_served {
+        if !socket.is_served.load(Ordering::SeqCst) {
             crowd.note_left(rt, socket.number);
         }
     }
@@ -263,16 +322,6 @@ fn say(stream: &TcpStream, why: EndReason) {
         .is_ok()
     {
         tell(stream, why.line());
-    }
-}
-
-// Says that nothing more comes, and lets go of a connection, after a moment at most in which something that the other
-// side has sent is taken.
-fn part_from(stream: TcpStream) {
-    let parting = Some(Duration::from_millis(PARTING));
-    // Both are refused where the other side is gone.
-    if stream.shutdown(Shutdown::Write).is_ok() && stream.set_read_timeout(parting).is_ok() {
-        take_unwanted(&stream);
     }
 }
 

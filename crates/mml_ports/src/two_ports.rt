@@ -1,11 +1,23 @@
 //! The two ports of a class, which are taken before its journal is begun.
 use crate::port::{EndBell, Port};
 use crate::state::HostState;
+use libc::net::listen;
 use std::alloc::Global;
-use std::io;
 use std::net::{Ipv4Addr, Net, SocketAddr, TcpListener, TcpStream};
+use std::os::fd::AsRawFd;
 use std::sync::{Mutex, Wait};
-use std::time::Clock;
+use std::time::{Clock, Duration};
+use std::{io, thread};
+
+// How many connections may have come to a port and not be accepted yet: as many as the system allows, if that is fewer.
+// A library's own 128 are full after a tenth of a second of a flood.
+const BACKLOG: i32 = 4096;
+
+// How often it is looked at most whether a first connection has come to the desk.
+const LOOKS: u32 = 1000;
+
+// How many milliseconds pass from one look to the next.
+const LOOK: u64 = 1;
 
 /// Why a port can't be listened on.
 #[derive(Clone, Copy, Debug, PartialEq, Eq)]
@@ -31,27 +43,71 @@ impl From<io::Error> for ListenFault {
 pub struct Ports {
     pub listener: TcpListener,
     pub desk_listener: TcpListener,
+    /// The first connection to the desk, if one came before the students' port was taken.
+    pub first: Option<TcpStream>,
     pub port: u16,
     pub desk: u16,
 }
 
-/// Listens on a port and on the desk's, for connections of this machine alone. Where 0 is asked for, the system chooses
-/// the number. The error is why one of them can't be listened on.
-pub fn listen_at<R: Net<Listener = TcpListener, Stream = TcpStream>>(
+/// Listens on the desk's port and then on the students', for connections of this machine alone. If 0 is asked for, the
+/// system chooses the number. A desk whose number was asked for is waited at, for a second at most, until a first
+/// connection has come: so the teacher's program is there before a student can know that a class begins. Returns a
+/// `ListenFault` if one of them can't be listened on.
+pub fn listen_at<R: Clock + Net<Listener = TcpListener, Stream = TcpStream>>(
     rt: &R,
     port: u16,
     desk: u16,
 ) -> Result<Ports, ListenFault> {
-    let listener = TcpListener::bind(rt, on_this_machine(port))?;
-    let desk_listener = TcpListener::bind(rt, on_this_machine(desk))?;
+    let desk_listener = listen_on(rt, desk)?;
+    let first = if desk == 0 {
+        None
+    } else {
+        first_within(rt, &desk_listener)?
+    };
+    let listener = listen_on(rt, port)?;
     let port = listener.local_addr()?.port();
     let desk = desk_listener.local_addr()?.port();
     Ok(Ports {
         listener,
         desk_listener,
+        first,
         port,
         desk,
     })
+}
+
+// The first connection to a listener, which is waited for, for a second at most; none if none has come, or it couldn't
+// be accepted. The error is that the listener can't be used without waiting.
+fn first_within<R: Clock>(rt: &R, listener: &TcpListener) -> io::Result<Option<TcpStream>> {
+    listener.set_nonblocking(true)?;
+    for _ in 0..LOOKS {
+        match listener.accept() {
+            Ok((stream, _)) => return Ok(Some(stream)),
+            Err(error) if is_passing(error.kind()) => {
+                thread::sleep(rt, Duration::from_millis(LOOK));
+            }
+            Err(_) => return Ok(None),
+        }
+    }
+    Ok(None)
+}
+
+// Whether, after an accept that failed so, the next may succeed.
+fn is_passing(kind: io::ErrorKind) -> bool {
+    matches!(
+        kind,
+        io::ErrorKind::WouldBlock | io::ErrorKind::Interrupted | io::ErrorKind::ConnectionAborted
+    )
+}
+
+// Listens on a port of this machine with a backlog of `BACKLOG`. If the system refuses that one, the listener's own stays.
+fn listen_on<R: Net<Listener = TcpListener, Stream = TcpStream>>(
+    rt: &R,
+    port: u16,
+) -> io::Result<TcpListener> {
+    let listener = TcpListener::bind(rt, on_this_machine(port))?;
+    let _ = listen(listener.as_raw_fd(), BACKLOG);
+    Ok(listener)
 }
 
 // The address of a port that this machine alone reaches.
@@ -90,7 +146,7 @@ pub fn open_ports<'a, R: Clock + Wait + Eprint>(
     ports: Ports,
 ) -> TwoPorts<Port<'a, R>> {
     TwoPorts {
-        at_desk: Port::new(rt, alloc, state, true, ports.desk_listener),
-        elsewhere: Port::new(rt, alloc, state, false, ports.listener),
+        at_desk: Port::new(rt, alloc, state, true, ports.desk_listener, ports.first),
+        elsewhere: Port::new(rt, alloc, state, false, ports.listener, None),
     }
 }
