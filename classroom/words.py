@@ -9,11 +9,11 @@ from collections.abc import Callable
 from importlib import import_module
 from typing import NoReturn
 
-from classroom.counts import positive
-from classroom.printable import printable
-from classroom.program import TOP, Fault
-from classroom.statuses import FAILED, TABLE, USAGE
-from classroom.typed import HELP
+from classroom.core.counts import positive
+from classroom.core.printable import printable
+from classroom.core.program import TOP, Fault
+from classroom.core.statuses import FAILED, TABLE, USAGE
+from classroom.run.typed import HELP
 
 
 class Parser(argparse.ArgumentParser):
@@ -32,7 +32,9 @@ def version() -> str:
 
 def add_new(words: argparse.ArgumentParser) -> None:
     """The words of `new`."""
-    from classroom import lists, networks, new, run
+    from classroom.core import lists, networks
+    from classroom.run import run
+    from classroom.setup import new
 
     words.add_argument("lab", help="the lab's file to make, NAME.toml; the slips are NAME-slips.txt")
     words.add_argument("--students", required=True, help="a file of names, one a line, or a table (CSV) as a platform exports it")
@@ -74,7 +76,8 @@ EXAMPLES = {
 
 def add_mark(words: argparse.ArgumentParser) -> None:
     """The words of `mark`."""
-    from classroom import lists, mark
+    from classroom.core import lists
+    from classroom.marks import mark
 
     words.add_argument("runs", nargs="+", metavar="FOLDER.. or LAB JOURNAL..")
     form = words.add_mutually_exclusive_group()
@@ -89,7 +92,7 @@ def add_mark(words: argparse.ArgumentParser) -> None:
 
 def add_check(words: argparse.ArgumentParser) -> None:
     """The words of `check`."""
-    from classroom import check
+    from classroom.setup import check
 
     words.add_argument("lab")
     words.set_defaults(work=check.check)
@@ -97,7 +100,7 @@ def add_check(words: argparse.ArgumentParser) -> None:
 
 def add_demo(words: argparse.ArgumentParser) -> None:
     """The words of `demo`."""
-    from classroom import demo
+    from classroom.run import demo
 
     words.add_argument("--into", default="runs", help="where the run's folder is made (runs)")
     words.set_defaults(work=demo.demo)
@@ -105,7 +108,7 @@ def add_demo(words: argparse.ArgumentParser) -> None:
 
 def add_play(words: argparse.ArgumentParser) -> None:
     """The words of `play`."""
-    from classroom import play
+    from classroom.pages import play
 
     words.add_argument("run", nargs="+", metavar="FOLDER or LAB JOURNAL")
     words.add_argument("-o", "--output", help="the file to write (run.html, or PLACE.svg)")
@@ -126,15 +129,15 @@ def of(module: str) -> Callable[[argparse.ArgumentParser], None]:
 EACH: dict[str, tuple[str, Callable[[argparse.ArgumentParser], None]]] = {
     "new": ("make a lab from a class list, and slips to print", add_new),
     "check": ("what mml says of a lab, and what a teacher would want to know", add_check),
-    "run": ("run a class over a lab, in a folder of its own, or go on with it", of("run")),
-    "attach": ("take the desk of a class whose run is gone, or has lost its terminal", of("attach")),
-    "key": ("another key and slip for a student, in mid-course", of("rekey")),
+    "run": ("run a class over a lab, in a folder of its own, or go on with it", of("run.run")),
+    "attach": ("take the desk of a class whose run is gone, or has lost its terminal", of("run.attach")),
+    "key": ("another key and slip for a student, in mid-course", of("setup.rekey")),
     "mark": ("what journals tell of each student", add_mark),
-    "history": ("every line that a student's connections sent, its reply, and the steps between; at one place seat by seat", of("history")),
+    "history": ("every line that a student's connections sent, its reply, and the steps between; at one place seat by seat", of("marks.history")),
     "play": ("a run as one page that shows it, or a configuration as a picture", add_play),
-    "practise": ("play alone: bots of the house play the other nodes, and each denial is explained", of("practise")),
-    "grade": ("try bots over many labs, daemons and seeds, within limits", of("grade")),
-    "experiment": ("how many moves, closes and rounds runs take: a table and a chart", of("experiment")),
+    "practise": ("play alone: bots of the house play the other nodes, and each denial is explained", of("bots.practise")),
+    "grade": ("try bots over many labs, daemons and seeds, within limits", of("bots.grade")),
+    "experiment": ("how many moves, closes and rounds runs take: a table and a chart", of("bots.experiment")),
     "demo": ("a class in a box: four bots, a run, marks", add_demo),
 }
 

@@ -18,8 +18,8 @@ from selenium.webdriver.chrome.service import Service
 from selenium.webdriver.common.action_chains import ActionChains
 from selenium.webdriver.support.wait import WebDriverWait
 
-from classroom.frames import Frame, State
-from classroom.program import TOP
+from classroom.core.program import TOP
+from classroom.pages.frames import Frame, State
 from tests.classroom.help import LIMIT
 
 STARTS = 5  # of a browser, until one is there in time

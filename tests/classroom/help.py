@@ -22,8 +22,8 @@ from collections.abc import Iterator
 from contextlib import contextmanager
 from pathlib import Path
 
-from classroom.lab import read
-from classroom.program import TOP, call
+from classroom.core.lab import read
+from classroom.core.program import TOP, call
 
 EXAMPLES = TOP / "examples"
 CYCLE = EXAMPLES / "cycle.toml"

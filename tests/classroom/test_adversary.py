@@ -6,14 +6,15 @@ import re
 import unittest
 import unittest.mock
 
-from classroom import adversary, networks
-from classroom import lab as labs
-from classroom.adversary import Adversary
-from classroom.bench import network
-from classroom.closing import Striker
-from classroom.daemons import Daemon, Sight, applied, movers
-from classroom.measuring import Row, Setting, drawn, runs
-from classroom.program import Fault
+from classroom.bots.measuring import Row, Setting, drawn, runs
+from classroom.core import lab as labs
+from classroom.core import networks
+from classroom.core.bench import network
+from classroom.core.program import Fault
+from classroom.run import adversary
+from classroom.run.adversary import Adversary
+from classroom.run.daemons import Daemon, Sight, applied, movers
+from classroom.run.striking import Striker
 from tests.classroom.help import CYCLE, EXAMPLES, KEYS, Cycle, Going, words
 
 

@@ -9,8 +9,8 @@ import unittest
 from pathlib import Path
 
 from classroom.client import Client
-from classroom.folders import Process
-from classroom.program import host
+from classroom.core.folders import Process
+from classroom.core.program import host
 from tests.classroom.help import CLASS, CYCLE, KEYS, LIMIT, Cycle, Going, InTerminal, stop, words
 
 

@@ -19,10 +19,10 @@ from collections import Counter
 from collections.abc import Callable
 from pathlib import Path
 
-from classroom import connected, ending
 from classroom.client import Client, Closed, Refused
-from classroom.connected import Connected
-from classroom.program import host
+from classroom.core.program import host
+from classroom.run import connected, ending
+from classroom.run.connected import Connected
 from tests.classroom.help import CYCLE, EXAMPLES, KEYS, LIMIT, Cycle, Going
 
 MOUNT = "mount -t tmpfs -o size=128k tmpfs \"$1\" && shift && exec \"$@\""

@@ -18,9 +18,9 @@ from urllib.parse import urlsplit
 
 from selenium.webdriver.support.select import Select
 
-from classroom.by_hand import Hands, open_hands
 from classroom.client import Client
-from classroom.lab import read
+from classroom.core.lab import read
+from classroom.pages.by_hand import Hands, open_hands
 from tests.classroom.browser import browser, pale, show_as, until
 from tests.classroom.help import CYCLE, KEYS, LIMIT, Going, InRoom, a_port
 from tests.classroom.test_page import hashed

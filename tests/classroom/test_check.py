@@ -4,9 +4,10 @@ from __future__ import annotations
 import math
 import unittest
 
-from classroom import lab as labs
-from classroom.check import bits, key_warnings, strange
-from classroom.positions import table as table_at, tables
+from classroom.core import lab as labs
+from classroom.setup.check import bits, key_warnings, strange
+from classroom.setup.positions import table as table_at
+from classroom.setup.positions import tables
 from tests.classroom.help import EXAMPLES, InRoom, words
 
 

@@ -8,13 +8,13 @@ import unittest
 import unittest.mock
 from pathlib import Path
 
-from classroom import lab as labs
 from classroom.client import Client
-from classroom.closing import Striker
-from classroom.daemons import Daemon, Sight, applied, movers
-from classroom.frames import frames_of
-from classroom.program import Fault
-from classroom.shaking import broken, shaken
+from classroom.core import lab as labs
+from classroom.core.program import Fault
+from classroom.pages.frames import frames_of
+from classroom.run.daemons import Daemon, Sight, applied, movers
+from classroom.run.striking import Striker
+from classroom.setup.shaking import broken, shaken
 from tests.classroom.help import CYCLE, Cycle, Going, KEYS
 
 SERVE = tuple(os.environ.get("MML_SERVE", "").split())

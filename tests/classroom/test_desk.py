@@ -18,16 +18,16 @@ import urllib.error
 import urllib.request
 from pathlib import Path
 
-from classroom import server
-from classroom import lab as labs
-from classroom.attend import Room, attend
 from classroom.client import Client, Refused, Report
-from classroom.daemons import Daemon
-from classroom.desk import Desk
-from classroom.printable import printable
-from classroom.program import host
-from classroom.teller import Teller
-from classroom.typed import FORMS, NOW, Terminal, Typed, understood
+from classroom.core import lab as labs
+from classroom.core.printable import printable
+from classroom.core.program import host
+from classroom.run import server
+from classroom.run.attend import Room, attend
+from classroom.run.daemons import Daemon
+from classroom.run.desk import Desk
+from classroom.run.teller import Teller
+from classroom.run.typed import FORMS, NOW, Terminal, Typed, understood
 from tests.classroom.help import CYCLE, EXAMPLES, KEYS, LIMIT, Cycle, Going, InRoom, InTerminal, a_port, stop, words
 
 
@@ -180,7 +180,7 @@ class Late(Cycle):
         holding = threading.Thread(target=lambda: found.append(attend(desk, it, False, typed, room, lambda: None)))
         stop(it.process.number)
         desk.client.limit = 0.5  # The connection that is made again has more: what is slow isn't late.
-        patient = unittest.mock.patch("classroom.desk.Client", lambda port, name, key, limit: Client(port, name, key))
+        patient = unittest.mock.patch("classroom.run.desk.Client", lambda port, name, key, limit: Client(port, name, key))
         patient.start()
         self.addCleanup(patient.stop)
         holding.start()

@@ -10,12 +10,12 @@ import time
 import unittest
 from unittest import mock
 
-from classroom.by_hand import open_hands
-from classroom.frames import State
-from classroom.lab import read
-from classroom.projector import open_pages
-from classroom.watch import Present
-from classroom.web import ASKING, CONNECTIONS, Web
+from classroom.core.lab import read
+from classroom.pages.by_hand import open_hands
+from classroom.pages.frames import State
+from classroom.pages.projector import open_pages
+from classroom.pages.watch import Present
+from classroom.pages.web import ASKING, CONNECTIONS, Web
 from tests.classroom.help import CYCLE, LIMIT, a_port
 
 
@@ -54,7 +54,7 @@ class Doors(unittest.TestCase):
 
     def test_idle_connections_use_up_no_threads(self) -> None:
         self.assertEqual(self.asks(), 404)
-        with mock.patch("classroom.web.ASKING", 10 * LIMIT):
+        with mock.patch("classroom.pages.web.ASKING", 10 * LIMIT):
             idle = [self.connect() for _ in range(2 * CONNECTIONS)]
             begun = time.monotonic()
             while len(select.select(idle, [], [], 0.1)[0]) < CONNECTIONS:

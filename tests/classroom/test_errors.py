@@ -13,9 +13,9 @@ import unittest
 import unittest.mock
 from pathlib import Path
 
-from classroom import grade, suites
-from classroom.bots import Bot
-from classroom.program import TOP
+from classroom.bots import grade, suites
+from classroom.bots.bots import Bot
+from classroom.core.program import TOP
 from tests.classroom.help import CLASS, EXAMPLES, LIMIT, InRoom, words
 
 FAULTY = TOP / "tests/classroom/bots/faulty.py"

@@ -15,12 +15,13 @@ from functools import partial
 from pathlib import Path
 from xml.etree import ElementTree
 
-from classroom import bounds, experiment
-from classroom import lab as labs
-from classroom.daemons import Daemon, heads, movers
-from classroom.measuring import Row, Setting, drawn, runs
-from classroom.program import TOP, call
-from classroom.rounds import Recovery
+from classroom.bots import experiment
+from classroom.bots.measuring import Row, Setting, drawn, runs
+from classroom.core import lab as labs
+from classroom.core import bounds
+from classroom.core.program import TOP, call
+from classroom.core.rounds import Recovery
+from classroom.run.daemons import Daemon, heads, movers
 from tests.classroom.help import LIMIT, InRoom, words
 
 TINY = ("--family", "path,star,random", "--nodes", "3..5", "--daemon", "central,synchronous,random:0.5", "--runs", "2")

@@ -10,11 +10,11 @@ import unittest
 from pathlib import Path
 from unittest import mock
 
-from classroom import replay as module
-from classroom.drawing import Drawing
-from classroom.frames import Frame, State, frames_of
-from classroom.layout import lay_out
-from classroom.program import Fault
+from classroom.core.program import Fault
+from classroom.pages import replay as module
+from classroom.pages.drawing import Drawing
+from classroom.pages.frames import Frame, State, frames_of
+from classroom.pages.layout import lay_out
 from tests.classroom.runs import BUILT_IN, PROGRAM, TOP, edited_run, examples
 
 

@@ -16,11 +16,11 @@ import unittest.mock
 from pathlib import Path
 from xml.etree import ElementTree
 
-from classroom import suites, trial
-from classroom.bots import Bot
-from classroom.daemons import Daemon
-from classroom.program import TOP, call
-from classroom.trial import Limits, Result, tried
+from classroom.bots import suites, trial
+from classroom.bots.bots import Bot
+from classroom.bots.trial import Limits, Result, tried
+from classroom.core.program import TOP, call
+from classroom.run.daemons import Daemon
 from tests.classroom.help import EXAMPLES, LIMIT, InRoom, words
 
 FAULTY = TOP / "tests/classroom/bots/faulty.py"

@@ -3,8 +3,8 @@ from __future__ import annotations
 
 import unittest
 
-from classroom.heard import FLOOD, Heard
-from classroom.lab import read
+from classroom.core.lab import read
+from classroom.run.heard import FLOOD, Heard
 from tests.classroom.help import CYCLE, InRoom
 
 HELLO = '{"do":"hello","name":"%s","key":"%s"}'

@@ -3,7 +3,7 @@ from __future__ import annotations
 
 import unittest
 
-from classroom.hiding import Hider
+from classroom.marks.hiding import Hider
 
 HIDER = Hider(["heron-31", "swift-86", "chalk"], ["gus", "hana", "tess"])
 CASES = (

@@ -13,11 +13,11 @@ import unittest
 from pathlib import Path
 from types import TracebackType
 
-from classroom.lab import read
-from classroom.program import Fault, host, host_call
-from classroom.record import begun
-from classroom.tally import DENIED as COLUMNS
-from classroom.vouched import front
+from classroom.core.lab import read
+from classroom.core.program import Fault, host, host_call
+from classroom.core.record import begun
+from classroom.core.tally import DENIED as COLUMNS
+from classroom.marks.vouched import front
 from tests.classroom.browser import browser, is_ready, shown, until
 from tests.classroom.help import CYCLE, KEYS, Cycle, Going, words
 

@@ -9,8 +9,8 @@ import unittest
 from pathlib import Path
 
 from classroom.client import Client, Closed, Refused
-from classroom.lab import read
-from classroom.program import host
+from classroom.core.lab import read
+from classroom.core.program import host
 from tests.classroom.help import CYCLE, KEYS, LIMIT, Cycle, Going, InTerminal, words
 
 TEACHER = read(CYCLE).teacher

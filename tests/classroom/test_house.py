@@ -14,10 +14,10 @@ import urllib.request
 from pathlib import Path
 
 from classroom.client import Client
-from classroom.house import House
-from classroom.journal import events
-from classroom.lab import HOUSE, Lab, read
-from classroom.program import host
+from classroom.core.journal import events
+from classroom.core.lab import HOUSE, Lab, read
+from classroom.core.program import host
+from classroom.run.house import House
 from tests.classroom.help import CYCLE, EXAMPLES, Going, InRoom, a_port, words
 
 NAMES = "Name\nAna Lima\nGus Roy\nHouse\nEva Sol\n"

@@ -7,9 +7,9 @@ import unittest
 from itertools import combinations, pairwise
 from unittest.mock import patch
 
-from classroom.layout import HEIGHT, MARGIN, TIGHT_BELOW, WIDTH, Layout, lay_out, on_rings
-from classroom.networks import Links, family
-from classroom.springs import FEW_NODES, away, by_springs, distances, tangles
+from classroom.core.networks import Links, family
+from classroom.pages.layout import HEIGHT, MARGIN, TIGHT_BELOW, WIDTH, Layout, lay_out, on_rings
+from classroom.pages.springs import FEW_NODES, away, by_springs, distances, tangles
 
 FAMILIES = ("path", "cycle", "star", "tree", "complete", "grid:4x3", "grid:10x10", "random:12:16", "random:30:40", "random:64:90")
 

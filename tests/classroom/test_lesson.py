@@ -13,9 +13,9 @@ import unittest
 from collections import Counter
 from pathlib import Path
 
-from classroom.folders import Process, Record
-from classroom.lab import Lab, read
-from classroom.program import TOP, call, host
+from classroom.core.folders import Process, Record
+from classroom.core.lab import Lab, read
+from classroom.core.program import TOP, call, host
 from tests.classroom.help import CLASS, LIMIT, Going, InRoom, InTerminal, a_port, words
 
 BOT = TOP / "examples/bot.py"

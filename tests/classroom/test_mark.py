@@ -10,11 +10,12 @@ from pathlib import Path
 from typing import Any
 from unittest import mock
 
-from classroom import program, replay
-from classroom import lab as labs
-from classroom.answering import all_of
-from classroom.mark import marked
-from classroom.tally import DENIED
+from classroom.core import lab as labs
+from classroom.core import program
+from classroom.core.answering import all_of
+from classroom.core.tally import DENIED
+from classroom.marks.mark import marked
+from classroom.pages import replay
 from tests.classroom.help import EXAMPLES, InRoom, words
 from tests.classroom.test_check import GOOD, PAIR
 

@@ -11,10 +11,11 @@ import unittest
 import unittest.mock
 from pathlib import Path
 
-from classroom import lab as labs
-from classroom import lists, names, program
 from classroom import words as words_of
-from classroom.lists import Person
+from classroom.core import lab as labs
+from classroom.core import lists, program
+from classroom.core.lists import Person
+from classroom.setup import names
 from tests.classroom.help import InRoom, words
 
 SCRIPTS = (

@@ -15,8 +15,8 @@ from urllib.parse import urlsplit
 from selenium.webdriver.common.keys import Keys
 
 from classroom.client import Client
-from classroom.frames import frames_of
-from classroom.lab import read
+from classroom.core.lab import read
+from classroom.pages.frames import frames_of
 from tests.classroom.browser import Shown, browser, is_ready, pale, press, show_as, shown, told, until
 from tests.classroom.help import EXAMPLES, Going, InRoom, a_port
 

@@ -11,8 +11,8 @@ from unittest.mock import patch
 
 from selenium.webdriver.common.keys import Keys
 
-from classroom.frames import frames_of
-from classroom.play import picture
+from classroom.pages.frames import frames_of
+from classroom.pages.play import picture
 from tests.classroom.browser import Played, shown, told, until
 from tests.classroom.runs import BUILT_IN, EXAMPLES, TOP, edited_run, examples, journal_of
 

@@ -9,7 +9,7 @@ import unittest
 from pathlib import Path
 
 from classroom.client import Client, Closed, Denied, Slip
-from classroom.program import TOP, call
+from classroom.core.program import TOP, call
 from tests.classroom.help import EXAMPLES, LIMIT, InRoom, words
 
 FAULTY = TOP / "tests/classroom/bots/faulty.py"
@@ -86,7 +86,7 @@ class Practise(InRoom):
     def test_no_program_goes_on_while_record_and_page_are_made(self) -> None:
         """These may take long, and nobody would answer it."""
         given = ["practise", f"python3 {FAULTY} right", "--nodes", "3", "--into", str(self.room / "runs")]
-        code = ("import sys; from classroom import bots, practise, words; kept = []; began = bots.Kept.__init__\n"
+        code = ("import sys; from classroom import words; from classroom.bots import bots, practise; kept = []; began = bots.Kept.__init__\n"
                 "bots.Kept.__init__ = lambda self, *given: (kept.append(self), began(self, *given))[1]\n"
                 "practise.leave = lambda *_: print('ended', [each.process.poll() is not None for each in kept])\n"
                 "sys.exit(words.main(sys.argv[1:]))")

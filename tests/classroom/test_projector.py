@@ -10,13 +10,13 @@ import socket
 import unittest
 from unittest.mock import patch
 
-from classroom import lab as labs
-from classroom import projector
-from classroom.frames import State
-from classroom.journal import Event
-from classroom.page import Frames
-from classroom.program import TOP, Fault
-from classroom.watch import Present
+from classroom.core import lab as labs
+from classroom.core.journal import Event
+from classroom.core.program import TOP, Fault
+from classroom.pages import projector
+from classroom.pages.frames import State
+from classroom.pages.page import Frames
+from classroom.pages.watch import Present
 
 LAB = TOP / "examples/cycle.toml"
 

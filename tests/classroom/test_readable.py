@@ -7,7 +7,7 @@ import unittest
 import zlib
 from itertools import combinations
 
-from classroom.lab import Lab, read
+from classroom.core.lab import Lab, read
 from tests.classroom.browser import Played, pale, show_as
 from tests.classroom.runs import edited_run, examples, many_owners
 

@@ -14,9 +14,9 @@ from collections import Counter
 from pathlib import Path
 
 from classroom.client import Client, Closed, Denied, Refused, Slip, enter
-from classroom.folders import Process
-from classroom.lab import Node, read
-from classroom.program import call, host
+from classroom.core.folders import Process
+from classroom.core.lab import Node, read
+from classroom.core.program import call, host
 from tests.classroom.help import CLASS, CYCLE, KEYS, Cycle, Going, words
 
 BOTH = ("host", "run and host")

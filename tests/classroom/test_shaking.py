@@ -6,12 +6,12 @@ import re
 import unittest
 from typing import Any
 
-from classroom import lab as labs
-from classroom.comeback import Comeback, recoveries
-from classroom.journal import events
-from classroom.lab import read
-from classroom.program import host
-from classroom.shaking import broken
+from classroom.core import lab as labs
+from classroom.core.journal import events
+from classroom.core.lab import read
+from classroom.core.program import host
+from classroom.marks.comeback import Comeback, recoveries
+from classroom.setup.shaking import broken
 from tests.classroom.browser import browser, is_ready, shown, until
 from tests.classroom.help import CYCLE, KEYS, Cycle, Going, a_port, words
 

@@ -9,7 +9,7 @@ from typing import Any
 from selenium.webdriver.common.keys import Keys
 
 from classroom.client import Client, Denied
-from classroom.lab import read
+from classroom.core.lab import read
 from tests.classroom.browser import Played, browser, is_ready, press, until
 from tests.classroom.help import CYCLE, Going, InRoom, a_port, words
 

@@ -12,10 +12,10 @@ import time
 import unittest
 from pathlib import Path
 
-from classroom.answering import Answering
 from classroom.client import LAST, RULES, Client, NoServer, NoSlip, Slip, wrong
-from classroom.lab import read
-from classroom.program import host
+from classroom.core.answering import Answering
+from classroom.core.lab import read
+from classroom.core.program import host
 from tests.classroom.help import CYCLE, EXAMPLES, KEYS, LIMIT, Cycle, Going, InRoom, no_server, words
 
 TOP = EXAMPLES.parent

@@ -11,7 +11,7 @@ import shutil
 import unittest
 from pathlib import Path
 
-from classroom.program import TOP, host, host_call
+from classroom.core.program import TOP, host, host_call
 from tests.classroom.help import KEYS, Cycle, Going, words
 
 KEPT = TOP / "tests/classroom/kept"

@@ -2,12 +2,12 @@
 import unittest
 from typing import cast
 
-from classroom import lab as labs
 from classroom.client import Client, Denied, Edit, Look, Report
-from classroom.journal import Event
-from classroom.present import Book
-from classroom.program import TOP
-from classroom.watch import Watch
+from classroom.core import lab as labs
+from classroom.core.journal import Event
+from classroom.core.present import Book
+from classroom.core.program import TOP
+from classroom.pages.watch import Watch
 
 REPORT = Report(0, False, (), (), ((4, "update"),), ())
 

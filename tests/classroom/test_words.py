@@ -10,10 +10,10 @@ import unittest
 from pathlib import Path
 
 from classroom.client import Slip
-from classroom.daemons import FORMS
-from classroom.lab import document, read
-from classroom.program import TOP
-from classroom.rekey import changed
+from classroom.core.lab import document, read
+from classroom.core.program import TOP
+from classroom.run.daemons import FORMS
+from classroom.setup.rekey import changed
 from classroom.words import parser
 from tests.classroom.help import LIMIT, InRoom, words
 

@@ -6,12 +6,12 @@ import random
 import unittest
 from typing import Any
 
-from classroom import bounds, networks
-from classroom import lab as labs
-from classroom.bench import STUDENT, TEACHER, Bench, network
-from classroom.new import start
-from classroom.rounds import Recovery
-from classroom.shaking import broken
+from classroom.core import lab as labs
+from classroom.core import bounds, networks
+from classroom.core.bench import STUDENT, TEACHER, Bench, network
+from classroom.core.rounds import Recovery
+from classroom.setup.new import start
+from classroom.setup.shaking import broken
 from tests.classroom.help import EXAMPLES, InRoom, words
 
 Asked = tuple[int, str, int | None]  # a node, its rule, and with whom

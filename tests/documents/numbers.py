@@ -9,9 +9,10 @@ import re
 from collections.abc import Iterator
 from pathlib import Path
 
-from classroom import lab, statuses, suites
+from classroom.bots import suites
 from classroom.client import LOST, MOST, STOPS
-from classroom.run import CLOSING
+from classroom.core import lab, statuses
+from classroom.run.run import CLOSING
 from classroom.words import parser
 from tests.check.parts import PROOFS, QUICK, minutes_of, wrong_beside
 

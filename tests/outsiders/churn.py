@@ -18,7 +18,7 @@ from collections.abc import Callable
 from dataclasses import dataclass
 from pathlib import Path
 
-from classroom.folders import RECORD, Record
+from classroom.core.folders import RECORD, Record
 from tests.common.hosting import HOST, Caller, lab_of, let_in
 from tests.common.lines import BYE, NODES, WRONG, hello, line_of, look
 from tests.common.preload import LIMIT, PROGRAM, TOP, fail

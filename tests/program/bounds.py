@@ -13,7 +13,7 @@ from dataclasses import dataclass
 from pathlib import Path
 from typing import Any
 
-from classroom.rounds import Recovery
+from classroom.core.rounds import Recovery
 from tests.common.hosting import HOST
 from tests.common.preload import LIMIT, fail, good
 from tests.model import read_lab

@@ -13,7 +13,7 @@ import sys
 from pathlib import Path
 from random import Random
 
-from classroom import tally as tallies
+from classroom.core import tally as tallies
 from tests.common.hosting import HOST
 from tests.common.preload import LIMIT, TOP, fail, in_room
 from tests.model import audit, play, read_lab

@@ -1,0 +1,1 @@
+"""Bots without a class: practising, grading, experiments."""

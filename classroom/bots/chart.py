@@ -1,0 +1,136 @@
+"""The chart of an experiment: moves, closes and rounds over the number of nodes, beside what is proved."""
+from __future__ import annotations
+
+import statistics
+from collections.abc import Callable, Sequence
+from html import escape
+
+from classroom.bots.measuring import Row
+from classroom.core import bounds
+from classroom.core.bounds import MOVES
+from classroom.pages.drawing import STYLE
+
+WIDE, HIGH = 360, 300  # of a panel
+LEFT, RIGHT, ABOVE, BELOW = 48, 14, 30, 38
+KEY = 86
+MEASURES: list[tuple[str, str, Callable[[Row], int]]] = [
+    ("moves", "--arrow", lambda row: row.moves),
+    ("closes", "--open", lambda row: row.closes),
+    ("rounds", "--pair", lambda row: row.rounds),
+]
+OWN = """
+svg .axis, svg .tick { stroke: var(--line); stroke-width: 1; }
+svg .tick { stroke-width: 0.4; }
+svg .bound { stroke: var(--rule); stroke-width: 1.6; stroke-dasharray: 7 4; }
+svg .least { stroke-dasharray: 2 3; }
+svg .loose { stroke-width: 1; stroke-dasharray: 12 3 2 3; }
+svg .most { stroke-width: 1.2; }
+svg .median { stroke-width: 2.4; }
+svg circle { opacity: 0.35; }
+svg text { font-size: 12px; }
+svg text.left { text-anchor: start; }
+svg text.end { text-anchor: end; }
+svg text.title { font-weight: bold; font-size: 14px; }
+"""
+
+
+class Scale:
+    """From numbers to spots on a panel."""
+
+    def __init__(self, least: int, most: int, high: int) -> None:
+        self.least, self.most, self.high = least, max(most, least + 1), max(high, 1)
+
+    def x(self, nodes: float) -> float:
+        """How far from the left a number of nodes stands."""
+        return LEFT + (nodes - self.least) / (self.most - self.least) * (WIDE - LEFT - RIGHT)
+
+    def y(self, count: float) -> float:
+        """How far from the top a count stands."""
+        return HIGH - BELOW - count / self.high * (HIGH - ABOVE - BELOW)
+
+
+def tick_distance(high: int, parts: int = 5) -> int:
+    """How far apart the numbers on an axis of that length are: the first of 1, 2, 5, 10, 20, 50 and so on by which the
+    axis has at most so many parts."""
+    step = 1
+    while True:
+        for factor in (1, 2, 5):
+            if high <= step * factor * parts:
+                return step * factor
+        step *= 10
+
+
+def line(points: Sequence[tuple[float, float]], kind: str, colour: str = "") -> str:
+    """The path through points; a short line through a single point."""
+    if len(points) == 1:
+        points = [(points[0][0] - 8, points[0][1]), (points[0][0] + 8, points[0][1])]
+    path = " ".join(f"{'M' if index == 0 else 'L'}{x:.1f} {y:.1f}" for index, (x, y) in enumerate(points))
+    style = f' style="stroke: var({colour})"' if colour else ""
+    return f'<path class="{kind}" d="{path}"{style}/>'
+
+
+def axes(scale: Scale) -> list[str]:
+    """Axes with their numbers."""
+    parts = [line([(LEFT, ABOVE), (LEFT, HIGH - BELOW), (WIDE - RIGHT, HIGH - BELOW)], "axis")]
+    for count in range(0, scale.high + 1, tick_distance(scale.high)):
+        y = scale.y(count)
+        parts.append(line([(LEFT, y), (WIDE - RIGHT, y)], "tick"))
+        parts.append(f'<text class="end" x="{LEFT - 6}" y="{y + 4:.1f}">{count}</text>')
+    step = tick_distance(scale.most - scale.least)
+    for nodes in range(-(-scale.least // step) * step, scale.most + 1, step):
+        parts.append(f'<text x="{scale.x(nodes):.1f}" y="{HIGH - BELOW + 16}">{nodes}</text>')
+    parts.append(f'<text class="end" x="{WIDE - RIGHT}" y="{HIGH - 6}">nodes</text>')
+    return parts
+
+
+def panel(title: str, rows: list[Row]) -> str:
+    """The drawing of one family under one daemon: the bounds, and of each measure the runs, the greatest and the
+    median."""
+    sizes = sorted({row.nodes for row in rows})
+    links = {size: max(row.links for row in rows if row.nodes == size) for size in sizes}
+    most = {size: bounds.of(size, links[size]) for size in sizes}
+    loose = {size: 3 * size + 2 * links[size] for size in sizes}
+    scale = Scale(sizes[0], sizes[-1], max(loose.values()))
+    parts = [f'<text class="title" x="{WIDE / 2}" y="18">{escape(title)}</text>', *axes(scale)]
+    parts.append(line([(scale.x(size), scale.y(loose[size])) for size in sizes], "bound loose"))
+    parts.append(line([(scale.x(size), scale.y(most[size].moves)) for size in sizes], "bound"))
+    parts.append(line([(scale.x(size), scale.y(most[size].rounds)) for size in sizes], "bound least"))
+    for name, colour, of in MEASURES:
+        seen = sorted({(row.nodes, of(row)) for row in rows})
+        parts += [f'<circle cx="{scale.x(size):.1f}" cy="{scale.y(count):.1f}" r="2" style="fill: var({colour})"/>' for size, count in seen]
+        by_size = {size: [of(row) for row in rows if row.nodes == size] for size in sizes}
+        parts.append(line([(scale.x(size), scale.y(max(by_size[size]))) for size in sizes], f"most {name}", colour))
+        parts.append(line([(scale.x(size), scale.y(statistics.median(by_size[size]))) for size in sizes], f"median {name}", colour))
+    return "".join(parts)
+
+
+def key(runs: int) -> str:
+    """What the lines and points of all panels stand for, to be drawn below them."""
+    parts = []
+    for column, (name, colour, _) in enumerate(MEASURES):
+        x = 12 + 84 * column
+        parts.append(line([(x, 14), (x + 22, 14)], "median", colour) + f'<text class="left" x="{x + 28}" y="18">{name}</text>')
+    parts.append(f'<text class="left" x="270" y="18">{runs} runs</text>')
+    parts.append('<text class="left" x="12" y="36">points: runs; thick: median; thin: greatest</text>')
+    parts.append(line([(12, 46), (34, 46)], "bound") + '<text class="left" x="40" y="50">' + f"{MOVES} moves: proved</text>")
+    parts.append(line([(12, 62), (34, 62)], "bound loose") + '<text class="left" x="40" y="66">3n + 2L moves: proved</text>')
+    parts.append(line([(12, 78), (34, 78)], "bound least") + '<text class="left" x="40" y="82">2n rounds (2n - 1, n odd): proved</text>')
+    return "".join(parts)
+
+
+def chart(rows: list[Row]) -> str:
+    """A panel for each family and daemon: families side by side, daemons below each other."""
+    families = list(dict.fromkeys(row.family.partition(":")[0] for row in rows))
+    daemons = list(dict.fromkeys(row.daemon for row in rows))
+    wide, high = max(WIDE * len(families), WIDE), HIGH * len(daemons) + KEY + 8
+    parts = []
+    for down, daemon in enumerate(daemons):
+        for across, family in enumerate(families):
+            own = [row for row in rows if row.daemon == daemon and row.family.partition(":")[0] == family]
+            if own:
+                parts.append(f'<g transform="translate({across * WIDE} {down * HIGH})">{panel(f"{family}, {daemon}", own)}</g>')
+    style = f"<style>{STYLE.read_text(encoding='utf-8')}{OWN}</style>"
+    return (f'<?xml version="1.0" encoding="UTF-8"?>\n<svg xmlns="http://www.w3.org/2000/svg" viewBox="0 0 {wide} {high}" '
+            f'width="{wide}" height="{high}" role="img" aria-label="moves, closes and rounds to stability">{style}'
+            f'<rect class="ground" width="100%" height="100%"/>{"".join(parts)}'
+            f'<g transform="translate(0 {HIGH * len(daemons)})">{key(len(rows))}</g></svg>\n')

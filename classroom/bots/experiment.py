@@ -1,0 +1,258 @@
+"""`./class experiment`: how many moves, closes and rounds runs take, beside what is proved."""
+from __future__ import annotations
+
+import argparse
+import concurrent.futures
+import contextlib
+import csv
+import ctypes
+import io
+import multiprocessing
+import os
+import re
+import signal
+import sys
+import time
+from collections.abc import Iterator
+from dataclasses import asdict, fields
+from pathlib import Path
+
+from classroom.bots import chart
+from classroom.bots.measuring import SIZED, Row, Setting, drawn, runs
+from classroom.core import lab as labs
+from classroom.core import bounds, networks
+from classroom.core.answering import answerer
+from classroom.core.bounds import MOVES
+from classroom.core.counts import positive
+from classroom.core.program import Fault
+from classroom.core.statuses import FAILED, WARNED
+from classroom.run.daemons import Daemon, daemons
+
+COLUMNS = [each.name for each in fields(Row)]
+CHUNK = 20  # runs of a task
+OTHER = "--csv names another file; the same words go on with the table"
+DIES = 1  # prctl's PR_SET_PDEATHSIG
+Key = tuple[str, int, str, str, int]
+
+
+def sizes(word: str) -> range:
+    """The numbers of nodes that a word names: `A..B`, `A..B/STEP`, or one number."""
+    found = re.fullmatch(r"(\d+)(?:\.\.(\d+))?(?:/(\d+))?", word)
+    if not found or not 1 <= int(found[1]) <= int(found[2] or found[1]) <= networks.MOST_NODES or found[3] == "0":
+        raise argparse.ArgumentTypeError(f"{word} is no A..B within 1..{networks.MOST_NODES}, or A..B/STEP")
+    return range(int(found[1]), int(found[2] or found[1]) + 1, int(found[3] or 1))
+
+
+def add_words(words: argparse.ArgumentParser) -> None:
+    """The words of `experiment`."""
+    words.add_argument("--family", default="path,cycle,random", metavar="F,..",
+                       help=f"{networks.NAMED}, or random of 1.5 links a node (path,cycle,random)")
+    words.add_argument("--nodes", type=sizes, default=range(4, 17), metavar="A..B", help="how many nodes; A..B/STEP leaves some out (4..16)")
+    words.add_argument("--daemon", type=daemons, default=[Daemon("central"), Daemon("synchronous")], metavar="D,..",
+                       help="central, synchronous, random:P, adversary, which searches long, and every:S and when-idle:S, where a node "
+                       "asks after a second on average (central,synchronous)")
+    words.add_argument("--start", choices=networks.STARTS, default="random", help="registers at the beginning (random)")
+    words.add_argument("--runs", type=positive, default=20, metavar="K",
+                       help="runs of each family, size and daemon (20)")
+    words.add_argument("--seed", type=int, default=1, help="the first run's; each further run has the next (1)")
+    words.add_argument("--csv", default="experiment.csv", metavar="FILE", help="a row a run; one that is there already is gone on with")
+    words.add_argument("--plot", metavar="FILE.svg", help="the chart")
+    words.add_argument("--at-once", type=positive, help="how many processes (as many as processors)")
+    words.set_defaults(work=experiment)
+
+
+def settings(words: argparse.Namespace) -> list[Setting]:
+    """Each family at each size under each daemon; a size at which a family has no network is left out."""
+    for how in words.daemon:
+        if how.kind == "by-hand":
+            raise Fault("--daemon by-hand: nobody is here to close a step")
+    found = []
+    for family in words.family.split(","):
+        for nodes in words.nodes if not family.startswith(SIZED) else [0]:
+            spelled = f"random:{nodes}:{links_of(nodes)}" if family == "random" else family
+            try:
+                network = drawn(Setting(spelled, nodes, words.daemon[0], words.start), words.seed)
+            except Fault as fault:
+                if family.startswith(SIZED) or "no family" in str(fault):
+                    raise
+                continue  # no network of that family is so small
+            found += [Setting(spelled, len(network.nodes), how, words.start) for how in words.daemon]
+    if not found:
+        raise Fault("no family has a network of these sizes")
+    return found
+
+
+def links_of(nodes: int) -> int:
+    """How many links a random network gets: three for two nodes, but at least those of a tree, and at most all."""
+    return max(nodes - 1, min(3 * nodes // 2, nodes * (nodes - 1) // 2))
+
+
+def row_of(words: dict[str, str]) -> Row:
+    """The run's row that the cells of a line tell, by their heads."""
+    numbers = {name: int(words[name]) for name in ("nodes", "links", "seed", "moves", "closes", "rounds")}
+    return Row(family=words["family"], daemon=words["daemon"], start=words["start"], stable=words["stable"] == "true", **numbers)
+
+
+def read_rows(path: Path) -> list[Row]:
+    """The rows that are there already. A torn last line is taken away."""
+    if not path.exists():
+        return []
+    text = path.read_text(encoding="utf-8")
+    whole = text[:text.rfind("\n") + 1]
+    reader = csv.DictReader(io.StringIO(whole))
+    if whole and reader.fieldnames != COLUMNS:
+        raise Fault(f"{path} is no table of an experiment, and isn't overwritten: --csv names another file")
+    try:
+        rows = [row_of(each) for each in reader]
+    except (ValueError, TypeError, KeyError):
+        raise Fault(f"{path}: line {reader.line_num} is no row of an experiment") from None
+    if whole != text:
+        path.write_text(whole, encoding="utf-8")
+    return rows
+
+
+def key(row: Row) -> Key:
+    """What tells a run from others."""
+    return row.family, row.nodes, row.daemon, row.start, row.seed
+
+
+def line_of(row: Row) -> str:
+    """A row as a line of the table."""
+    values = [str(value).lower() if isinstance(value, bool) else str(value) for value in asdict(row).values()]
+    return ",".join(values) + "\n"
+
+
+def ends_with_parent() -> None:
+    """Has this worker process end with its parent, and leave an interrupt to the parent."""
+    ctypes.CDLL(None).prctl(DIES, signal.SIGKILL, 0, 0, 0)
+    signal.signal(signal.SIGINT, signal.SIG_IGN)
+
+
+def measured(tasks: list[tuple[Setting, list[int]]], at_once: int) -> Iterator[tuple[Row, bytes]]:
+    """Each run with its script, when its task is done, by so many processes, which are killed where this ends early."""
+    context = multiprocessing.get_context("fork")
+    with concurrent.futures.ProcessPoolExecutor(at_once, context, ends_with_parent) as pool:
+        going = [pool.submit(runs, *task) for task in tasks]
+        try:
+            for each in concurrent.futures.as_completed(going):
+                yield from each.result()
+        except BaseException:
+            pool.shutdown(wait=False, cancel_futures=True)
+            for child in multiprocessing.active_children():
+                child.kill()
+            raise
+
+
+def keep_news(path: Path, row: Row, script: bytes) -> Path:
+    """Keeps a run that breaks what is proved, whole: its lab, script and row. Gives the folder."""
+    folder = path.with_name(f"{path.stem}-broken") / f"{row.family.replace(':', '-')}-{row.nodes}-{row.daemon.replace(':', '-')}-{row.seed}"
+    folder.mkdir(parents=True, exist_ok=True)
+    how = Daemon.of(row.daemon)
+    (folder / "lab.toml").write_text(labs.text(drawn(Setting(row.family, row.nodes, how, row.start), row.seed)), encoding="utf-8")
+    (folder / "script").write_bytes(script)
+    (folder / "row.csv").write_text(",".join(COLUMNS) + "\n" + line_of(row), encoding="utf-8")
+    return folder
+
+
+class Progress:
+    """How far it is, on a terminal."""
+
+    def __init__(self, of: int) -> None:
+        self.of, self.done, self.begun, self.due = of, 0, time.monotonic(), 0.0
+        self.shown = sys.stderr.isatty()
+
+    def one(self) -> None:
+        """Counts one more run, and shows on a terminal how far it is, twice a second at most and at the end."""
+        self.done += 1
+        now = time.monotonic()
+        if self.shown and (now >= self.due or self.done == self.of):
+            self.due = now + 0.5
+            rate = self.done / max(now - self.begun, 0.01)
+            print(f"\r{self.done} of {self.of} runs, {rate:.0f} a second  ", end="\n" if self.done == self.of else "", file=sys.stderr, flush=True)
+
+
+def table(rows: list[Row]) -> str:
+    """The greatest of each family and daemon beside its bound."""
+    title = f"greatest moves of {MOVES}"
+    lines = [f"{'family':10} {'daemon':14} {'runs':>6} {'nodes':>8}  {title}  greatest rounds of 2n"]
+    groups: dict[tuple[str, str], list[Row]] = {}
+    for row in rows:
+        groups.setdefault((row.family.partition(":")[0], row.daemon), []).append(row)
+    for (family, daemon), own in groups.items():
+        by_moves = max(own, key=lambda row: row.moves / bounds.of(row.nodes, row.links).moves)
+        by_rounds = max(own, key=lambda row: row.rounds / bounds.of(row.nodes, row.links).rounds)
+        span = f"{min(row.nodes for row in own)}..{max(row.nodes for row in own)}"
+        moves = f"{by_moves.moves} of {bounds.of(by_moves.nodes, by_moves.links).moves} (n {by_moves.nodes})"
+        rounds = f"{by_rounds.rounds} of {bounds.of(by_rounds.nodes, by_rounds.links).rounds} (n {by_rounds.nodes})"
+        lines.append(f"{family:10} {daemon:14} {len(own):6} {span:>8}  {moves:{len(title)}}  {rounds}")
+    return "\n".join(lines)
+
+
+def new_file(path: Path) -> None:
+    """Writes a table without rows, where there is none."""
+    if not path.exists() or path.stat().st_size == 0:
+        path.write_text(",".join(COLUMNS) + "\n", encoding="utf-8")
+
+
+def left(every: list[Setting], seeds: range, done: set[Key]) -> list[tuple[Setting, list[int]]]:
+    """The runs that aren't in the table yet, some in each task; large networks first."""
+    tasks = []
+    for it in sorted(every, key=lambda setting: -setting.nodes):
+        more = [seed for seed in seeds if (it.family, it.nodes, it.daemon.spelled(), it.start, seed) not in done]
+        tasks += [(it, more[first:first + CHUNK]) for first in range(0, len(more), CHUNK)]
+    return tasks
+
+
+def told(own: list[Row], asked: int, words: argparse.Namespace, broken: list[Path]) -> None:
+    """Prints the table, and whether all is within what is proved; writes the chart, where one is asked for."""
+    if own:
+        print(table(own))
+    print(f"NEWS: {len(broken)} runs break what is proved; kept whole: {', '.join(map(str, broken))}" if broken else
+          f"{len(own)} of {asked} runs, all within what is proved; table: {words.csv}")
+    if own and words.plot:
+        with named(words.plot, "--plot names another file, and the same words draw what is in the table"):
+            Path(words.plot).write_text(chart.chart(own), encoding="utf-8")
+        print(f"chart: {words.plot}")
+
+
+@contextlib.contextmanager
+def named(file: str, remedy: str) -> Iterator[None]:
+    """Where a file couldn't be written, raises a fault that tells which, and what helps."""
+    try:
+        yield
+    except OSError as error:
+        raise Fault(f"{file}: {error.strerror}; make room, or {remedy}", 4) from None
+
+
+def experiment(words: argparse.Namespace) -> int:
+    """Runs what isn't in the table yet, and draws all of it."""
+    answerer()
+    every, path = settings(words), Path(words.csv)
+    seeds = range(words.seed, words.seed + words.runs)
+    rows = read_rows(path)
+    asked = {(it.family, it.nodes, it.daemon.spelled(), it.start, seed) for it in every for seed in seeds}
+    done = {key(row) for row in rows}
+    with named(words.csv, OTHER):
+        new_file(path)
+    if asked & done:
+        print(f"{len(asked & done)} runs are in {path} already")
+    tasks = left(every, seeds, done)
+    progress = Progress(sum(len(task[1]) for task in tasks))
+    broken: list[Path] = []
+    interrupted = False
+    try:
+        with named(words.csv, OTHER), path.open("a", encoding="utf-8") as it:
+            for row, script in measured(tasks, words.at_once or os.cpu_count() or 1):
+                rows.append(row)
+                it.write(line_of(row))
+                it.flush()
+                if row.breaks():
+                    broken.append(keep_news(path, row, script))
+                progress.one()
+    except KeyboardInterrupt:
+        interrupted = True
+    told(sorted((row for row in rows if key(row) in asked), key=key), len(asked), words, broken)
+    if interrupted:
+        print("interrupted; the same words go on with it")
+        return FAILED
+    return WARNED if broken else 0

@@ -1,0 +1,143 @@
+"""`./class grade`: each bot over many labs, daemons and seeds."""
+from __future__ import annotations
+
+import argparse
+import concurrent.futures
+import os
+import re
+import signal
+import tempfile
+import threading
+from collections.abc import Iterator
+from pathlib import Path
+
+from classroom.bots import graded, suites
+from classroom.bots.bots import Bot
+from classroom.bots.suites import Case
+from classroom.bots.trial import Limits, Result, tried
+from classroom.core.answering import answerer
+from classroom.core.counts import positive, seconds
+from classroom.core.folders import new_folder
+from classroom.core.printable import printable
+from classroom.core.program import Fault, program
+from classroom.core.statuses import FAILED, WARNED
+from classroom.run.daemons import daemons
+
+MOST_AT_ONCE = 16  # bots that run side by side
+
+
+def add_words(words: argparse.ArgumentParser) -> None:
+    """The words of `grade`."""
+    words.add_argument("bots", nargs="+", metavar="BOT",
+                       help="a command, to which a slip's path is added: 'python3 bot.py'; of bot.py, Bot.java or bot.js alone the file")
+    cases = words.add_mutually_exclusive_group()
+    cases.add_argument("--suite", choices=sorted(suites.SUITES), default="small", help="cases that come with the release (small)")
+    cases.add_argument("--labs", metavar="FOLDER", help="your own labs")
+    words.add_argument("--daemon", type=daemons, metavar="D,..", help="instead of the suite's: central, synchronous, random:P, ..")
+    words.add_argument("--seeds", type=positive, default=1, metavar="K", help="each case with the seeds 1 to K (1)")
+    words.add_argument("--timeout", type=seconds, default=20.0, metavar="SECONDS", help="what a case may take (20)")
+    words.add_argument("--memory", type=positive, default=512, metavar="MB",
+                       help="what a bot may take, with all that it starts (512)")
+    words.add_argument("--at-once", type=positive, help="how many cases run side by side")
+    words.add_argument("--into", default="grades", help="where the cases' records and pages are kept (grades)")
+    for form, what in (("json", "a list of cases"), ("junit", "JUnit's form"), ("gradescope", "Gradescope's form")):
+        words.add_argument(f"--{form}", metavar="FILE", help=what)
+    words.set_defaults(work=grade)
+
+
+def folder_of(top: Path, bot: Bot, case: Case) -> Path:
+    """Where a case's record is kept."""
+    plain = [re.sub(r"[^A-Za-z0-9._:-]+", "-", word).strip(".-") or "bot" for word in (bot.name, case.name())]
+    return top / plain[0] / plain[1]
+
+
+def results_of(bots: list[Bot], cases: list[Case], words: argparse.Namespace, top: Path, stop: threading.Event) -> Iterator[Result]:
+    """The result of each case of each bot as it ends; of a case that was interrupted there is none."""
+    limits = Limits(words.timeout, words.memory)
+    at_once = words.at_once or min(MOST_AT_ONCE, 3 * (os.cpu_count() or 1))
+
+    def one(bot: Bot, case: Case) -> Result | None:
+        """How a bot does in a case, failed where no folder can be made for it; None where it was interrupted."""
+        if stop.is_set():
+            return None
+        try:
+            with tempfile.TemporaryDirectory(prefix="bot-", ignore_cleanup_errors=True) as room:
+                return tried(bot, case, limits, Path(room), folder_of(top, bot, case), stop)
+        except OSError as error:
+            why = f"not tried: {error.filename or tempfile.gettempdir()}: {error.strerror}; TMPDIR names another folder"
+            return Result(bot.name, case.lab, case.daemon.spelled(), case.seed, False, why)
+
+    with concurrent.futures.ThreadPoolExecutor(at_once) as pool:
+        going = [pool.submit(one, bot, case) for bot in bots for case in cases]
+        for each in concurrent.futures.as_completed(going):
+            result = each.result()
+            if result is not None:
+                yield result
+
+
+def write_all(words: argparse.Namespace, results: list[Result]) -> list[str]:
+    """Writes the forms that were asked for; gives a line for each that couldn't be written."""
+    faults = []
+    for form in graded.FORMS:
+        if getattr(words, form):
+            try:
+                graded.write(form, Path(getattr(words, form)), results)
+            except Fault as fault:
+                faults.append(f"{fault}; what stood there stays: make room, or name another file")
+    return faults
+
+
+def numbered(bots: list[Bot]) -> list[Bot]:
+    """The bots, of which all but the first of a name have a number behind it."""
+    names: dict[str, int] = {}
+    found = []
+    for bot in bots:
+        names[bot.name] = names.get(bot.name, 0) + 1
+        again = names[bot.name]
+        found.append(bot if again == 1 else Bot(f"{bot.name} ({again})", bot.words, bot.fault))
+    return found
+
+
+def grade(words: argparse.Namespace) -> int:
+    """Tries each bot in each case, and tells how it did."""
+    program(), answerer()
+    bots = numbered([Bot.of(word) for word in words.bots])
+    faults: list[str] = []
+    if words.labs:
+        cases, faults = suites.of_folder(Path(words.labs), words.daemon, words.seeds)
+    else:
+        cases = suites.of_suite(words.suite, words.daemon, words.seeds)
+    for fault in faults + [bot.fault for bot in bots if bot.fault]:
+        print(f"class: {fault}", flush=True)
+    runnable = [bot for bot in bots if not bot.fault]
+    top = new_folder(Path(words.into), Path("grade")) if runnable else Path()
+    stop = threading.Event()
+    for number in (signal.SIGINT, signal.SIGTERM, signal.SIGHUP):
+        signal.signal(number, lambda *_: stop.set())
+    results = [Result(bot.name, case.lab, case.daemon.spelled(), case.seed, False, bot.fault, started=False)
+               for bot in bots for case in cases if bot.fault]
+    full = False
+    try:
+        for result in results_of(runnable, cases, words, top, stop):
+            results.append(result)
+            print(graded.told(result), flush=True)
+            if result.unkept and not full:
+                print(f"class: {printable(result.unkept)}; --into names another folder", flush=True)
+            full = full or bool(result.unkept)
+    finally:
+        stop.set()
+        pairs = [(bot.name, case.name()) for bot in bots for case in cases]
+        order = {pair: index for index, pair in enumerate(pairs)}
+        results.sort(key=lambda result: order[result.bot, graded.named(result)])
+        unwritten = write_all(words, results)
+    print(graded.table(results))
+    if runnable:
+        print(f"records and pages: {top}")
+    for fault in unwritten:
+        print(f"class: {printable(fault)}")
+    if len(results) < len(bots) * len(cases):
+        print(f"interrupted: {len(results)} of {len(bots) * len(cases)} cases")
+        return FAILED
+    if unwritten:
+        return FAILED
+    return 0 if not faults and all(result.passed for result in results) else WARNED

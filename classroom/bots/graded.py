@@ -1,0 +1,84 @@
+"""What a grade tells: a table for people, and the forms that autograders read."""
+from __future__ import annotations
+
+import json
+from collections.abc import Callable
+from dataclasses import asdict
+from pathlib import Path
+from typing import Any
+from xml.etree import ElementTree
+
+from classroom.bots.trial import Result
+from classroom.core.printable import printable
+from classroom.core.program import Fault
+
+NEVER = "not tried: it can't be started"
+ABOUT = ("bot", "lab", "daemon", "seed", "passed", "why", "moves", "denied")
+
+
+def named(result: Result) -> str:
+    """A case's name, as `Case.name` has it."""
+    return f"{result.lab} {result.daemon} {result.seed}"
+
+
+def as_json(results: list[Result]) -> str:
+    """The results as JSON, a list of cases."""
+    cases = [{key: value for key, value in asdict(result).items() if key in ABOUT} for result in results]
+    return json.dumps(cases, indent=1, ensure_ascii=False) + "\n"
+
+
+def as_junit(results: list[Result]) -> str:
+    """JUnit's form: a suite a bot."""
+    top = ElementTree.Element("testsuites")
+    for bot in dict.fromkeys(result.bot for result in results):
+        own = [result for result in results if result.bot == bot]
+        suite = ElementTree.SubElement(top, "testsuite", name=printable(bot), tests=str(len(own)),
+                                       failures=str(sum(not result.passed for result in own)))
+        for result in own:
+            case = ElementTree.SubElement(suite, "testcase", classname=printable(bot), name=named(result), time=str(result.seconds))
+            if not result.passed:
+                ElementTree.SubElement(case, "failure", message=printable(result.why))
+    ElementTree.indent(top)
+    return ElementTree.tostring(top, encoding="unicode", xml_declaration=True) + "\n"
+
+
+def as_gradescope(results: list[Result]) -> str:
+    """Gradescope's form: a point a case."""
+    tests: list[dict[str, Any]] = [
+        {"name": f"{result.bot}: {named(result)}", "score": int(result.passed), "max_score": 1,
+         "status": "passed" if result.passed else "failed", "output": printable(result.why) or "passed"}
+        for result in results
+    ]
+    return json.dumps({"tests": tests}, indent=1, ensure_ascii=False) + "\n"
+
+
+FORMS: dict[str, Callable[[list[Result]], str]] = {"json": as_json, "junit": as_junit, "gradescope": as_gradescope}
+
+
+def write(form: str, path: Path, results: list[Result]) -> None:
+    """Writes a form into a file, which is whole or isn't changed."""
+    new = path.with_name(f"{path.name}.new")
+    try:
+        new.write_text(FORMS[form](results), encoding="utf-8")
+        new.replace(path)
+    except OSError as error:
+        new.unlink(missing_ok=True)
+        raise Fault(f"{path}: {error.strerror}", 4) from None
+
+
+def told(result: Result) -> str:
+    """A case as a line, and below it why it isn't passed."""
+    denied = ", ".join(f"{count} {word}" for word, count in result.denied.items())
+    tail = "".join(f"; {it}" for it in (f"{result.moves} moves", denied) if it)
+    return printable(f"{'passed' if result.passed else 'FAILED'}  {result.bot}: {named(result)}{tail}"
+                     + (f"\n        {result.why}" if result.why else ""))
+
+
+def table(results: list[Result]) -> str:
+    """How many of its cases each bot passed; of one that was never started, that."""
+    rows = []
+    for bot in dict.fromkeys(result.bot for result in results):
+        own = [result for result in results if result.bot == bot]
+        passed = f"{sum(result.passed for result in own)} of {len(own)} cases passed"
+        rows.append(f"{printable(bot)}: {passed if any(result.started for result in own) else NEVER}")
+    return "\n".join(rows)

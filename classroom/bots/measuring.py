@@ -1,0 +1,97 @@
+"""One run of an experiment: registers are set, a daemon lets nodes move, and each answer is the program's."""
+from __future__ import annotations
+
+import contextlib
+import random
+from dataclasses import dataclass
+
+from classroom.client import Denied, Refused
+from classroom.core import lab as labs
+from classroom.core import bounds, networks
+from classroom.core.bench import Bench, network
+from classroom.core.program import Fault
+from classroom.core.rounds import Recovery
+from classroom.run.adversary import Adversary
+from classroom.run.daemons import Daemon, movers
+from classroom.setup.new import start
+
+SIZED = ("grid:", "random:")
+
+
+@dataclass(frozen=True)
+class Setting:
+    """What several runs have in common."""
+
+    family: str
+    nodes: int
+    daemon: Daemon
+    start: str
+
+
+@dataclass(frozen=True)
+class Row:
+    """What a run gave."""
+
+    family: str
+    nodes: int
+    links: int
+    daemon: str
+    start: str
+    seed: int
+    moves: int
+    closes: int
+    rounds: int
+    stable: bool
+
+    def breaks(self) -> bool:
+        """Whether the run would be news: what is proved doesn't hold of it."""
+        most = bounds.of(self.nodes, self.links)
+        return not self.stable or self.moves > most.moves or self.rounds > most.rounds
+
+
+def drawn(setting: Setting, seed: int) -> labs.Lab:
+    """The network and the registers of a run: the same for each daemon."""
+    chance = random.Random(f"{setting.family} {setting.nodes} {setting.start} {seed}")
+    count = None if setting.family.startswith(SIZED) else setting.nodes
+    nodes, links = networks.family(setting.family, count, 0, chance)
+    made = network([labs.Node(node, []) for node in range(1, nodes + 1)], links)
+    start(made, setting.start, chance)
+    return made
+
+
+def run(bench: Bench, setting: Setting, made: labs.Lab, seed: int) -> Row:
+    """A run from its registers to its stable end, or to where it has more moves than there can be."""
+    named = f"{setting.family} {setting.nodes} {setting.start} {seed} {setting.daemon.spelled()}"
+    chance = random.Random(named)
+    report = bench.begin(made)
+    recovery = Recovery(node for node, _ in report["privileged"])
+    most = bounds.of_lab(made).moves
+    with contextlib.closing(Adversary(named)) as adversary:
+        while report["privileged"] and recovery.moves <= most:
+            nodes = movers(setting.daemon, [node for node, _ in report["privileged"]], chance,
+                           lambda nodes: adversary.choose(bench.present(), nodes))
+            report = bench.step(report, nodes, chance)
+            recovery.step(nodes, [node for node, _ in report["privileged"]])
+    return Row(setting.family, len(made.nodes), len(made.links), setting.daemon.spelled(), setting.start, seed,
+               recovery.moves, recovery.closes, recovery.rounds, bool(report["stable"]))
+
+
+def runs(setting: Setting, seeds: list[int]) -> list[tuple[Row, bytes]]:
+    """A row a seed, each with the script that tells the run where it would be news, and else with nothing."""
+    bench: Bench | None = None
+    rows: list[tuple[Row, bytes]] = []
+    try:
+        for seed in seeds:
+            made = drawn(setting, seed)
+            if bench is None or not bench.has_room(made):
+                if bench is not None:
+                    bench.close()
+                bench = Bench(made)
+            row = run(bench, setting, made, seed)
+            rows.append((row, bench.script() if row.breaks() else b""))
+    except (Denied, Refused) as error:
+        raise Fault(f"{setting}: {error}", 4) from None
+    finally:
+        if bench is not None:
+            bench.close()
+    return rows

@@ -1,0 +1,295 @@
+"""A class without a server: programs of students play some nodes, the house plays the others, and a daemon closes
+steps.
+
+What is granted, denied, shown and reported is the program's answer, line by line.
+"""
+from __future__ import annotations
+
+import json
+import random
+import time
+from collections import Counter, deque
+from collections.abc import Callable
+from dataclasses import dataclass, field
+from pathlib import Path
+from types import TracebackType
+from typing import Any
+
+from classroom.bots.relay import Relay
+from classroom.client import Denied, reply_of, wrong
+from classroom.core import lab as labs
+from classroom.core.answering import Answering
+from classroom.core.bench import network
+from classroom.run.adversary import Adversary
+from classroom.run.daemons import Daemon, Sight, applied
+
+TEACHER, HOUSE, FIRST = 1, 2, 3  # connections of the script; from the third on programs have them
+PACE = 0.02  # seconds between two looks of the house at its nodes
+SHARED = 0.05  # how often the house asks at such a look for a node that a program plays too
+KEPT_LINES = 20_000  # of a conversation
+FLOOD = 200  # lines over which pauses are counted
+PATIENCE = 0.5  # seconds without a grant after which the random daemon tosses
+
+
+@dataclass
+class Heard:
+    """What a program asked, as far as it was answered."""
+
+    lines: int = 0
+    asked: int = 0
+    granted: int = 0
+    moved: int = 0
+    rules: Counter[str] = field(default_factory=Counter)  # what was granted
+    wanted: set[str] = field(default_factory=set)  # the rules that it asked for
+    greeted: int = 0
+    denied: Counter[str] = field(default_factory=Counter)
+    pauses: deque[bool] = field(default_factory=lambda: deque(maxlen=FLOOD))  # whether one was before the last lines
+    repeats: Counter[tuple[int, int]] = field(default_factory=Counter)  # `chosen` by node and number
+
+    def floods(self, nodes: int) -> bool:
+        """Whether the last lines came almost without pauses: a bot of so many nodes waits when it has looked at all, so
+        one pause in four lines a node and four more is enough."""
+        return len(self.pauses) == FLOOD and sum(self.pauses) * (4 * nodes + 4) < FLOOD
+
+
+@dataclass(frozen=True)
+class No:
+    """A line that wasn't granted, and why as the program tells it."""
+
+    who: str
+    word: str
+    text: str
+    kind: str  # what it has in common with others that want no other words
+
+
+@dataclass(frozen=True)
+class Step:
+    """A step that was closed: its number, who moved by which rule, and what the report says."""
+
+    at: int
+    moved: list[tuple[int, str, str]]
+    report: dict[str, Any]
+
+
+def number_of(value: object) -> int:
+    """A value of a request, if it is an integer; else 0."""
+    return value if isinstance(value, int) and not isinstance(value, bool) else 0
+
+
+def request_of(line: bytes) -> dict[str, Any]:
+    """The values of the request that a line is; none where it is no object."""
+    try:
+        asked = json.loads(line)
+    except (ValueError, RecursionError):
+        return {}
+    return asked if isinstance(asked, dict) else {}
+
+
+class Playing:
+    """A lab that is played."""
+
+    def __init__(self, lab: labs.Lab, programs: list[str], daemon: Daemon, seed: str, port: int = 0) -> None:
+        """`programs` are the students that programs play; the house is all others."""
+        self.lab, self.programs, self.daemon = lab, programs, daemon
+        self.chance, self.pace_chance = random.Random(f"{seed} daemon"), random.Random(f"{seed} house")
+        self.adversary = Adversary(seed)
+        self.heard = {name: Heard() for name in programs}
+        self.names: dict[int, str] = {}
+        self.chosen: dict[int, tuple[str, str]] = {}
+        self.conversation: list[str] = []
+        self.on_no: Callable[[No], None] = lambda no: None
+        self.on_step: Callable[[Step], None] = lambda step: None
+        self.closes = self.moves = self.since_moves = 0
+        self.news = self.closed = self.paced = time.monotonic()
+        self.program = Answering(lab)
+        try:
+            self.program.greet(TEACHER, lab.teacher[0])
+            self.report = self.program.ask(TEACHER, do="report")
+            self.relay = Relay(self.answer, self.part, range(FIRST, lab.sessions + 1), port)
+        except BaseException:
+            self.program.close()
+            raise
+
+    # What programs ask.
+
+    def answer(self, connection: int, line: bytes, paused: bool) -> bytes:
+        """The program's reply to a line that came, which is counted."""
+        reply = self.program.answers([(connection, line)])[0]
+        told = reply_of(reply)
+        self.program.keep(connection, line, told)
+        if len(self.conversation) < KEPT_LINES:
+            self.conversation += [f"{connection} > {line.decode(errors='backslashreplace')}", f"{connection} < {reply.decode()}"]
+        if told.get("ok") == "hello":
+            self.names[connection] = told["who"]
+            self.heard.setdefault(told["who"], Heard()).greeted += 1
+        who = self.names.get(connection, self.programs[0])
+        self.heard[who].pauses.append(paused)
+        self.count(who, request_of(line), line, told)
+        if told.get("ok") == "bye":
+            self.names.pop(connection, None)
+        return reply
+
+    def count(self, who: str, asked: dict[str, Any], line: bytes, told: dict[str, Any]) -> None:
+        """Counts a line of a student's program with its reply."""
+        heard = self.heard[who]
+        heard.lines += 1
+        if asked.get("do") == "move":
+            heard.asked += 1
+            heard.wanted.add(str(asked.get("rule")))
+        if told.get("ok") == "move":
+            heard.granted += 1
+            heard.rules[told["rule"]] += 1
+            self.grant(told["node"], who, told["rule"])
+        elif "deny" in told:
+            heard.denied[told["deny"]] += 1
+            if told["deny"] == "chosen":
+                heard.repeats[number_of(asked.get("node")), number_of(asked.get("at"))] += 1
+            text = self.explained(asked, told)
+            self.on_no(No(who, told["deny"], text, text))
+        elif "refuse" in told:
+            heard.denied[told["refuse"]] += 1
+            note = wrong(line.decode(errors="surrogateescape").replace("\r", " ")) if told["refuse"] == "malformed" else None
+            kind = f"{told['refuse']}: {note}" if note else told["refuse"]
+            self.on_no(No(who, told["refuse"], f"{kind}: {line[:120].decode(errors='backslashreplace')}", kind))
+
+    def explained(self, asked: dict[str, Any], told: dict[str, Any]) -> str:
+        """A denial with its clause, the node's registers, and what would be granted there."""
+        what = " ".join(str(asked[key]) for key in ("do", "node", "rule", "with") if key in asked)
+        text = f"{what} is denied as {told['deny']}, clause {told['clause']}: {told['text']}"
+        if "at" in told:
+            text += f"; it was asked under {asked.get('at')}, and the number is {told['at']}"
+        node = number_of(asked.get("node"))
+        if told["deny"] in ("not-owner", "hidden", "stale") or node not in {each.id for each in self.lab.nodes}:
+            return text
+        look = self.program.ask(TEACHER, do="look", node=node)
+        near = ", ".join(f"{each['node']} (p {each['p'] or 'null'}, m {str(each['m']).lower()})" for each in look["near"])
+        text += f"; node {node} has p {look['p'] or 'null'}, m {str(look['m']).lower()}, its neighbours are {near or 'none'}"
+        if look["chosen"]:
+            return f"{text}; its move {look['chosen']} waits for the step to close"
+        return f"{text}; {look['rule'] or 'nothing'} would be granted there"
+
+    def silence(self, who: str) -> str:
+        """Why nothing comes from a program, as far as its port can tell, after a semicolon; empty where it can't."""
+        if self.relay.has_unended():
+            return "; a line came that has no newline at its end"
+        if self.heard[who].greeted:
+            return ""
+        strangers = self.relay.came > sum(heard.greeted for heard in self.heard.values())
+        return "; it connected, but no hello was granted" if strangers else f"; it never connected to port {self.relay.port}"
+
+    def part(self, connection: int) -> None:
+        """Says bye for a connection that has ended."""
+        self.program.ask(connection, do="bye")
+        self.names.pop(connection, None)
+
+    # What is granted.
+
+    def grant(self, node: int, who: str, rule: str) -> None:
+        """Notes a move that was granted: its node is chosen."""
+        self.chosen[node] = (who, rule)
+        self.news = time.monotonic()
+
+    def changed(self) -> None:
+        """Takes a new configuration: nothing is chosen, and the report is asked for."""
+        self.chosen.clear()
+        self.report = self.program.ask(TEACHER, do="report")
+
+    def fault(self, node: int, p: int | None, m: bool) -> None:
+        """Sets a node's registers."""
+        self.program.ask(TEACHER, do="fault", node=node, p=p, m=m)
+        self.since_moves = 0
+        self.changed()
+        self.news = time.monotonic()
+
+    def close(self, nodes: list[int]) -> None:
+        """Closes a step in which these move; the other chosen moves are released."""
+        for node in self.chosen.keys() - set(nodes):
+            self.program.ask(TEACHER, do="release", node=node)
+        told = self.program.ask(TEACHER, do="close")
+        moved = [(node, *self.chosen[node]) for node in told["moved"]]
+        for _, who, _ in moved:
+            if who in self.heard:
+                self.heard[who].moved += 1
+        self.closes, self.moves, self.since_moves = self.closes + 1, self.moves + len(moved), self.since_moves + len(moved)
+        self.changed()
+        self.news = self.closed = time.monotonic()
+        self.on_step(Step(told["at"], moved, self.report))
+
+    # Who plays.
+
+    def house_owner(self, node: int) -> str | None:
+        """The owner in whose name the house asks; None where programs play for all owners."""
+        return next((name for name in self.lab.owners(node) if name not in self.programs), None)
+
+    def house(self) -> None:
+        """The house asks for its nodes: for one where a close applies one, and else for all; but only now and then for
+        a node that a program plays too."""
+        nodes = [node for node, _ in self.report["privileged"] if node not in self.chosen and self.house_owner(node)]
+        own = [node for node in nodes if len(self.lab.owners(node)) == 1 or not set(self.lab.owners(node)) & set(self.programs)]
+        shared = [node for node in nodes if node not in own and self.pace_chance.random() < SHARED]
+        if self.daemon.kind == "central":
+            own = [] if self.chosen else [self.pace_chance.choice(own + shared)] if own + shared else []
+            shared = []
+        for node in own + shared:
+            self.house_move(node)
+
+    def house_move(self, node: int) -> None:
+        """Asks for what is enabled at a node, as a look shows it."""
+        name = self.house_owner(node)
+        assert name is not None
+        self.program.greet(HOUSE, name)
+        look = self.program.ask(HOUSE, do="look", node=node)
+        if look["rule"] is None or look["chosen"] is not None:
+            return
+        move: dict[str, object] = {"do": "move", "node": node, "rule": look["rule"], "at": look["at"]}
+        if look["rule"] == "marriage":
+            move["with"] = self.pace_chance.choice([each["node"] for each in look["near"] if each["p"] == node])
+        try:
+            self.program.ask(HOUSE, **move)
+            self.grant(node, name, look["rule"])
+        except Denied:
+            pass
+
+    def turn(self) -> None:
+        """What comes is answered, the house asks, and the daemon closes."""
+        self.relay.turn(PACE / 2)
+        now = time.monotonic()
+        if now - self.paced >= PACE:
+            self.paced = now
+            self.house()
+        sight = Sight([node for node, _ in self.report["privileged"]], list(self.chosen), now - self.news, now - self.closed)
+        nodes = applied(self.daemon, sight, self.chance, PATIENCE, lambda nodes: self.adversary.choose(self.seen(), nodes))
+        if nodes:
+            self.close(nodes)
+
+    def seen(self) -> labs.Lab:
+        """The network with its registers as they are."""
+        seen = [self.program.ask(TEACHER, do="see", node=node.id) for node in self.lab.nodes]
+        return network([labs.Node(it["node"], [], it["p"], it["m"]) for it in seen], self.lab.links)
+
+    def is_stable(self) -> bool:
+        """Whether no node is privileged."""
+        return bool(self.report["stable"])
+
+    def waiting(self) -> str:
+        """Whose nodes are privileged and have no chosen move."""
+        return ", ".join(f"{node} ({' and '.join(self.lab.owners(node))}): {rule}"
+                         for node, rule in self.report["privileged"] if node not in self.chosen)
+
+    def write(self, folder: Path) -> None:
+        """Leaves the lab, the script that does the run again, and the conversation."""
+        (folder / "lab.toml").write_text(labs.text(self.lab), encoding="utf-8")
+        (folder / "script").write_bytes(self.program.script())
+        (folder / "conversation.txt").write_text("".join(f"{line}\n" for line in self.conversation), encoding="utf-8")
+
+    def end(self) -> None:
+        """Closes the port, and ends the program and the adversary."""
+        self.relay.close()
+        self.program.close()
+        self.adversary.close()
+
+    def __enter__(self) -> Playing:
+        return self
+
+    def __exit__(self, kind: type[BaseException] | None, error: BaseException | None, trace: TracebackType | None) -> None:
+        self.end()

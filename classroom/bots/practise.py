@@ -1,0 +1,266 @@
+"""`./class practise`: a student alone, with bots of the house at the other nodes."""
+from __future__ import annotations
+
+import argparse
+import contextlib
+import os
+import random
+import signal
+import time
+from collections import Counter
+from collections.abc import Callable
+from dataclasses import dataclass, field
+from pathlib import Path
+
+from classroom.bots.bots import Bot, Kept
+from classroom.bots.playing import No, Playing, Step
+from classroom.bots.suites import HOUSE, TEACHER, key
+from classroom.bots.trial import FLOODS
+from classroom.client import RULES
+from classroom.core import lab as labs
+from classroom.core import bounds, networks
+from classroom.core.answering import answerer
+from classroom.core.counts import plural, positive, seconds
+from classroom.core.folders import new_folder
+from classroom.core.program import TOP, Fault, call, first_free, program
+from classroom.core.rounds import Recovery
+from classroom.core.statuses import WARNED
+from classroom.pages import play
+from classroom.run.daemons import FORMS, Daemon, daemon
+from classroom.run.heard import MALFORMED
+from classroom.run.teller import Teller
+from classroom.setup import slips
+from classroom.setup.new import start
+
+QUIET = 10.0  # seconds without news after which it is told for whom the class waits
+MEGABYTES = 4096  # of a program at home
+REST = 0.3  # seconds that a stable class is held, for late lines
+SEED = 5503  # over seven nodes in a cycle, hurt, both nodes that it deals out need all four rules, whoever is quick
+
+
+def add_words(words: argparse.ArgumentParser) -> None:
+    """The words of `practise`."""
+    words.add_argument("bots", nargs="*", metavar="BOT",
+                       help="a command, to which a slip's path is added: 'python3 bot.py'; without one, a port waits for a program")
+    words.add_argument("--family", default="cycle", help=f"{networks.NAMED} (cycle)")
+    words.add_argument("--nodes", type=positive, help="how many nodes (7)")
+    words.add_argument("--node", metavar="I,..", help="your nodes, dealt out to the BOTs in turn (two for each, by the seed)")
+    words.add_argument("--start", choices=networks.STARTS, default="hurt", help="registers at the beginning (hurt)")
+    words.add_argument("--daemon", type=daemon, default=Daemon("when-idle", 0.5), metavar="D", help=f"{FORMS} (when-idle:0.5)")
+    words.add_argument("--seed", type=int, default=SEED, help=f"for network, start and daemon ({SEED})")
+    words.add_argument("--timeout", type=seconds, default=60.0, metavar="SECONDS",
+                       help="without news for so long it ends, where a BOT is named (60)")
+    words.add_argument("--port", type=positive, help="the port, or else the next that is free (4711; with a BOT any)")
+    words.add_argument("--into", default="runs", help="where the run's folder is made (runs)")
+    words.set_defaults(work=practise)
+
+
+def own_nodes(word: str | None, identifiers: list[int], bots: int, chance: random.Random) -> list[int]:
+    """The nodes that are the student's: those that the word names, or two for each bot, drawn."""
+    if word is None:
+        return sorted(chance.sample(identifiers, min(2 * bots, len(identifiers))))
+    try:
+        nodes = [int(each) for each in word.replace(",", " ").split()]
+    except ValueError:
+        raise Fault(f"--node {word}: numbers with commas between them") from None
+    wrong = [node for node in nodes if node not in identifiers]
+    if wrong or not nodes:
+        raise Fault(f"--node {word}: the nodes are {identifiers[0]} to {identifiers[-1]}")
+    return list(dict.fromkeys(nodes))
+
+
+def made(words: argparse.Namespace, names: list[str]) -> labs.Lab:
+    """The lab: the students' nodes in turn, and the house's."""
+    chance = random.Random(f"practise {words.seed}")
+    sized = words.family.startswith(("grid:", "random:"))
+    nodes, links = networks.family(words.family, words.nodes or (None if sized else 7), 0, chance)
+    identifiers = list(range(1, nodes + 1))
+    own = own_nodes(words.node, identifiers, len(names), chance)
+    if len(own) < len(names):
+        raise Fault(f"{len(own)} nodes for {len(names)} BOTs: name more by --node")
+    owner = {node: names[index % len(names)] for index, node in enumerate(own)}
+    keys = {name: key() for name in [*names, HOUSE]}
+    dealt = [labs.Node(node, [owner.get(node, HOUSE)]) for node in identifiers]
+    it = labs.Lab(labs.MOST_EVENTS, labs.MOST_SESSIONS, (TEACHER, key()), keys, dealt, links)
+    start(it, words.start, chance)
+    return it
+
+
+def opened(lab: labs.Lab, names: list[str], words: argparse.Namespace) -> Playing:
+    """The class at a port: the one that is named, or the next that is free."""
+    def at(port: int) -> Playing | None:
+        """The class at that port; None where the port is taken."""
+        try:
+            return Playing(lab, names, words.daemon, f"practise {words.seed}", port)
+        except OSError:
+            return None
+
+    if words.bots and not words.port:
+        return Playing(lab, names, words.daemon, f"practise {words.seed}")
+    return first_free(words.port or 4711, at)
+
+
+@dataclass
+class Practice:
+    """A class with its programs, and what is told of it."""
+
+    playing: Playing
+    tell: Callable[[str], None]
+    timeout: float | None
+    kept: list[tuple[str, Kept]] = field(default_factory=list)
+    told: str = ""
+    told_at: float = float("-inf")
+    stop: bool = False
+    times: Counter[tuple[str, str]] = field(default_factory=Counter)  # of a kind of lines that weren't granted
+    floods: set[str] = field(default_factory=set)
+
+    def __post_init__(self) -> None:
+        self.recovery = Recovery(node for node, _ in self.playing.report["privileged"])
+        self.most = bounds.of_lab(self.playing.lab).moves  # asked for now, so that it holds up no step
+        self.playing.on_no, self.playing.on_step = self.no, self.step
+
+    def no(self, no: No) -> None:
+        """Explains a line that wasn't granted. Of its kind only the first is explained; at the tenth, the hundredth and
+        so on it is told how many they are."""
+        self.times[no.who, no.kind] += 1
+        times = self.times[no.who, no.kind]
+        if times == 1:
+            self.tell(f"{no.who}: {no.text}")
+        elif str(times).strip("0") == "1":
+            self.tell(f"{no.who}: {times} times by now: {no.kind}")
+
+    def step(self, step: Step) -> None:
+        """A step as a line."""
+        privileged = [node for node, _ in step.report["privileged"]]
+        self.recovery.step([node for node, _, _ in step.moved], privileged)
+        moved = ", ".join(f"{node} ({who}) {rule}" for node, who, rule in step.moved)
+        left = f"{len(privileged)} privileged" if privileged else "stable"
+        self.tell(f"configuration {step.at}: {moved}; {left}, {self.recovery.moves} of at most {self.most} moves")
+        self.told = ""
+
+    def turn(self) -> None:
+        """Lets the class go on, and sees who floods."""
+        self.playing.turn()
+        self.floods |= {name for name in self.playing.programs if self.playing.heard[name].floods(len(self.playing.lab.nodes_of(name)))}
+
+    def summary(self, name: str) -> str:
+        """What a program did in all."""
+        heard = self.playing.heard[name]
+        moves = ", ".join(rule for rule in RULES if heard.rules[rule])
+        denied = {word: times for word, times in sorted(heard.denied.items()) if word != MALFORMED}
+        text = f"{name}: {plural(heard.granted, 'move')}" + f" ({moves})" * bool(moves)
+        text += f", {plural(sum(denied.values()), 'denial')}"
+        text += f" ({', '.join(f'{times} {word}' for word, times in denied.items())})" * bool(denied)
+        if heard.denied[MALFORMED]:
+            text += f", {plural(heard.denied[MALFORMED], 'malformed line')}"
+        never = ", ".join(rule for rule in RULES if rule not in heard.wanted)
+        return text + f"; never asked: {never}" * bool(never) + f"; {FLOODS}" * (name in self.floods)
+
+    def silence(self) -> str:
+        """Why nothing comes from programs, where that can be told."""
+        hints = {name: self.playing.silence(name).removeprefix("; ") for name in self.playing.programs}
+        return "".join(f"; {name}: {hint}" for name, hint in hints.items() if hint)
+
+    def run(self) -> bool:
+        """Plays to the stable end, or to where the class hangs or is stopped; gives whether it is stable."""
+        playing, news = self.playing, self.playing.news
+        while not playing.is_stable() and not self.stop:
+            self.turn()
+            idle = time.monotonic() - max(playing.news, news)
+            for name, kept in list(self.kept):
+                how = kept.ended()
+                if how:
+                    kind, _, what = how.partition(" ")
+                    self.tell(f"{name}: the program " + (f"has ended, status {what}" if kind == "ended" else f"was ended: {what}"))
+                    self.kept.remove((name, kept))
+            waiting = (playing.waiting() or "a close") + self.silence()
+            gone = not self.kept and self.timeout is not None
+            if self.timeout is not None and (idle > self.timeout or gone and idle > REST):
+                self.tell(f"it hangs: {'no program is left, and ' if gone else ''}the class waits for {waiting}")
+                return False
+            if idle > QUIET and self.told != waiting and time.monotonic() - self.told_at > QUIET:
+                self.tell(f"waiting for {waiting}")
+                self.told, self.told_at = waiting, time.monotonic()
+        end = time.monotonic() + REST
+        while time.monotonic() < end:
+            self.turn()
+        return playing.is_stable()
+
+
+def leave(playing: Playing, folder: Path, tell: Callable[[str], None]) -> None:
+    """Leaves record and page, and says where."""
+    playing.write(folder)
+    answer = call("script", folder / "lab.toml", folder / "script", folder / "journal")
+    if answer.status != 0:
+        raise Fault(f"{folder}: the run can't be played again: {answer.error}", 4)
+    (folder / "run.html").write_text(play.page(folder / "lab.toml", folder / "journal"), encoding="utf-8")
+    tell(f"page: {folder / 'run.html'}; what was said: {folder / 'conversation.txt'}")
+
+
+def practise(words: argparse.Namespace) -> int:
+    """Plays a class of one student to its end."""
+    program(), answerer()
+    bots = [Bot.of(word) for word in words.bots]
+    for bot in bots:
+        if bot.fault:
+            raise Fault(bot.fault)
+    names = ["you"] if len(bots) < 2 else [f"you-{number}" for number in range(1, len(bots) + 1)]
+    lab = made(words, names)
+    folder = new_folder(Path(words.into), Path("practise"))
+    with contextlib.closing(ClassWithPrograms(opened(lab, names, words))) as it:
+        try:
+            return played(it, bots, words, folder)
+        except OSError as error:
+            raise Fault(f"{error.filename or folder}: {error.strerror}; --into names another folder", 4) from None
+
+
+def for_its_owner(path: str, flags: int) -> int:
+    """Opens a file; one that it makes nobody else reads."""
+    return os.open(path, flags, 0o600)
+
+
+def played(it: ClassWithPrograms, bots: list[Bot], words: argparse.Namespace, folder: Path) -> int:
+    """Plays it in a folder of its own; the status is that of the word."""
+    lab, names, tell = it.playing.lab, it.playing.programs, Teller(folder)
+    practice = Practice(it.playing, tell, words.timeout if bots else None)
+    for number in (signal.SIGINT, signal.SIGTERM, signal.SIGHUP):
+        signal.signal(number, lambda *_: setattr(practice, "stop", True))
+    files = [folder / f"{name}.slip" for name in names]
+    for name, file in zip(names, files):
+        with open(file, "x", encoding="utf-8", opener=for_its_owner) as slip_file:
+            slip_file.write("".join(f"{line}\n" for line in slips.slip(lab, name, it.playing.relay.port)))
+    size = f"{words.family} of {len(lab.nodes)} nodes, {words.start}, daemon {words.daemon.spelled()}"
+    tell(f"{size}; " + "; ".join(f"{name}: {', '.join(map(str, lab.nodes_of(name)))}" for name in names))
+    if not bots:
+        by_hand = f"python3 {os.path.relpath(TOP / 'classroom/client.py')} SLIP"
+        tell(f"port {it.playing.relay.port}; play by hand ({by_hand}), or start your program, with the slip {files[0]}")
+    for name, bot, slip in zip(names, bots, files):
+        it.kept.append(Kept(bot, slip.resolve(), Path.cwd(), None, MEGABYTES))
+        practice.kept.append((name, it.kept[-1]))
+    stable = practice.run()
+    it.stop_programs()  # From now on nobody answers them.
+    if stable:
+        pairs = ", ".join(f"{a}-{b}" for a, b in it.playing.report["pairs"])
+        tell(f"stable: pairs {pairs or 'none'}; {practice.recovery.told(len(lab.nodes), len(lab.links))}")
+    leave(it.playing, folder, tell)
+    for name in names:
+        tell(practice.summary(name))
+    return 0 if stable else WARNED
+
+
+@dataclass
+class ClassWithPrograms:
+    """The class and its programs, which are ended together."""
+
+    playing: Playing
+    kept: list[Kept] = field(default_factory=list)
+
+    def stop_programs(self) -> None:
+        """Ends the programs."""
+        for each in self.kept:
+            each.stop()
+
+    def close(self) -> None:
+        """Ends programs and class."""
+        self.stop_programs()
+        self.playing.end()

@@ -1,0 +1,138 @@
+"""The cases by which a bot is tried: suites that come with the release, and a teacher's own labs."""
+from __future__ import annotations
+
+import random
+import secrets
+from dataclasses import dataclass, replace
+from pathlib import Path
+
+from classroom.core import lab as labs
+from classroom.core import networks
+from classroom.core.program import Fault
+from classroom.run.daemons import Daemon
+from classroom.setup.new import start
+
+BOT, HOUSE = "bot", "house"
+TEACHER = "teacher"
+FAULT, CUT = "fault", "cut"  # what comes in mid-run: registers are set, and the connection is closed before that
+USUAL = [Daemon("central"), Daemon("synchronous"), Daemon("random", 0.5)]
+
+
+@dataclass(frozen=True)
+class Plan:
+    """A lab's shape, which nodes are the bot's, and what comes in mid-run."""
+
+    name: str
+    family: str
+    nodes: int | None
+    start: str
+    own: int  # how many nodes are the bot's alone
+    shared: int = 0  # how many it shares with the house
+    troubles: tuple[str, ...] = ()
+    daemon: Daemon = USUAL[0]
+
+
+@dataclass(frozen=True)
+class Case:
+    """A lab whose student `who` the bot plays, under a daemon, with what comes in mid-run."""
+
+    lab: str
+    made: labs.Lab
+    who: str
+    daemon: Daemon
+    seed: int
+    troubles: tuple[str, ...]
+
+    def name(self) -> str:
+        """What tells it from others, and what its coins are drawn from."""
+        return f"{self.lab} {self.daemon.spelled()} {self.seed}"
+
+
+IDLE = Daemon("when-idle", 0.2)
+SMALL = [
+    Plan("path-4", "path", 4, "clean", 2, 0, (), Daemon("central")),
+    Plan("cycle-5", "cycle", 5, "hurt", 2, 0, (), Daemon("synchronous")),
+    Plan("star-5", "star", 5, "hurt", 1, 0, (FAULT,), Daemon("random", 0.5)),
+    Plan("complete-4", "complete", 4, "clean", 2, 0, (FAULT,), Daemon("synchronous")),
+    Plan("alone-path-4", "path", 4, "random", 4, 0, (), Daemon("synchronous")),
+    Plan("alone-cycle-4", "cycle", 4, "hurt", 4, 0, (), IDLE),
+    Plan("pairs-path-5", "path", 5, "random", 1, 2, (), Daemon("central")),
+    Plan("pairs-cycle-6", "cycle", 6, "clean", 1, 2, (FAULT,), Daemon("random", 0.5)),
+    Plan("tree-7", "tree", 7, "random", 3, 0, (), Daemon("synchronous")),
+    Plan("grid-6", "grid:3x2", None, "hurt", 2, 0, (FAULT,), IDLE),
+    Plan("random-6", "random:6:9", None, "random", 2, 0, (CUT,), Daemon("synchronous")),
+    Plan("two-faults-5", "path", 5, "clean", 2, 0, (FAULT, CUT), Daemon("random", 0.5)),
+]
+FAMILIES = [("path", 6), ("cycle", 7), ("star", 7), ("complete", 5), ("tree", 9), ("grid:4x3", None), ("random:10:15", None)]
+FULL = SMALL + [
+    Plan(f"{family.partition(':')[0]}-{start}-{kind}", family, nodes, start, own, shared, troubles, daemon)
+    for family, nodes in FAMILIES
+    for start, own, shared, troubles, kind, daemon in (
+        ("clean", 2, 0, (FAULT,), "central", Daemon("central")),
+        ("hurt", 3, 0, (CUT,), "synchronous", Daemon("synchronous")),
+        ("random", 2, 1, (FAULT, FAULT), "coin", Daemon("random", 0.3)),
+        ("random", 1, 0, (FAULT, CUT), "idle", IDLE),
+        ("hurt", 1, 2, (), "shared", Daemon("synchronous")),
+        ("random", 4, 0, (FAULT,), "many", Daemon("random", 0.8)),
+        ("clean", 3, 1, (CUT, FAULT), "both", Daemon("central")),
+    )
+]
+SUITES = {"small": SMALL, "full": FULL}
+
+
+def key() -> str:
+    """A key that can't be guessed."""
+    return secrets.token_hex(16)
+
+
+def dealt(count: int, links: networks.Links, own: list[int], shared: list[int]) -> labs.Lab:
+    """A lab of the bot's nodes, those that it shares with the house, and the house's."""
+    nodes = [labs.Node(node, [BOT] if node in own else [BOT, HOUSE] if node in shared else [HOUSE]) for node in range(1, count + 1)]
+    return labs.Lab(labs.MOST_EVENTS, labs.MOST_SESSIONS, (TEACHER, key()), {BOT: key(), HOUSE: key()}, nodes, links)
+
+
+def planned(plan: Plan, seed: int, how: Daemon) -> Case:
+    """The case of a plan with a seed."""
+    chance = random.Random(f"{plan.name} {seed}")
+    count, links = networks.family(plan.family, plan.nodes, 0, chance)
+    nodes = chance.sample(range(1, count + 1), plan.own + plan.shared)
+    made = dealt(count, links, nodes[:plan.own], nodes[plan.own:])
+    start(made, plan.start, chance)
+    return Case(plan.name, made, BOT, how, seed, plan.troubles)
+
+
+def own_lab(path: Path, seed: int, how: Daemon) -> Case:
+    """The case of a teacher's own lab: one of its students is the bot, with keys of its own."""
+    made = labs.read(path)
+    chance = random.Random(f"{path.stem} {seed}")
+    alone = {name: [node.id for node in made.nodes if node.owners == [name]] for name in made.students}
+    who = chance.choice([name for name, nodes in alone.items() if nodes] or [made.nodes[0].owners[0]])
+    students = {name: key() for name in made.students}
+    made = replace(made, events=labs.MOST_EVENTS, sessions=labs.MOST_SESSIONS, teacher=(made.teacher[0], key()), students=students)
+    return Case(path.stem, made, who, how, seed, (FAULT, CUT) if alone[who] else ())
+
+
+def of_suite(name: str, how: list[Daemon] | None, seeds: int) -> list[Case]:
+    """The cases of a suite that comes with the release, with the seeds 1 to `seeds`; each plan has its own daemon where
+    none are named."""
+    plans = SUITES[name]
+    return [planned(plan, seed, each) for seed in range(1, seeds + 1) for plan in plans for each in how or [plan.daemon]]
+
+
+def of_folder(folder: Path, how: list[Daemon] | None, seeds: int) -> tuple[list[Case], list[str]]:
+    """The cases of a folder's labs, with the seeds 1 to `seeds`, under the usual daemons where none are named; and a
+    line for each file that is no lab."""
+    try:
+        files = sorted(each for each in folder.iterdir() if each.suffix == ".toml")
+    except OSError as error:
+        raise Fault(f"{folder}: {error.strerror}; it is a folder of labs, NAME.toml", 4) from None
+    cases: list[Case] = []
+    faults: list[str] = []
+    for file in files:
+        try:
+            cases += [own_lab(file, seed, each) for seed in range(1, seeds + 1) for each in how or USUAL]
+        except Fault as fault:
+            faults.append(str(fault))
+    if not cases:
+        raise Fault("; ".join(faults) or f"{folder}: no labs; they are files NAME.toml, which ./class new makes", 2)
+    return cases, faults

@@ -1,0 +1,149 @@
+"""Many short runs without a server: `mml answer` answers each line of a script as it comes."""
+from __future__ import annotations
+
+import json
+import os
+import subprocess
+from pathlib import Path
+from types import TracebackType
+from typing import Any
+
+from classroom.client import Denied, Refused, reply_of
+from classroom.core import lab as labs
+from classroom.core.program import Fault, host, is_clone
+
+AT_ONCE = 16_000  # bytes of lines that are sent before their replies are read; a pipe takes more
+MOST_SCRIPT = 1_000_000  # bytes of a script that is kept; the program takes 1,048,576
+SOME = 24  # lines, at most, that are sent before their replies are read
+
+
+def answerer() -> Path:
+    """The host's program, which has the word `answer`; a fault where it isn't built."""
+    found = host()
+    if found is None:
+        how = "`./mml build` builds it (with the toolchain's rt on the path)" if is_clone() else "this release has none"
+        raise Fault(f"mml_host isn't built: {how}")
+    return found
+
+
+def started(lab: labs.Lab) -> subprocess.Popen[bytes]:
+    """The program, started over a lab. The lab's file has no name, so that a program under test can't find it."""
+    program = answerer()
+    file = os.memfd_create("lab")
+    try:
+        with open(file, "wb", closefd=False) as it:
+            it.write(labs.text(lab).encode())
+        return subprocess.Popen(
+            [program, "answer", f"/dev/fd/{file}"], stdin=subprocess.PIPE, stdout=subprocess.PIPE,
+            stderr=subprocess.PIPE, pass_fds=(file,), start_new_session=True,
+        )
+    finally:
+        os.close(file)
+
+
+def all_of(lab: labs.Lab, script: list[str]) -> str:
+    """The replies to all lines of a script, a line each after its connection's number."""
+    with started(lab) as process:
+        out, error = process.communicate("\n".join([*script, ""]).encode("ascii"))
+    replies, said = out.decode("ascii"), error.decode(errors="replace").strip()
+    count = replies.count("\n")
+    if process.returncode != 0 or count != len(script):
+        raise Fault(said or f"{count} replies to {len(script)} lines", process.returncode or 4)
+    return replies
+
+
+class Answering:
+    """A lab, and a program that answers lines over it."""
+
+    def __init__(self, lab: labs.Lab) -> None:
+        self.lab = lab
+        self.process = started(lab)
+        self.size = 0
+        self.granted: list[bytes] = []  # the lines of a script that does again what was granted
+        self.names: dict[int, str] = {}
+
+    def answers(self, lines: list[tuple[int, bytes]]) -> list[bytes]:
+        """The replies to lines of connections, in their order."""
+        assert self.process.stdin is not None and self.process.stdout is not None
+        replies: list[bytes] = []
+        while len(replies) < len(lines):
+            part: list[bytes] = []
+            size = 0
+            for connection, line in lines[len(replies):len(replies) + SOME]:
+                if part and size + len(line) > AT_ONCE:
+                    break
+                part.append(b"%d %s\n" % (connection, line))
+                size += len(line)
+            try:
+                self.process.stdin.write(b"".join(part))
+                self.process.stdin.flush()
+            except OSError:
+                raise self.ended() from None
+            for line in part:
+                reply = self.process.stdout.readline()
+                if not reply.endswith(b"\n"):
+                    raise self.ended()
+                replies.append(reply.partition(b" ")[2][:-1])
+        return replies
+
+    def ended(self) -> Fault:
+        """The fault to be raised where the program has ended, or answers no longer: its status and what it said. The
+        program is killed."""
+        assert self.process.stderr is not None
+        self.process.kill()
+        said = self.process.stderr.read().decode(errors="replace").strip()
+        status = self.process.wait()
+        return Fault(f"the program has ended, status {status}: {said}", 4)
+
+    def answer(self, connection: int, line: bytes) -> dict[str, Any]:
+        """The reply to a line; what was granted is kept."""
+        reply = reply_of(self.answers([(connection, line)])[0])
+        self.keep(connection, line, reply)
+        return reply
+
+    def keep(self, connection: int, line: bytes, reply: dict[str, Any]) -> None:
+        """Keeps a line for the script that does again what was granted, where its reply says that it was: a hello, a
+        bye or an event. A full script takes no more."""
+        if (reply.get("ok") in ("hello", "bye") or "place" in reply) and self.size + len(line) < MOST_SCRIPT:
+            self.granted.append(b"%d %s\n" % (connection, line))
+            self.size += len(self.granted[-1])
+
+    def ask(self, connection: int, **request: object) -> dict[str, Any]:
+        """Sends a request, and gives its reply where it was answered by `ok`; else raises the denial or the refusal."""
+        reply = self.answer(connection, json.dumps(request, separators=(",", ":")).encode())
+        if "deny" in reply:
+            raise Denied(reply["clause"], reply["deny"], reply["text"], reply.get("at"))
+        if "refuse" in reply:
+            raise Refused(reply["refuse"])
+        return reply
+
+    def greet(self, connection: int, name: str) -> None:
+        """Speaks for a student, or for the teacher, on a connection from now on."""
+        if self.names.get(connection) == name:
+            return
+        if connection in self.names:
+            self.ask(connection, do="bye")
+        key = self.lab.teacher[1] if name == self.lab.teacher[0] else self.lab.students[name]
+        self.ask(connection, do="hello", name=name, key=key)
+        self.names[connection] = name
+
+    def script(self) -> bytes:
+        """The script that does again what was granted."""
+        return b"".join(self.granted)
+
+    def close(self) -> None:
+        """Ends the program."""
+        for pipe in (self.process.stdin, self.process.stdout, self.process.stderr):
+            assert pipe is not None
+            try:
+                pipe.close()
+            except OSError:
+                pass
+        self.process.kill()
+        self.process.wait()
+
+    def __enter__(self) -> Answering:
+        return self
+
+    def __exit__(self, kind: type[BaseException] | None, error: BaseException | None, trace: TracebackType | None) -> None:
+        self.close()

@@ -1,0 +1,133 @@
+"""The folders of runs: a new one, what is kept of a run that goes on, and lab and journal of those that are named."""
+from __future__ import annotations
+
+import json
+import re
+from dataclasses import asdict, dataclass, field
+from datetime import datetime
+from pathlib import Path
+
+from classroom.core.program import Fault
+
+Run = tuple[Path, Path]
+RECORD = "run.json"
+
+
+def new_folder(into: Path, lab: Path) -> Path:
+    """Makes a folder that wasn't there, which nobody else reads, named by the minute and the lab."""
+    stamp = f"{datetime.now():%Y-%m-%dT%H%M}-{lab.stem}"
+    for number in range(1, 1000):
+        folder = into / (stamp if number == 1 else f"{stamp}-{number}")
+        try:
+            folder.mkdir(0o700, parents=True)
+            return folder
+        except FileExistsError:
+            continue
+        except OSError as error:
+            raise Fault(f"{folder}: {error.strerror}; --into FOLDER names another folder", 4) from None
+    raise Fault(f"{into}: no name is free for a folder", 4)
+
+
+def given(words: list[str]) -> list[Run]:
+    """Lab and journal of each run: folders of runs, or a lab and its journals."""
+    first = Path(words[0])
+    if first.is_dir():
+        return [of_folder(Path(word)) for word in words]
+    if len(words) == 1:
+        raise Fault(f"{first} is no folder of a run; of a lab its journals are named too")
+    return [(first, Path(word)) for word in words[1:]]
+
+
+def of_folder(folder: Path) -> Run:
+    """Lab and journal of a run's folder."""
+    if not (folder / "lab.toml").is_file() or not (folder / "journal").is_file():
+        raise Fault(f"{folder}: no folder of a run: it has lab.toml and journal")
+    return folder / "lab.toml", folder / "journal"
+
+
+def title(lab: Path, journal: Path, name: str = "") -> str:
+    """The lab's name and the day: of a run's folder what its own name has, else that of the journal's last change."""
+    found = re.fullmatch(r"(\d{4}-\d\d-\d\d)T\d{4}-(.+)", lab.resolve().parent.name)
+    if found is None or lab.name != "lab.toml":
+        return f"{name or lab.stem}, {datetime.fromtimestamp(journal.stat().st_mtime):%Y-%m-%d}"
+    record = Record.read(lab.parent)
+    return f"{name or (Path(record.lab).stem if record else found[2])}, {found[1]}"
+
+
+@dataclass(frozen=True)
+class Process:
+    """A process, told from a later one of the same number by when it was started."""
+
+    number: int
+    start: str
+
+    @staticmethod
+    def of(number: int) -> Process:
+        """The process that has the number now, with an empty start where none has it or it has ended."""
+        try:
+            stat = Path(f"/proc/{number}/stat").read_text(encoding="utf-8", errors="replace")
+        except OSError:
+            return Process(number, "")
+        state, *rest = stat.rpartition(") ")[2].split()
+        return Process(number, "" if state == "Z" else rest[18])
+
+    def lives(self) -> bool:
+        """Whether the process hasn't ended."""
+        return self.start != "" and Process.of(self.number) == self
+
+
+@dataclass(frozen=True)
+class Record:
+    """What a folder keeps of its run while it goes on."""
+
+    lab: str
+    port: int
+    desk: int
+    page: int | None
+    close: str
+    until: str | None
+    run: Process
+    server: Process
+    play: int | None = None
+    left: bool = False  # Whether its terminal went away.
+    ended: bool = False  # Whether it ended as it should.
+    stand_in: float | None = None  # seconds after which the house plays
+    looks: str | None = None  # The token of the page's address to look at.
+    played: list[str] = field(default_factory=list)  # for whom the house plays at once
+
+    @staticmethod
+    def read(folder: Path) -> Record | None:
+        """The record that a folder keeps, where it has one."""
+        try:
+            it = json.loads((folder / RECORD).read_text(encoding="utf-8"))
+            return Record(**it | {"run": Process(**it["run"]), "server": Process(**it["server"])})
+        except (OSError, ValueError, KeyError, TypeError):
+            return None
+
+    @staticmethod
+    def lacking(folder: Path, port: int) -> Record:
+        """A record for a folder which keeps none, as those that 0.9.0 made first: ports and closing are a new run's."""
+        return Record(str(folder / "lab.toml"), port, 0, None, "when-idle:2", None, Process(0, ""), Process(0, ""))
+
+    def write(self, folder: Path) -> None:
+        """Keeps the record in a folder; a full disk, which keeps what stood there, ends nothing."""
+        new = folder / f"{RECORD}.new"
+        try:
+            new.write_text(json.dumps(asdict(self)) + "\n", encoding="utf-8")
+            new.replace(folder / RECORD)
+        except OSError:
+            new.unlink(missing_ok=True)
+
+    def goes_on(self) -> bool:
+        """Whether the run or its server hasn't ended."""
+        return self.run.lives() or self.server.lives()
+
+
+def going(into: Path, lab: Path) -> tuple[Path, Record] | None:
+    """Folder and record of a run of that lab which goes on, where there is one; else those of its last run, where it
+    didn't end."""
+    files = sorted(into.glob(f"*/{RECORD}"), key=lambda file: file.parent.stat().st_mtime)
+    records = [(file.parent, Record.read(file.parent)) for file in files]
+    same = [(folder, record) for folder, record in records if record is not None and record.lab == str(lab.resolve())]
+    live = [(folder, record) for folder, record in same if record.goes_on()]
+    return next(iter(live or [pair for pair in same[-1:] if not pair[1].ended]), None)

@@ -1,0 +1,156 @@
+"""A lab's file: read for what a teacher wants to know, and written."""
+from __future__ import annotations
+
+import json
+import os
+import tomllib
+from dataclasses import dataclass, field, replace
+from pathlib import Path
+from typing import Any
+
+from classroom.core.lists import Person
+from classroom.core.printable import printable
+from classroom.core.program import CLASS, Fault, call
+
+MOST_EVENTS = 100_000
+MOST_SESSIONS = 16
+HOUSE = "house"  # who plays for the absent
+
+
+@dataclass
+class Node:
+    """A node with its owners, and its registers at the beginning."""
+
+    id: int
+    owners: list[str]
+    p: int | None = None
+    m: bool = False
+
+
+@dataclass
+class Lab:
+    """What a lab's file says."""
+
+    events: int
+    sessions: int
+    teacher: tuple[str, str]
+    students: dict[str, str]
+    nodes: list[Node]
+    links: list[tuple[int, int]] = field(default_factory=list)
+    people: dict[str, Person] = field(default_factory=dict)
+
+    def owners(self, node: int) -> list[str]:
+        """Who owns the node with that identifier."""
+        return next((each.owners for each in self.nodes if each.id == node), [])
+
+    def nodes_of(self, name: str) -> list[int]:
+        """The identifiers of a student's nodes."""
+        return [node.id for node in self.nodes if name in node.owners]
+
+    def held(self) -> list[int]:
+        """The nodes at which the house may play: those of the student `house`, or none where that one owns a node
+        alone."""
+        nodes = [node for node in self.nodes if HOUSE in node.owners]
+        return [node.id for node in nodes] if all(len(node.owners) == 2 for node in nodes) else []
+
+    def without_house(self) -> Lab:
+        """The lab without the house, as a student and as an owner; as it is where the house may play nowhere."""
+        if not self.held():
+            return self
+        students = {name: key for name, key in self.students.items() if name != HOUSE}
+        nodes = [replace(node, owners=[name for name in node.owners if name != HOUSE]) for node in self.nodes]
+        return replace(self, students=students, nodes=nodes)
+
+
+def ordered(link: tuple[int, int]) -> tuple[int, int]:
+    """A link with its lower end first."""
+    return min(link), max(link)
+
+
+def parsed(text: str) -> dict[str, Any]:
+    """A text's document; nothing where it is none. Python's reader knows TOML 1.0 alone."""
+    try:
+        return tomllib.loads(text)
+    except tomllib.TOMLDecodeError:
+        return {}
+
+
+def document(path: Path) -> dict[str, Any]:
+    """The file's document."""
+    try:
+        return tomllib.loads(path.read_text(encoding="utf-8-sig"))
+    except OSError as error:
+        raise Fault(f"{path}: {error.strerror}", 4) from None
+    except UnicodeDecodeError:
+        raise Fault(f"{path}: the bytes aren't UTF-8", 2) from None
+    except tomllib.TOMLDecodeError as error:
+        raise Fault(f"{path}: Python's TOML reader doesn't read it: {error}", 2) from None
+
+
+def unread(path: Path, error: str) -> str:
+    """Why a file that the program couldn't read can't be read, as far as the system says it."""
+    try:
+        with path.open("rb"):
+            return f"{path}: {error}"
+    except OSError as why:
+        return f"{path}: {why.strerror}"
+
+
+def read(path: Path) -> Lab:
+    """A lab that the program has taken."""
+    answer = call("check", path)
+    if answer.status == 4:
+        raise Fault(unread(path, answer.error), 4)
+    if answer.status != 0:
+        raise Fault(f"{path}: {answer.error}; `{CLASS} check {path}` says more", answer.status)
+    it = document(path)
+    nodes = [
+        Node(each["id"], [each["owner"]] if "owner" in each else each["owners"], each.get("p"), each.get("m", False))
+        for each in it["node"]
+    ]
+    students = {each["name"]: each["key"] for each in it["student"]}
+    links = [(a, b) for a, b in it.get("links", [])]
+    people = {each["name"]: Person(str(each.get("written", each["name"])), str(each.get("id", ""))) for each in it["student"]}
+    return Lab(it["events"], it["sessions"], (it["teacher"]["name"], it["teacher"]["key"]), students, nodes, links, people)
+
+
+def with_house_apart(told: str, lab: Lab) -> str:
+    """What the program says of a lab's size, where the house that it counts among the students is told apart."""
+    students = len(lab.without_house().students)
+    return told.replace(f"{students + 1} students", f"{students} students and the house") if lab.held() else told
+
+
+def quoted(word: str) -> str:
+    """A string as TOML and JSON both have it."""
+    return json.dumps(word, ensure_ascii=False)
+
+
+def text(lab: Lab) -> str:
+    """The lab as a file."""
+    quote = quoted
+    lines = [f"events = {lab.events}", f"sessions = {lab.sessions}"]
+    lines += ["links = [", *(f"  [{a}, {b}]," for a, b in lab.links), "]"] if lab.links else ["links = []"]
+    lines += ["", "[teacher]", f"name = {quote(lab.teacher[0])}", f"key = {quote(lab.teacher[1])}"]
+    for name, key in lab.students.items():
+        lines += ["", "[[student]]", f"name = {quote(name)}", f"key = {quote(key)}"]
+        person = lab.people.get(name)
+        lines += [f"written = {quote(printable(person.written))}"] if person else []
+        lines += [f"id = {quote(printable(person.id))}"] if person and person.id else []
+    for node in lab.nodes:
+        lines += ["", "[[node]]", f"id = {node.id}"]
+        owners = ", ".join(map(quote, node.owners))
+        lines.append(f"owner = {owners}" if len(node.owners) == 1 else f"owners = [{owners}]")
+        lines += [f"p = {node.p}"] if node.p is not None else []
+        lines += ["m = true"] if node.m else []
+    return "\n".join(lines) + "\n"
+
+
+def write_new(path: Path, content: str) -> None:
+    """Writes a file that nobody else reads, and never over another one."""
+    try:
+        with os.fdopen(os.open(path, os.O_WRONLY | os.O_CREAT | os.O_EXCL, 0o600), "w", encoding="utf-8") as it:
+            it.write(content)
+    except FileExistsError:
+        raise Fault(f"{path} is there already, and isn't overwritten") from None
+    except OSError as error:
+        raise Fault(f"{path}: {error.strerror}", 4) from None

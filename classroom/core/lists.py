@@ -1,0 +1,113 @@
+"""Lists of people: names a line, or tables as spreadsheets and platforms export them."""
+from __future__ import annotations
+
+import argparse
+import codecs
+import csv
+import io
+from collections.abc import Iterable
+from dataclasses import dataclass, field
+from pathlib import Path
+
+from classroom.core.program import Fault
+
+# The heads by which columns are known that no word names; platforms' own first.
+NAMES = ("name", "student", "full name", "fullname", "student name", "display name")
+FIRST = ("first name", "firstname", "given name", "vorname")
+LAST = ("last name", "lastname", "surname", "family name", "nachname")
+IDS = ("sis user id", "id number", "student id", "student number", "matriculation", "matrikelnummer", "id", "username")
+MARKS = ((codecs.BOM_UTF8, "utf-8-sig"), (codecs.BOM_UTF16_LE, "utf-16"), (codecs.BOM_UTF16_BE, "utf-16"))
+NOBODY = ("points possible", "student, test")
+
+
+@dataclass(frozen=True)
+class Person:
+    """A name as it is written, and what else tells the person apart, or nothing."""
+
+    written: str
+    id: str = ""
+
+
+@dataclass
+class People:
+    """A list in its order. Of a table also its heads, its rows and its form; a row that is no person's has none."""
+
+    rows: list[tuple[list[str], Person | None]]
+    heads: list[str] = field(default_factory=list)
+    delimiter: str = ","
+
+    @property
+    def people(self) -> list[Person]:
+        """The persons."""
+        return [person for _, person in self.rows if person is not None]
+
+
+def add_words(words: argparse.ArgumentParser) -> None:
+    """The words that name columns."""
+    words.add_argument("--column", metavar="COL", help="the column of the table that has the names")
+    words.add_argument("--first-name", metavar="COL", help="the column of first names, where they stand alone")
+    words.add_argument("--last-name", metavar="COL", help="the column of last names")
+    words.add_argument("--id", metavar="COL", help="the column of what tells two of one name apart")
+
+
+def decoded(content: bytes) -> str:
+    """The text: UTF-8 or UTF-16 with a mark or without, else Latin-1 as Windows has it."""
+    for mark, encoding in MARKS:
+        if content.startswith(mark):
+            return content.decode(encoding)
+    if content[1::2].count(0) > len(content) // 4:
+        return content.decode("utf-16-le")
+    if content[::2].count(0) > len(content) // 4:
+        return content.decode("utf-16-be")
+    try:
+        return content.decode("utf-8")
+    except UnicodeDecodeError:
+        return content.decode("cp1252", errors="replace")
+
+
+def read(path: Path, words: argparse.Namespace) -> People:
+    """The people of a file, by the words that name its columns."""
+    try:
+        text = decoded(path.read_bytes())
+    except OSError as error:
+        raise Fault(f"{path}: {error.strerror}", 4) from None
+    except UnicodeDecodeError as error:
+        raise Fault(f"{path}: {error.reason}") from None
+    first = text.partition("\n")[0]
+    named = any((words.column, words.first_name, words.last_name, words.id))
+    if named or path.suffix.lower() in (".csv", ".tsv") or "\t" in first or ";" in first:
+        found = table(path, text, words)
+    else:
+        found = People([([], Person(line.strip())) for line in text.splitlines() if line.strip()])
+    if not found.people:
+        raise Fault(f"{path}: no names")
+    return found
+
+
+def table(path: Path, text: str, words: argparse.Namespace) -> People:
+    """The people of a table."""
+    delimiter = max(",;\t", key=text.partition("\n")[0].count)
+    lines = [row for row in csv.reader(io.StringIO(text, newline=""), delimiter=delimiter) if any(map(str.strip, row))]
+    heads = [head.strip() for head in lines[0]] if lines else []
+    first, last = column(path, heads, words.first_name, FIRST), column(path, heads, words.last_name, LAST)
+    whole = column(path, heads, words.column, () if words.first_name or words.last_name else NAMES)
+    ids = column(path, heads, words.id, IDS)
+    parts = [whole] if whole is not None else [index for index in (first, last) if index is not None]
+    if not parts:
+        there = ", ".join(heads)
+        raise Fault(f"{path}: no column name; there are: {there}. --column NAME, or --first-name and --last-name, name it")
+    rows: list[tuple[list[str], Person | None]] = []
+    for row in lines[1:]:
+        row += [""] * (len(heads) - len(row))
+        written = " ".join(row[index].strip() for index in parts).strip()
+        nobody = not written or written.lower() in NOBODY
+        rows.append((row, None if nobody else Person(written, row[ids].strip() if ids is not None else "")))
+    return People(rows, heads, delimiter)
+
+
+def column(path: Path, heads: list[str], asked: str | None, known: Iterable[str]) -> int | None:
+    """The index of a column: the one that is asked for, or the first of those that are known."""
+    lower = [head.lower() for head in heads]
+    if asked is not None and asked.lower() not in lower:
+        raise Fault(f"{path}: no column {asked}; there are: {', '.join(heads)}. --column NAME names it")
+    return next((lower.index(word) for word in ([asked.lower()] if asked is not None else known) if word in lower), None)

@@ -1,0 +1,134 @@
+"""Families of networks, and networks from a file, as lists of links."""
+from __future__ import annotations
+
+import itertools
+import random
+import re
+from collections.abc import Iterable
+from pathlib import Path
+
+from classroom.core.program import Fault
+
+Links = list[tuple[int, int]]
+MOST_NODES, MOST_IDENTIFIER = 256, 65535
+STARTS = ("clean", "random", "hurt", "worst")
+NAMED = "path, cycle, star, complete, tree, crowd, halves, grid:WxH, random:N:LINKS"
+
+
+def neighbours(nodes: Iterable[int], links: Iterable[tuple[int, int]]) -> dict[int, list[int]]:
+    """Each node's neighbours; a link that leads elsewhere counts for none."""
+    near: dict[int, list[int]] = {node: [] for node in nodes}
+    for a, b in links:
+        if a in near and b in near:
+            near[a].append(b)
+            near[b].append(a)
+    return near
+
+
+def random_links(count: int, links: int, chance: random.Random) -> Links:
+    """A network in one part: a random tree, and more links until there are enough."""
+    every = count * (count - 1) // 2
+    if not count - 1 <= links <= every:
+        raise Fault(f"random:{count}: between {count - 1} and {every} links")
+    tree = [(chance.randint(1, node - 1), node) for node in range(2, count + 1)]
+    rest = sorted(set(itertools.combinations(range(1, count + 1), 2)) - set(tree))
+    return sorted(tree + chance.sample(rest, links - len(tree)))
+
+
+def family(word: str, count: int | None, students: int, chance: random.Random) -> tuple[int, Links]:
+    """How many nodes a family's network has, from 1 on, and its links. Where the word has no size there are `count`
+    nodes, or as many as students."""
+    sized = re.fullmatch(r"grid:(\d{1,3})x(\d{1,3})|random:(\d{1,3}):(\d{1,5})", word)
+    if sized and sized[1]:
+        width, height = int(sized[1]), int(sized[2])
+        nodes, links = width * height, []
+        for node in range(1, nodes + 1):
+            links += [(node, node + 1)] if node % width else []
+            links += [(node, node + width)] if node + width <= nodes else []
+    elif sized:
+        nodes = within(int(sized[3]))
+        links = random_links(nodes, int(sized[4]), chance)
+    else:
+        nodes = within(count if count is not None else students)
+        links = plain(word, nodes)
+    if sized and count not in (None, nodes):
+        raise Fault(f"{word} has {nodes} nodes, and --nodes says {count}")
+    return within(nodes), links
+
+
+def within(nodes: int) -> int:
+    """A number of nodes that a lab may have."""
+    if not 1 <= nodes <= MOST_NODES:
+        raise Fault(f"a lab has 1 to {MOST_NODES} nodes, not {nodes}")
+    return nodes
+
+
+def plain(word: str, nodes: int) -> Links:
+    """The links of a family's network of so many nodes, where the word has no size."""
+    row = [(node, node + 1) for node in range(1, nodes)]
+    if word == "path":
+        return row
+    if word == "cycle":
+        if nodes < 3:
+            raise Fault("a cycle has three nodes at least: --nodes N")
+        return [*row, (nodes, 1)]
+    if word == "star":
+        return [(1, node) for node in range(2, nodes + 1)]
+    if word == "complete":
+        return list(itertools.combinations(range(1, nodes + 1), 2))
+    if word == "tree":
+        return [(node // 2, node) for node in range(2, nodes + 1)]
+    if word == "crowd":
+        return [(a, b) for a, b in itertools.combinations(range(1, nodes + 1), 2) if a + b > nodes]
+    if word == "halves":
+        return [(a, b) for a, b in plain("crowd", nodes) if 2 * a <= nodes + 1 < 2 * b]
+    raise Fault(f"no family {word}: {NAMED}")
+
+
+def from_file(path: Path, count: int | None) -> tuple[list[int], Links]:
+    """The identifiers and links of a file with a link a line: `1 2`; with a count also the identifiers from 1 to it."""
+    links: Links = []
+    seen: dict[frozenset[int], int] = {}
+    try:
+        lines = path.read_text(encoding="utf-8-sig").splitlines()
+    except OSError as error:
+        raise Fault(f"{path}: {error.strerror}", 4) from None
+    except UnicodeDecodeError:
+        raise Fault(f"{path}: the bytes aren't UTF-8") from None
+    for number, line in enumerate(lines, 1):
+        words = line.partition("#")[0].replace(",", " ").replace("-", " ").split()
+        if not words:
+            continue
+        what = wrong_link(words, seen)
+        if what:
+            raise Fault(f"{path}: line {number}: {what}: {line.strip()}")
+        links.append((int(words[0]), int(words[1])))
+        seen[frozenset(links[-1])] = number
+    identifiers = sorted({end for link in links for end in link} | set(range(1, (count or 0) + 1)))
+    if not identifiers:
+        raise Fault(f"{path}: no links; each stands in a line: 1 2")
+    within(len(identifiers))
+    return identifiers, links
+
+
+def wrong_link(words: list[str], seen: dict[frozenset[int], int]) -> str | None:
+    """What is wrong with the words of a link, after those that were seen in other lines; None where nothing is."""
+    if len(words) != 2 or not all(word.isascii() and word.isdecimal() for word in words):
+        return "not two numbers"
+    a, b = map(int, words)
+    if not (1 <= a <= MOST_IDENTIFIER and 1 <= b <= MOST_IDENTIFIER):
+        return f"a node is 1 to {MOST_IDENTIFIER}"
+    if a == b:
+        return "a node isn't linked to itself"
+    return f"these are linked in line {seen[frozenset((a, b))]} already" if frozenset((a, b)) in seen else None
+
+
+def enough(word: str, nodes: int) -> str:
+    """The words for the next network of a family that has so many nodes."""
+    sized = re.fullmatch(r"grid:(\d+)x(\d+)|random:(\d+):(\d+)", word)
+    if sized and sized[1]:
+        width = int(sized[1])
+        return f"--family grid:{width}x{-(-nodes // width)}"
+    if sized:
+        return f"--family random:{nodes}:{int(sized[4]) + nodes - int(sized[3])}"
+    return f"--nodes {nodes}"

@@ -1,0 +1,133 @@
+"""The proved program: where it is, and what it answers."""
+from __future__ import annotations
+
+import os
+import re
+import shlex
+import subprocess
+import sys
+from collections.abc import Callable
+from dataclasses import dataclass
+from functools import cache
+from pathlib import Path
+from typing import TypeVar
+
+from classroom.core.statuses import FAILED
+
+PORTS = 50  # of which the first free one is taken
+LISTENING = re.compile(r"(?m)^listening on port (?P<port>\d+)(?:, desk on port (?P<desk>\d+))?$")  # what a server prints first
+Opened = TypeVar("Opened")
+TOP = Path(__file__).resolve().parents[2]
+
+
+# How this was called, for a shell: what is to be typed next begins with it.
+CLASS = shlex.quote(sys.argv[0]) if Path(sys.argv[0]).name == "class" else "./class"
+
+
+class Fault(Exception):
+    """What ends a word: a line for people, and the exit status."""
+
+    def __init__(self, text: str, status: int = 1) -> None:
+        super().__init__(text)
+        self.status = status
+
+
+@dataclass(frozen=True)
+class Answer:
+    """What a call of the program printed, and its exit status."""
+
+    status: int
+    output: str
+    error: str
+
+
+def is_clone() -> bool:
+    """Whether the programs are built here, in a clone, and don't come with a release."""
+    return (TOP / "crates").is_dir()
+
+
+def built(crate: str) -> Path:
+    """Where a crate's program stands: as it is built here, or in a release; a fault where the release wants a later C
+    library."""
+    here = TOP / "crates" / crate
+    if here.is_dir():
+        return here / "out" / crate
+    if refusal := old_library():
+        raise Fault(refusal, FAILED)
+    return TOP / "bin" / crate.replace("mml_server", "mml")
+
+
+@cache
+def old_library() -> str:
+    """The line that `mml` has too, where a release wants a later C library than is here: the loader's own words are no
+    help. Empty where it doesn't."""
+    proved = TOP / "PROVED"
+    wanted = re.search(r"(?m)^# wants glibc ([0-9.]+)$", proved.read_text(encoding="utf-8")) if proved.exists() else None
+    here = library() if wanted else ""
+    if wanted is None or numbers(here) >= numbers(wanted[1]):
+        return ""
+    return f"this release wants the GNU C library {wanted[1]} or later, and here is {here or 'another'}: Debian 12 has 2.36"
+
+
+def library() -> str:
+    """The version of the GNU C library that is here; empty where another one is."""
+    try:
+        told = os.confstr("CS_GNU_LIBC_VERSION")
+    except (OSError, ValueError):
+        told = None
+    return (told or "").removeprefix("glibc ")
+
+
+def numbers(version: str) -> list[int]:
+    """The numbers of a version, in their order."""
+    return [int(number) for number in re.findall("[0-9]+", version)]
+
+
+def program() -> Path:
+    """The built program; another one where the environment's MML_PROGRAM names it."""
+    path = Path(os.environ.get("MML_PROGRAM") or built("mml_server"))
+    if not os.access(path, os.X_OK) or path.is_dir():
+        raise Fault("mml isn't built: `./mml build` builds it (with the toolchain's rt on the path)")
+    return path
+
+
+def host() -> Path | None:
+    """The built host; another one where the environment's MML_HOST names it. None where it isn't built."""
+    path = Path(os.environ.get("MML_HOST") or built("mml_host"))
+    return path if os.access(path, os.X_OK) and not path.is_dir() else None
+
+
+def first_free(port: int, opened: Callable[[int], Opened | None], what: str = "") -> Opened:
+    """What opens at that port, or at the next that is free: `opened` gives None for one that is taken. A fault after so
+    many PORTS."""
+    last = min(port + PORTS, 65536) - 1
+    for number in range(port, last + 1):
+        it = opened(number)
+        if it is not None:
+            return it
+    raise Fault(f"no port is free {what}from {port} to {last}", 4)
+
+
+def call(*words: str | Path) -> Answer:
+    """Calls the program to its end."""
+    return answer_of(program(), *words)
+
+
+def host_call(*words: str | Path, files: tuple[int, ...] = ()) -> Answer:
+    """Calls the host's program to its end; it has these open files."""
+    path = host()
+    if path is None:
+        raise Fault("mml_host isn't built: `./mml build` builds it (with the toolchain's rt on the path)")
+    return answer_of(path, *words, files=files)
+
+
+def answer_of(path: Path, *words: str | Path, files: tuple[int, ...] = ()) -> Answer:
+    """What a program answers to words."""
+    done = subprocess.run([path, *map(plain, words)], stdin=subprocess.DEVNULL, capture_output=True, check=False,
+                          restore_signals=False, pass_fds=files)
+    return Answer(done.returncode, done.stdout.decode(errors="replace"), done.stderr.decode(errors="replace").strip())
+
+
+def plain(word: str | Path) -> str:
+    """A file's name as the program takes it: none begins with `-`."""
+    return f"./{word}" if str(word).startswith("-") else str(word)

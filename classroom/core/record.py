@@ -1,0 +1,97 @@
+"""The record of a run: what was asked and answered in each seat (docs/RECORD.md), as the host wrote it."""
+from __future__ import annotations
+
+import json
+import re
+from collections.abc import Iterator
+from dataclasses import dataclass
+from pathlib import Path
+from typing import Any
+
+from classroom.core.program import Fault
+
+FOLDER = "record"  # of a run's folder
+ENDED, CUT = ".", "!"
+
+
+@dataclass(frozen=True)
+class Entry:
+    """A line with its reply, or a mark: `.` where a session ended, `!` where the rest of one isn't recorded."""
+
+    seat: int
+    place: int  # How many events had been seen.
+    line: bytes = b""
+    reply: bytes = b""
+    mark: str = ""
+
+    def told(self) -> dict[str, Any]:
+        """The reply's values."""
+        return json_object(self.reply)
+
+    def asked_name(self) -> str | None:
+        """The name that a line gives, where it is an object with one."""
+        name = json_object(self.line).get("name")
+        return name if isinstance(name, str) else None
+
+
+def json_object(text: bytes) -> dict[str, Any]:
+    """The values of an object's text; none of another text."""
+    try:
+        it = json.loads(text)
+    except (ValueError, RecursionError):
+        return {}
+    return it if isinstance(it, dict) else {}
+
+
+class Reader:
+    """Takes the bytes of a seat's file as they come; what isn't an entry is passed over, since `verify` tells it."""
+
+    def __init__(self) -> None:
+        self.rest = b""
+        self.line: bytes | None = None
+
+    def take(self, more: bytes) -> Iterator[Entry]:
+        """The entries that became whole."""
+        *lines, self.rest = (self.rest + more).split(b"\n")
+        for line in lines:
+            entry = self.entry(line)
+            if entry is not None:
+                yield entry
+
+    def entry(self, line: bytes) -> Entry | None:
+        """The entry that ends with a line; None where none does, as with the first of an entry's two lines, which is
+        kept."""
+        words = line.split(b" ", 3)
+        if len(words) < 3 or not (words[0].isdigit() and words[1].isdigit()):
+            return None
+        seat, place, sign = int(words[0]), int(words[1]), words[2].decode(errors="replace")
+        asked, self.line = self.line, None
+        if sign in (ENDED, CUT) and len(words) == 3:
+            return Entry(seat, place, mark=sign)
+        if len(words) == 3:
+            return None
+        if sign == ">":
+            self.line = words[3]
+        return Entry(seat, place, asked, words[3]) if sign == "<" and asked is not None else None
+
+
+def seats(folder: Path) -> list[Path]:
+    """The seats' files in their order."""
+    found = [(int(named[1]), file) for file in folder.glob("*.record")
+             if (named := re.fullmatch(r"(\d+)\.record", file.name))]
+    return [file for _, file in sorted(found)]
+
+
+def begun(folder: Path) -> int:
+    """How many events the journal had before the record began."""
+    text = (folder / "begun").read_bytes().rstrip(b"\n")
+    if not text.isdigit():
+        raise Fault(f"{folder / 'begun'}: it has no number of events", 4)
+    return int(text)
+
+
+def kept(run: Path) -> list[Path]:
+    """The records of a run's folder from the oldest on: where the lab was changed in between, there are several."""
+    older = [(int(named[1]), path) for path in run.glob(f"{FOLDER}.~*~")
+             if (named := re.fullmatch(rf"{FOLDER}\.~(\d+)~", path.name)) and (path / "begun").is_file()]
+    return [*(path for _, path in sorted(older)), *([run / FOLDER] if (run / FOLDER / "begun").is_file() else [])]

@@ -1,0 +1,130 @@
+"""What the host's program tells of a journal: its word `tally`, line by line (docs/JOURNAL.md)."""
+from __future__ import annotations
+
+from collections import Counter
+from dataclasses import dataclass, field
+from pathlib import Path
+
+from classroom.core.journal import RULES
+from classroom.core.program import Fault, host_call
+
+
+@dataclass
+class Marks:
+    """What a journal tells of a student."""
+
+    granted: Counter[str] = field(default_factory=Counter)
+    applied: Counter[str] = field(default_factory=Counter)
+    steps: int = 0
+    first: int | None = None
+    last: int | None = None
+    shared: int = 0
+
+
+@dataclass(frozen=True)
+class Bounds:
+    """The most moves, rounds and events of a run to its stable end, where no fault, link or cut comes."""
+
+    moves: int
+    rounds: int
+    events: int
+
+
+DENIED = ("clause1", "clause2", "clause3", "clause4", "malformed")
+
+
+@dataclass
+class Asked:
+    """What a record tells: how many of each student's lines each clause denied, and how many were no request; what each
+    owner of a shared node asked for there; and whether nothing is left out of it."""
+
+    denied: dict[str, Counter[str]] = field(default_factory=dict)
+    moves: dict[int, dict[str, Counter[str]]] = field(default_factory=dict)
+    whole: bool = True
+
+    def add(self, other: Asked) -> None:
+        """Adds what the run's next record tells."""
+        for name, counts in other.denied.items():
+            self.denied.setdefault(name, Counter()).update(counts)
+        for node, owners in other.moves.items():
+            for name, counts in owners.items():
+                self.moves.setdefault(node, {}).setdefault(name, Counter()).update(counts)
+        self.whole = self.whole and other.whole
+
+
+@dataclass
+class Tally:
+    """What a journal tells of its run."""
+
+    events: int = 0
+    configuration: int = 0
+    stable: bool = False
+    closes: int = 0
+    faults: int = 0
+    links: int = 0
+    cuts: int = 0
+    moves: int = 0
+    since: tuple[int, int] = (0, 0)
+    bounds: Bounds = Bounds(0, 0, 0)
+    students: dict[str, Marks] = field(default_factory=dict)
+    shared: dict[int, dict[str, Counter[str]]] = field(default_factory=dict)
+    asked: Asked | None = None
+
+
+def of(lab: Path, journal: Path, files: tuple[int, ...] = (), record: Path | None = None) -> Tally:
+    """The tally of a journal that the audit passes, and of its record where one is given; `files` are open files that
+    the program gets."""
+    answer = host_call("tally", lab, journal, *([] if record is None else [record]), files=files)
+    if answer.status != 0:
+        raise Fault(answer.error, answer.status)
+    return read(answer.output)
+
+
+def read(text: str) -> Tally:
+    """The tally that its lines tell."""
+    tally, asked = Tally(), Asked()
+    for line in text.splitlines():
+        word, *rest = line.split(" ")
+        if word == "student":
+            tally.students[rest[0]] = marks(rest[1:])
+        elif word == "node":
+            tally.shared[int(rest[0])] = by_owner(rest[1:])
+        elif word == "denied":
+            asked.denied[rest[0]] = Counter(dict(zip(DENIED, map(int, rest[1:]), strict=True)))
+        elif word == "asked":
+            asked.moves[int(rest[0])] = by_owner(rest[1:])
+        elif word == "record":
+            tally.asked, asked.whole = asked, rest[2] == "whole"
+        elif word == "bounds":
+            tally.bounds = Bounds(*map(int, rest))
+        elif word == "run":
+            take_run(tally, rest)
+    return tally
+
+
+def by_owner(words: list[str]) -> dict[str, Counter[str]]:
+    """How many moves of each rule, by owner: for each a name, and four numbers."""
+    return {words[at]: by_rule(words[at + 1 : at + 5]) for at in range(0, len(words), 5)}
+
+
+def marks(words: list[str]) -> Marks:
+    """The marks that a student's line tells."""
+    steps, first, last, shared = words[8:]
+    return Marks(by_rule(words[:4]), by_rule(words[4:8]), int(steps), place(first), place(last), int(shared))
+
+
+def by_rule(words: list[str]) -> Counter[str]:
+    """How many moves of each rule: four numbers in the rules' order."""
+    return Counter(dict(zip(RULES, map(int, words), strict=True)))
+
+
+def place(word: str) -> int | None:
+    """A place, or none."""
+    return None if word == "-" else int(word)
+
+
+def take_run(tally: Tally, words: list[str]) -> None:
+    """Takes what the line of the run tells, which is the last."""
+    tally.stable = words.pop(2) == "stable"
+    (tally.events, tally.configuration, tally.closes, tally.faults, tally.links, tally.cuts, tally.moves, *since) = map(int, words)
+    tally.since = (since[0], since[1])

@@ -1,0 +1,1 @@
+"""After a class: marks, totals, and what a student's connections did."""

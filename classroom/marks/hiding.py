@@ -1,0 +1,65 @@
+"""What was sent, so that it can be shown: of printable characters alone, and without anyone's key."""
+from __future__ import annotations
+
+import json
+import re
+from collections.abc import Iterable
+
+from classroom.core.printable import printable
+
+HIDDEN = '"***"'
+TEXT = re.compile(r'"(?:[^"\\]|\\.)*"', re.DOTALL)
+WORDS = frozenset((
+    "do", "name", "key", "node", "at", "rule", "with", "p", "m", "a", "b", "hello", "bye", "see", "look", "move", "close",
+    "fault", "link", "cut", "release", "report", "update", "marriage", "seduction", "abandonment",
+))
+
+
+class Hider:
+    """Knows the keys that mustn't be told."""
+
+    def __init__(self, keys: Iterable[str], names: Iterable[str]) -> None:
+        self.keys = [key for key in keys if key]
+        self.shown = WORDS | set(names)
+
+    def line(self, line: bytes) -> str:
+        """A line as it came, in which `***` stands for a key; of one that is no object and may have a key, its
+        beginning."""
+        text = line.decode(errors="backslashreplace")
+        return printable(self.without(text) if is_object(text) else self.beginning(text))
+
+    def without(self, text: str) -> str:
+        """An object's text, in which whatever stands under `key`, and each text that has a key in it, is hidden."""
+        pieces: list[str] = []
+        at, hides = 0, False
+        for found in TEXT.finditer(text):
+            between = text[at:found.start()]
+            if hides and between.strip() != ":":  # No text stands under `key`.
+                return f"{''.join(pieces)}:***, and more"
+            word = json.loads(found[0], strict=False)
+            names = text[found.end():].lstrip().startswith(":")
+            pieces += [between, HIDDEN if hides or self.tells(word) else found[0]]
+            hides = not hides and names and word.lower() == "key"
+            at = found.end()
+        return "".join(pieces) + (":***, and more" if hides else text[at:])
+
+    def tells(self, word: str) -> bool:
+        """Whether a text has somebody's key in it; a word of the protocol or a name is never taken for one."""
+        return word not in self.shown and any(key in word for key in self.keys)
+
+    def beginning(self, text: str) -> str:
+        """The text up to where a key may stand."""
+        found = re.search(r"key|\\u", text, re.IGNORECASE)
+        shown = text[:found.start()] if found else text
+        for key in self.keys:
+            at = shown.find(key)
+            shown = shown[:at] if at >= 0 else shown
+        return shown if len(shown) == len(text) else f"{shown}.. ({len(text) - len(shown)} more that may have a key)"
+
+
+def is_object(text: str) -> bool:
+    """Whether a text is a JSON object, as Python reads it."""
+    try:
+        return isinstance(json.loads(text), dict)
+    except (ValueError, RecursionError):
+        return False

@@ -1,0 +1,217 @@
+"""`./class mark`: what the journals of runs tell of each student."""
+from __future__ import annotations
+
+import argparse
+import csv
+import json
+import re
+import sys
+from collections import Counter
+from dataclasses import dataclass, replace
+from pathlib import Path
+from typing import Any
+
+from classroom.core import lab as labs
+from classroom.core import folders, lists, record, tally
+from classroom.core.journal import RULES, events, split
+from classroom.core.printable import printable
+from classroom.core.program import Fault
+from classroom.core.statuses import LAB, WARNED
+from classroom.core.tally import DENIED, Asked
+from classroom.marks import totals
+from classroom.marks.comeback import recoveries
+from classroom.marks.vouched import Vouched, vouched
+from classroom.pages import replay
+
+UNTOLD = (
+    "Not in a journal: when a line was written, and who used a name. What was denied is counted from the record.",
+    "A granted move is applied by the next close; a release takes it back, and a fault, link or cut drops it.",
+)
+
+
+@dataclass(frozen=True)
+class Recorded:
+    """What is told of a run's record; of one that isn't refused what its lines asked."""
+
+    line: str
+    asked: Asked | None = None
+
+    @property
+    def is_refused(self) -> bool:
+        """Whether there is one, which doesn't pass."""
+        return self.asked is None and self != NONE
+
+
+NONE = Recorded("no record: what was asked for and denied isn't known")
+
+
+@dataclass(frozen=True)
+class Run:
+    """A journal that the audit passed, with what it tells, and the verdicts on its records."""
+
+    journal: Path
+    lab: labs.Lab
+    pairs: list[list[int]]
+    tally: tally.Tally
+    records: list[Recorded]
+
+    @property
+    def asked(self) -> Asked | None:
+        """What all records of the run tell together; None where one is refused, or there is none."""
+        together = Asked()
+        for it in self.records:
+            if it.asked is None:
+                return None
+            together.add(it.asked)
+        return together
+
+    def denied(self, name: str) -> list[int | None]:
+        """How many lines of a student each clause denied, and how many were no request, where that is known."""
+        asked = self.asked
+        return [None if asked is None else asked.denied.get(name, Counter())[clause] for clause in DENIED]
+
+    def table(self) -> dict[str, Any]:
+        """The run as `--json` has it."""
+        asked = self.asked
+        students = {
+            name: {
+                "granted": {rule: marks.granted[rule] for rule in RULES},
+                "applied": {rule: marks.applied[rule] for rule in RULES},
+                "steps": marks.steps, "first": marks.first, "last": marks.last, "shared": marks.shared,
+                **dict(zip(DENIED, self.denied(name))),
+            }
+            for name, marks in self.tally.students.items()
+        }
+        return {
+            "journal": str(self.journal), "events": self.tally.events, "configuration": self.tally.configuration,
+            "stable": self.tally.stable, "pairs": self.pairs, "closes": self.tally.closes, "faults": self.tally.faults,
+            "links": self.tally.links, "cuts": self.tally.cuts, "students": students,
+            "shared": by_node(self.tally.shared), "asked": None if asked is None else by_node(asked.moves),
+            "records": [it.line for it in self.records], "whole": asked is not None and asked.whole,
+        }
+
+
+def by_node(shared: dict[int, dict[str, Counter[str]]]) -> dict[str, dict[str, dict[str, int]]]:
+    """The numbers of each owner at each node, as JSON has them."""
+    return {str(node): {name: dict(moves) for name, moves in owners.items()} for node, owners in shared.items()}
+
+
+def marked(lab_file: Path, journal: Path) -> Run:
+    """What the program tells of a journal that it passes."""
+    try:
+        told = tally.of(lab_file, journal)
+    except Fault as fault:
+        if fault.status == LAB:
+            raise Fault(f"{lab_file}: {fault}" + "; a lab is named before its journals" * (journal.name != "journal"), LAB) from None
+        raise Fault(refusal(journal, str(fault)), fault.status) from None
+    lab = labs.read(lab_file)
+    found = split(journal.read_text(encoding="ascii"))
+    if len(found) != told.events:
+        raise Fault(f"{journal}: it grows: its run is still going on", 4)
+    report = replay.report(lab, found)
+    if report["stable"] != told.stable:
+        raise Fault(f"{journal}: tally and report disagree", 4)
+    return Run(journal, lab, report["pairs"], told, recorded(journal))
+
+
+def recorded(journal: Path) -> list[Recorded]:
+    """The verdicts on the records of the run's folder; of journals elsewhere there is none."""
+    if journal.name != "journal" or not record.kept(journal.parent):
+        return [NONE]
+    with vouched(journal.parent) as parts:
+        return [Recorded(f"{part.record.name}: {part.line}", asked_in(part)) for part in parts]
+
+
+def asked_in(part: Vouched) -> Asked | None:
+    """What the lines of a record asked, if it passes; where its server hasn't ended it counts as one that isn't
+    whole."""
+    asked = tally.of(part.lab, part.journal, record=part.copy).asked if part.status == 0 else None
+    return None if asked is None else replace(asked, whole=asked.whole and part.has_ended)
+
+
+def refusal(journal: Path, error: str) -> str:
+    """The audit's error line, with the text of the line that it names."""
+    line = re.match(r"audit: line (\d+)", error)
+    if line is None:
+        return f"{journal}: {error}"
+    lines = journal.read_bytes().split(b"\n")
+    return f"{journal}: {error}: {lines[int(line[1]) - 1].decode(errors='replace')}"
+
+
+def rows(runs: list[Run]) -> list[list[str]]:
+    """A line for each student and run, below a line of heads."""
+    table = [["journal", "student", "granted", "applied", *RULES, "steps", "first", "last", "shared", *DENIED]]
+    for run in runs:
+        for name, marks in run.tally.students.items():
+            numbers = [marks.granted.total(), marks.applied.total(), *(marks.applied[rule] for rule in RULES), marks.steps,
+                       marks.first, marks.last, marks.shared, *run.denied(name)]
+            table.append([str(run.journal), name, *("-" if number is None else str(number) for number in numbers)])
+    return table
+
+
+def sentence(run: Run) -> str:
+    """The run in a line."""
+    told = run.tally
+    pairs = " ".join(f"{a}-{b}" for a, b in run.pairs) or "none"
+    return (f"{run.journal}: {told.events} events, configuration {told.configuration}, "
+            f"{'stable' if told.stable else 'not stable'}; {told.closes} closes, {told.faults} faults, {told.links} links, "
+            f"{told.cuts} cuts; pairs: {pairs}")
+
+
+def of_owner(name: str, granted: Counter[str], asked: Counter[str] | None) -> str:
+    """What an owner was granted at a node, and what it asked for there, where that is known."""
+    rules = ", ".join(f"{number} {rule}" for rule, number in granted.items() if number)
+    of_asked = "" if asked is None else f" of {asked.total()} asked for"
+    return f"{name} {granted.total()} granted{of_asked}" + (f" ({rules})" if rules else "")
+
+
+def shared(run: Run) -> list[str]:
+    """A line for each node of several owners at which moves were granted or asked for: whose they were."""
+    asked = run.asked
+    lines = []
+    for node, owners in sorted(run.tally.shared.items()):
+        there = {name: None if asked is None else asked.moves.get(node, {}).get(name, Counter()) for name in owners}
+        if any(granted.total() for granted in owners.values()) or any(moves.total() for moves in there.values() if moves):
+            lines.append(f"node {node}: " + "; ".join(of_owner(name, granted, there[name]) for name, granted in owners.items()))
+    return lines
+
+
+def text(runs: list[Run]) -> str:
+    """The table for people; the rules' columns are of applied moves."""
+    lines = []
+    for run in runs:
+        table = [row[1:] for row in rows([run])]
+        widths = [max(len(row[column]) for row in table) for column in range(len(table[0]))]
+        lines += [sentence(run), *(it.line for it in run.records), *("  " + "  ".join(map(str.rjust, row, widths)) for row in table)]
+        lines += [*shared(run), *recoveries(run.lab, events(run.journal.read_text(encoding="ascii"))), ""]
+    return "\n".join([*lines, *UNTOLD]) + "\n"
+
+
+def as_json(runs: list[Run]) -> str:
+    """All runs as one JSON document."""
+    return json.dumps({"runs": [run.table() for run in runs]}, indent=1) + "\n"
+
+
+def mark(words: argparse.Namespace) -> int:
+    """Prints the marks of all journals, or refuses the first that the audit refuses."""
+    roster = lists.read(Path(words.roster), words) if words.roster else None
+    runs = [marked(lab, journal) for lab, journal in folders.given(words.runs)]
+    students = [(run.lab, run.tally.students, run.asked) for run in runs]
+    refused = [f"{run.journal}: {it.line}" for run in runs for it in run.records if it.is_refused]
+    for line in refused:
+        print(printable(f"class: {line}"), file=sys.stderr)
+    if roster is not None:
+        rows_of, left = totals.by_roster(students, roster)
+        totals.write(rows_of, roster.delimiter)
+        for name in left:
+            print(printable(f"class: {words.roster} has no {name}"), file=sys.stderr)
+        return WARNED if left or refused else 0
+    if words.total:
+        totals.write(totals.by_labs(students))
+    elif words.json:
+        print(as_json(runs), end="")
+    elif words.csv:
+        csv.writer(sys.stdout, lineterminator="\n").writerows(rows(runs))
+    else:
+        print(text(runs), end="")
+    return WARNED if refused else 0

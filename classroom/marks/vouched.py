@@ -1,0 +1,131 @@
+"""The records of a run's folder as `verify` vouches for them: copies of whole entries, beside the journal so far."""
+from __future__ import annotations
+
+import re
+import tempfile
+from collections.abc import Iterator
+from contextlib import contextmanager
+from dataclasses import dataclass
+from pathlib import Path
+
+from classroom.core.folders import Record
+from classroom.core.program import LISTENING, Answer, host_call
+from classroom.core.record import CUT, ENDED, begun, json_object, kept, seats
+
+UNENDED = "the server hasn't ended, or not as it should, so that its last entries may be lacking"
+
+
+@dataclass(frozen=True)
+class Vouched:
+    """A record that was copied with its lab and the journal as far as it goes, and what was told of it."""
+
+    record: Path
+    copy: Path
+    status: int
+    line: str
+    has_ended: bool = True  # Whether its server ended as it should.
+    goes_on: bool = False  # Whether its server does, and so its open sessions.
+
+    @property
+    def lab(self) -> Path:
+        """The lab with which it was recorded."""
+        return self.copy / "lab"
+
+    @property
+    def journal(self) -> Path:
+        """The events up to its end."""
+        return self.copy / "journal"
+
+    def told(self) -> str:
+        """The verdict as a line."""
+        return f"{self.record}: {self.line}"
+
+
+def has_ended(run: Path) -> bool:
+    """Whether its server has said that it is done; of a folder that has no server's lines it is taken so."""
+    output = run / "server.txt"
+    if not output.is_file():
+        return True
+    return "done: " in LISTENING.split(output.read_text(encoding="utf-8", errors="replace"))[-1]
+
+
+def front(text: bytes, events: int) -> bytes:
+    """The whole entries of a seat's text that so many events are enough for: what was put later comes of a run that
+    goes on. A place never falls, so it is looked for from the end."""
+    end = text.rfind(b"\n") + 1
+    while end:
+        start = text.rfind(b"\n", 0, end - 1) + 1
+        _, place, sign, *rest = [*text[start:end - 1].split(b" ", 3), b"", b"", b""]
+        if sign != b">" and int(place if place.isdigit() else 0) <= events and granted(sign, rest[0]) <= events:
+            break
+        end = start
+    return text[:end]
+
+
+def granted(sign: bytes, reply: bytes) -> int:
+    """Which event a reply grants; 0 where none."""
+    place = json_object(reply).get("place") if sign == b"<" else None
+    return place if isinstance(place, int) else 0
+
+
+def goes_on(run: Path) -> bool:
+    """Whether the server of a folder lives."""
+    record = Record.read(run)
+    return record is not None and record.server.lives()
+
+
+def copied(record: Path, into: Path, journal: bytes) -> None:
+    """Copies a record's whole entries, as far as the journal goes, its lab and where it began, and the journal into a
+    folder."""
+    events = journal.count(b"\n")
+    for file in seats(record):
+        (into / file.name).write_bytes(front(file.read_bytes(), events))
+    for name in ("lab", "begun"):
+        (into / name).write_bytes((record / name).read_bytes())
+    (into / "journal").write_bytes(journal)
+
+
+def is_open(seat: Path) -> bool:
+    """Whether a seat's file ends within a session."""
+    last = seat.read_bytes().rpartition(b"\n")[0].rpartition(b"\n")[2]
+    return last != b"" and not re.fullmatch(rb"\d+ \d+ \.", last)
+
+
+def mark(into: Path) -> None:
+    """Marks a copy as one that may lack entries, by a session that isn't whole, in a seat where none is open if there
+    is one."""
+    events = (into / "journal").read_bytes().count(b"\n")
+    for file in sorted(seats(into), key=is_open)[:1]:
+        seat = file.name.partition(".")[0]
+        with file.open("a", encoding="ascii") as it:
+            it.writelines(f"{seat} {events} {sign}\n" for sign in (CUT, ENDED))
+
+
+@contextmanager
+def vouched(run: Path) -> Iterator[list[Vouched]]:
+    """The records of a folder, from the oldest on, in copies that nobody else reads and that go away."""
+    is_whole, lives = has_ended(run), goes_on(run)
+    lines = (run / "journal").read_bytes().split(b"\n")[:-1]
+    records = kept(run)
+    ends = [*map(begun, records[1:]), len(lines)]
+    with tempfile.TemporaryDirectory() as room:
+        yield [vouch(record, Path(room) / str(number), b"".join(line + b"\n" for line in lines[:end]),
+                     is_whole or record != records[-1], lives and record == records[-1])
+               for number, (record, end) in enumerate(zip(records, ends))]
+
+
+def vouch(record: Path, into: Path, journal: bytes, is_whole: bool, lives: bool) -> Vouched:
+    """A record's copy, verified; where its server hasn't ended and an entry is lacking, as one that isn't whole."""
+    into.mkdir()
+    copied(record, into, journal)
+    answer = verified(into)
+    if answer.status and not is_whole:
+        mark(into)
+        answer = verified(into)
+    line = (answer.output or answer.error).strip()
+    return Vouched(record, into, answer.status, line if is_whole else f"{line}: {UNENDED}", is_whole, not is_whole and lives)
+
+
+def verified(copy: Path) -> Answer:
+    """What the program says of a copy."""
+    return host_call("verify", copy / "lab", copy / "journal", copy)

@@ -1,0 +1,124 @@
+"""A journal as frames: what the program answers when the journal's events are asked of it again. What stands in a
+frame was read from a reply.
+"""
+from __future__ import annotations
+
+from collections.abc import Iterator
+from dataclasses import dataclass, field
+from pathlib import Path
+from typing import Any
+
+from classroom.core import journal as journals
+from classroom.core import lab as labs
+from classroom.core.journal import Event
+from classroom.core.program import Fault, call
+from classroom.pages.replay import REPORT, Replay, Script, Take, look
+
+OpenLink = tuple[int, int, int, str]
+
+
+@dataclass
+class State:
+    """What is known of the run at a place: each value as a reply told it."""
+
+    place: int
+    number: int
+    links: frozenset[tuple[int, int]]
+    pointers: dict[int, int | None] = field(default_factory=dict)
+    ms: dict[int, bool] = field(default_factory=dict)
+    chosen: dict[int, str] = field(default_factory=dict)
+    privileged: dict[int, str] = field(default_factory=dict)
+    pairs: list[tuple[int, int]] = field(default_factory=list)
+    open: list[OpenLink] = field(default_factory=list)
+    stable: bool = False
+    moves: int = 0
+    since: int = 0  # moves since the last fault, link or cut
+
+    def copy(self) -> State:
+        """A state that stays; what is replaced as a whole is shared."""
+        return State(self.place, self.number, self.links, dict(self.pointers), dict(self.ms), dict(self.chosen),
+                     self.privileged, self.pairs, self.open, self.stable, self.moves, self.since)
+
+
+@dataclass(frozen=True)
+class Frame:
+    """The state after an event; the first one, without an event, is the beginning."""
+
+    event: Event | None
+    state: State
+
+
+class Looking(Replay):
+    """Looks at what each event did."""
+
+    def __init__(self, lab: labs.Lab, events: list[Event]) -> None:
+        super().__init__(lab, events)
+        self.state = State(0, 0, frozenset(self.links))
+        self.frames: list[Frame] = []
+
+    def run(self) -> Iterator[Frame]:
+        """The frames in order, the beginning first."""
+        for _ in self.replies():
+            yield from self.frames
+            self.frames.clear()
+
+    def ask(self, script: Script, event: Event | None, named: set[int]) -> None:
+        """Looks at the nodes that an event may have changed, and asks for the report where it made a configuration. The
+        last reply makes the frame whole."""
+        if event is None or event.makes_configuration:
+            for node in sorted(named if event else self.registers):
+                script.ask(look(node), self.take_look)
+            script.ask(REPORT, self.take_report)
+        else:
+            script.ask(look(event.nodes[0]), self.take_look)
+        script.takes.append(self.showing(event, script.takes.pop()))
+
+    def showing(self, event: Event | None, take: Take | None) -> Take:
+        """What takes the last reply of a frame, as `take` does, and then shows the frame, which is whole."""
+        def takes(reply: dict[str, Any]) -> None:
+            """Takes the last reply, and adds the frame."""
+            if take is not None:
+                take(reply)
+            self.frames.append(Frame(event, self.state))
+
+        return takes
+
+    def take_look(self, reply: dict[str, Any]) -> None:
+        """Takes the registers and the chosen move that a look tells."""
+        node, state = reply["node"], self.state
+        state.pointers[node], state.ms[node] = reply["p"], reply["m"]
+        state.chosen.pop(node, None)
+        if reply["chosen"] is not None:
+            state.chosen[node] = reply["chosen"]
+
+    def take_report(self, reply: dict[str, Any]) -> None:
+        """Takes what a report tells; its numbers begin anew with each part of the replay."""
+        state = self.state
+        state.number = reply["at"] + self.number
+        state.privileged = {node: rule for node, rule in reply["privileged"]}
+        state.pairs = [(a, b) for a, b in reply["pairs"]]
+        state.open = [(a, b, witness, rule) for a, b, witness, rule in reply["open"]]
+        state.stable = reply["stable"]
+
+    def took(self, event: Event, reply: dict[str, Any]) -> None:
+        """Counts the moves of a close, and takes the event's place and its links."""
+        state = self.state
+        state.place = event.place
+        if event.kind == "close":
+            state.moves += len(reply["moved"])
+            state.since += len(reply["moved"])
+        elif event.makes_configuration:
+            state.since = 0
+        if event.kind in ("link", "cut"):
+            state.links = frozenset(self.links)
+
+
+def frames_of(lab: Path, journal: Path) -> tuple[labs.Lab, Iterator[Frame]]:
+    """The lab, and the frames of a journal that the audit passes. All frames share one state, which
+    changes when the next one is taken."""
+    answer = call("audit", lab, journal)
+    if answer.status != 0:
+        raise Fault(f"{journal}: {answer.error}", answer.status)
+    known = labs.read(lab)
+    events = journals.events(journal.read_text(encoding="ascii"))
+    return known, Looking(known, events).run()

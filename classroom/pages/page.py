@@ -1,0 +1,204 @@
+"""One HTML file that shows a run, with nothing beside it."""
+from __future__ import annotations
+
+import base64
+import hashlib
+import json
+import zlib
+from collections.abc import Iterable
+from html import escape
+from itertools import chain, islice
+from pathlib import Path
+from typing import Any
+
+from classroom.core import bounds
+from classroom.core.journal import RULES as NAMED
+from classroom.core.lab import Lab
+from classroom.pages.drawing import OPEN_MOST, WITNESSES_MOST, Drawing
+from classroom.pages.frames import Frame, OpenLink, State
+from classroom.pages.layout import lay_out
+
+FOLDER = Path(__file__).parent
+PLAIN_LIMIT = 400_000  # bytes of data above which they are packed
+RULES = ("", *NAMED)
+Link = tuple[int, int]
+
+
+class Frames:
+    """The frames as what changed from one to the next, nodes and links by their indices in a list."""
+
+    def __init__(self, drawing: Drawing) -> None:
+        self.drawing = drawing
+        self.order = {node.id: index for index, node in enumerate(drawing.lab.nodes)}
+        self.links: list[Link] = []
+        self.arrows: dict[tuple[int, int], str] = {}  # of each pointer that was seen
+        self.index: dict[Link, int] = {}
+        self.rows: list[dict[str, Any]] = []
+        self.before: State | None = None
+        self.open: dict[int, tuple[int, int]] = {}
+
+    def add(self, frame: Frame, links: int) -> None:
+        """Adds a row of what a frame has changed; `links` is how many the network has then."""
+        state, event = frame.state, frame.event
+        before = self.before or State(0, 0, frozenset())
+        most = bounds.told(len(self.order), links)
+        row: dict[str, Any] = {
+            "place": state.place, "number": state.number, "moves": state.moves, "since": state.since,
+            "bound": most.moves if most else None, "stable": state.stable,
+        }
+        if event is not None:
+            row |= {"kind": event.kind, "text": " ".join(event.words), "nodes": [self.order[node] for node in event.nodes]}
+        changes = {
+            "registers": self.registers(before, state),
+            "chosen": self.rules(before.chosen, state.chosen),
+            "privileged": [] if state.privileged is before.privileged else self.rules(before.privileged, state.privileged),
+            "married": [] if state.pairs is before.pairs else self.partners(before.pairs, state.pairs),
+            "links": [] if state.links is before.links else self.changed_links(before.links, state.links),
+            "open": [] if state.open is before.open else self.changed_open(state.open),
+        }
+        self.rows.append(row | {name: rows for name, rows in changes.items() if rows})
+        self.before = state.copy()
+
+    def registers(self, before: State, state: State) -> list[list[int]]:
+        """The nodes whose registers changed: each with the node that it points at, or -1, and with m as 0 or 1. The
+        arrow of a pointer that wasn't seen before is kept."""
+        rows: list[list[int]] = []
+        if (before.pointers, before.ms) == (state.pointers, state.ms):
+            return rows
+        for node, pointer in state.pointers.items():
+            if node in before.ms and (before.pointers[node], before.ms[node]) == (pointer, state.ms[node]):
+                continue
+            at = -1 if pointer is None else self.order[pointer]
+            rows.append([self.order[node], at, int(state.ms[node])])
+            if pointer is not None and (self.order[node], at) not in self.arrows:
+                self.arrows[self.order[node], at] = self.drawing.arrow(node, pointer)
+        return rows
+
+    def rules(self, before: dict[int, str], now: dict[int, str]) -> list[list[int]]:
+        """The nodes whose rule changed, each with the rule's index in RULES, 0 where it has none."""
+        changed = {node for node, _ in before.items() ^ now.items()}
+        return [[self.order[node], RULES.index(now.get(node, ""))] for node in sorted(changed)]
+
+    def partners(self, before: list[Link], now: list[Link]) -> list[list[int]]:
+        """The nodes that were parted, each with -1, and then those that were paired, each with its partner."""
+        gone, come = set(before) - set(now), set(now) - set(before)
+        rows = [[self.order[node], -1] for pair in sorted(gone) for node in pair]
+        return rows + [
+            [self.order[node], self.order[other]] for a, b in sorted(come) for node, other in ((a, b), (b, a))
+        ]
+
+    def changed_links(self, before: frozenset[Link], now: frozenset[Link]) -> list[list[int]]:
+        """The links that came, each with 1, or went, with 0."""
+        return [[self.index_of(link), int(link in now)] for link in sorted(before ^ now)]
+
+    def index_of(self, link: Link) -> int:
+        """The index of a link in the list, at whose end it is put where it is new."""
+        if link not in self.index:
+            self.index[link] = len(self.links)
+            self.links.append(link)
+        return self.index[link]
+
+    def changed_open(self, links: list[OpenLink]) -> list[list[int]]:
+        """Runs of links that follow each other and have the same witness from now on: the first, how many
+        they are, the witness (-1: none) and its rule."""
+        now = {self.index_of((a, b)): (self.order[node], RULES.index(rule)) for a, b, node, rule in links}
+        changed = sorted(link for link in now.keys() | self.open.keys() if now.get(link) != self.open.get(link))
+        runs: list[list[int]] = []
+        for link in changed:
+            witness = [*now.get(link, (-1, 0))]
+            if runs and runs[-1][0] + runs[-1][1] == link and runs[-1][2:] == witness:
+                runs[-1][1] += 1
+            else:
+                runs.append([link, 1, *witness])
+        self.open = now
+        return runs
+
+    def drawn_arrows(self, known: int = 0) -> list[list[Any]]:
+        """The arrows but for so many that are known."""
+        return [[node, pointer, drawn] for (node, pointer), drawn in islice(self.arrows.items(), known, None)]
+
+    def drawn_links(self, known: int = 0) -> list[list[float]]:
+        """The links but for so many that are known, each with where its witness stands, if not in its middle."""
+        return [
+            [self.order[a], self.order[b], *(self.drawing.spot(a, b) if self.drawing.witnesses is not None else ())]
+            for a, b in self.links[known:]
+        ]
+
+
+def page_of(title: str, lab: Lab, frames: Iterable[Frame], history: str = "") -> str:
+    """The file's text, with a part more below the player."""
+    each = iter(frames)
+    first = next(each)
+    drawing = Drawing(lab.without_house(), lay_out((node.id for node in lab.nodes), first.state.links))
+    picture, rows = drawing.svg(first.state, None), Frames(drawing)
+    for frame in chain([first], each):
+        rows.add(frame, len(frame.state.links))
+    data = what_stays(drawing) | {"links": rows.drawn_links(), "arrows": rows.drawn_arrows(), "frames": rows.rows}
+    return filled("player", title, drawing, picture, data, history)[0]
+
+
+def live_page(title: str, drawing: Drawing, state: State, acts: bool) -> tuple[str, str]:
+    """The page of a run that is going on, whose program asks for what to draw; and the policy that it is sent with."""
+    return filled("live", title, drawing, drawing.svg(state, None), what_stays(drawing) | {"links": [], "arrows": [], "acts": acts})
+
+
+def what_stays(drawing: Drawing) -> dict[str, Any]:
+    """What of a page's data stays from place to place."""
+    return {
+        "nodes": [{"id": node.id, "owners": node.owners} for node in drawing.lab.nodes],
+        "points": drawing.layout.points,
+        "rules": RULES, "marks": drawing.marks, "witnessesMost": WITNESSES_MOST, "openMost": OPEN_MOST,
+        "short": drawing.form.short, "brief": drawing.brief,
+    }
+
+
+def filled(name: str, title: str, drawing: Drawing, picture: str, data: dict[str, Any], more: str = "") -> tuple[str, str]:
+    """A page of a drawing by its form, and the policy that it is sent with."""
+    closing = '<dt>steps are closed</dt><dd id="closing"></dd>\n' if name == "live" else ""
+    told = form("told", {"CLOSING": closing, "STUDENTS": legend(drawing), "MOST": f"{OPEN_MOST:,}"})
+    parts = {
+        "TITLE": title, "DRAWING": picture, "TOLD": told,
+        "DATA": data_element(json.dumps(data, separators=(",", ":"))), "MORE": more,
+    }
+    return assembled(name, parts, drawing.style(), ("drawing.css", "player.css"), ("picture.js", f"{name}.js"))
+
+
+def assembled(name: str, parts: dict[str, str], more: str, styles: tuple[str, ...], programs: tuple[str, ...]) -> tuple[str, str]:
+    """A page by its form, with its style and its program inside, and the policy that lets these two alone be used."""
+    style = "".join((FOLDER / file).read_text("utf-8") for file in styles) + more
+    program = "".join((FOLDER / file).read_text("utf-8") for file in programs)
+    page = form(name, parts | {"TITLE": escape(parts["TITLE"]), "STYLE": style, "PROGRAM": program})
+    return page, f"style-src {hashed(style)}; script-src {hashed(program)}"
+
+
+def form(name: str, parts: dict[str, str]) -> str:
+    """A form, with its parts where their names stand."""
+    head, *rest = (FOLDER / f"{name}.html").read_text("utf-8").split("{{")
+    return head + "".join(parts[piece.split("}}", 1)[0]] + piece.split("}}", 1)[1] for piece in rest)
+
+
+def hashed(text: str) -> str:
+    """A text as a policy names it."""
+    return f"'sha256-{base64.b64encode(hashlib.sha256(text.encode()).digest()).decode()}'"
+
+
+def legend(drawing: Drawing) -> str:
+    """A row for each student, and what letters at the nodes stand for."""
+    rows = "".join(legend_row(drawing, student) for student in drawing.lab.students)
+    return rows + (f"<li>{drawing.letters}</li>" if drawing.letters else "")
+
+
+def legend_row(drawing: Drawing, student: str) -> str:
+    """A student's colour, sign where signs are drawn, name and nodes."""
+    nodes = [str(node) for node in drawing.lab.nodes_of(student)]
+    swatch = f'<svg width="14" height="14"><circle class="owned h{drawing.hue(student)}" cx="7" cy="7" r="6"/></svg>'
+    sign = f"<strong>{drawing.signs[student]}</strong> " if drawing.form.signed else ""
+    return f"<li>{swatch} {sign}{escape(student)}: {', '.join(nodes) or 'no node'}</li>"
+
+
+def data_element(text: str) -> str:
+    """The data as they are, or packed where they are long; neither can end the element."""
+    if len(text) <= PLAIN_LIMIT:
+        return f'<script id="data" type="application/json" data-form="plain">{text.replace("<", chr(92) + "u003c")}</script>'
+    packed = base64.b64encode(zlib.compress(text.encode(), 9)).decode()
+    return f'<script id="data" type="text/plain" data-form="packed">{packed}</script>'

@@ -1,0 +1,58 @@
+"""`./class play`: a run as a page, or configurations as a picture."""
+from __future__ import annotations
+
+import argparse
+import re
+from itertools import chain, takewhile
+from pathlib import Path
+
+from classroom.core import folders
+from classroom.core.program import Fault
+from classroom.pages.drawing import Drawing, standalone
+from classroom.pages.frames import Frame, frames_of
+from classroom.pages.layout import lay_out
+from classroom.pages.page import page_of
+from classroom.pages.sheet import sheet
+
+
+def page(lab_file: Path, journal: Path) -> str:
+    """The whole run as a page."""
+    lab, frames = frames_of(lab_file, journal)
+    return page_of(folders.title(lab_file, journal), lab, frames)
+
+
+def places(word: str) -> list[int]:
+    """Numbers with commas between them."""
+    if not re.fullmatch(r"\d+(,\d+)*", word):
+        raise argparse.ArgumentTypeError(f"{word}: places of the journal, with commas between them; 0 is the beginning")
+    return [int(place) for place in word.split(",")]
+
+
+def picture(lab_file: Path, journal: Path, asked: list[int]) -> str:
+    """The configurations after these places as SVG: one that fills it, or several."""
+    lab, frames = frames_of(lab_file, journal)
+    first = next(frames)
+    drawing = Drawing(lab.without_house(), lay_out((node.id for node in lab.nodes), first.state.links))
+    found: dict[int, Frame] = {}
+    for frame in chain([first], takewhile(lambda frame: frame.state.place <= max(asked), frames)):
+        if frame.state.place in asked:
+            found[frame.state.place] = Frame(frame.event, frame.state.copy())  # The next one is made of it.
+    for place in asked:
+        if place not in found:
+            raise Fault(f"{journal}: there is no place {place}", 3)
+    if len(asked) > 1:
+        return sheet(drawing, [found[place] for place in asked])
+    return standalone(drawing, found[asked[0]].state, found[asked[0]].event)
+
+
+def play(words: argparse.Namespace) -> int:
+    """Writes the file and says where it lies. Status 3 where the audit says no."""
+    runs = folders.given(words.run)
+    if len(runs) != 1:
+        raise Fault("play: the folder of a run, or a lab and a journal")
+    lab_file, journal = runs[0]
+    output = Path(words.output or ("run.html" if words.svg is None else f"{'-'.join(map(str, words.svg))}.svg"))
+    text = page(lab_file, journal) if words.svg is None else picture(lab_file, journal, words.svg)
+    output.write_text(text, encoding="utf-8")
+    print(f"{output}: {len(text.encode())} bytes")
+    return 0

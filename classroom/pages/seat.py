@@ -1,0 +1,133 @@
+"""A student's seat that a page has: one connection to the server, and all that its replies told, as a picture too."""
+from __future__ import annotations
+
+import threading
+from collections.abc import Callable
+from dataclasses import asdict, dataclass, replace
+from typing import Any, TypeVar
+
+from classroom.client import Client, Closed, Denied, Look, Moving, Refused
+from classroom.core.journal import Event
+from classroom.core.lab import Lab, Node, ordered
+from classroom.pages.drawing import Drawing
+from classroom.pages.frames import State
+from classroom.pages.layout import HEIGHT, ROOMY, WIDTH, Layout, halved, lay_out
+
+NEIGHBOUR = "a neighbour"  # instead of its owners, whom no reply tells; no student has such a name
+Told = TypeVar("Told")
+Looks = dict[int, Look]
+
+
+@dataclass(frozen=True)
+class Seen(Drawing):
+    """The part of the network that a student is shown. Of a node beyond it no more is known than that one points at
+    it."""
+
+    beyond: frozenset[int] = frozenset()
+    times: int = 1  # how much larger it is drawn
+
+    def pointer(self, node: int, state: State) -> str:
+        """No arrow from beyond."""
+        return "" if node in self.beyond else super().pointer(node, state)
+
+    def node(self, node: int, owners: list[str], state: State) -> str:
+        """A node beyond is its number."""
+        if node not in self.beyond:
+            return super().node(node, owners, state)
+        x, y = self.layout.points[node]
+        return (f'<g class="beyond" transform="translate({x:g} {y:g})"><title>node {node}, which is not shown to you</title>'
+                f'<circle class="rim" r="{self.layout.radius:g}"/><text y="{0.36 * self.size:.3g}">{node}</text></g>')
+
+    def svg(self, state: State, event: Event | None) -> str:
+        """The element, with a smaller field where it is drawn larger."""
+        whole, part = (f'viewBox="0 0 {WIDTH / times:g} {HEIGHT / times:g}"' for times in (1, self.times))
+        return super().svg(state, event).replace(whole, part, 1)
+
+
+def shown_part(name: str, looks: Looks) -> Lab:
+    """The network as far as looks tell it."""
+    near = {each.node: each.p for look in looks.values() for each in look.near}
+    beyond = {p for p in [*near.values(), *(look.p for look in looks.values())] if p is not None} - near.keys() - looks.keys()
+    nodes = [Node(node, [name] if node in looks else [] if node in beyond else [NEIGHBOUR])
+             for node in sorted(looks.keys() | near.keys() | beyond)]
+    links = sorted({ordered((look.node, each.node)) for look in looks.values() for each in look.near})
+    return Lab(0, 0, ("", ""), {name: "", NEIGHBOUR: ""}, nodes, links)
+
+
+def drawn(part: Lab, looks: Looks) -> Seen:
+    """How that part is drawn, with each node beyond near the one that points at it."""
+    beyond = frozenset(node.id for node in part.nodes if not node.owners)
+    points_at = [(each.node, each.p) for look in looks.values() for each in look.near if each.p in beyond and each.p is not None]
+    layout = lay_out((node.id for node in part.nodes), {*part.links, *map(ordered, points_at)})
+    return Seen(part, layout, beyond) if layout.nearest < ROOMY else Seen(part, halved(layout), beyond, 2)
+
+
+def state_of(part: Lab, looks: Looks) -> State:
+    """What the looks tell, for a picture."""
+    registers = {each.node: each for look in looks.values() for each in (*look.near, look)}
+    state = State(0, max(look.at for look in looks.values()), frozenset(part.links))
+    for node in part.nodes:
+        if node.id in registers:
+            state.pointers[node.id], state.ms[node.id] = registers[node.id].p, registers[node.id].m
+    state.privileged = {node: look.rule for node, look in looks.items() if look.rule is not None}
+    state.chosen = {node: look.chosen for node, look in looks.items() if look.chosen is not None}
+    return state
+
+
+class Seat:
+    """A student's connection, which the page's own thread and those of its moves ask by turns."""
+
+    def __init__(self, client: Client, name: str, nodes: list[int]) -> None:
+        self.client, self.name, self.nodes = client, name, nodes
+        self.turn = threading.Lock()
+        self.why = ""  # it has ended
+        self.looks: Looks = {}
+        self.drawing: Seen | None = None
+        self.row: dict[str, Any] = {}
+
+    def asked(self, ask: Callable[[], Told]) -> Told:
+        """What the server answers; where it ended the connection, says why from then on."""
+        with self.turn:
+            try:
+                return ask()
+            except Closed as closed:
+                self.why = self.why or str(closed)
+            except Refused as refused:
+                if refused.word != "busy":
+                    raise
+                self.why = str(refused)
+        raise Closed(self.why)
+
+    def move(self, request: dict[str, Any]) -> dict[str, Any]:
+        """The reply to a request for a move."""
+        try:
+            return self.asked(lambda: self.client.ask(**request))
+        except Denied as denied:
+            return {"clause": denied.clause, "deny": denied.name, "text": denied.text}
+        except Refused as refused:
+            return {"refuse": refused.word}
+
+    def present(self) -> dict[str, Any]:
+        """What the page shows now: the same one where nothing is new, or can't be told for the moment."""
+        try:
+            looks = self.asked(lambda: self.client.snapshot(self.nodes))
+        except (Moving, Refused):
+            return self.row
+        if looks != self.looks:
+            self.looks, part = looks, shown_part(self.name, looks)
+            if self.drawing is None or part != self.drawing.lab:
+                self.drawing = drawn(part, looks)
+            picture = self.drawing.svg(state_of(part, looks), None)
+            self.row = {"at": max(look.at for look in looks.values()), "nodes": [told(look) for look in looks.values()],
+                        "picture": picture}
+        return self.row
+
+
+def told(look: Look) -> dict[str, Any]:
+    """A look as the server told it, but for the number that all have in common."""
+    return {name: value for name, value in asdict(look).items() if name != "at"}
+
+
+def style() -> str:
+    """The colours that every student's picture has: the student's own and the neighbours'."""
+    return Drawing(replace(shown_part("", {}), students={"": "", NEIGHBOUR: ""}), Layout({}, 1.0)).style()

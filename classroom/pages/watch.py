@@ -1,0 +1,129 @@
+"""What a live page shows: asked at the desk as it changes, and kept for any number of pages."""
+from __future__ import annotations
+
+import threading
+from collections.abc import Iterable
+from dataclasses import dataclass
+
+from classroom.client import Client, Denied, Refused, Report
+from classroom.core import lab as labs
+from classroom.core.journal import Event
+from classroom.core.present import Book
+from classroom.pages.frames import State
+
+
+@dataclass(frozen=True)
+class Now:
+    """The present, which doesn't change any more: the state, how many events and lines there are, and how steps are
+    closed."""
+
+    version: int
+    state: State
+    events: int
+    lines: int
+    closing: str
+    ended: bool
+
+
+class Present:
+    """The newest `Now`, and all events and lines, which only grow. Who shows it waits for another one; who makes it
+    waits for nobody."""
+
+    def __init__(self, state: State, closing: str) -> None:
+        self.turn = threading.Condition()
+        self.events: list[Event] = []
+        self.lines: list[str] = []
+        self.now = Now(1, state, 0, 0, closing, False)
+
+    def put(self, state: State | None = None, events: Iterable[Event] = (), line: str | None = None,
+            closing: str | None = None, ended: bool = False) -> None:
+        """Publishes what is new."""
+        with self.turn:
+            now = self.now
+            self.events.extend(events)
+            self.lines.extend([line] if line else [])
+            self.now = Now(
+                now.version + 1, state or now.state, len(self.events), len(self.lines), closing or now.closing,
+                now.ended or ended,
+            )
+            self.turn.notify_all()
+
+    def after(self, version: int, seconds: float) -> Now:
+        """The newest one, as soon as it is another than that version, or after so many seconds."""
+        with self.turn:
+            self.turn.wait_for(lambda: self.now.version != version, seconds)
+            return self.now
+
+
+class Watch:
+    """Looks at each node once, and then at those alone that events name."""
+
+    def __init__(self, lab: labs.Lab, client: Client, report: Report, closing: str) -> None:
+        self.client = client
+        self.state = State(0, 0, frozenset(map(labs.ordered, lab.links)))
+        self.named = {node.id for node in lab.nodes}
+        self.granted: set[int] = set()
+        self.events: list[Event] = []
+        self.look()
+        self.take(report)
+        self.present = Present(self.state.copy(), closing)
+
+    def note(self, event: Event) -> None:
+        """Takes in an event of the journal."""
+        state = self.state
+        self.events.append(event)
+        self.named.update(event.nodes)
+        if event.kind == "grant":
+            self.granted.update(event.nodes)
+        if event.makes_configuration:
+            self.named |= self.granted
+            self.granted.clear()
+        if event.kind == "link":
+            state.links |= {labs.ordered((event.nodes[0], event.nodes[1]))}
+        elif event.kind == "cut":
+            state.links -= {labs.ordered((event.nodes[0], event.nodes[1]))}
+
+    def turn(self, report: Report, book: Book) -> None:
+        """Publishes the present after the events that were noted; where the run has gone on meanwhile, its next
+        events come first."""
+        if not self.events:
+            return
+        last = self.events[-1]
+        number = last.at + last.makes_configuration
+        if any(event.kind in ("grant", "release") for event in self.events):
+            self.settle()
+        if report.at != number or self.look() != {number}:
+            return
+        self.take(report)
+        self.state.place, self.state.moves, self.state.since = last.place, book.moves, book.since
+        self.named.clear()
+        self.present.put(self.state.copy(), self.events)
+        self.events.clear()
+
+    def settle(self) -> None:
+        """Waits until what the journal's last line says has happened, since the line is there first: an act comes after
+        it, also one that is denied, as that a node be linked to itself."""
+        node = min(self.state.pointers)
+        try:
+            self.client.link(node, node)
+        except (Denied, Refused):
+            pass
+
+    def look(self) -> set[int]:
+        """Looks at the named nodes; gives the numbers of the configurations in which they were seen."""
+        state, numbers = self.state, set()
+        for node in sorted(self.named):
+            look = self.client.look(node)
+            numbers.add(look.at)
+            state.pointers[node], state.ms[node] = look.p, look.m
+            state.chosen.pop(node, None)
+            if look.chosen is not None:
+                state.chosen[node] = look.chosen
+        return numbers
+
+    def take(self, report: Report) -> None:
+        """Takes what a report tells."""
+        state = self.state
+        state.number, state.stable = report.at, report.stable
+        state.privileged = dict(report.privileged)
+        state.pairs, state.open = list(report.pairs), list(report.open)

@@ -1,0 +1,147 @@
+"""What every page's server has: limits on connections, a time for each request, and the heads of its answers."""
+from __future__ import annotations
+
+import io
+import socket
+import sys
+import threading
+import time
+from collections.abc import Callable
+from http.server import BaseHTTPRequestHandler, ThreadingHTTPServer
+from typing import Any, TypeVar
+
+from classroom.core.program import first_free
+
+KEPT = 8192  # bytes of news that wait for a page
+CONNECTIONS = 32  # at a time
+ASKING = 5.0  # seconds in which a request has to be there
+TAKING = 60.0  # seconds in which some of an answer has to be taken
+POLICY = "default-src 'none'; connect-src 'self'; base-uri 'none'; form-action 'none'; frame-ancestors 'none'"
+Opened = TypeVar("Opened", bound="Web")
+
+
+class Web(ThreadingHTTPServer):
+    """Serves pages of a run on 127.0.0.1."""
+
+    daemon_threads = True
+
+    def __init__(self, port: int, asked: type[Asked], title: str) -> None:
+        super().__init__(("127.0.0.1", port), asked)
+        self.title = title
+        self.tell: Callable[[str], None] = print
+        self.free = threading.BoundedSemaphore(CONNECTIONS)
+        self.is_open = False
+
+    def open(self) -> None:
+        """Answers from now on."""
+        if self.is_open:
+            return
+        self.is_open = True
+        threading.Thread(target=self.serve_forever, kwargs={"poll_interval": 0.1}, daemon=True).start()
+
+    def close(self) -> None:
+        """Lets go of the port."""
+        if self.is_open:
+            self.shutdown()
+        self.server_close()
+
+    def process_request(self, request: Any, client_address: Any) -> None:
+        """A connection has a thread of its own, where one is free and can be made."""
+        if not self.free.acquire(blocking=False):
+            return self.shutdown_request(request)
+        try:
+            super().process_request(request, client_address)
+        except RuntimeError:
+            self.free.release()
+            self.shutdown_request(request)
+
+    def process_request_thread(self, request: Any, client_address: Any) -> None:
+        """One connection, to its end."""
+        try:
+            super().process_request_thread(request, client_address)
+        finally:
+            self.free.release()
+
+    def handle_error(self, request: Any, client_address: Any) -> None:
+        """Tells what went wrong; a page that went away is no error."""
+        error = sys.exc_info()[1]
+        if not isinstance(error, (ConnectionError, TimeoutError)):
+            self.tell(f"the page: {type(error).__name__}: {error}")
+
+
+class InTime(io.RawIOBase):
+    """What a connection sends within so many seconds; a read that would take longer fails."""
+
+    def __init__(self, connection: socket.socket, seconds: float) -> None:
+        super().__init__()
+        self.connection, self.end = connection, time.monotonic() + seconds
+
+    def readable(self) -> bool:
+        """Yes: it is for reading alone."""
+        return True
+
+    def readinto(self, buffer: Any) -> int:
+        """Reads what comes within the time that is left; gives how many bytes."""
+        left = self.end - time.monotonic()
+        if left <= 0:
+            raise TimeoutError
+        self.connection.settimeout(left)
+        return self.connection.recv_into(buffer)
+
+
+class Asked(BaseHTTPRequestHandler):
+    """One request of a page."""
+
+    def log_message(self, format: str, *words: Any) -> None:
+        """Nothing is printed: what is asked may tell what nobody else knows."""
+
+    def setup(self) -> None:
+        """Little is kept for a page that is slow: it gets the present instead of what has passed."""
+        self.request.setsockopt(socket.SOL_SOCKET, socket.SO_SNDBUF, KEPT)
+        super().setup()
+        self.rfile = io.BufferedReader(InTime(self.connection, ASKING))
+
+    def is_elsewhere(self) -> bool:
+        """Whether another machine's name was asked, or another port, as through a tunnel; says what to open."""
+        port = self.connection.getsockname()[1]
+        if self.headers.get("Host") in (f"127.0.0.1:{port}", f"localhost:{port}"):
+            return False
+        text = (f"This page is served as http://127.0.0.1:{port}/.. alone: open the address that the run has told. From another "
+                f"machine, open it there after: ssh -N -L {port}:127.0.0.1:{port} NAME@HOST\n").encode()
+        self.answer(421, "text/plain; charset=utf-8", text)
+        return True
+
+    def body(self, most: int) -> bytes | None:
+        """What a request carries; None where that is more than so many bytes, or its size is no number."""
+        size = self.headers.get("Content-Length") or "0"
+        return self.rfile.read(int(size)) if size.isascii() and size.isdecimal() and int(size) <= most else None
+
+    def answer(self, status: int, kind: str = "", content: bytes = b"", policy: str = "") -> None:
+        """Sends an answer that is whole."""
+        self.head(status, kind, len(content), policy)
+        self.wfile.write(content)
+
+    def head(self, status: int, kind: str = "", size: int | None = 0, policy: str = "") -> None:
+        """Sends the head of an answer; without a size the answer ends with the connection."""
+        self.connection.settimeout(TAKING)
+        self.send_response_only(status)
+        for name, value in (("Cache-Control", "no-store"), ("Referrer-Policy", "no-referrer"),
+                            ("X-Content-Type-Options", "nosniff"), ("Content-Security-Policy", "; ".join(filter(None, (POLICY, policy))))):
+            self.send_header(name, value)
+        if kind:
+            self.send_header("Content-Type", kind)
+        if size is not None:
+            self.send_header("Content-Length", str(size))
+        self.end_headers()
+
+
+def opened(port: int, make: Callable[[int], Opened]) -> Opened:
+    """A server at that port, or the next that is free."""
+    def at(number: int) -> Opened | None:
+        """The server at that port; None where the port is taken."""
+        try:
+            return make(number)
+        except OSError:
+            return None
+
+    return first_free(port, at, "for the page ")

@@ -1,0 +1,59 @@
+"""`./class attach`: takes the desk of a class whose `run` is gone, or has lost its terminal, and goes on as it does."""
+from __future__ import annotations
+
+import argparse
+import os
+import signal
+import time
+from pathlib import Path
+
+from classroom.core import lab as labs
+from classroom.core.folders import Record, of_folder
+from classroom.core.program import CLASS, Fault
+from classroom.run.closing import closing
+from classroom.run.holding import Running, to_the_end
+from classroom.run.run import add_desk_words, may_stand_in
+from classroom.run.server import Server
+from classroom.run.teller import Teller
+
+PATIENCE = 60.0  # seconds in which a `run` without its terminal lets go of the desk
+
+
+def add_words(words: argparse.ArgumentParser) -> None:
+    """The words of `attach`."""
+    words.add_argument("folder", metavar="FOLDER", help="the run's folder, which knows the ports")
+    add_desk_words(words)
+    words.set_defaults(work=attach)
+
+
+def free(folder: Path, record: Record) -> None:
+    """Wants the desk free. A `run` that has lost its terminal is told to let go of it, and waited for; any other
+    process that holds it is a fault."""
+    holder = record.run
+    if holder.lives() and not record.left:
+        raise Fault(f"{folder}: process {holder.number} holds its desk")
+    if holder.lives():
+        os.kill(holder.number, signal.SIGUSR1)
+        end = time.monotonic() + PATIENCE
+        while holder.lives():
+            if time.monotonic() > end:
+                raise Fault(f"{folder}: process {holder.number} doesn't let go of its desk")
+            time.sleep(0.05)
+
+
+def attach(words: argparse.Namespace) -> int:
+    """Takes the desk of a folder's run."""
+    folder = Path(words.folder)
+    lab_file, _ = of_folder(folder)
+    record = Record.read(folder)
+    if record is None or not record.server.lives():
+        raise Fault(f"{folder}: its server has ended: {CLASS} run --resume {folder}")
+    lab = labs.read(lab_file)
+    may_stand_in(words, lab, lab_file)
+    free(folder, record)
+    run = Running(folder, Path(record.lab), lab, words.close or closing(record.close), words.until or record.until,
+                  words.page or record.page, words.typed, Teller(folder), words.play or record.play,
+                  goes_on=True, stand_in=words.stand_in or record.stand_in, looks=record.looks, played=record.played)
+    it = Server(record.server, record.port, record.desk, True, folder / "server.txt")
+    run.tell(f"port {it.port}, desk {it.desk}; folder {folder}")
+    return to_the_end(run, lambda: it)

@@ -1,0 +1,18 @@
+"""How the steps of a run are closed: by a daemon's word, at the desk."""
+from __future__ import annotations
+
+from classroom.run.daemons import Daemon, daemon
+
+Closing = Daemon
+SECONDS = 2.0  # of a word that names none
+mode = daemon
+
+
+def closing(word: str) -> Closing:
+    """The daemon that a word names, with so many SECONDS where it names none."""
+    return Daemon.of(word, SECONDS)
+
+
+def spelled(how: Closing) -> str:
+    """How steps are closed, as a word."""
+    return how.spelled()

@@ -1,0 +1,58 @@
+"""`./class demo`: a class in a box."""
+from __future__ import annotations
+
+import argparse
+import re
+import signal
+import subprocess
+import sys
+import tempfile
+from pathlib import Path
+
+from classroom.core import lab as labs
+from classroom.core.program import TOP
+from classroom.run import server
+from classroom.setup import slips
+
+LAB = TOP / "examples/cycle.toml"
+WORDS = ("--close", "every:0.5", "--until", "stable", "--beside", "--into")
+SIGNALS = (signal.SIGINT, signal.SIGTERM)
+
+
+def bots_of(lab: labs.Lab, port: int, room: Path) -> list[subprocess.Popen[bytes]]:
+    """Writes the slips of a lab, and starts a bot for each student."""
+    slips.write_all(lab, port, room / "slips")
+    return [
+        subprocess.Popen([sys.executable, TOP / "examples/bot.py", room / "slips" / f"{name}.slip"],
+                         stdin=subprocess.DEVNULL, stdout=subprocess.DEVNULL, stderr=subprocess.DEVNULL)
+        for name in lab.students
+    ]
+
+
+def demo(words: argparse.Namespace) -> int:
+    """Calls `run` over the cycle of `examples/`, with a bot for each of its four students, until it is stable."""
+    server.ready(False)
+    lab = labs.read(LAB)
+    bots: list[subprocess.Popen[bytes]] = []
+    print(f"a cycle of {len(lab.nodes)} nodes after a fault, and the bots of {len(lab.students)} students", flush=True)
+    run = subprocess.Popen(
+        [sys.executable, TOP / "class", "run", LAB, *WORDS, words.into], stdin=subprocess.DEVNULL, stdout=subprocess.PIPE,
+        text=True, start_new_session=True,
+    )
+    for number in SIGNALS:
+        signal.signal(number, lambda number, _: run.send_signal(number))
+    assert run.stdout is not None
+    with tempfile.TemporaryDirectory() as room, run.stdout:
+        for line in run.stdout:
+            print(line, end="", flush=True)
+            told = re.match(r"port (\d+), ", line)
+            if told:
+                bots += bots_of(lab, int(told[1]), Path(room))
+        status = run.wait()
+        for bot in bots:
+            try:
+                bot.wait(10)
+            except subprocess.TimeoutExpired:
+                bot.kill()
+                bot.wait()
+    return status

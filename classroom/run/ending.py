@@ -1,0 +1,44 @@
+"""What a run leaves in its folder: a journal of whole lines, its audit, its marks, its page."""
+from __future__ import annotations
+
+from collections.abc import Callable
+from pathlib import Path
+
+from classroom.core.program import Fault, call
+from classroom.marks import mark
+from classroom.pages import play
+
+
+def whole_lines(journal: Path) -> None:
+    """Takes the torn end of a journal away into a file beside it; makes an empty journal where there is none."""
+    content = journal.read_bytes() if journal.exists() else b""
+    whole, found, torn = content.rpartition(b"\n")
+    if torn or not journal.exists():
+        if torn:
+            journal.with_name("journal.torn").write_bytes(torn)
+        with journal.open("r+b" if journal.exists() else "wb") as it:
+            it.truncate(len(whole + found))
+
+
+def finish(folder: Path, tell: Callable[[str], None]) -> int:
+    """Leaves a journal of whole lines, its audit, the page that shows it, and its marks. The status is 0, or that of
+    what failed, which is told."""
+    try:
+        whole_lines(folder / "journal")
+        answer = call("audit", folder / "lab.toml", folder / "journal")
+        tell((answer.output or answer.error).strip())
+        (folder / "audit.txt").write_text(answer.output + answer.error + "\n" * bool(answer.error), encoding="utf-8")
+        (folder / "run.html").write_text(play.page(folder / "lab.toml", folder / "journal"), encoding="utf-8")
+        run = mark.marked(folder / "lab.toml", folder / "journal")
+        text = mark.text([run])
+        tell(text.rstrip())
+        (folder / "marks.txt").write_text(text, encoding="utf-8")
+        (folder / "marks.json").write_text(mark.as_json([run]), encoding="utf-8")
+    except Fault as fault:
+        tell(f"class: {fault}")
+        return fault.status
+    except OSError as error:
+        tell(f"class: {error.filename or folder}: {error.strerror}; the journal is {folder / 'journal'}")
+        return 4
+    tell(f"all of it is in {folder}")
+    return 0

@@ -1,0 +1,212 @@
+"""What the record tells of a class that goes on: who is connected, who guesses keys, who asks in vain, who floods."""
+from __future__ import annotations
+
+import time
+from collections import Counter, defaultdict
+from collections.abc import Iterable
+from dataclasses import dataclass, field
+from pathlib import Path
+
+from classroom.core.counts import plural
+from classroom.core.lab import Lab
+from classroom.core.record import CUT, ENDED, Entry, Reader, seats
+
+PAUSE = 1.0  # seconds between two looks
+MOST = 1 << 20  # bytes of a seat that are read at one look
+VAIN = 10  # denials of a kind since the last step from which on they are told
+FLOOD = 100.0  # lines a second
+NOBODY = "someone without a name"
+OTHERS = "names that the lab hasn't"
+MALFORMED = "malformed"
+OVER = ("full", "journal")
+DESK = 1  # the seat of who holds the desk
+
+
+@dataclass
+class Seat:
+    """A seat's file as it grows."""
+
+    at: int = 0  # How many of its bytes were read.
+    reader: Reader = field(default_factory=Reader)
+    name: str | None = None  # Who is known there.
+
+    def grown(self, path: Path) -> bytes:
+        """What came to the file since it was read last, at most MOST bytes; nothing where it can't be read."""
+        try:
+            with path.open("rb") as it:
+                it.seek(self.at)
+                found = it.read(MOST)
+        except OSError:
+            return b""
+        self.at += len(found)
+        return found
+
+
+def told_so(word: str) -> str:
+    """How a line was answered."""
+    return f"refused {word}" if word == MALFORMED else f"denied {word}"
+
+
+class Heard:
+    """Follows a record. Whoever is named took part, and no line of theirs is shown."""
+
+    def __init__(self, folder: Path, lab: Lab) -> None:
+        self.folder, self.lab = folder, lab
+        self.seats: dict[Path, Seat] = {}
+        self.wrong: Counter[str] = Counter()  # wrong keys, by the name that was given
+        self.vain: dict[tuple[str, str], Counter[int]] = defaultdict(Counter)  # by name and word, how many at a place
+        self.told: Counter[tuple[str, str]] = Counter()  # how many were told of what
+        self.lines: Counter[str] = Counter()  # since the last look
+        self.floods: dict[str, int] = {}  # who floods, with the lines a second that were told
+        self.cut: list[str] = []
+        self.shown: Counter[str] = Counter()  # whose connections were told
+        self.step = 0
+        self.came = False  # Whether a student has greeted.
+        self.students = lab.without_house().students.keys()
+        self.over = ""  # `full` or `journal`, where somebody was refused so: nothing more is granted
+        self.due = self.last = time.monotonic()
+
+    def catch_up(self, step: int) -> None:
+        """Takes what the record has already, and tells nothing of it."""
+        while self.read():
+            pass
+        self.since(step)
+        self.told.update({("wrong", name): count for name, count in self.wrong.items()})
+        self.told.update({key: sum(at.values()) for key, at in self.vain.items()})
+        self.lines.clear()
+        self.cut.clear()
+        self.over = ""
+
+    def begin(self) -> None:
+        """Notes whether a student has come to a server that begins: who came to the one before counts only if still
+        connected."""
+        self.came = not self.students.isdisjoint(self.connected())
+
+    def news(self, step: int) -> list[str]:
+        """Lines of what is new since the last look; `step` is the place of the last step."""
+        now = time.monotonic()
+        return self.look(step, now) if now >= self.due else []
+
+    def look(self, step: int, now: float) -> list[str]:
+        """Lines of what is new since the last look, at this moment."""
+        seconds = max(now - self.last, PAUSE)
+        self.last, self.due = now, now + PAUSE
+        self.read()
+        self.since(step)
+        return [*self.come_and_gone(), *self.wrong_keys(), *self.in_vain(), *self.flooding(seconds), *self.cut_short()]
+
+    def read(self) -> bool:
+        """Takes what the files have got; gives whether there may be more."""
+        more = False
+        for path in seats(self.folder):
+            seat = self.seats.setdefault(path, Seat())
+            found = seat.grown(path)
+            more = more or len(found) == MOST
+            for entry in seat.reader.take(found):
+                self.take(seat, entry)
+        return more
+
+    def take(self, seat: Seat, entry: Entry) -> None:
+        """Counts an entry."""
+        who = seat.name or NOBODY
+        if entry.mark == ENDED:
+            seat.name = None
+        elif entry.mark == CUT:
+            self.cut.append(who)
+        else:
+            self.lines[who] += entry.seat != DESK
+            told = entry.told()
+            self.over = told["refuse"] if told.get("refuse") in OVER else self.over
+            if told.get("ok") == "hello":
+                seat.name = told["who"]
+                self.came = self.came or seat.name in self.students
+            elif told.get("deny") == "unknown":
+                self.guess(entry.asked_name())
+            elif entry.seat != DESK and who != self.lab.teacher[0]:
+                word = told.get("deny") or (MALFORMED if told.get("refuse") == MALFORMED else "")
+                if word:
+                    self.vain[who, word][entry.place] += 1
+
+    def guess(self, name: str | None) -> None:
+        """Counts a wrong key, by the name that was given; those that the lab hasn't are counted together."""
+        known = name is not None and (name in self.lab.students or name == self.lab.teacher[0])
+        self.wrong[name if known and name else OTHERS] += 1
+
+    def since(self, step: int) -> None:
+        """Forgets what was denied before the last step, which was at that place."""
+        if step != self.step:
+            self.told = Counter({key: count for key, count in self.told.items() if key[0] == "wrong"})
+        self.step = step
+        for at in self.vain.values():
+            for place in [place for place in at if place < step]:
+                del at[place]
+
+    def connected(self) -> Counter[str]:
+        """How many connections each name has, but the desk's."""
+        return Counter(seat.name for path, seat in self.seats.items() if seat.name and path.name != f"{DESK}.record")
+
+    def come_and_gone(self) -> list[str]:
+        """Whose connections have become more or fewer."""
+        before, now = self.shown, self.connected()
+        self.shown = now
+        come = [f"connected: {name}" + (f", {plural(now[name], 'connection')}" if now[name] > 1 else "")
+                for name in sorted(now) if now[name] > before[name]]
+        return come + [f"gone: {name}" + (f", {plural(now[name], 'connection')} left" if now[name] else "")
+                       for name in sorted(before) if now[name] < before[name]]
+
+    def is_news(self, key: tuple[str, str], count: int, least: int) -> bool:
+        """Whether a count is to be told: it is `least` or more, and twice what was told or more. It counts as told
+        then."""
+        if count < max(least, 2 * self.told[key]):
+            return False
+        self.told[key] = count
+        return True
+
+    def wrong_keys(self) -> list[str]:
+        """Wrong keys, as often as their number has doubled."""
+        return [f"{plural(count, 'wrong key')} for {name}" for name, count in self.wrong.items()
+                if self.is_news(("wrong", name), count, 1)]
+
+    def denied(self) -> list[tuple[str, str, int]]:
+        """Who asked in vain since the last step: the name, the word of the denial or refusal, how often."""
+        return [(name, word, at.total()) for (name, word), at in self.vain.items() if at.total()]
+
+    def in_vain(self) -> list[str]:
+        """Who asked in vain since the last step, as lines, from VAIN times on as often as the number has doubled."""
+        return [f"{name}: {told_so(word)} {plural(count, 'time')} since the last step"
+                for name, word, count in self.denied() if self.is_news((name, word), count, VAIN)]
+
+    def flooding(self, seconds: float) -> list[str]:
+        """Who began to flood, and who ceased."""
+        rates = {name: round(count / seconds) for name, count in self.lines.items() if count / seconds >= FLOOD}
+        self.lines.clear()
+        begun = [f"a flood: {rate} lines a second of {name}" for name, rate in rates.items() if name not in self.floods]
+        over = [f"no flood any longer of {name}" for name in self.floods if name not in rates]
+        self.floods = rates
+        return begun + over
+
+    def cut_short(self) -> list[str]:
+        """Whose lines aren't recorded any longer."""
+        names, self.cut = self.cut, []
+        why = "it has taken its room in the record, or the disk is full"
+        return [f"the rest of what {name} sends isn't recorded: {why}" for name in dict.fromkeys(names)]
+
+    def who(self, count: int, all_seats: int, otherwise: Iterable[str] = ()) -> str:
+        """Who is connected, and how many of the seats are taken: `count`, as the system tells it. `otherwise` are texts
+        of some of them: a name, a comma, and how they are connected."""
+        known, every = self.connected(), self.connected().total()
+        how = [text for text in otherwise if known[text.partition(",")[0]]]
+        known.subtract(text.partition(",")[0] for text in how)
+        names = [name if times == 1 else f"{name} {times} times" for name, times in sorted(known.items()) if times > 0] + how
+        others = max(count - every, 0)
+        names += [f"{others} without a name"] if others else []
+        return f"{max(count, every)} of {all_seats} seats: {', '.join(names) or 'nobody'}"
+
+    def amiss(self) -> list[str]:
+        """Lines of wrong keys, of who asked in vain since the last step, and of who floods."""
+        wrong = ", ".join(f"{count} for {name}" for name, count in self.wrong.items())
+        vain = [f"{name}: {told_so(word)} {plural(count, 'time')}" for name, word, count in self.denied()]
+        floods = ", ".join(f"{name}, {rate} lines a second" for name, rate in self.floods.items())
+        told = (f"wrong keys: {wrong}" if wrong else "", f"since the last step {'; '.join(vain)}" if vain else "",
+                f"a flood of {floods}" if floods else "")
+        return [line for line in told if line]

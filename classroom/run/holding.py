@@ -1,0 +1,233 @@
+"""The desk of a run, held from its greeting to the run's end: by who began the run, and by who goes on with it."""
+from __future__ import annotations
+
+import contextlib
+import os
+import queue
+import signal
+import sys
+import threading
+from collections.abc import Callable
+from dataclasses import dataclass, field, replace
+from pathlib import Path
+from typing import Any
+
+from classroom.client import Client, Closed, Denied, Refused
+from classroom.core import lab as labs
+from classroom.core import record
+from classroom.core.folders import Process, Record, title
+from classroom.core.program import CLASS
+from classroom.core.statuses import FAILED, WARNED
+from classroom.pages import by_hand, projector
+from classroom.run import server
+from classroom.run.attend import TICK, Room, attend
+from classroom.run.closing import Closing, spelled
+from classroom.run.connected import Connected
+from classroom.run.desk import Desk
+from classroom.run.ending import finish
+from classroom.run.heard import Heard
+from classroom.run.house import WAITS, House
+from classroom.run.teller import Teller, is_private
+from classroom.run.typed import HELP, HUNG, LEAVE, NOW, Terminal, Typed, read_lines
+
+LATE = 10.0  # seconds after which it is told that the server's end is waited for
+SIGNALS = {signal.SIGINT: NOW, signal.SIGTERM: NOW, signal.SIGHUP: HUNG, signal.SIGUSR1: LEAVE}
+
+
+@dataclass
+class Running:
+    """A run whose desk is held."""
+
+    folder: Path
+    lab_file: Path
+    lab: labs.Lab
+    close: Closing
+    until: str | None
+    page: int | None
+    takes_lines: bool
+    tell: Teller
+    play: int | None = None
+    goes_on: bool = False  # Whether it had begun before.
+    by_number: bool = False  # Whether its server is one for a number of connections.
+    stand_in: float | None = None  # seconds after which the house plays
+    looks: str | None = None  # The token of the page's address to look at, where it had one before.
+    played: list[str] = field(default_factory=list)  # for whom the house plays at once
+    typed: Typed = field(default_factory=queue.SimpleQueue)
+    pages: projector.Pages | None = None
+    hands: by_hand.Hands | None = None
+    terminal: Terminal | None = None
+
+    def record(self, it: server.Server) -> Record:
+        """What its folder keeps while it goes on."""
+        page, looks = (self.pages.server_port, self.pages.looks) if self.pages else (self.page, self.looks)
+        play = self.hands.server_port if self.hands else self.play
+        return Record(str(self.lab_file.resolve()), it.port, it.desk, page, spelled(self.close), self.until,
+                      Process.of(os.getpid()), it.process, play, stand_in=self.stand_in, looks=looks, played=self.played)
+
+    def keep(self, **other: Any) -> None:
+        """Changes something of the record in its folder, where there is one."""
+        record = Record.read(self.folder)
+        if record is not None:
+            replace(record, **other).write(self.folder)
+
+    def title(self) -> str:
+        """What its page is called."""
+        return title(self.folder / "lab.toml", self.folder / "journal", self.lab_file.stem)
+
+    def hung(self) -> None:
+        """Goes on without its terminal."""
+        self.keep(left=True)
+        self.tell.around = str
+        self.tell(f"the terminal went away, and the run goes on: {CLASS} attach {self.folder} takes it")
+
+
+def open_desk(it: server.Server, run: Running) -> Desk:
+    """Writes the record into the run's folder, greets at the desk, and sets up the house and what watches connections;
+    a run that goes on is caught up with."""
+    run.record(it).write(run.folder)
+    desk = Desk(run.lab, run.folder / "journal", Client(it.desk, *run.lab.teacher), run.close, run.tell)
+    recorded = (run.folder / record.FOLDER / "begun").is_file()
+    names = run.hands.names if run.hands else {}
+    desk.connected = Connected(it.port, run.lab.sessions - 1, desk.client.own_port(), names, not recorded)
+    desk.heard = Heard(run.folder / record.FOLDER, run.lab) if recorded else None
+    if run.lab.held() and it.hosted:
+        desk.house = House(run.lab, it.port, run.stand_in, run.tell, run.played, lambda names: run.keep(played=names))
+    if run.goes_on:
+        desk.catch_up()
+    if desk.heard and it.child is not None:
+        desk.heard.begin()
+    if desk.house and desk.heard and not desk.heard.came and desk.house.waits():
+        run.tell(WAITS)
+    if desk.house and desk.house.played:
+        run.tell(desk.house.told())
+    return desk
+
+
+def show(pages: projector.Pages, desk: Desk, tell: Teller, typed: bool) -> None:
+    """Opens the page, and tells it what is told from now on. Where to act is told to the terminal alone, or to a
+    program that types instead."""
+    watch = desk.watched()
+
+    def act() -> None:
+        """Tells the address to act at, to who may act; else that it is told at a terminal alone."""
+        if is_private(typed):
+            tell.alone(f"page to act {pages.address_to_act}")
+        else:
+            tell("page to act: its address is told at a terminal alone")
+
+    def renew() -> None:
+        """Changes the address to act at, and tells it."""
+        pages.renew()
+        act()
+
+    desk.another_page = renew
+    tell(f"page {pages.address}")
+    act()
+    tell.also.append(lambda line: watch.present.put(line=line))
+    pages.show(watch.present, tell)
+
+
+def listen(run: Running) -> None:
+    """Takes what is typed from now on, where there is who types."""
+    at_terminal = sys.stdin is not None and sys.stdin.isatty()
+    if not at_terminal and not run.takes_lines:
+        return
+    run.tell(f"words: {HELP}")
+    if at_terminal:
+        run.terminal = Terminal([*(str(node.id) for node in run.lab.nodes), *run.lab.without_house().students])
+        run.tell.around = run.terminal.around
+    read = run.terminal.read if run.terminal else read_lines
+    threading.Thread(target=read, args=[run.typed.put], daemon=True).start()
+
+
+def obey_signals(typed: Typed) -> None:
+    """Puts a word among what is typed for each signal that comes from now on."""
+    for number in SIGNALS:
+        signal.signal(number, lambda number, _: typed.put(SIGNALS[signal.Signals(number)]))
+
+
+def hold(run: Running, it: server.Server) -> int | None:
+    """Holds the desk to the end of the run, and gives the status; None where it is left to another process."""
+    try:
+        desk = open_desk(it, run)
+        listen(run)
+        if run.pages is not None:
+            show(run.pages, desk, run.tell, run.takes_lines)
+        if run.hands is not None:
+            run.hands.show(it.port, run.tell)
+            run.tell(f"page to play {run.hands.address}")
+    except (Closed, Refused, Denied) as error:
+        run.tell(f"the server: {error}")
+        ended = it.ended()
+        it.stop()
+        run.tell(f"the server {'has ended by itself' if ended else 'was ended'}, {it.how()}")
+        return FAILED
+    with contextlib.closing(Room(run.folder, it.process.number)) as room:
+        why = attend(desk, it, run.until == "stable", run.typed, room, run.hung)
+    return take_leave(it, desk, why, run)
+
+
+def take_leave(it: server.Server, desk: Desk, why: str, run: Running) -> int | None:
+    """Says bye, and waits for the server's end, which may be late; `why` is what ended the run. Gives the status; None
+    where the desk or the server is left to go on."""
+    tell = run.tell
+    if why == "left":
+        desk.client.hang_up()
+        tell("another process takes the desk")
+        return None
+    try:
+        if why != "died":
+            desk.client.bye()
+    except (Closed, Refused, Denied) as error:
+        tell(f"the desk: {error}")
+    if not it.hosted and why != "died":
+        it.stop()
+    elif not waits(it, run):
+        tell(f"the server is left to itself, process {it.process.number}: while it goes on, {CLASS} attach {run.folder} "
+             f"takes its desk; then {CLASS} mark tells the marks")
+        return None
+    elif why == "died" or it.status() != 0 and not it.lacks_record():
+        tell(f"the server has ended{' by itself' if why == 'died' and it.status() >= 0 else ''}, {it.how()}")
+        tell(f"to go on: {desk.go_on}")
+        return FAILED
+    for line in it.printed().splitlines():
+        if line.startswith("host: "):
+            tell(f"the server said: {line.removeprefix('host: ')}")
+    if it.lacks_record():
+        tell("the record isn't whole: the disk didn't take all of it; the journal is")
+    tell("stable, and so the run is ended" if why == "stable" else "the run is ended")
+    return {"journal": FAILED, "full": WARNED}.get(why, WARNED if it.lacks_record() else 0)
+
+
+def waits(it: server.Server, run: Running) -> bool:
+    """Waits for the server's end, and says so where it is late; false where the teacher doesn't wait any longer."""
+    if it.ended(LATE):
+        return True
+    while not run.typed.empty():
+        run.typed.get()  # What was typed before isn't meant so.
+    run.tell(f"waiting for the server's end, process {it.process.number}; end leaves it to itself")
+    while not it.ended(TICK):
+        if not run.typed.empty() and run.typed.get() in (NOW, "end"):
+            return False
+    return True
+
+
+def to_the_end(run: Running, start: Callable[[], server.Server]) -> int:
+    """Holds the desk of a server that is started or found, and leaves marks and page in the folder."""
+    try:
+        if run.page is not None:
+            run.pages = projector.open_pages(run.page, run.title(), run.lab, run.typed, run.looks)
+        if run.play is not None:
+            run.hands = by_hand.open_hands(run.play, run.title(), run.lab)
+        obey_signals(run.typed)
+        status = hold(run, start())
+        if status is None:
+            return FAILED
+        run.keep(ended=status != FAILED)
+        return finish(run.folder, run.tell) or status
+    finally:
+        for it in (run.hands, run.pages):
+            if it is not None:
+                it.stop()
+        if run.terminal is not None:
+            run.terminal.leave()

@@ -1,0 +1,151 @@
+"""`./class run`: a server with a folder of its own, a desk that closes steps, and marks at the end."""
+from __future__ import annotations
+
+import argparse
+import shutil
+from pathlib import Path
+
+from classroom.client import NoSlip, port_of
+from classroom.core import lab as labs
+from classroom.core.counts import seconds
+from classroom.core.folders import Record, going, new_folder, of_folder
+from classroom.core.program import CLASS, Fault
+from classroom.run import closing, house, server
+from classroom.run.daemons import FORMS
+from classroom.run.holding import Running, to_the_end
+from classroom.run.several import side_by_side
+from classroom.run.teller import Teller
+
+CLOSING = closing.closing("when-idle:2")
+
+
+def port(word: str) -> int:
+    """A port's number."""
+    try:
+        return port_of(word)
+    except NoSlip as error:
+        raise argparse.ArgumentTypeError(str(error)) from None
+
+
+def seconds_with_unit(word: str) -> float:
+    """Seconds, as `20s` or `20`."""
+    return seconds(word.removesuffix("s"))
+
+
+def add_desk_words(words: argparse.ArgumentParser) -> None:
+    """The words of who holds a desk."""
+    words.add_argument("--daemon", "--close", dest="close", type=closing.mode, metavar="D", help=f"{FORMS} (when-idle:2)")
+    words.add_argument("--stand-in", type=seconds_with_unit, metavar="20s",
+                       help="let the house ask for a node that has been privileged so long without its student's move, from when a first "
+                            "student has greeted")
+    words.add_argument("--until", choices=["stable"], help="end the run where no node is privileged")
+    words.add_argument("--page", type=port, nargs="?", const=4780, metavar="PORT",
+                       help="serve a page of the run, for the projector, at that port or the next free one (4780)")
+    words.add_argument("--play", type=port, nargs="?", const=4790, metavar="PORT",
+                       help="serve a page at which students play by hand, at that port or the next free one (4790)")
+    words.add_argument("--typed", action="store_true", help="take words on standard input where it is no terminal too")
+
+
+def add_words(words: argparse.ArgumentParser) -> None:
+    """The words of `run`."""
+    words.add_argument("labs", nargs="*", metavar="LAB", help="several run side by side, at a port each")
+    words.add_argument("--resume", metavar="FOLDER", help="go on with the run of a folder, whose server has ended")
+    words.add_argument("--again", action="store_true",
+                       help="with --resume: open a run again that was ended, too; its audit, page and marks are made anew")
+    words.add_argument("--port", type=port, default=4711, help="the students' port, or else the next that is free (4711)")
+    words.add_argument("--into", default="runs", help="where the run's folder is made (runs)")
+    words.add_argument("--serve", action="store_true",
+                       help="no host: a server for so many connections in all as the lab has sessions")
+    words.add_argument("--beside", action="store_true", help="start the class where a run of the lab goes on, too")
+    add_desk_words(words)
+    words.set_defaults(work=run)
+
+
+def one(words: argparse.Namespace) -> int:
+    """A run from its folder to its marks."""
+    lab_file, into = Path(words.labs[0]), Path(words.into)
+    server.ready(words.serve)
+    lab = labs.read(lab_file)
+    may_stand_in(words, lab, lab_file)
+    if not words.beside:
+        refuse_beside(into, lab_file)
+    folder = new_folder(into, lab_file)
+    (folder / "lab.toml").touch(0o600)  # It has keys.
+    (folder / "lab.toml").write_bytes(lab_file.read_bytes())
+    run = Running(folder, lab_file, lab, words.close or CLOSING, words.until, words.page, words.typed, Teller(folder),
+                  words.play, by_number=words.serve, stand_in=words.stand_in)
+    try:
+        return to_the_end(run, lambda: begin(run, words.port))
+    except Fault:
+        if not (folder / "journal").exists() or (folder / "journal").stat().st_size == 0:
+            shutil.rmtree(folder)
+        raise
+
+
+def may_stand_in(words: argparse.Namespace, lab: labs.Lab, file: Path) -> None:
+    """Where --stand-in is asked for, wants a lab with a house, and no --serve."""
+    if words.stand_in is not None:
+        house.want_house(lab, file)
+        if getattr(words, "serve", False):
+            raise Fault("--stand-in isn't for --serve: each move of the house takes a connection")
+
+
+def resumed(words: argparse.Namespace) -> int:
+    """Goes on with a folder's run: its lab, journal, ports, page and way of closing, where no words say another."""
+    folder = Path(words.resume)
+    lab_file, _ = of_folder(folder)
+    record = Record.read(folder) or Record.lacking(folder, words.port)
+    if record.goes_on():
+        raise Fault(f"{folder}: its run goes on: {CLASS} attach {folder}")
+    if record.ended and not words.again:
+        raise Fault(f"{folder}: this run was ended; --again opens it again, and makes its audit, page and marks anew")
+    lab = labs.read(lab_file)
+    may_stand_in(words, lab, lab_file)
+    run = Running(folder, Path(record.lab), lab, words.close or closing.closing(record.close),
+                  words.until or record.until, words.page or record.page, words.typed, Teller(folder),
+                  words.play or record.play, goes_on=True, stand_in=words.stand_in or record.stand_in,
+                  looks=record.looks, played=record.played)
+    before = record
+    return to_the_end(run, lambda: begin(run, before.port, before))
+
+
+def refuse_beside(into: Path, lab_file: Path) -> None:
+    """Raises a fault where a run of the lab goes on, or the last one didn't end, and says where."""
+    found = going(into, lab_file)
+    if found is None:
+        return
+    folder, record = found
+    if not record.goes_on():
+        how = f"{CLASS} run --resume {folder} goes on with it; --beside starts another class"
+        raise Fault(f"the last run of {lab_file} didn't end: {how}")
+    where = f"a run of {lab_file} goes on at port {record.port}, folder {folder}"
+    how = "" if record.run.lives() and not record.left else f"{CLASS} attach {folder} takes it; "
+    raise Fault(f"{where}; {how}--beside starts another class")
+
+
+def begin(run: Running, port_asked: int, record: Record | None = None) -> server.Server:
+    """Starts the server, and tells where the run is."""
+    by_number = run.lab.sessions if run.by_number else None
+    it = server.start(run.folder, run.folder / "lab.toml", port_asked, run.folder / "journal", by_number, record)
+    slips = run.lab_file.with_name(f"{run.lab_file.stem}-slips.txt")
+    if slips.exists():
+        run.tell(f"slips: {slips}")
+    if it.port != port_asked:
+        run.tell(f"port {port_asked} is in use")
+    seats = f"{run.lab.sessions - 1} students at once" if it.hosted else \
+        f"{run.lab.sessions} connections in all, the teacher's among them"
+    run.tell(f"port {it.port}, for {seats}; folder {run.folder}")
+    if it.hosted:
+        run.tell(f"desk {it.desk}")
+    return it
+
+
+def run(words: argparse.Namespace) -> int:
+    """Runs a lab, or several side by side, or goes on with a run."""
+    if bool(words.labs) == bool(words.resume):
+        raise Fault("run: a LAB or several, or --resume FOLDER")
+    if words.again and not words.resume:
+        raise Fault("run: --again is for --resume FOLDER")
+    if words.resume:
+        return resumed(words)
+    return one(words) if len(words.labs) == 1 else side_by_side(words)

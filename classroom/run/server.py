@@ -1,0 +1,138 @@
+"""The one module that starts a server, and ends it."""
+from __future__ import annotations
+
+import os
+import signal
+import subprocess
+import time
+from dataclasses import dataclass
+from pathlib import Path
+
+from classroom.core import record
+from classroom.core.folders import Process, Record
+from classroom.core.program import LISTENING, Fault, first_free, host, is_clone, plain, program
+
+AGAIN = 0.01  # seconds between two looks at what a server has printed
+
+
+@dataclass
+class Server:
+    """A server that listens. What it prints goes to `server.txt` of its folder."""
+
+    process: Process
+    port: int
+    desk: int
+    hosted: bool
+    output: Path
+    child: subprocess.Popen[bytes] | None = None  # None where another process has started it.
+
+    def ended(self, seconds: float = 0.0) -> bool:
+        """Whether its process has ended, or ends in that time."""
+        if self.child is None:
+            end = time.monotonic() + seconds
+            while self.process.lives():
+                if time.monotonic() >= end:
+                    return False
+                time.sleep(AGAIN)
+            return True
+        try:
+            self.child.wait(seconds)
+        except subprocess.TimeoutExpired:
+            return False
+        return True
+
+    def status(self) -> int:
+        """Its status, once it has ended; of another process's server what it said last tells whether it ended well."""
+        if self.child is not None:
+            return self.child.wait()
+        return 0 if self.printed().rpartition("\n")[2].startswith("done: ") else 4
+
+    def how(self) -> str:
+        """How it ended, with what it printed, if anything."""
+        status, printed = self.status(), self.printed()
+        told = f"status {status}" if status >= 0 else f"by {signal.Signals(-status).name}"
+        return f"{told}: {printed}" if printed else told
+
+    def lacks_record(self) -> bool:
+        """Whether the server ended as it should, but its record didn't take all."""
+        lines = self.printed().splitlines()
+        return lines[-1:] == ["record fault"] and any(line.startswith("done: ") for line in lines)
+
+    def stop(self) -> int:
+        """Ends the server by a signal where it hasn't ended, and waits for that; gives the status."""
+        if not self.ended():
+            os.kill(self.process.number, signal.SIGTERM)
+        while not self.ended(AGAIN):
+            pass
+        return self.status()
+
+    def printed(self) -> str:
+        """What the server printed, after the line that tells its ports."""
+        text = self.output.read_text(encoding="utf-8", errors="replace")
+        return LISTENING.split(text)[-1].strip()
+
+
+def first_line(process: subprocess.Popen[bytes], output: Path, before: int) -> str:
+    """The line in which a server tells its ports, or all that it printed where it ends before. `before` are the bytes
+    that stood there."""
+    while True:
+        ended = process.poll() is not None
+        text = output.read_bytes()[before:].decode(errors="replace")
+        told = LISTENING.search(text)
+        if told or ended:
+            return told[0] if told else text.strip()
+        time.sleep(AGAIN)
+
+
+def ready(by_number: bool) -> None:
+    """Wants that what `start` starts is built."""
+    program()
+    if not by_number and host() is None:
+        how = "`./mml build` builds it (with the toolchain's rt on the path)" if is_clone() else "this release has none"
+        raise Fault(f"mml_host isn't built: {how}; --serve takes a server for as many connections in all as the lab has sessions")
+
+
+@dataclass
+class Call:
+    """How a server is started; the first words that it takes are a lab and two numbers."""
+
+    folder: Path
+    lab: Path
+    journal: Path
+    by_number: int | None
+    is_resumed: bool
+    record: Path
+
+    def at(self, port: int, desk: int = 0) -> Server | None:
+        """A server that listens there, the desk's port 0 where the system chooses it; None where a port is taken."""
+        hosting = host() if self.by_number is None else None
+        words: list[str | Path] = [hosting, "resume" if self.is_resumed else "host"] if hosting else [program(), "serve"]
+        ports = str(port), str(desk if self.by_number is None else self.by_number)
+        output = self.folder / "server.txt"
+        with output.open("ab" if self.is_resumed else "wb") as prints:
+            before = prints.tell()
+            # SIGXFSZ stays ignored, as it is here: where a file may not grow further, a write fails, and nothing ends.
+            process = subprocess.Popen(
+                [*words, plain(self.lab), *ports, plain(self.journal), *([plain(self.record)] if hosting else [])],
+                stdin=subprocess.DEVNULL, stdout=prints, stderr=prints, start_new_session=True, restore_signals=False,
+            )
+        line = first_line(process, output, before)
+        told = LISTENING.fullmatch(line)
+        if told:
+            desk_port = int(told["desk"] or told["port"])
+            return Server(Process.of(process.pid), int(told["port"]), desk_port, hosting is not None, output, process)
+        status = process.wait()
+        if not line.endswith("cannot listen"):
+            raise Fault(f"the server doesn't start: {line}", status or 4)
+        return None
+
+
+def start(folder: Path, lab: Path, port: int, journal: Path, by_number: int | None = None,
+          resumed: Record | None = None) -> Server:
+    """Starts a host over a lab, with its record in the folder, at the first free port from that on; or with `resumed`
+    one that goes on with a class, at its own ports where they are free; or by number a server for so many connections,
+    of which the teacher's desk is one."""
+    ready(by_number is not None)
+    call = Call(folder, lab, journal, by_number, resumed is not None, folder / record.FOLDER)
+    again = call.at(resumed.port, resumed.desk) if resumed is not None else None
+    return again or first_free(port, call.at)

@@ -1,0 +1,74 @@
+"""Closing the steps of a run at its desk, by a daemon's word."""
+from __future__ import annotations
+
+import random
+import time
+
+from classroom.client import Denied
+from classroom.core.program import Fault
+from classroom.run.adversary import Adversary
+from classroom.run.closing import SECONDS, Closing
+from classroom.run.daemons import Sight, applied
+from classroom.run.desk import Desk
+
+LOOKS = 5  # at what was granted meanwhile
+
+
+class Striker:
+    """Closes steps at a desk as its daemon says."""
+
+    def __init__(self, seed: int = 1) -> None:
+        self.chance, self.adversary = random.Random(seed), Adversary(str(seed))
+        self.how: Closing | None = None
+        self.closed = 0.0
+
+    def strike(self, desk: Desk) -> None:
+        """Closes a step where it is time for one; the chosen moves that it isn't to apply are taken back before. Where
+        it isn't time, and nothing has come for SECONDS, it is told whom the class waits for, unless steps are closed by
+        hand. A search that fails changes the daemon to when-idle."""
+        now = time.monotonic()
+        if desk.closing != self.how:
+            self.how, self.closed = desk.closing, now
+        if desk.closing.kind in ("every", "when-idle"):
+            self.by_clock(desk, now)
+            return
+        sight = Sight([node for node, _ in desk.report.privileged], list(desk.book.chosen), now - desk.news, now - self.closed)
+        try:
+            nodes = applied(desk.closing, sight, self.chance, SECONDS, lambda nodes: self.adversary.choose(desk.seen(), nodes))
+        except Fault as fault:
+            desk.tell(f"the adversary can't search: {fault}")
+            desk.close_by(f"when-idle:{SECONDS:g}")
+            return
+        if nodes:
+            self.closed = now
+            self.take_back(desk, set(nodes))
+            desk.close()
+        elif desk.closing.kind != "by-hand" and sight.idle >= SECONDS:
+            desk.tell_waiting()
+
+    def by_clock(self, desk: Desk, now: float) -> None:
+        """Closes a step where its time has come, also where no node is chosen: then the desk tells whom the class waits
+        for."""
+        seconds = desk.closing.value
+        if now - self.closed >= seconds and not (desk.closing.kind == "when-idle" and now - desk.news < seconds):
+            self.closed = now
+            desk.close()
+
+    def close(self) -> None:
+        """Ends the adversary's program."""
+        self.adversary.close()
+
+    def take_back(self, desk: Desk, but: set[int]) -> None:
+        """Releases the other chosen moves, and those that are granted meanwhile. One that is granted after the last
+        look is applied too: nobody but the server could keep it out."""
+        for _ in range(LOOKS):
+            others = sorted(desk.book.chosen.keys() - but)
+            for node in others:
+                try:
+                    desk.client.release(node)
+                except Denied as denied:
+                    if denied.name != "not-chosen":
+                        raise
+            if not others or desk.over:
+                return
+            desk.read()

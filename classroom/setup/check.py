@@ -1,0 +1,245 @@
+"""`./class check`: what `mml check` says, where it stands, and what a teacher would want to know besides."""
+from __future__ import annotations
+
+import argparse
+import difflib
+import math
+import re
+import string
+import tempfile
+import tomllib
+from collections.abc import Iterable, Iterator
+from pathlib import Path
+
+from classroom.core import lab as labs
+from classroom.core import bounds, networks
+from classroom.core.printable import printable
+from classroom.core.program import TOP, Answer, Fault, call
+from classroom.core.statuses import WARNED
+from classroom.setup import positions
+
+KNOWN = {
+    "": ("events", "sessions", "teacher", "student", "node", "links"),
+    "teacher": ("name", "key"),
+    "student": ("name", "key", "written", "id"),
+    "node": ("id", "owner", "owners", "p", "m"),
+}
+MOST_LISTED = 8
+ENOUGH_BITS = 64
+GUESSES = 100_000  # a second, over one machine's loopback
+KINDS = (string.ascii_lowercase, string.ascii_uppercase, string.digits, string.punctuation)  # of a key's letters
+OTHERS = 128  # how many letters of no kind a key is taken to be drawn from
+
+
+def refused(path: Path, error: str) -> Iterator[str]:
+    """What is told of a lab that the program refuses: its error line, where it stands and with what text, and which
+    keys may be meant by those that the format doesn't name."""
+    text = path.read_bytes().decode("utf-8-sig", errors="replace")
+    yield f"{path}: {error}"
+    line, what = standing(text, error)
+    if line is not None:
+        yield f"  line {line}{what}: {text.splitlines()[line - 1].strip()}"
+    for found, key, meant in strange(text):
+        if meant:
+            yield f"  line {found}: {key}: did you mean {meant}?"
+
+
+def standing(text: str, error: str) -> tuple[int | None, str]:
+    """The line that an error is about, where there is one, and what is told behind its number: what the document's
+    reader says, or the identifier of its node."""
+    if error == "lab: not a TOML document":
+        try:
+            tomllib.loads(text)
+        except tomllib.TOMLDecodeError as fault:
+            at = re.search(r"line (\d+)", str(fault))
+            last = max(1, len(text.splitlines()))
+            return (min(int(at[1]), last) if at else last), f" ({fault})"
+        return None, ""
+    numbered = re.match(r"lab: (node|principal|link) (\d+): (.*)", error)
+    if numbered is None:
+        key = re.match(r"lab: ([\w.]+) is (?!missing)", error)
+        return line_of_key(text, key[1]) if key else (None, "")
+    kind, index, fault_text = numbered[1], int(numbered[2]), numbered[3]
+    if kind == "link":
+        return positions.link(text, index), ""
+    name = "node" if kind == "node" else "student" if index else "teacher"
+    table = positions.table(text, name, index if kind == "node" else max(index - 1, 0))
+    if table is None:
+        return None, ""
+    keys = {"no such owner": ("owner", "owners"), "owner stands twice": ("owners",), "p is not a neighbour": ("p",),
+            "name stands twice": ("name",)}.get(fault_text, ("id",) if kind == "node" else ())
+    line = next((table.keys[key] for key in keys if key in table.keys), table.line)
+    return line, identifier(text, table) if kind == "node" else ""
+
+
+def identifier(text: str, table: positions.Table) -> str:
+    """What is told of a node behind its line: its identifier as the file has it, in brackets; nothing where that isn't
+    found."""
+    line = table.keys.get("id")
+    found = re.search(r"\bid\s*=\s*([-+\w]+)", text.splitlines()[line - 1]) if line else None
+    return f" (the node with identifier {found[1]})" if found else ""
+
+
+def line_of_key(text: str, key: str) -> tuple[int | None, str]:
+    """The line of the key that an error names, as `teacher.name`, where a single table of that name has it, else none;
+    behind it nothing is told."""
+    table, _, word = key.rpartition(".")
+    lines = [each.keys[word] for each in positions.tables(text) if each.name == table and word in each.keys]
+    return (lines[0], "") if len(lines) == 1 else (None, "")
+
+
+def strange(text: str) -> Iterator[tuple[int, str, str | None]]:
+    """Keys and tables that the format doesn't name: the line, the key, and the nearest one that may be meant, if
+    any."""
+    for table in positions.tables(text):
+        known = KNOWN.get(table.name)
+        if known is None:
+            if table.name not in KNOWN[""]:
+                yield table.line, f"[{table.name}]", nearest(table.name, KNOWN[""])
+            continue
+        for key, line in table.keys.items():
+            if key not in known:
+                home = next((name for name, keys in KNOWN.items() if key in keys and not name), None)
+                meant = f"{key} above the first header" if home is not None else nearest(key, known)
+                yield line, key, meant
+
+
+def nearest(key: str, known: Iterable[str]) -> str | None:
+    """The key that is spelled most like it; None where none is much like it."""
+    found = difflib.get_close_matches(key, list(known), 1, 0.6)
+    return found[0] if found else None
+
+
+def bits(key: str) -> float:
+    """How many bits a key is taken to have at most, by its length, the kinds of its letters, and how many of them
+    differ: one of few different letters wasn't drawn from many."""
+    letters = set(key)
+    return len(key) * math.log2(max(2, min(letters_of_kinds(letters), 2 * len(letters))) if len(letters) > 1 else 1.01)
+
+
+def letters_of_kinds(letters: set[str]) -> int:
+    """How many letters there are of the kinds that these are of. One of none, as a space or what is outside ASCII, is
+    taken for one of OTHERS."""
+    others = letters.difference(*KINDS)
+    return sum(len(kind) for kind in KINDS if letters.intersection(kind)) + (OTHERS if others else 0)
+
+
+def effort(key: str) -> str:
+    """How long it would take at most to guess a key, as text."""
+    seconds = 2 ** bits(key) / GUESSES
+    for size, word in ((86400 * 365, "years"), (86400, "days"), (3600, "hours"), (60, "minutes")):
+        if seconds >= size:
+            return f"{seconds / size:.0f} {word}" if seconds < 1e6 * size else f"over a million {word}"
+    return f"{seconds:.0f} seconds"
+
+
+def example_keys() -> set[str]:
+    """The keys of the labs that come with the program."""
+    found = {"chalk", "a-key", "b-key", "c-key"}
+    for path in (TOP / "examples").glob("*.toml"):
+        it = labs.document(path)
+        found |= {each["key"] for each in [it["teacher"], *it["student"]]}
+    return found
+
+
+def key_warnings(lab: labs.Lab) -> Iterator[str]:
+    """Keys that may be known, or guessed."""
+    examples = example_keys()
+    for name, key in [lab.teacher, *lab.students.items()]:
+        if key in examples:
+            yield f"{name}'s key is one of the examples': everybody can read it"
+        elif bits(key) < ENOUGH_BITS:
+            yield f"{name}'s key has {bits(key):.0f} bits at most: guessed in {effort(key)} or sooner; 64 are little, 128 enough"
+
+
+def network_warnings(lab: labs.Lab) -> Iterator[str]:
+    """Students without a node, nodes without a neighbour, a network in parts."""
+    owners = {owner for node in lab.nodes for owner in node.owners}
+    yield from (f"{name} has no node" for name in lab.students if name not in owners)
+    near = networks.neighbours((node.id for node in lab.nodes), lab.links)
+    yield from (f"node {node} has no neighbour" for node, others in near.items() if not others)
+    parts = parts_of(near)
+    if parts > 1:
+        yield f"the network is in {parts} parts"
+
+
+def parts_of(near: dict[int, list[int]]) -> int:
+    """In how many parts the network is."""
+    left, parts = set(near), 0
+    while left:
+        parts += 1
+        reached = [left.pop()]
+        while reached:
+            further = left.intersection(near[reached.pop()])
+            left -= further
+            reached += further
+    return parts
+
+
+def limit_warnings(lab: labs.Lab) -> Iterator[str]:
+    """Fewer sessions or events than the class may need."""
+    people = len(lab.without_house().students) + 1
+    if lab.sessions < people:
+        yield (f"{lab.sessions} sessions are fewer than {people - 1} students and a teacher"
+               + ("; no lab has more than 16: ./class new --groups" if people > labs.MOST_SESSIONS else ""))
+    need = bounds.of_lab(lab)
+    if lab.events < need.events:
+        yield f"{lab.events} events are fewer than the class may need: {need.moves} moves and as many closes"
+
+
+def pair_warnings(lab: labs.Lab) -> Iterator[str]:
+    """Nodes that two share, where a count of moves goes to whose program asks first."""
+    shared = [str(node.id) for node in lab.without_house().nodes if len(node.owners) == 2]
+    if shared:
+        nodes = ("nodes " if len(shared) > 1 else "node ") + ", ".join(shared[:MOST_LISTED]) + ", ..." * (len(shared) > MOST_LISTED)
+        yield f"two students own {nodes}: a mark by counts of granted moves is there one for the quicker program; count a pair as one"
+
+
+def start_warnings(path: Path, lab: labs.Lab) -> Iterator[str]:
+    """A start at which there is nothing to do, as the program's report says."""
+    hello = '{"do":"hello","name":"%s","key":%s}' % (lab.teacher[0], labs.quoted(lab.teacher[1]))
+    with tempfile.TemporaryDirectory() as room:
+        script = Path(room, "script")
+        script.write_text(f'1 {hello}\n1 {{"do":"report"}}\n', encoding="utf-8")
+        answer = call("script", path, script)
+    if answer.status != 0:
+        raise Fault(f"{path}: {answer.error}", answer.status)
+    if '"stable":true' in answer.output.splitlines()[-1]:
+        yield "no node is privileged at the beginning: there is nothing to do"
+
+
+def warnings(path: Path) -> Iterator[str]:
+    """All that a teacher would want to know of a lab that the program takes."""
+    text = path.read_text(encoding="utf-8-sig")
+    for line, key, meant in strange(text):
+        yield f"line {line}: {key} is no key of a lab, and ignored" + (f"; did you mean {meant}?" if meant else "")
+    try:
+        lab = labs.read(path)
+    except Fault as fault:
+        yield f"{fault}; so keys, owners and limits aren't looked at"
+        return
+    for found in (key_warnings(lab), network_warnings(lab), limit_warnings(lab), pair_warnings(lab), start_warnings(path, lab)):
+        yield from found
+
+
+def sized(path: Path, told: str) -> str:
+    """The program's line of a lab that it takes, with the house told apart where the lab is read here too."""
+    try:
+        return labs.with_house_apart(told, labs.read(path))
+    except Fault:
+        return told
+
+
+def check(words: argparse.Namespace) -> int:
+    """Tells what the program says of a lab, and warnings. The status is 0, 5 for warnings alone, or the program's own
+    where it refuses the lab."""
+    path = Path(words.lab)
+    answer: Answer = call("check", path)
+    if answer.status != 0:
+        found = refused(path, answer.error) if answer.status == 2 else [labs.unread(path, answer.error)]
+        print(*map(printable, found), sep="\n")
+        return answer.status
+    print(sized(path, answer.output.strip()))
+    warned = list(warnings(path))
+    print(*(f"warning: {printable(each)}\n" for each in warned), sep="", end="")
+    return WARNED if warned else 0

@@ -1,0 +1,61 @@
+"""Transient faults that show what the course is about: registers that are drawn, and a start from which it takes
+long."""
+from __future__ import annotations
+
+import random
+from collections.abc import Collection, Iterable
+
+from classroom.core.networks import neighbours, plain
+from classroom.core.program import Fault
+
+Registers = tuple[int, int | None, bool]
+LEAST = {"crowd": 4, "halves": 2}  # nodes
+
+
+def pairs_of(links: Iterable[Collection[int]]) -> list[tuple[int, int]]:
+    """The links in order, each with its lower end first."""
+    found = []
+    for link in links:
+        a, b = sorted(link)
+        found.append((a, b))
+    return sorted(found)
+
+
+def shaken(nodes: list[int], links: Iterable[Collection[int]], word: str, seed: int | None) -> list[Registers]:
+    """Registers for so many nodes, or for `all`, drawn with the seed."""
+    count = len(nodes) if word == "all" else int(word)
+    if not 1 <= count <= len(nodes):
+        raise Fault(f"shake {word}: 1 to {len(nodes)} nodes, or all")
+    chance = random.Random(seed)
+    near = neighbours(nodes, pairs_of(links))
+    drawn = sorted(chance.sample(sorted(nodes), count))
+    return [(node, chance.choice([None, *sorted(near[node])]), chance.choice([True, False])) for node in drawn]
+
+
+def broken(nodes: list[int], links: Iterable[Collection[int]]) -> list[Registers]:
+    """The start from which a crowd may take the most moves, and halves the most rounds (docs/SELF-STABILISATION.md). In
+    another network each node claims to be married, and points at a higher neighbour, which doesn't point back; one
+    without such points at a lower one that doesn't point at it, or at none: no start has a greater potential."""
+    pairs, order = pairs_of(links), sorted(nodes)
+    for word, pointers in (("crowd", of_crowd), ("halves", of_halves)):
+        placed = [(order[a - 1], order[b - 1]) for a, b in plain(word, len(order))]
+        if len(order) >= LEAST[word] and pairs == sorted(placed):
+            return [(node, None if p is None else order[p - 1], True) for node, p in zip(order, pointers(len(order)))]
+    near = neighbours(nodes, pairs)
+    up = {node: max((other for other in near[node] if other > node), default=None) for node in nodes}
+    found: list[Registers] = []
+    for node in order:
+        lower = [other for other in near[node] if up[other] != node]
+        found.append((node, up[node] if up[node] is not None else max(lower, default=None), True))
+    return found
+
+
+def of_crowd(count: int) -> list[int | None]:
+    """The pointers of a crowd's nodes: those of the first half point at the last ones, the first at the last; the
+    others each at the next, and the last at the second."""
+    return [count + 1 - node if 2 * node <= count else node + 1 if node < count else 2 for node in range(1, count + 1)]
+
+
+def of_halves(count: int) -> list[int | None]:
+    """The pointers of the nodes of halves: each is null."""
+    return [None] * count

@@ -1,0 +1,134 @@
+"""The imports of `classroom` go one way: each package uses those below it, and no module uses itself through others."""
+from __future__ import annotations
+
+import ast
+import unittest
+from functools import cache
+from graphlib import CycleError, TopologicalSorter
+from pathlib import Path
+
+from tests.check.parts import TOP
+
+# Each package of `classroom` imports its own modules and those of the packages before it.
+PACKAGES = ("core", "setup", "pages", "marks", "run", "bots")
+BOTTOM, TOPMOST = "classroom.client", "classroom.words"  # beside the packages: below all, and above all
+OF_PAGES = (".css", ".html", ".js")
+Sources = dict[str, str]  # the text of each module
+
+
+def sources() -> Sources:
+    """All modules of `classroom`."""
+    files = sorted((TOP / "classroom").rglob("*.py"))
+    return {name_of(file): file.read_text(encoding="utf-8") for file in files}
+
+
+def name_of(file: Path) -> str:
+    """A module's name."""
+    return ".".join(file.relative_to(TOP).with_suffix("").parts).removesuffix(".__init__")
+
+
+def height(module: str) -> int:
+    """How high a module stands: a package is as high as its modules."""
+    if module in (BOTTOM, "classroom"):
+        return -1
+    return len(PACKAGES) if module == TOPMOST else PACKAGES.index(module.split(".")[1])
+
+
+def origin(module: str, node: ast.ImportFrom, is_package: bool) -> str:
+    """From where a statement imports, also where its name begins with dots."""
+    parts = module.split(".")
+    near = parts[:len(parts) + is_package - node.level] if node.level else []
+    return ".".join([*near, *([node.module] if node.module else [])])
+
+
+@cache
+def statements(module: str, text: str, is_package: bool) -> tuple[tuple[str, str], ...]:
+    """From where a module imports which name, wherever in it the statement stands: `?` for what is named only as it
+    runs."""
+    found: list[tuple[str, str]] = []
+    for node in ast.walk(ast.parse(text)):
+        if isinstance(node, ast.Import):
+            found += [(it.name, "") for it in node.names]
+        elif isinstance(node, ast.ImportFrom):
+            found += [(origin(module, node, is_package), it.name) for it in node.names]
+        elif isinstance(node, ast.Call) and ast.unparse(node.func).rpartition(".")[2] in ("import_module", "__import__"):
+            found.append(("?", ""))
+    return tuple(found)
+
+
+def imported(module: str, known: Sources) -> list[str]:
+    """The modules that a module imports."""
+    is_package = any(it.startswith(f"{module}.") for it in known)
+    found = statements(module, known[module], is_package)
+    return [f"{whole}.{name}" if f"{whole}.{name}" in known else whole for whole, name in found]
+
+
+def circle(uses: dict[str, list[str]]) -> list[str]:
+    """Modules each of which the one before it imports, from one back to itself; none where there is no such circle."""
+    try:
+        TopologicalSorter(uses).prepare()
+    except CycleError as error:
+        return [*error.args[1]][::-1]
+    return []
+
+
+def faults(known: Sources) -> list[str]:
+    """What is wrong with the imports."""
+    found, uses = [], dict[str, list[str]]()
+    for module in known:
+        every = imported(module, known)
+        uses[module] = [it for it in every if it in known and height(it) == height(module)]
+        found += [f"{module} imports {it}: that isn't a part of what is released" for it in every if it.split(".")[0] in ("tests", "bench")]
+        found += [f"{module} imports {it}: that is above it" for it in every if it in known and height(it) > height(module)]
+        found += [f"{module} imports what only its run tells" for it in every if it == "?" and module != TOPMOST]
+    way = circle(uses)
+    return found + ([f"a circle of imports: {' '.join(way)}"] if way else [])
+
+
+class Imports(unittest.TestCase):
+    """The packages, and what they import."""
+
+    def test_they_go_one_way(self) -> None:
+        self.assertEqual(faults(sources()), [])
+
+    def test_each_that_goes_up_is_refused(self) -> None:
+        """Each is planted in the sources as they are."""
+        above = (
+            ("core.lab", "from classroom.run import desk", "classroom.run.desk"),
+            ("core.lab", "import classroom.bots.grade", "classroom.bots.grade"),
+            ("core.lab", "from ..pages.page import FOLDER", "classroom.pages.page"),
+            ("core", "from . import lab\nfrom .. import words", "classroom.words"),
+            ("setup.new", "def f():\n    from classroom.pages import play as shown", "classroom.pages.play"),
+            ("marks.mark", "if TYPE_CHECKING:\n    from classroom.run.desk import Desk", "classroom.run.desk"),
+            ("run.run", "from classroom import bots", "classroom.bots"),
+            ("bots.grade", "from classroom.words import parser", "classroom.words"),
+            ("client", "from classroom.core.lab import read", "classroom.core.lab"),
+        )
+        for name, line, target in above:
+            self.assertEqual(self.planted(name, line), [f"classroom.{name} imports {target}: that is above it"], line)
+        self.assertEqual(self.planted("run.run", "from tests.model import lab"),
+                         ["classroom.run.run imports tests.model: that isn't a part of what is released"])
+        self.assertEqual(self.planted("core.lab", "importlib.import_module(f'classroom.{name}')"), ["classroom.core.lab imports what only its run tells"])
+
+    def test_a_circle_is_refused(self) -> None:
+        found = self.planted("run.closing", "if TYPE_CHECKING:\n    from classroom.run.desk import Desk")
+        self.assertEqual(len(found), 1)
+        self.assertRegex(found[0], r"^a circle of imports: (?=.*classroom\.run\.closing classroom\.run\.desk)")
+
+    def test_each_module_has_its_package(self) -> None:
+        files = [it for it in (TOP / "classroom").rglob("*") if it.is_file() and "__pycache__" not in it.parts]
+        beside = {name_of(it) for it in files if it.parent == TOP / "classroom"}
+        self.assertEqual(beside, {"classroom", BOTTOM, TOPMOST})
+        self.assertEqual({it.parent.name for it in files} - {"classroom"}, {*PACKAGES})
+        self.assertEqual({it.suffix for it in files if it.parent.name == "pages"}, {".py", *OF_PAGES})
+        self.assertEqual({it.suffix for it in files if it.parent.name != "pages"}, {".py"})
+
+    def planted(self, name: str, line: str) -> list[str]:
+        """What is wrong where a module has one more line."""
+        known = sources()
+        known[f"classroom.{name}"] += f"\n{line}\n"
+        return faults(known)
+
+
+if __name__ == "__main__":
+    unittest.main()
