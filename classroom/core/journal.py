@@ -5,9 +5,10 @@ from dataclasses import dataclass
 from functools import cached_property
 
 from classroom import client
+from classroom.core.desk_words import EDITS, WORDS, links_after
 
 RULES = client.RULES
-EDITS = ("fault", "link", "cut")
+NODES_AT = {"grant": (2, 1)} | {word: (1, it.nodes) for word, it in WORDS.items() if it.nodes}  # the first word that is a node, and how many are
 
 
 @dataclass(frozen=True)
@@ -29,15 +30,24 @@ class Event:
         return self.words[1] if self.kind == "grant" else None
 
     @property
+    def is_edit(self) -> bool:
+        """Whether it changes registers or links: a fault, a link or a cut."""
+        return self.kind in EDITS
+
+    @property
     def makes_configuration(self) -> bool:
         """Whether another configuration comes of it."""
-        return self.kind in ("close", *EDITS)
+        return self.kind == "close" or self.kind in EDITS
+
+    @property
+    def links(self) -> int:
+        """How many more links there are after it."""
+        return links_after(self.kind)
 
     @cached_property
     def nodes(self) -> tuple[int, ...]:
         """The nodes at which it happens, as far as its line names them."""
-        first = {"grant": 2, "release": 1, "fault": 1, "link": 1, "cut": 1}.get(self.kind, len(self.words))
-        count = 2 if self.kind in ("link", "cut") else 1
+        first, count = NODES_AT.get(self.kind, (0, 0))
         return tuple(int(word) for word in self.words[first : first + count])
 
 

@@ -2,6 +2,7 @@
 `classroom.core.tally`."""
 from __future__ import annotations
 
+from classroom.core.desk_words import links_after
 from classroom.core.journal import Event
 
 
@@ -31,7 +32,7 @@ class Book:
     def step(self, word: str) -> list[tuple[int, str, str]]:
         """Takes an event that makes a configuration; gives who moved by a close, and else nobody."""
         moved = [(node, name, rule) for node, (name, rule) in sorted(self.chosen.items())] if word == "close" else []
-        self.links += (word == "link") - (word == "cut")
+        self.links += links_after(word)
         self.moves += len(moved)
         self.since = self.since + len(moved) if word == "close" else 0
         self.chosen.clear()

@@ -5,7 +5,7 @@ from collections.abc import Callable, Collection
 from typing import Any
 
 from classroom.core import lab as labs
-from classroom.core.journal import EDITS, Event
+from classroom.core.journal import Event
 from classroom.core.rounds import Recovery
 from classroom.pages.replay import REPORT, Replay, Script
 
@@ -23,10 +23,9 @@ class Comeback:
 
     def edit(self, event: Event) -> None:
         """Takes a fault, a link or a cut: from now on the network is as it made it, and the count begins anew."""
-        if event.kind == "link":
-            self.links.add(frozenset(event.nodes))
-        elif event.kind == "cut":
-            self.links.discard(frozenset(event.nodes))
+        if event.links:
+            change = self.links.add if event.links > 0 else self.links.discard
+            change(frozenset(event.nodes))
         self.recovery, self.hurt, self.missed = None, True, False
 
     def miss(self) -> None:
@@ -73,7 +72,7 @@ class Recount(Replay):
         def takes(report: dict[str, Any]) -> None:
             """Keeps who is privileged by the report, and counts the event, if there is one."""
             before, self.before = self.before, {node for node, _ in report["privileged"]}
-            if event is None or event.kind in EDITS:
+            if event is None or event.is_edit:
                 if event is not None:
                     self.counted.edit(event)
                 return
@@ -91,7 +90,7 @@ class Recount(Replay):
 
 def recoveries(lab: labs.Lab, events: list[Event]) -> list[str]:
     """A line for each time that a run came to rest, with the place in its journal; one line for a run of many edits."""
-    edits = sum(event.kind in EDITS for event in events)
+    edits = sum(event.is_edit for event in events)
     if edits > MOST_COUNTED:
         return [f"{edits} faults, links and cuts: how the class came back is told where there are at most {MOST_COUNTED}"]
     return Recount(lab, events, Comeback(lab)).counts()

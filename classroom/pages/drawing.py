@@ -7,7 +7,8 @@ from functools import cached_property
 from html import escape
 from pathlib import Path
 
-from classroom.core.journal import EDITS, RULES, Event
+from classroom.core.desk_words import EDITS
+from classroom.core.journal import RULES, Event
 from classroom.core.lab import Lab, ordered
 from classroom.pages import labels
 from classroom.pages.frames import OpenLink, State
@@ -108,7 +109,7 @@ class Drawing:
             *self.rows("open", [(a, self.line(a, b)) for a, b, _, _ in open_links]),
             *self.rows("witness", [(a, self.half(witness, b if witness == a else a))
                                    for a, b, witness, _ in open_links if witness in (a, b)]),
-            path("removed", self.line(*event.nodes) if event is not None and event.kind == "cut" else ""),
+            path("removed", self.line(*event.nodes) if event is not None and event.links < 0 else ""),
             path("pairs", "".join(self.line(a, b) for a, b in state.pairs)),
             '<g class="pointers">',
             *(self.pointer(node.id, state) for node in self.lab.nodes),
@@ -251,7 +252,7 @@ class Drawing:
 
     def mark(self, event: Event | None) -> str:
         """The word of a fault, link or cut, where it happened."""
-        if event is None or event.kind not in EDITS:
+        if event is None or not event.is_edit:
             return '<text class="mark"></text>'
         points = [self.layout.points[node] for node in event.nodes]
         x, y = sum(x for x, _ in points) / len(points), sum(y for _, y in points) / len(points)

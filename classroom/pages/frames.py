@@ -109,7 +109,7 @@ class Looking(Replay):
             state.since += len(reply["moved"])
         elif event.makes_configuration:
             state.since = 0
-        if event.kind in ("link", "cut"):
+        if event.links:
             state.links = frozenset(self.links)
 
 

@@ -50,7 +50,7 @@ class Live {
   end() {
     this.source.close();
     this.aside.say("connection", "(the run is over)");
-    for (const name of ["close", "every", "when-idle", "by-hand", "shake", "shake-all", "break", "set", "release"]) this.find(name).disabled = true;
+    for (const name of Object.keys(this.data.buttons)) this.find(name).disabled = true;
   }
 
   show() {
@@ -78,18 +78,10 @@ class Live {
 
   listen() {
     const { find } = this;
-    const buttons = {
-      close: () => this.act("close"), "by-hand": () => this.act("by-hand"), freeze: () => this.freeze(),
-      every: () => this.act("every " + find("seconds").value), "when-idle": () => this.act("when-idle " + find("seconds").value), cancel: () => this.pick(null),
-      shake: () => this.act("shake " + find("count").value), "shake-all": () => this.act("shake all"), break: () => this.act("break"),
-      release: () => { this.act("release " + this.idOf(this.picked)); this.pick(null); },
-    };
-    for (const [name, act] of Object.entries(buttons)) find(name).addEventListener("click", act);
-    find("panel").addEventListener("submit", (event) => {
-      event.preventDefault();
-      this.act(`fault ${this.idOf(this.picked)} ${find("p").value} ${find("m").value}`);
-      this.pick(null);
-    });
+    for (const [name, line] of Object.entries(this.data.buttons)) find(name).addEventListener("click", () => this.send(line));
+    find("freeze").addEventListener("click", () => this.freeze());
+    find("cancel").addEventListener("click", () => this.pick(null));
+    find("panel").addEventListener("submit", (event) => event.preventDefault());
     find("tools").addEventListener("change", () => this.pick(null));
     if (this.data.acts) this.listenToNodes();
     this.document.addEventListener("keydown", (event) => { if (event.key === "Escape") this.pick(null); });
@@ -108,6 +100,12 @@ class Live {
     });
   }
 
+  // Sends a button's line, in which #NAME stands for a field's value, or for the node that is picked: that one is left then.
+  send(line) {
+    this.act(line.replace(/#(\w+)/g, (_, field) => (field === "picked" ? this.idOf(this.picked) : this.find(field).value)));
+    if (line.includes("#picked")) this.pick(null);
+  }
+
   idOf(node) { return this.data.nodes[node].id; }
 
   freeze() {
@@ -121,7 +119,7 @@ class Live {
     if (this.find("tool-fault").checked || this.picked === null) return this.pick(node);
     const [a, b] = [this.picked, node];
     this.pick(null);
-    if (a !== b) this.act(`${this.neighbours(a).includes(b) ? "cut" : "link"} ${this.idOf(a)} ${this.idOf(b)}`);
+    if (a !== b) this.act(`${this.data.byLinks[this.neighbours(a).includes(b) ? -1 : 1]} ${this.idOf(a)} ${this.idOf(b)}`);
   }
 
   neighbours(node) {

@@ -12,6 +12,7 @@ from pathlib import Path
 from typing import Any
 
 from classroom.core import bounds
+from classroom.core.desk_words import BUTTONS, BY_LINKS, Button
 from classroom.core.journal import RULES as NAMED
 from classroom.core.lab import Lab
 from classroom.pages.drawing import OPEN_MOST, WITNESSES_MOST, Drawing
@@ -134,12 +135,20 @@ def page_of(title: str, lab: Lab, frames: Iterable[Frame], history: str = "") ->
     for frame in chain([first], each):
         rows.add(frame, len(frame.state.links))
     data = what_stays(drawing) | {"links": rows.drawn_links(), "arrows": rows.drawn_arrows(), "frames": rows.rows}
-    return filled("player", title, drawing, picture, data, history)[0]
+    return filled("player", title, drawing, picture, data, {"MORE": history})[0]
 
 
 def live_page(title: str, drawing: Drawing, state: State, acts: bool) -> tuple[str, str]:
     """The page of a run that is going on, whose program asks for what to draw; and the policy that it is sent with."""
-    return filled("live", title, drawing, drawing.svg(state, None), what_stays(drawing) | {"links": [], "arrows": [], "acts": acts})
+    own = {"links": [], "arrows": [], "acts": acts, "buttons": {name: it.line for name, it in BUTTONS.items()}, "byLinks": BY_LINKS}
+    parts = {name: button(it) for name, it in BUTTONS.items()}
+    return filled("live", title, drawing, drawing.svg(state, None), what_stays(drawing) | own, parts)
+
+
+def button(it: Button) -> str:
+    """A button of the desk's, as its page has it."""
+    more = "".join(f' {name}="{escape(value)}"' for name, value in (("type", it.kind), ("title", it.title)) if value)
+    return f'<button id="{it.name}"{more}>{escape(it.text)}</button>'
 
 
 def what_stays(drawing: Drawing) -> dict[str, Any]:
@@ -152,13 +161,12 @@ def what_stays(drawing: Drawing) -> dict[str, Any]:
     }
 
 
-def filled(name: str, title: str, drawing: Drawing, picture: str, data: dict[str, Any], more: str = "") -> tuple[str, str]:
-    """A page of a drawing by its form, and the policy that it is sent with."""
+def filled(name: str, title: str, drawing: Drawing, picture: str, data: dict[str, Any], more: dict[str, str]) -> tuple[str, str]:
+    """A page of a drawing by its form, which has more parts of its own, and the policy that it is sent with."""
     closing = '<dt>steps are closed</dt><dd id="closing"></dd>\n' if name == "live" else ""
     told = form("told", {"CLOSING": closing, "STUDENTS": legend(drawing), "MOST": f"{OPEN_MOST:,}"})
-    parts = {
-        "TITLE": title, "DRAWING": picture, "TOLD": told,
-        "DATA": data_element(json.dumps(data, separators=(",", ":"))), "MORE": more,
+    parts = more | {
+        "TITLE": title, "DRAWING": picture, "TOLD": told, "DATA": data_element(json.dumps(data, separators=(",", ":"))),
     }
     return assembled(name, parts, drawing.style(), ("drawing.css", "player.css"), ("picture.js", f"{name}.js"))
 

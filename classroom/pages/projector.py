@@ -12,6 +12,7 @@ import secrets
 from collections.abc import Callable
 from typing import Any
 
+from classroom.core.desk_words import WORDS
 from classroom.core.lab import Lab
 from classroom.pages.drawing import Drawing
 from classroom.pages.frames import Frame
@@ -24,7 +25,6 @@ LISTED = 25  # events and lines that a page is told of at once
 STILL_HERE = 10.0  # seconds without news after which a page is told that there are none
 LAST_WORD = 5.0  # seconds in which the pages may learn that the run is over
 MOST_BYTES = 200  # of what a page asks for
-WORDS = ("close", "fault", "shake", "break", "link", "cut", "release", "every", "when-idle", "by-hand")
 
 
 class Pages(Web):
@@ -111,7 +111,8 @@ class Page(Asked):
         if body is None:
             return self.head(404)
         line = body.decode("utf-8", errors="replace")
-        if line.partition(" ")[0] not in WORDS or not line.isprintable():
+        word = WORDS.get(line.partition(" ")[0])
+        if word is None or not word.is_on_page or not line.isprintable():
             return self.head(400)
         self.server.typed.put(line)
         self.head(204)

@@ -14,6 +14,7 @@ from pathlib import Path
 from typing import Any
 
 from classroom.core import lab as labs
+from classroom.core import desk_words
 from classroom.core.answering import all_of
 from classroom.core.journal import Event
 from classroom.core.program import Fault, call
@@ -24,7 +25,7 @@ TEACHER, STUDENT, KEY = "teacher", "student", "key"
 HELLOS = [f'{who} {{"do":"hello","name":"{name}","key":"{KEY}"}}' for who, name in ((1, TEACHER), (2, STUDENT))]
 REPORT = '1 {"do":"report"}'
 Take = Callable[[dict[str, Any]], None]
-raw_decode = json.JSONDecoder().raw_decode
+raw_decode, encode = json.JSONDecoder().raw_decode, json.JSONEncoder(separators=(",", ":")).encode
 
 
 def request(at: int | str, words: Sequence[str]) -> str:
@@ -33,11 +34,7 @@ def request(at: int | str, words: Sequence[str]) -> str:
     if word == "grant":
         partner = f',"with":{rest[3]}' if len(rest) == 4 else ""
         return f'2 {{"do":"move","at":{at},"node":{rest[1]},"rule":"{rest[2]}"{partner}}}'
-    if word == "fault":
-        return f'1 {{"do":"fault","node":{rest[0]},"p":{"null" if rest[1] == "-" else rest[1]},"m":{rest[2]}}}'
-    if word in ("link", "cut"):
-        return f'1 {{"do":"{word}","a":{rest[0]},"b":{rest[1]}}}'
-    return f'1 {{"do":"release","node":{rest[0]}}}' if word == "release" else f'1 {{"do":"{word}"}}'
+    return f"1 {encode(desk_words.request(word, rest))}"
 
 
 def look(node: int) -> str:
@@ -125,10 +122,9 @@ class Replay:
         place = reply["place"] + self.place
         if place != event.place:
             raise Fault(f"place {event.place} is answered as place {place}", 4)
-        if event.kind == "link":
-            self.links.add(labs.ordered((event.nodes[0], event.nodes[1])))
-        elif event.kind == "cut":
-            self.links.remove(labs.ordered((event.nodes[0], event.nodes[1])))
+        if event.links:
+            change = self.links.add if event.links > 0 else self.links.remove
+            change(labs.ordered((event.nodes[0], event.nodes[1])))
         self.now = place, event.at + event.makes_configuration
         self.took(event, reply)
 

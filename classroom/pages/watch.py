@@ -78,10 +78,9 @@ class Watch:
         if event.makes_configuration:
             self.named |= self.granted
             self.granted.clear()
-        if event.kind == "link":
-            state.links |= {labs.ordered((event.nodes[0], event.nodes[1]))}
-        elif event.kind == "cut":
-            state.links -= {labs.ordered((event.nodes[0], event.nodes[1]))}
+        if event.links:
+            link = {labs.ordered((event.nodes[0], event.nodes[1]))}
+            state.links = state.links | link if event.links > 0 else state.links - link
 
     def turn(self, report: Report, book: Book) -> None:
         """Publishes the present after the events that were noted; where the run has gone on meanwhile, its next

@@ -140,15 +140,15 @@ def turn(desk: Desk, room: Room, until_stable: bool) -> str:
         return ""
     desk.read()
     desk.stand_in()
-    people = [*(desk.connected.news() if desk.connected else []), *(desk.heard.news(desk.last_step) if desk.heard else [])]
+    people = [*(desk.connected.news() if desk.connected else []), *(desk.heard.news(desk.known.last_step) if desk.heard else [])]
     for line in [*people, *room.news()]:
         desk.tell(line)
     if desk.heard and desk.heard.over:
         desk.read()
-        desk.end_by(desk.heard.over)
-    if until_stable and desk.report.stable and not desk.is_old and not desk.book.chosen:
+        desk.announcer.end_by(desk.heard.over)
+    if until_stable and desk.known.report.stable and not desk.known.is_old and not desk.known.book.chosen:
         return "stable"
-    return desk.over
+    return desk.announcer.over
 
 
 def next_typed(typed: Typed, seconds: float) -> str | None:

@@ -188,7 +188,7 @@ def take_leave(it: server.Server, desk: Desk, why: str, run: Running) -> int | N
         return None
     elif why == "died" or it.status() != 0 and not it.lacks_record():
         tell(f"the server has ended{' by itself' if why == 'died' and it.status() >= 0 else ''}, {it.how()}")
-        tell(f"to go on: {desk.go_on}")
+        tell(f"to go on: {desk.announcer.go_on}")
         return FAILED
     for line in it.printed().splitlines():
         if line.startswith("host: "):

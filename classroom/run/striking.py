@@ -32,7 +32,8 @@ class Striker:
         if desk.closing.kind in ("every", "when-idle"):
             self.by_clock(desk, now)
             return
-        sight = Sight([node for node, _ in desk.report.privileged], list(desk.book.chosen), now - desk.news, now - self.closed)
+        known = desk.known
+        sight = Sight([node for node, _ in known.report.privileged], list(known.book.chosen), now - known.news_came, now - self.closed)
         try:
             nodes = applied(desk.closing, sight, self.chance, SECONDS, lambda nodes: self.adversary.choose(desk.seen(), nodes))
         except Fault as fault:
@@ -44,13 +45,13 @@ class Striker:
             self.take_back(desk, set(nodes))
             desk.close()
         elif desk.closing.kind != "by-hand" and sight.idle >= SECONDS:
-            desk.tell_waiting()
+            desk.announcer.tell_waiting()
 
     def by_clock(self, desk: Desk, now: float) -> None:
         """Closes a step where its time has come, also where no node is chosen: then the desk tells whom the class waits
         for."""
         seconds = desk.closing.value
-        if now - self.closed >= seconds and not (desk.closing.kind == "when-idle" and now - desk.news < seconds):
+        if now - self.closed >= seconds and not (desk.closing.kind == "when-idle" and now - desk.known.news_came < seconds):
             self.closed = now
             desk.close()
 
@@ -62,13 +63,13 @@ class Striker:
         """Releases the other chosen moves, and those that are granted meanwhile. One that is granted after the last
         look is applied too: nobody but the server could keep it out."""
         for _ in range(LOOKS):
-            others = sorted(desk.book.chosen.keys() - but)
+            others = sorted(desk.known.book.chosen.keys() - but)
             for node in others:
                 try:
                     desk.client.release(node)
                 except Denied as denied:
                     if denied.name != "not-chosen":
                         raise
-            if not others or desk.over:
+            if not others or desk.announcer.over:
                 return
             desk.read()

@@ -1,4 +1,4 @@
-"""What the teacher types: the words with their forms, and a terminal with line editing, history and completion."""
+"""What the teacher types: lines of the desk's words, and a terminal with line editing, history and completion."""
 from __future__ import annotations
 
 import difflib
@@ -8,36 +8,15 @@ import sys
 import termios
 from collections.abc import Callable
 
+from classroom.core.desk_words import PATTERNS, WORDS
+
 Typed = queue.SimpleQueue[str]
 NOW = "\x03"  # Ends the run at once, as a signal does.
 EOF = "\x04"  # Ctrl-D.
 HUNG = "\x01"  # The terminal went away.
 LEAVE = "\x02"  # Another process takes the desk.
-WORDS = {
-    "close": ("", "close the step: all chosen moves are applied at once"),
-    "fault": ("NODE NEIGHBOUR|null true|false", "set a node's p and m"),
-    "shake": ("K|all [SEED]", "set so many nodes' registers, drawn with a seed"),
-    "break": ("", "set all registers to a start from which it takes long"),
-    "link": ("NODE NODE", "add a link"),
-    "cut": ("NODE NODE", "remove a link"),
-    "release": ("NODE", "take a chosen move back"),
-    "report": ("", "the matching, and how many events are left"),
-    "wait": ("", "whom the class waits for"),
-    "who": ("", "who is connected, and who hasn't moved yet"),
-    "play": ("NAME", "let the house play a student's nodes"),
-    "stop": ("NAME", "leave them to the student again"),
-    "every": ("SECONDS", "close a step every so many seconds"),
-    "when-idle": ("SECONDS", "close a step where nothing came for so long"),
-    "by-hand": ("", "close no step by itself"),
-    "daemon": ("WORD", "close steps as central, synchronous, random:P, adversary, when-idle:SECONDS, every:SECONDS, by-hand"),
-    "page": ("", "another address of the page to act at; the one before acts no more"),
-    "help": ("", "tell these words"),
-    "end": ("", "end the run"),
-}
-FORMS = {word: f"{word} {form}".strip() for word, (form, _) in WORDS.items()}
+FORMS = {word: f"{word} {it.form}".strip() for word, it in WORDS.items()}
 HELP = ", ".join(FORMS.values())
-PATTERNS = {"NODE": r"\d+", "NEIGHBOUR|null": r"\d+|null|-", "true|false": "true|false", "SECONDS": r"\d+(\.\d+)?", "WORD": r"\S+", "NAME": r"\S+",
-            "K|all": r"[1-9]\d*|all", "SEED": r"\d+"}
 
 
 def understood(line: str) -> list[str]:
@@ -47,8 +26,8 @@ def understood(line: str) -> list[str]:
     if word not in FORMS:
         near = difflib.get_close_matches(word, WORDS, 1)
         raise ValueError(f"not understood; {f'did you mean {FORMS[near[0]]}? ' if near else ''}words: {HELP}")
-    form = WORDS[word][0].replace("[", "").replace("]", "").split()
-    least = len(form) - WORDS[word][0].count("[")
+    form = WORDS[word].form.replace("[", "").replace("]", "").split()
+    least = len(form) - WORDS[word].form.count("[")
     if not least <= len(rest) <= len(form) or not all(re.fullmatch(PATTERNS[of], it, re.ASCII) for of, it in zip(form, rest)):
         raise ValueError(f"not understood; it is {FORMS[word]}")
     return [word, *rest]
@@ -57,7 +36,7 @@ def understood(line: str) -> list[str]:
 def helped() -> str:
     """All words with what they do, a line each."""
     wide = max(map(len, FORMS.values()))
-    return "\n".join(f"  {FORMS[word]:{wide}}  {what}" for word, (_, what) in WORDS.items())
+    return "\n".join(f"  {FORMS[word]:{wide}}  {it.help}" for word, it in WORDS.items())
 
 
 class Terminal:

@@ -146,8 +146,9 @@ class Everywhere(Cycle):
         self.assertIn("passed  bot.py: one adversary 1;", done.stdout)
 
     def test_where_it_can_not_search_the_class_goes_on(self) -> None:
-        desk = unittest.mock.Mock(closing=Daemon("adversary"), news=0.0, report=unittest.mock.Mock(privileged=[(1, "update"), (2, "update")]))
-        desk.book.chosen = {1: ("ana", "update"), 2: ("ben", "update")}
+        report = unittest.mock.Mock(privileged=[(1, "update"), (2, "update")])
+        desk = unittest.mock.Mock(closing=Daemon("adversary"), known=unittest.mock.Mock(news_came=0.0, report=report))
+        desk.known.book.chosen = {1: ("ana", "update"), 2: ("ben", "update")}
         striker = Striker()
         with unittest.mock.patch.object(striker.adversary, "choose", side_effect=Fault("no memory")):
             striker.strike(desk)

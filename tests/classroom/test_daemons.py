@@ -78,7 +78,8 @@ class Beside:
         self.closing = Daemon("central")
         self.report = unittest.mock.Mock(privileged=[(node, "update") for node in (1, 2, 3, 4)])
         self.book = unittest.mock.Mock(chosen={3: ("ana", "update"), 1: ("ben", "update")})
-        self.later, self.client, self.over, self.news = later, self, "", 0.0
+        self.later, self.client, self.news_came = later, self, 0.0
+        self.known, self.announcer = self, unittest.mock.Mock(over="")
         self.done: list[object] = []
 
     def release(self, node: int) -> None:

@@ -193,7 +193,7 @@ class Late(Cycle):
         self.assertTrue(any("configuration 1: fault 1 2 true" in line for line in lines), lines)
         typed.put(NOW)
         holding.join(LIMIT)
-        desk.journal.close()
+        desk.known.journal.close()
         self.assertEqual(found, ["end"])
         desk.client.bye()
         self.assertTrue(it.ended(LIMIT))
@@ -347,16 +347,16 @@ class Memory(InRoom):
         lines: list[str] = []
         journal = self.file("journal", "")
         desk = Desk(labs.read(CYCLE), journal, client, Daemon("by-hand"), lines.append)
-        self.addCleanup(desk.journal.close)
-        self.assertEqual(desk.report, reports[0])
+        self.addCleanup(desk.known.journal.close)
+        self.assertEqual(desk.known.report, reports[0])
         journal.write_text("1 0 fault 1 2 true\n", encoding="ascii")
         for is_old in (True, True, False):
             desk.read()
-            self.assertEqual(desk.is_old, is_old)
-        self.assertEqual(desk.report, reports[1])
+            self.assertEqual(desk.known.is_old, is_old)
+        self.assertEqual(desk.known.report, reports[1])
         self.assertEqual(len(lines), 1)
         with self.assertRaises(Refused):
-            desk.ask_report()
+            desk.known.ask_report()
 
 
 class NotDone(Cycle):

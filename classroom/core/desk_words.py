@@ -1,0 +1,112 @@
+"""The words of a teacher's desk: one table, for who takes, does, shows, counts or replays what one of them asks for."""
+from __future__ import annotations
+
+from collections.abc import Callable, Sequence
+from dataclasses import dataclass
+from enum import Enum, auto
+from typing import Any
+
+from classroom.client import KEYS
+
+PATTERNS = {
+    "NODE": r"\d+", "NEIGHBOUR|null": r"\d+|null|-", "true|false": "true|false", "SECONDS": r"\d+(\.\d+)?", "WORD": r"\S+", "NAME": r"\S+",
+    "K|all": r"[1-9]\d*|all", "SEED": r"\d+",
+}
+# How a value is read that a request wants, by its kind in `client.KEYS`.
+READ: dict[str, Callable[[str], object]] = {
+    "a number": int, "a number or null": lambda value: None if value in ("-", "null") else int(value),
+    "true or false": lambda value: value == "true",
+}
+
+
+class Action(Enum):
+    """What the desk does at a word."""
+
+    ASK = auto()  # sends the request that `client.KEYS` has under the word
+    REPORT = auto()
+    WAIT = auto()
+    WHO = auto()
+    PLAY = auto()
+    STOP = auto()
+    CLOSE_BY = auto()  # closes steps from now on as the word says
+    DAEMON = auto()  # closes steps from now on as the word after it says
+    SHAKE = auto()
+    BREAK = auto()
+    PAGE = auto()
+    HELP = auto()
+    END = auto()
+
+
+@dataclass(frozen=True)
+class Button:
+    """A button of the page to act at, and the line that it sends: `#seconds` stands for the value of that field, and
+    `#picked` for the node that was clicked."""
+
+    name: str
+    text: str
+    line: str
+    title: str = ""
+    kind: str = ""
+
+
+@dataclass(frozen=True)
+class Word:
+    """What follows a word, and what it does; what may be left out stands in brackets."""
+
+    form: str
+    help: str
+    action: Action
+    buttons: tuple[Button, ...] = ()
+    is_edit: bool = False  # Whether its event changes registers or links.
+    links: int = 0  # how many more links there are after its event
+
+    @property
+    def is_on_page(self) -> bool:
+        """Whether the page sends it: by a button, or by clicks on two nodes."""
+        return bool(self.buttons or self.links)
+
+    @property
+    def nodes(self) -> int:
+        """How many nodes it names."""
+        return self.form.split().count("NODE")
+
+
+WORDS = {
+    "close": Word("", "close the step: all chosen moves are applied at once", Action.ASK, (Button("close", "Close the step", "close"),)),
+    "fault": Word("NODE NEIGHBOUR|null true|false", "set a node's p and m", Action.ASK, (Button("set", "Fault", "fault #picked #p #m"),), is_edit=True),
+    "shake": Word("K|all [SEED]", "set so many nodes' registers, drawn with a seed", Action.SHAKE, (
+        Button("shake", "Shake", "shake #count", "sets the registers of so many nodes, which are drawn"),
+        Button("shake-all", "Shake all", "shake all", "sets all registers, which are drawn"),
+    )),
+    "break": Word("", "set all registers to a start from which it takes long", Action.BREAK,
+                  (Button("break", "Break", "break", "sets all registers to a start from which it takes long"),)),
+    "link": Word("NODE NODE", "add a link", Action.ASK, is_edit=True, links=1),
+    "cut": Word("NODE NODE", "remove a link", Action.ASK, is_edit=True, links=-1),
+    "release": Word("NODE", "take a chosen move back", Action.ASK, (Button("release", "Release its move", "release #picked", kind="button"),)),
+    "report": Word("", "the matching, and how many events are left", Action.REPORT),
+    "wait": Word("", "whom the class waits for", Action.WAIT),
+    "who": Word("", "who is connected, and who hasn't moved yet", Action.WHO),
+    "play": Word("NAME", "let the house play a student's nodes", Action.PLAY),
+    "stop": Word("NAME", "leave them to the student again", Action.STOP),
+    "every": Word("SECONDS", "close a step every so many seconds", Action.CLOSE_BY, (Button("every", "Close by time", "every #seconds"),)),
+    "when-idle": Word("SECONDS", "close a step where nothing came for so long", Action.CLOSE_BY,
+                      (Button("when-idle", "Close when so long idle", "when-idle #seconds"),)),
+    "by-hand": Word("", "close no step by itself", Action.CLOSE_BY, (Button("by-hand", "Close by hand", "by-hand"),)),
+    "daemon": Word("WORD", "close steps as central, synchronous, random:P, adversary, when-idle:SECONDS, every:SECONDS, by-hand", Action.DAEMON),
+    "page": Word("", "another address of the page to act at; the one before acts no more", Action.PAGE),
+    "help": Word("", "tell these words", Action.HELP),
+    "end": Word("", "end the run", Action.END),
+}
+EDITS = tuple(word for word, it in WORDS.items() if it.is_edit)
+BUTTONS = {button.name: button for it in WORDS.values() for button in it.buttons}
+BY_LINKS = {it.links: word for word, it in WORDS.items() if it.links}  # what adds a link, by 1, and what takes one away, by -1
+
+
+def request(word: str, values: Sequence[str]) -> dict[str, Any]:
+    """The request that a word asks for, with its values as they are typed, or as a journal's line has them."""
+    return {"do": word} | {key: READ[kind](value) for (key, kind), value in zip(KEYS[word].items(), values)}
+
+
+def links_after(word: str) -> int:
+    """How many more links there are after an event of that word."""
+    return WORDS[word].links if word in WORDS else 0

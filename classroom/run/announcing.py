@@ -1,0 +1,134 @@
+"""What a run tells as it goes on: each event, how the class comes back, whom it waits for, and why nothing more is granted."""
+from __future__ import annotations
+
+from collections.abc import Callable
+from pathlib import Path
+
+from classroom.client import Report
+from classroom.core import bounds
+from classroom.core import lab as labs
+from classroom.core.journal import Event
+from classroom.core.program import CLASS, Fault
+from classroom.marks.comeback import Comeback, Recount
+from classroom.run.following import Follower, News
+
+MOST_TOLD = 0.9  # of the limit of events, from which on what is left is told
+
+
+def listed(report: Report) -> str:
+    """A report as a line."""
+    lists = {
+        "pairs": [f"{a}-{b}" for a, b in report.pairs],
+        "free": [str(node) for node in report.free],
+        "privileged": [f"{node} ({rule})" for node, rule in report.privileged],
+        "open": [f"{a}-{b} ({node} {rule})" for a, b, node, rule in report.open],
+    }
+    told = "; ".join(f"{name} {', '.join(them)}" for name, them in lists.items() if them)
+    return f"configuration {report.at}, {'' if report.stable else 'not '}stable: {told}"
+
+
+class Announcer:
+    """Tells what is known of a run, as lines."""
+
+    def __init__(self, lab: labs.Lab, folder: Path, known: Follower, tell: Callable[[str], None]) -> None:
+        self.lab, self.known, self.tell = lab, known, tell
+        self.shown = lab.without_house()
+        self.folder = folder
+        self.go_on = f"{CLASS} run --resume {folder}"
+        self.told_waiting = ""
+        self.over = ""
+        self.comeback = Comeback(lab)
+
+    def gone_on(self) -> None:
+        """Counts how the class came back within the events that have passed, and tells from where it goes on."""
+        self.recount()
+        self.known.ask_report()
+        self.tell(f"gone on from configuration {self.known.report.at}, {self.events_used()}")
+        if self.known.count >= self.lab.events:
+            self.end_by("full")
+
+    def recount(self) -> None:
+        """Counts how the class came back within the events that have passed. Where the program can't be asked, that is
+        told, and the next time that the class is stable has no counts."""
+        past = self.known.past
+        try:
+            Recount(self.lab, past, self.comeback).counts()
+        except Fault as fault:
+            self.tell(f"what came before isn't counted: {fault}")
+            for event in past:
+                if event.is_edit:
+                    self.comeback.edit(event)
+            self.comeback.miss()
+
+    def event(self, news: News) -> None:
+        """Tells an event unless it is a grant; where by it the class came back, also how it came."""
+        event = news.event
+        if event.kind == "close":
+            self.step(event.at + 1, ", ".join(f"{node} ({name}) {rule}" for node, name, rule in news.moved))
+            self.come_back(event, [node for node, _, _ in news.moved], news.before)
+        elif event.kind != "grant":
+            self.step(event.at + event.makes_configuration, " ".join(event.words))
+            if event.is_edit:
+                self.comeback.edit(event)
+
+    def limit(self) -> None:
+        """Where the lab has few events left, tells that; after the last one ends the run."""
+        if self.known.count == int(MOST_TOLD * self.lab.events) > 0:
+            self.tell(f"{self.events_used()}: nothing more is granted after the last")
+        if self.known.count >= self.lab.events:
+            self.end_by("full")
+
+    def events_used(self) -> str:
+        """How many events there are of how many."""
+        return f"events {self.known.count} of {self.lab.events}"
+
+    def step(self, at: int, what: str) -> None:
+        """Tells the line of an event: the number after it, what was done, how many are privileged then, if the report
+        is of that number, moves beside the bound, and events."""
+        known = self.known
+        most = bounds.told(len(self.lab.nodes), len(self.lab.links) + known.book.links)
+        limit = f" of at most {most.moves}" if most else ""
+        state = "stable" if known.report.stable else f"{len(known.report.privileged)} privileged"
+        now = f"{state}, " if known.report.at == at else ""
+        self.tell(f"configuration {at}: {what}; {now}{known.book.since}{limit} moves; {self.events_used()}")
+
+    def come_back(self, event: Event, moved: list[int], before: Report) -> None:
+        """Counts a close; where it was the last that the class took to come back, tells how it came."""
+        report = self.known.report
+        if (before.at, report.at) != (event.at, event.at + 1):
+            self.comeback.miss()
+        if report.at != event.at + 1 or self.known.is_old:
+            return
+        told = self.comeback.close(moved, [node for node, _ in before.privileged], [node for node, _ in report.privileged])
+        if told:
+            self.tell(told)
+
+    def waiting(self) -> str:
+        """Whose nodes are privileged and have no chosen move."""
+        return ", ".join(f"{node} ({' and '.join(self.shown.owners(node))}): {rule}" for node, rule in self.known.waiting())
+
+    def tell_waiting(self) -> None:
+        """Tells whom the class waits for, where that has changed since it was looked at last."""
+        now = self.waiting()
+        if now and now != self.told_waiting:
+            self.tell(f"waiting for {now}")
+        self.told_waiting = now
+
+    def wait(self) -> None:
+        """Tells whom the class waits for, or that it waits for nobody."""
+        self.told_waiting = self.waiting()
+        self.tell(f"waiting for {self.told_waiting or 'nobody'}")
+
+    def end_by(self, word: str) -> None:
+        """Nothing is granted any longer: says so at once, with what to do, and ends the run."""
+        if self.over:
+            return
+        self.over = word
+        if word == "journal":
+            what = f"journal: no line can be written to it; make room on the disk, then {self.go_on}"
+        elif self.lab.events < labs.MOST_EVENTS:
+            raised = f"raise `events` in {self.folder}/lab.toml, to at most {labs.MOST_EVENTS}"
+            what = f"full: {self.events_used()}; {raised}, then {self.go_on} --again"
+        else:
+            what = f"full: {self.events_used()}, the most that a lab has; go on with a new lab"
+        self.tell(f"nothing more is granted: {what}")

@@ -1,0 +1,106 @@
+"""What is known of a run at its desk: the journal as it grows, and the report after its last event."""
+from __future__ import annotations
+
+import os
+import time
+from collections.abc import Iterator
+from dataclasses import dataclass
+from pathlib import Path
+
+from classroom.client import Client, Refused, Report
+from classroom.core.journal import Event, events
+from classroom.core.lab import Lab
+from classroom.core.present import Book
+
+TORN = 3.0  # seconds in which the rest of a line comes, if it does
+ASKED, PAUSE = 50, 0.1  # how often the first report is asked for, and seconds between
+
+
+def first_report(client: Client) -> Report:
+    """The report at the beginning, asked for again where memory is short."""
+    for _ in range(ASKED):
+        try:
+            return client.report()
+        except Refused as refused:
+            if refused.word != "memory":
+                raise
+        time.sleep(PAUSE)
+    return client.report()
+
+
+def raise_unless_memory(refused: Refused) -> None:
+    """Raises a refusal, unless it is for memory: that one passes."""
+    if refused.word != "memory":
+        raise refused
+
+
+@dataclass(frozen=True)
+class News:
+    """An event that has come, who moved by it, and the report before it."""
+
+    event: Event
+    moved: list[tuple[int, str, str]]
+    before: Report
+
+
+class Follower:
+    """Follows the journal of a run, and asks at the desk for the report where an event may have changed it."""
+
+    def __init__(self, lab: Lab, journal: Path, client: Client) -> None:
+        self.client = client
+        self.journal = journal.open("rb")
+        self.book = Book([*lab.without_house().students])
+        self.rest = b""
+        self.torn_since = 0.0  # when bytes came last
+        self.news_came = time.monotonic()
+        self.report = first_report(client)
+        self.is_old = False  # The report wasn't given when it was last asked for.
+        self.last_step = 0  # its place
+        self.count = 0
+        self.past: list[Event] = []
+
+    def catch_up(self) -> None:
+        """Counts what the journal has already."""
+        whole, found, self.rest = self.journal.read().rpartition(b"\n")
+        self.past = events((whole + found).decode("ascii"))
+        for event in self.past:
+            self.take(event)
+
+    def take(self, event: Event) -> list[tuple[int, str, str]]:
+        """Counts an event; gives who moved by it."""
+        self.count = event.place
+        self.last_step = event.place if event.makes_configuration else self.last_step
+        return self.book.add(event)
+
+    def news(self) -> Iterator[News]:
+        """Each event that the journal has got, counted, and with the report asked for after it unless it is a grant."""
+        if self.is_old:
+            self.ask_report()
+        more = self.journal.read()
+        self.torn_since = time.monotonic() if more else self.torn_since
+        whole, found, self.rest = (self.rest + more).rpartition(b"\n")
+        for event in events((whole + found).decode("ascii")):
+            before, moved = self.report, self.take(event)
+            self.news_came = time.monotonic()
+            if event.kind != "grant":
+                self.ask_report()
+            yield News(event, moved, before)
+
+    def is_halted(self) -> bool:
+        """Whether a line couldn't be written, or not synced. A line is written at once, so a part of one that stays
+        alone for seconds is all that was written; a line that wasn't synced was taken back, and the file is shorter."""
+        is_torn = self.rest != b"" and time.monotonic() - self.torn_since > TORN
+        return is_torn or os.fstat(self.journal.fileno()).st_size < self.journal.tell()
+
+    def ask_report(self) -> None:
+        """Asks for the report; where memory was short, it is asked for again at the next turn."""
+        try:
+            self.report = self.client.report()
+            self.is_old = False
+        except Refused as refused:
+            raise_unless_memory(refused)
+            self.is_old = True
+
+    def waiting(self) -> list[tuple[int, str]]:
+        """The nodes that are privileged and have no chosen move, each with its rule."""
+        return [(node, rule) for node, rule in self.report.privileged if node not in self.book.chosen]

@@ -1,0 +1,151 @@
+"""The one table of the desk's words, by who reads it: what is typed, done, shown, sent by a page, replayed and counted."""
+from __future__ import annotations
+
+import json
+import re
+import unittest
+import unittest.mock
+from html.parser import HTMLParser
+
+from classroom.client import Report, wrong
+from classroom.core import lab as labs
+from classroom.core.desk_words import BUTTONS, WORDS, Action
+from classroom.core.journal import Event
+from classroom.core.program import TOP
+from classroom.pages.drawing import Drawing
+from classroom.pages.frames import State
+from classroom.pages.layout import lay_out
+from classroom.pages.page import live_page
+from classroom.pages.replay import request
+from classroom.run.daemons import Daemon
+from classroom.run.desk import Desk
+from classroom.run.typed import understood
+from tests.classroom.help import CYCLE, InRoom
+
+# What is typed, and what the desk asks the server for.
+ASKED: dict[str, dict[str, object]] = {
+    "close": {"do": "close"},
+    "fault 4 - true": {"do": "fault", "node": 4, "p": None, "m": True},
+    "fault 4 null false": {"do": "fault", "node": 4, "p": None, "m": False},
+    "fault 4 5 true": {"do": "fault", "node": 4, "p": 5, "m": True},
+    "link 1 3": {"do": "link", "a": 1, "b": 3},
+    "cut 3 1": {"do": "cut", "a": 3, "b": 1},
+    "release 7": {"do": "release", "node": 7},
+}
+# What is typed, and how the line begins that answers it, over a lab without a house and pages.
+TOLD = {
+    "report": "configuration 0, not stable: privileged 4 (update); events 0 of ",
+    "wait": "waiting for 4 (gus): update",
+    "who": "no move was granted yet to ",
+    "play gus": "no node has a second owner who could play for gus: ",
+    "stop gus": "no node has a second owner who could play for gus: ",
+    "every 5": "steps are closed every:5",
+    "when-idle 0.5": "steps are closed when-idle:0.5",
+    "by-hand": "steps are closed by-hand",
+    "daemon random:0.5": "steps are closed random:0.5",
+    "shake 3 1": "the registers of 3 nodes were set",
+    "shake all": "the registers of 7 nodes were set",
+    "break": "the registers of 7 nodes were set",
+    "page": "there is no page: --page",
+    "help": "  close ",
+    "end": "not stable, 1 privileged: end once more ends the run all the same",
+}
+# What each button of the page says, where three nodes are asked for, every 5 seconds are chosen, and node 4 is picked.
+SENT = {
+    "close": "close", "every": "every 5", "when-idle": "when-idle 5", "by-hand": "by-hand", "shake": "shake 3", "shake-all": "shake all",
+    "break": "break", "set": "fault 4 null true", "release": "release 4",
+}
+FIELDS = {"seconds": "5", "count": "3", "picked": "4", "p": "null", "m": "true"}
+# An event's line, the request that does it again, the nodes that it names, the links that it adds, and whether it is an edit.
+EVENTS = {
+    "close": ('1 {"do":"close"}', (), 0, False),
+    "release 7": ('1 {"do":"release","node":7}', (7,), 0, False),
+    "fault 4 - true": ('1 {"do":"fault","node":4,"p":null,"m":true}', (4,), 0, True),
+    "fault 4 5 false": ('1 {"do":"fault","node":4,"p":5,"m":false}', (4,), 0, True),
+    "link 1 3": ('1 {"do":"link","a":1,"b":3}', (1, 3), 1, True),
+    "cut 1 3": ('1 {"do":"cut","a":1,"b":3}', (1, 3), -1, True),
+    "grant gus 4 update": ('2 {"do":"move","at":9,"node":4,"rule":"update"}', (4,), 0, False),
+    "grant gus 4 marriage 5": ('2 {"do":"move","at":9,"node":4,"rule":"marriage","with":5}', (4,), 0, False),
+}
+
+
+class AtDesk(InRoom):
+    """What the desk does at each word."""
+
+    def setUp(self) -> None:
+        super().setUp()
+        self.client, self.lines = unittest.mock.Mock(), list[str]()
+        self.client.report.return_value = Report(0, False, (), (), ((4, "update"),), ())
+        self.desk = Desk(labs.read(CYCLE), self.file("journal", ""), self.client, Daemon("by-hand"), self.lines.append)
+        self.addCleanup(self.desk.known.journal.close)
+
+    def test_each_word_is_tried_here(self) -> None:
+        self.assertEqual({line.split()[0] for line in (*ASKED, *TOLD)}, {*WORDS})
+        self.assertEqual({*self.desk.actions, Action.END}, {*Action})
+
+    def test_what_is_asked(self) -> None:
+        for line, asked in ASKED.items():
+            self.assertTrue(self.desk.command(line))
+            self.client.ask.assert_called_once_with(**asked)
+            self.assertIsNone(wrong(json.dumps(asked)))
+            self.client.ask.reset_mock()
+        self.assertEqual(self.lines, [])
+
+    def test_what_is_told(self) -> None:
+        for line, told in TOLD.items():
+            self.lines.clear()
+            self.assertTrue(self.desk.command(line))
+            self.assertTrue(self.lines[-1].startswith(told), (line, self.lines))
+        self.client.ask.assert_not_called()
+        self.assertEqual(len(self.client.fault.mock_calls), 3 + 7 + 7)
+        self.assertFalse(self.desk.command("end"))
+
+
+class Buttons(HTMLParser):
+    """The buttons of a page, and its data."""
+
+    def __init__(self, page: str) -> None:
+        super().__init__()
+        self.names: list[str] = []
+        self.data = json.loads(page.partition('data-form="plain">')[2].partition("</script>")[0])
+        self.feed(page)
+
+    def handle_starttag(self, tag: str, attrs: list[tuple[str, str | None]]) -> None:
+        if tag == "button":
+            self.names.append(dict(attrs)["id"] or "")
+
+
+class OnPage(unittest.TestCase):
+    """What the page to act at sends."""
+
+    def test_each_button_sends_a_line_that_can_be_typed(self) -> None:
+        lab = labs.read(TOP / "examples/cycle.toml")
+        state = State(0, 0, frozenset(map(labs.ordered, lab.links)), {node.id: None for node in lab.nodes}, {node.id: False for node in lab.nodes})
+        page, _ = live_page("cycle", Drawing(lab, lay_out((node.id for node in lab.nodes), lab.links)), state, True)
+        buttons = Buttons(page)
+        self.assertEqual({*buttons.names} - {"freeze", "whole", "cancel"}, {*SENT})
+        self.assertEqual({name: self.filled(line) for name, line in buttons.data["buttons"].items()}, SENT)
+        for line in (*SENT.values(), *(f"{word} 1 3" for word in buttons.data["byLinks"].values())):
+            self.assertEqual(understood(line), line.split())
+            self.assertTrue(WORDS[line.split()[0]].is_on_page)
+        self.assertEqual(buttons.data["byLinks"], {"1": "link", "-1": "cut"})
+        fields = {name for button in BUTTONS.values() for name in re.findall(r"#(\w+)", button.line)}
+        self.assertEqual(fields - {name for name in fields if f'id="{name}"' in page}, set())
+
+    def filled(self, line: str) -> str:
+        """The line with the fields' values."""
+        return re.sub(r"#(\w+)", lambda found: FIELDS[found[1]], line)
+
+
+class InJournal(unittest.TestCase):
+    """What the table tells of a journal's events."""
+
+    def test_events(self) -> None:
+        for line, (asked, nodes, links, is_edit) in EVENTS.items():
+            event = Event(1, 9, tuple(line.split()))
+            self.assertEqual((request(9, event.words), event.nodes, event.links, event.is_edit), (asked, nodes, links, is_edit))
+            self.assertEqual(event.makes_configuration, is_edit or line == "close")
+
+
+if __name__ == "__main__":
+    unittest.main()
