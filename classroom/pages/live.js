@@ -78,10 +78,15 @@ class Live {
 
   listen() {
     const { find } = this;
-    for (const [name, line] of Object.entries(this.data.buttons)) find(name).addEventListener("click", () => this.send(line));
+    for (const [name, line] of Object.entries(this.data.buttons)) {
+      const button = find(name), submits = button.form !== null && button.type === "submit";
+      (submits ? button.form : button).addEventListener(submits ? "submit" : "click", (event) => {
+        event.preventDefault();
+        this.send(line);
+      });
+    }
     find("freeze").addEventListener("click", () => this.freeze());
     find("cancel").addEventListener("click", () => this.pick(null));
-    find("panel").addEventListener("submit", (event) => event.preventDefault());
     find("tools").addEventListener("change", () => this.pick(null));
     if (this.data.acts) this.listenToNodes();
     this.document.addEventListener("keydown", (event) => { if (event.key === "Escape") this.pick(null); });

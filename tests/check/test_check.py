@@ -7,7 +7,7 @@ import signal
 import unittest
 from collections.abc import Callable
 
-from tests.check.processes import processes
+from tools.check.processes import processes
 from tests.check.tree import LIMIT, WELL, InTree, is_there, part
 
 # Starts processes in this session and in one of their own, of which one heeds no request to end, writes a file,

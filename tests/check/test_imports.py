@@ -7,7 +7,7 @@ from functools import cache
 from graphlib import CycleError, TopologicalSorter
 from pathlib import Path
 
-from tests.check.parts import TOP
+from tools.check.parts import TOP
 
 # Each package of `classroom` imports its own modules and those of the packages before it.
 PACKAGES = ("core", "setup", "pages", "marks", "run", "bots")
@@ -78,7 +78,7 @@ def faults(known: Sources) -> list[str]:
     for module in known:
         every = imported(module, known)
         uses[module] = [it for it in every if it in known and height(it) == height(module)]
-        found += [f"{module} imports {it}: that isn't a part of what is released" for it in every if it.split(".")[0] in ("tests", "bench")]
+        found += [f"{module} imports {it}: that isn't a part of what is released" for it in every if it.split(".")[0] in ("tests", "tools", "bench")]
         found += [f"{module} imports {it}: that is above it" for it in every if it in known and height(it) > height(module)]
         found += [f"{module} imports what only its run tells" for it in every if it == "?" and module != TOPMOST]
     way = circle(uses)

@@ -5,11 +5,11 @@ import tempfile
 import unittest
 from pathlib import Path
 
-from tests.check.kit import fault
-from tests.check.measure import Checks, figures
-from tests.check.parts import ALL, PROOFS, QUICK, WRONG, Part, minutes, minutes_of, proofs_of, uses, wrong_of
-from tests.check.results import not_tried, result
-from tests.check.running import Crew, Done
+from tools.check.kit import fault
+from tools.check.measure import Checks, figures
+from tools.check.parts import ALL, PROOFS, QUICK, WRONG, Part, minutes, minutes_of, proofs_of, uses, wrong_of
+from tools.check.results import not_tried, result
+from tools.check.running import Crew, Done
 
 SHELL = ("sh", "-c")
 

@@ -40,21 +40,21 @@ class InTree(unittest.TestCase):
         self.addCleanup(room.cleanup)
         self.room, self.tree, self.temporary = (Path(room.name) / name for name in ("", "tree", "tmp"))
         self.temporary.mkdir()
-        (self.tree / "tests").mkdir(parents=True)
-        for name in ("check", "tests/__init__.py"):
+        (self.tree / "tools").mkdir(parents=True)
+        for name in ("check", "tools/__init__.py"):
             shutil.copy(TOP / name, self.tree / name)
         shutil.copytree(TOP / ".ci", self.tree / ".ci")
-        shutil.copytree(TOP / "tests/check", self.tree / "tests/check", ignore=shutil.ignore_patterns("__pycache__"))
+        shutil.copytree(TOP / "tools/check", self.tree / "tools/check", ignore=shutil.ignore_patterns("__pycache__"))
         (self.tree / "crates.txt").write_text("# A line a crate.\none:\ntwo: one\n", encoding="utf-8")
-        self.original = (self.tree / "tests/check/parts.py").read_text(encoding="utf-8")
-        needs = self.tree / "tests/check/needs.py"
+        self.original = (self.tree / "tools/check/parts.py").read_text(encoding="utf-8")
+        needs = self.tree / "tools/check/needs.py"
         text = needs.read_text(encoding="utf-8")
         needs.write_text(text.replace("\ndef apt(", NEED + "\n\ndef apt("), encoding="utf-8")
 
     def stand_in(self, *quick: Quick, proofs: str = "echo 5 passed, 0 failed", wrong: str = "echo 7 passed, 0 failed") -> None:
         """Sets the parts, and notes what stands in the tree then."""
         tables = TABLES.format(quick=[*quick], proofs=proofs, wrong=wrong)
-        (self.tree / "tests/check/parts.py").write_text(self.original + tables, encoding="utf-8")
+        (self.tree / "tools/check/parts.py").write_text(self.original + tables, encoding="utf-8")
         self.stood = self.files()
 
     def files(self) -> list[str]:

@@ -1,7 +1,7 @@
 """The numbers, statuses and limits that the pages promise, each beside what it is counted or taken from.
 
 What `promises` gives has to stand on its page in these words, and so a page says nothing else of it. Times are those of
-`tests.check.parts`, by which `./check` tells its own: a page may round them.
+`tools.check.parts`, by which `./check` tells its own: a page may round them.
 """
 from __future__ import annotations
 
@@ -14,7 +14,7 @@ from classroom.client import LOST, MOST, STOPS
 from classroom.core import lab, statuses
 from classroom.run.run import CLOSING
 from classroom.words import parser
-from tests.check.parts import PROOFS, QUICK, minutes_of, wrong_beside
+from tools.check.parts import PROOFS, QUICK, minutes_of, wrong_beside
 
 TOP = Path(__file__).resolve().parents[2]
 README, TEACHER, STUDENT, COURSE, OPERATE = "README.md", "docs/TEACHER.md", "docs/STUDENT.md", "docs/COURSE.md", "docs/OPERATE.md"
@@ -51,7 +51,7 @@ def releases() -> Iterator[tuple[str, str]]:
     python = only(r"^if sys\.version_info < \((\d+, \d+)\):", "class").replace(", ", ".")
     yield README, f"Python {python} for `class`)"
     yield OPERATE, f"Python {python} for `class`"
-    examples = only(r'^EXAMPLES_PYTHON = "([\d.]+)"', "tests/check/python.py")
+    examples = only(r'^EXAMPLES_PYTHON = "([\d.]+)"', "tools/check/python.py")
     yield STUDENT, f"`client.py` and `bot.py` want Python {examples} or later (`class`: {python})."
     unit = "operate/cenduwa@.service"
     memory, tasks = only(r"^MemoryMax=(\d+)M$", unit), only(r"^TasksMax=(\d+)$", unit)

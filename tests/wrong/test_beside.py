@@ -13,11 +13,11 @@ from collections.abc import Iterator
 from pathlib import Path
 from unittest import mock
 
-from tests.wrong import checks
-from tests.wrong.beside import as_proved
-from tests.wrong.checks import Running, Stopped
-from tests.wrong.edits import Round
-from tests.wrong.libraries import Tree
+from tools.wrong import checks
+from tools.wrong.beside import as_proved
+from tools.wrong.checks import Running, Stopped
+from tools.wrong.edits import Round
+from tools.wrong.libraries import Tree
 
 TOP = Path(__file__).resolve().parents[2]
 MUCH = checks.MOST_HELD + checks.LEFT_FREE + 1
@@ -149,7 +149,7 @@ class GivingWay(unittest.TestCase):
     """What the whole of it does beside others."""
 
     def test_all_others_go_first(self) -> None:
-        line = "from tests.wrong.beside import give_way; give_way(); import os; print(os.nice(0), open('/proc/self/oom_score_adj').read())"
+        line = "from tools.wrong.beside import give_way; give_way(); import os; print(os.nice(0), open('/proc/self/oom_score_adj').read())"
         said = subprocess.run([sys.executable, "-B", "-c", line], cwd=TOP, capture_output=True, text=True, check=True).stdout
         number, first_to_end = map(int, said.split())
         self.assertEqual((number, first_to_end >= 500), (min(19, os.nice(0) + 19), True))

@@ -11,12 +11,12 @@ import tempfile
 import unittest
 from pathlib import Path
 
-from tests.wrong.checks import Running, try_round
-from tests.wrong.edits import Round, apply_edit
-from tests.wrong.judging import judge
-from tests.wrong.libraries import tree_at
-from tests.wrong.outputs import read_output
-from tests.wrong.saved import find_name, hand_on
+from tools.wrong.checks import Running, try_round
+from tools.wrong.edits import Round, apply_edit
+from tools.wrong.judging import judge
+from tools.wrong.libraries import tree_at
+from tools.wrong.outputs import read_output
+from tools.wrong.saved import find_name, hand_on
 from tests.wrong.test_wrong import CRATE, THERE, TOP
 
 LOADED = re.compile(rf"(?m)^crate {CRATE}: modules loaded=(\d+) checked=(\d+)$")

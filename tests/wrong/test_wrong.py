@@ -9,12 +9,12 @@ import tempfile
 import unittest
 from pathlib import Path
 
-from tests.wrong.checks import Running, Stopped, lane_count
-from tests.wrong.edits import Edit, EditFault, Pair, Refusal, parse_edit, read_edits, rounds_of
-from tests.wrong.judging import Judged, judge
-from tests.wrong.libraries import parse_uses, tree_at
-from tests.wrong.outputs import read_output
-from tests.wrong.trying import Tried, try_crate
+from tools.wrong.checks import Running, Stopped, lane_count
+from tools.wrong.edits import Edit, EditFault, Pair, Refusal, parse_edit, read_edits, rounds_of
+from tools.wrong.judging import Judged, judge
+from tools.wrong.libraries import parse_uses, tree_at
+from tools.wrong.outputs import read_output
+from tools.wrong.trying import Tried, try_crate
 
 TOP = Path(__file__).resolve().parents[2]
 KEPT = Path(__file__).with_name("kept")

@@ -1,6 +1,6 @@
 """Wants that README.md names the toolchain that this check runs with, and no other logic.
 
-    python3 -B -m tests.check.kit
+    python3 -B -m tools.check.kit
 """
 from __future__ import annotations
 
@@ -8,7 +8,7 @@ import re
 import subprocess
 import sys
 
-from tests.check.parts import TOP
+from tools.check.parts import TOP
 
 NAMED = re.compile(r"^It is proved with (`.*`)\.$", re.MULTILINE)
 # A kit and its logic, which says what a proof is.

@@ -11,8 +11,8 @@ import shutil
 import tempfile
 from pathlib import Path
 
-from tests.wrong.checks import Running
-from tests.wrong.libraries import Tree, check_words
+from tools.wrong.checks import Running
+from tools.wrong.libraries import Tree, check_words
 
 NOTHING = "nothing"
 TEXT = "#![tactic(auto)]\n\n/// Does nothing.\npub fn nothing() {}\n"

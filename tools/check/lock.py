@@ -6,7 +6,7 @@ import os
 from collections.abc import Iterator
 from contextlib import contextmanager
 
-from tests.check.parts import TOP
+from tools.check.parts import TOP
 
 
 class Taken(Exception):

@@ -7,12 +7,12 @@ from concurrent.futures import Future, ThreadPoolExecutor, as_completed
 from dataclasses import dataclass, field
 from pathlib import Path
 
-from tests.wrong.checks import Running, try_round
-from tests.wrong.edits import Round, read_edits, rounds_of
-from tests.wrong.judging import judge
-from tests.wrong.libraries import Tree
-from tests.wrong.outputs import read_output
-from tests.wrong.saved import find_name, hand_on
+from tools.wrong.checks import Running, try_round
+from tools.wrong.edits import Round, read_edits, rounds_of
+from tools.wrong.judging import judge
+from tools.wrong.libraries import Tree
+from tools.wrong.outputs import read_output
+from tools.wrong.saved import find_name, hand_on
 
 
 @dataclass

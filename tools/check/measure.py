@@ -11,7 +11,7 @@ from __future__ import annotations
 import os
 import time
 
-from tests.check.processes import Process, processes
+from tools.check.processes import Process, processes
 
 KINDS = ("proof", "tests", "wrong")
 PROVING = ("proofs", "wrong")  # The parts whose checks are told by crate; all others are scripts.

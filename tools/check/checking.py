@@ -6,13 +6,13 @@ import shutil
 import signal
 from pathlib import Path
 
-from tests.check.measure import figures
-from tests.check.needs import install, missing, told
-from tests.check.parts import PROOFS, TOP, Part, minutes_of
-from tests.check.processes import adopt_orphans
-from tests.check.results import not_tried, result
-from tests.check.running import Crew, Done
-from tests.check.signals import HEED, Killed
+from tools.check.measure import figures
+from tools.check.needs import install, missing, told
+from tools.check.parts import PROOFS, TOP, Part, minutes_of
+from tools.check.processes import adopt_orphans
+from tools.check.results import not_tried, result
+from tools.check.running import Crew, Done
+from tools.check.signals import HEED, Killed
 
 Stages = list[list[Part]]
 

@@ -4,8 +4,8 @@ from __future__ import annotations
 from collections.abc import Iterable
 from dataclasses import dataclass, field
 
-from tests.wrong.edits import Edit, Refusal
-from tests.wrong.outputs import Told
+from tools.wrong.edits import Edit, Refusal
+from tools.wrong.outputs import Told
 
 LONGEST = 300
 

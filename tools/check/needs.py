@@ -1,6 +1,6 @@
 """What the parts need of the machine: programs and Debian's packages, in the one module that installs any.
 
-    python3 -B -m tests.check.needs FOLDER     fetches the packages that are never installed into a folder
+    python3 -B -m tools.check.needs FOLDER     fetches the packages that are never installed into a folder
 """
 from __future__ import annotations
 
@@ -13,7 +13,7 @@ from dataclasses import dataclass
 from functools import cache
 from pathlib import Path
 
-from tests.check.parts import TOP, Part
+from tools.check.parts import TOP, Part
 
 APT = ("apt-get", "-y", "-o", "DPkg::Lock::Timeout=600", "--no-install-recommends")
 NEVER_INSTALLED = "openssh-server"  # Its installation would start a server.

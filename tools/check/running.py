@@ -10,10 +10,10 @@ from collections.abc import Iterator
 from dataclasses import dataclass, field
 from pathlib import Path
 
-from tests.check.measure import PROVING, Checks
-from tests.check.parts import TOP, Part
-from tests.check.processes import end_all
-from tests.check.signals import HEED
+from tools.check.measure import PROVING, Checks
+from tools.check.parts import TOP, Part
+from tools.check.processes import end_all
+from tools.check.signals import HEED
 
 POLL = 0.1
 PATIENCE = 8.0  # seconds that parts have to clear up where they are ended

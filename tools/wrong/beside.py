@@ -7,8 +7,8 @@ import shutil
 from collections.abc import Iterable, Iterator
 from pathlib import Path
 
-from tests.wrong.checks import Running
-from tests.wrong.libraries import Tree
+from tools.wrong.checks import Running
+from tools.wrong.libraries import Tree
 
 LAST_IN_TURN = 19
 FIRST_TO_END = 500

@@ -1,6 +1,6 @@
 """Checks all Python of the repository: its types, strictly, and what a linter says.
 
-    python3 -B -m tests.check.python
+    python3 -B -m tools.check.python
 """
 from __future__ import annotations
 
@@ -9,11 +9,11 @@ import subprocess
 import sys
 import tempfile
 
-from tests.check.parts import TOP
+from tools.check.parts import TOP
 
 # Files whose modules have names of their own, and programs that aren't modules of this tree: one call each.
 EXAMPLES_PYTHON = "3.10"  # from which on a student's client and bot run
-CALLS = (("class", "bench", "classroom", "tests"), ("check",), ("examples",), ("--python-version", EXAMPLES_PYTHON, "examples/bot.py"))
+CALLS = (("class", "bench", "classroom", "tests", "tools"), ("check",), ("examples",), ("--python-version", EXAMPLES_PYTHON, "examples/bot.py"))
 MOST_LETTERS = 160  # of a line
 IGNORED = "E127,E203,E402,W503,W504"  # of the linter's rules: on forms of lines
 

@@ -1,8 +1,8 @@
 """Tries the wrong bodies of the crates, many at once, and wants each refused in its own function at its own goal.
 
-    python3 -B -m tests.wrong [CRATE..]             over the libraries that `rt ci` or `rt check` left
-    python3 -B -m tests.wrong --rounds [CRATE..]    says only what is tried together
-    python3 -B -m tests.wrong --as-proved           tries each crate once it and those below it are named on standard
+    python3 -B -m tools.wrong [CRATE..]             over the libraries that `rt ci` or `rt check` left
+    python3 -B -m tools.wrong --rounds [CRATE..]    says only what is tried together
+    python3 -B -m tools.wrong --as-proved           tries each crate once it and those below it are named on standard
                                                     input, with what is idle; after its end, what is left, with all
 
 Edits of a crate whose texts and functions are apart are put into one copy of it (a round), of which one check
@@ -23,18 +23,18 @@ from collections.abc import Iterator
 from dataclasses import replace
 from pathlib import Path
 
-from tests.wrong.beside import as_proved, give_way
-from tests.wrong.checks import Running, lane_count
-from tests.wrong.edits import read_edits, rounds_of
-from tests.wrong.libraries import LibraryFault, Tree, tree_at
-from tests.wrong.trying import Tried, try_crates
+from tools.wrong.beside import as_proved, give_way
+from tools.wrong.checks import Running, lane_count
+from tools.wrong.edits import read_edits, rounds_of
+from tools.wrong.libraries import LibraryFault, Tree, tree_at
+from tools.wrong.trying import Tried, try_crates
 
 TOP = Path(__file__).resolve().parents[2]
 
 
 def words() -> argparse.Namespace:
     """The words of the command line."""
-    parser = argparse.ArgumentParser(prog="tests.wrong", description=__doc__, formatter_class=argparse.RawDescriptionHelpFormatter)
+    parser = argparse.ArgumentParser(prog="tools.wrong", description=__doc__, formatter_class=argparse.RawDescriptionHelpFormatter)
     parser.add_argument("crates", nargs="*", metavar="CRATE", help="try these alone")
     parser.add_argument("--jobs", type=int, metavar="N", help="at most N checks side by side (else RT_JOBS, or the processors)")
     parser.add_argument("--times", action="store_true", help="say the processor seconds of each crate and of all")
@@ -48,7 +48,7 @@ def crates_of(tree: Tree, names: list[str]) -> list[str]:
     """The crates that are named, or all that have wrong bodies, the longest to try first."""
     for name in names:
         if name not in tree.uses or not tree.has_edits(name):
-            sys.exit(f"tests.wrong: {name} is no crate with wrong bodies")
+            sys.exit(f"tools.wrong: {name} is no crate with wrong bodies")
     chosen = [it for it in tree.uses if tree.has_edits(it) and (not names or it in names)]
     rounds = {it: len(rounds_of(read_edits(tree.folder(it))[0], tree.folder(it))) for it in chosen}
     return sorted(chosen, key=lambda it: -rounds[it] * tree.size(it))
@@ -103,7 +103,7 @@ def main() -> int:
         tree = tree_at(TOP)
         crates = crates_of(tree, asked.crates)
     except LibraryFault as fault:
-        sys.exit(f"tests.wrong: {fault}")
+        sys.exit(f"tools.wrong: {fault}")
     if asked.rounds:
         say_rounds(tree, crates)
         return 0

@@ -4,7 +4,7 @@ from __future__ import annotations
 import re
 from dataclasses import dataclass
 
-from tests.check.running import Done
+from tools.check.running import Done
 
 SUM = re.compile(r"(\d+) passed, (\d+) failed(?: \(.*\))?")  # `rt ci` says of some crates that they aren't all.
 

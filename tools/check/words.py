@@ -5,10 +5,10 @@ import argparse
 import sys
 from functools import partial
 
-from tests.check.checking import Stages, check
-from tests.check.guard import guarded
-from tests.check.lock import Taken, alone
-from tests.check.parts import PROOFS, QUICK, WRONG, minutes, minutes_of, proofs_of, uses, wrong_beside, wrong_of
+from tools.check.checking import Stages, check
+from tools.check.guard import guarded
+from tools.check.lock import Taken, alone
+from tools.check.parts import PROOFS, QUICK, WRONG, minutes, minutes_of, proofs_of, uses, wrong_beside, wrong_of
 
 TAKEN = 3
 LEFT_OUT = {

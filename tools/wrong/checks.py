@@ -10,8 +10,8 @@ import threading
 from dataclasses import dataclass, field
 from pathlib import Path
 
-from tests.wrong.edits import Round
-from tests.wrong.libraries import Tree, check_words
+from tools.wrong.edits import Round
+from tools.wrong.libraries import Tree, check_words
 
 # What a check of one of the larger crates may hold in memory.
 MOST_HELD = 2_500_000_000

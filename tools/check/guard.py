@@ -9,8 +9,8 @@ import tempfile
 from collections.abc import Callable
 from pathlib import Path
 
-from tests.check.processes import adopt_orphans, end_all, end_with_parent
-from tests.check.signals import ALL
+from tools.check.processes import adopt_orphans, end_all, end_with_parent
+from tools.check.signals import ALL
 
 PATIENCE = 8.0  # seconds that processes of a check that was killed have to clear up
 

@@ -38,9 +38,9 @@ class Part:
         return replace(self, command=(*self.command, *crates), work=self.work * share, least=self.least * share)
 
 
-def module(name: str, *words: str) -> tuple[str, ...]:
-    """The call of a module of tests."""
-    return ("python3", "-B", "-m", f"tests.{name}", *words)
+def module(name: str, *words: str, of: str = "tests") -> tuple[str, ...]:
+    """The call of a module, of tests or of tools."""
+    return ("python3", "-B", "-m", f"{of}.{name}", *words)
 
 
 def cases(*names: str, python: str = "python3") -> tuple[str, ...]:
@@ -54,7 +54,7 @@ PROVED = "[ps]*/**/*.*t"  # a crate's src/, specs/ and proofs/
 EDITS = "wrong/*.edit"
 STANDS = r"^rt: (\w+) (?:proved$|is kept: )"  # a crate whose library is written
 PROOFS = Part("proofs", ("rt", "ci"), 105, 42, ALL, ("rt",), shows=r"^rt: ", hands_on=STANDS)
-WRONG = Part("wrong", module("wrong"), 57, 10, ALL, ("rt",))
+WRONG = Part("wrong", module("wrong", of="tools"), 57, 10, ALL, ("rt",))
 LAST_CRATES = 5  # minutes of the wrong bodies of the crates that are proved last
 
 
@@ -96,8 +96,8 @@ QUICK = [
     Part("journals", ("bash", "tests/journals/run"), 0.1, 0.2, 0.5, BUILT),
     Part("large", module("program.large"), 0.1, 0.1, 1, BUILT),
     Part("documents", module("documents"), 0.1, 0.1, 1, ("git",)),
-    Part("python", module("check.python"), 0.5, 0.5, 1, ("git", "types")),
-    Part("kit", module("check.kit"), 0.1, 0.1, 1, ("rt",)),
+    Part("python", module("check.python", of="tools"), 0.5, 0.5, 1, ("git", "types")),
+    Part("kit", module("check.kit", of="tools"), 0.1, 0.1, 1, ("rt",)),
 ]
 
 
