@@ -9,6 +9,7 @@ from collections.abc import Callable
 from importlib import import_module
 from typing import NoReturn
 
+from classroom.core.building import set_up
 from classroom.core.counts import positive
 from classroom.core.printable import printable
 from classroom.core.program import TOP, Fault
@@ -162,6 +163,7 @@ def main(words: list[str] | None = None) -> int:
         return 0
     asked = parser(next(iter(given), "")).parse_args(given)
     try:
+        set_up()
         status: int = asked.work(asked)
         sys.stdout.flush()
         return status

@@ -146,10 +146,15 @@ def text(lab: Lab) -> str:
 
 
 def write_new(path: Path, content: str) -> None:
-    """Writes a file that nobody else reads, and never over another one."""
+    """Writes a file that nobody else reads, and never over another one. Leaves no file if it can't be written whole."""
     try:
-        with os.fdopen(os.open(path, os.O_WRONLY | os.O_CREAT | os.O_EXCL, 0o600), "w", encoding="utf-8") as it:
-            it.write(content)
+        file = os.open(path, os.O_WRONLY | os.O_CREAT | os.O_EXCL, 0o600)
+        try:
+            with os.fdopen(file, "w", encoding="utf-8") as it:
+                it.write(content)
+        except BaseException:
+            path.unlink()
+            raise
     except FileExistsError:
         raise Fault(f"{path} is there already, and isn't overwritten") from None
     except OSError as error:

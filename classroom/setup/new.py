@@ -2,16 +2,19 @@
 from __future__ import annotations
 
 import argparse
+import contextlib
 import itertools
 import random
 import secrets
+import shutil
+from collections.abc import Iterator
 from pathlib import Path
 
 from classroom.core import lab as labs
 from classroom.core import bounds, lists, networks
 from classroom.core.lists import Person
 from classroom.core.printable import printable
-from classroom.core.program import Fault, call
+from classroom.core.program import Fault, call, program
 from classroom.setup import names, shaking, slips
 
 KEY_BYTES = 16
@@ -79,8 +82,40 @@ def paths(path: Path, count: int) -> list[tuple[Path, Path, Path]]:
     ]
 
 
+def write(made: labs.Lab, files: tuple[Path, Path, Path], port: int, done: list[Path]) -> str:
+    """Writes a lab and its slips, notes each file or folder that is written, and returns what the program says of the
+    lab's size."""
+    lab_file, slips_file, slips_folder = files
+    labs.write_new(lab_file, labs.text(made))
+    done.append(lab_file)
+    answer = call("check", lab_file)
+    if answer.status != 0:
+        raise Fault(f"this would be no lab: {answer.error}", answer.status)
+    labs.write_new(slips_file, slips.page(made, made.people, port, lab_file))
+    done.append(slips_file)
+    slips.write_all(made, port, slips_folder)
+    done.append(slips_folder)
+    return labs.with_house_apart(answer.output.strip().removeprefix("ok: "), made)
+
+
+@contextlib.contextmanager
+def all_or_none() -> Iterator[list[Path]]:
+    """Gives a list for the files and folders that are written. Removes all of them if something fails."""
+    done: list[Path] = []
+    try:
+        yield done
+    except BaseException:
+        for path in done:
+            if path.is_dir():
+                shutil.rmtree(path)
+            else:
+                path.unlink()
+        raise
+
+
 def new(words: argparse.Namespace) -> int:
     """Makes the labs and their slips, and tells where they lie and how names were changed."""
+    program()
     people = lists.read(Path(words.students), words).people
     chance = random.Random(words.seed)
     if words.pairs and words.stand_in:
@@ -91,27 +126,26 @@ def new(words: argparse.Namespace) -> int:
     for file in itertools.chain(*files):
         if file.exists() or file.is_symlink():
             raise Fault(f"{file} is there already, and isn't overwritten")
-    for index, ((lab_file, slips_file, slips_folder), part) in enumerate(zip(files, parts, strict=True)):
-        here = {name: everywhere[name] for name in part}
-        made = make(words, here, chance)
-        labs.write_new(lab_file, labs.text(made))
-        answer = call("check", lab_file)
-        if answer.status != 0:
-            lab_file.unlink()
-            raise Fault(f"this would be no lab: {answer.error}", answer.status)
-        labs.write_new(slips_file, slips.page(made, here, words.port + index, lab_file))
-        slips.write_all(made, words.port + index, slips_folder)
-        size = labs.with_house_apart(answer.output.strip().removeprefix("ok: "), made)
+    every = [make(words, {name: everywhere[name] for name in part}, chance) for part in parts]
+    with all_or_none() as done:
+        sizes = [write(made, its, words.port + index, done) for index, (made, its) in enumerate(zip(every, files, strict=True))]
+    for made, (lab_file, slips_file, slips_folder), size in zip(every, files, sizes, strict=True):
         print(f"{lab_file}: {size}; slips: {slips_file} to print, {slips_folder} for programs")
-        if made.sessions < len(part) + 1:
-            print(f"note: {made.sessions} sessions for {len(part)} students and a teacher: "
-                  f"--groups {-(-len(everywhere) // (labs.MOST_SESSIONS - 1))} makes labs in which all have a seat")
+        tell_seats(made, len(everywhere))
         tell_few(made)
         tell_idle(made, words)
     for name, person in everywhere.items():
         if name != person.written:
             print(printable(f"{person.written}{f' ({person.id})' if person.id else ''} is {name}"))
     return 0
+
+
+def tell_seats(made: labs.Lab, everybody: int) -> None:
+    """Tells if not all students of the lab can have a seat at once, and how many labs would give each one."""
+    students = len(made.without_house().students)
+    if made.sessions < students + 1:
+        print(f"note: {made.sessions} sessions for {students} students and a teacher: "
+              f"--groups {-(-everybody // (labs.MOST_SESSIONS - 1))} makes labs in which all have a seat")
 
 
 def tell_few(made: labs.Lab) -> None:

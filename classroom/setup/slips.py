@@ -1,6 +1,7 @@
 """Slips: what each student needs to come in, as a file for programs and as a page to print and cut."""
 from __future__ import annotations
 
+import shutil
 from pathlib import Path
 
 from classroom.core.lab import Lab, write_new
@@ -36,10 +37,14 @@ def page(made: Lab, people: dict[str, Person], port: int, path: Path) -> str:
 
 
 def write_all(made: Lab, port: int, folder: Path) -> None:
-    """A file for each student and the teacher, in a folder that nobody else reads."""
+    """A file for each student and the teacher, in a folder that nobody else reads, or no folder if one can't be written."""
     try:
         folder.mkdir(mode=0o700)
     except OSError as error:
         raise Fault(f"{folder}: {error.strerror}", 4) from None
-    for name in [*made.without_house().students, made.teacher[0]]:
-        write_new(folder / f"{name}.slip", "\n".join(slip(made, name, port)) + "\n")
+    try:
+        for name in [*made.without_house().students, made.teacher[0]]:
+            write_new(folder / f"{name}.slip", "\n".join(slip(made, name, port)) + "\n")
+    except BaseException:
+        shutil.rmtree(folder)
+        raise

@@ -14,6 +14,8 @@ from classroom.client import LOST, MOST, STOPS
 from classroom.core import lab, statuses
 from classroom.run.run import CLOSING
 from classroom.words import parser
+from tools.build.crates import expected, needed
+from tools.build.progress import Progress
 from tools.check.parts import PROOFS, QUICK, minutes_of, wrong_beside
 
 TOP = Path(__file__).resolve().parents[2]
@@ -81,9 +83,12 @@ def classes() -> Iterator[tuple[str, str]]:
 def times() -> Iterator[tuple[str, tuple[str, ...]]]:
     """The ways in which README.md may say how long checks and builds take."""
     proofs, quick = minutes_of([[PROOFS, wrong_beside()], QUICK], PROCESSORS)
-    for command, minutes in (("| Check it: `./check` | all proofs and tests, in a clone with the toolchain | {} |", proofs + quick),
+    both = needed(["mml_server", "mml_host"])
+    build = Progress(both, expected(both), PROCESSORS, 0.0).left(0.0) / 60
+    for command, minutes in (("| `./check` | sets up, and tests everything, in a clone with the toolchain | {} |", proofs + quick),
+                             ("| `./class demo` | sets up, and runs a class with four bots | ten seconds\\*; in a clone, the first time, {} |", build),
                              ("| `./check quick` | all that needs no proof, over the programs that are built | {} |", quick),
-                             ("| `./mml build` | proves and builds both programs | {}, ", PROOFS.minutes(PROCESSORS))):
+                             ("| `./mml build` | proves and builds both programs, as `./class demo` does first | {} |", build)):
         yield README, tuple(command.format(said) for said, (least, most) in ROUNDED.items() if least <= minutes <= most)
 
 

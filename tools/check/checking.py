@@ -6,6 +6,7 @@ import shutil
 import signal
 from pathlib import Path
 
+from tools.check import chain
 from tools.check.measure import figures
 from tools.check.needs import install, missing, told
 from tools.check.parts import PROOFS, TOP, Part, minutes_of
@@ -65,6 +66,9 @@ class Count:
         for line in self.left_out:
             tell(f"left out: {line}")
         tell(figures(crew.checks, self.minutes).rstrip("\n"))
+        if spans := chain.spans_of(crew.checks):
+            chain.keep(spans)
+            tell(chain.short(spans))
         if self.passed + self.failed == 0:
             tell("FAILED: no test ran")
             self.failed = 1

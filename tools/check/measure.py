@@ -11,7 +11,7 @@ from __future__ import annotations
 import os
 import time
 
-from tools.check.processes import Process, processes
+from tools.check.processes import TICKS, Process, processes
 
 KINDS = ("proof", "tests", "wrong")
 PROVING = ("proofs", "wrong")  # The parts whose checks are told by crate; all others are scripts.
@@ -39,6 +39,7 @@ class Checks:
     def __init__(self) -> None:
         self.works: dict[Check, Work] = {}
         self.used: dict[Check, float] = {}
+        self.seen: dict[Check, float] = {}
         self.most_held, self.most_held_in_all = 0, 0
         self.looked = 0.0
 
@@ -71,6 +72,12 @@ class Checks:
         if work:
             self.works[check] = work
             self.used[check] = max(used, self.used.get(check, 0))
+            self.seen[check] = time.clock_gettime(time.CLOCK_BOOTTIME)
+
+    @staticmethod
+    def begin_of(check: Check) -> float:
+        """When a check began, by the clock of `seen`: in seconds since the machine was started."""
+        return int(check[1]) / TICKS
 
     def minutes(self) -> dict[Work, float]:
         """The processor minutes of each crate and kind."""

@@ -5,6 +5,7 @@ import argparse
 import sys
 from functools import partial
 
+from tools.check import chain
 from tools.check.checking import Stages, check
 from tools.check.guard import guarded
 from tools.check.lock import Taken, alone
@@ -37,7 +38,20 @@ def parser() -> argparse.ArgumentParser:
     proofs.add_argument("names", nargs="*", metavar="CRATE", help="only these crates and those below them")
     wrong = each.add_parser("wrong", help=f"the bodies that the prover must refuse: {taking(minutes([WRONG], 4))}")
     wrong.add_argument("names", nargs="*", metavar="CRATE", help="only those of these crates")
+    longest = each.add_parser("chain", help="the longest chain of proofs of the last run here that proved something, with times")
+    longest.add_argument("names", nargs="*", metavar="CRATE", help="the chain to these crates (the one that was proved last)")
+    longest.add_argument("--table", action="store_true", help="what each proof took, for tools/build/seconds.txt")
     return every
+
+
+def tell_chain(names: list[str], is_table: bool) -> int:
+    """Prints the chain of the last run, or the table, and answers the exit status."""
+    spans = chain.kept()
+    if not spans:
+        print("check: no ./check has proved anything in this tree", file=sys.stderr)
+        return 1
+    print(chain.table(spans) if is_table else chain.told(spans, names))
+    return 0
 
 
 def unknown(word: str | None, names: list[str]) -> str:
@@ -65,6 +79,8 @@ def main(words: list[str] | None = None) -> int:
     names: list[str] = getattr(asked, "names", [])
     if fault := unknown(asked.word, names):
         every.error(fault)
+    if asked.word == "chain":
+        return tell_chain(names, asked.table)
     try:
         with alone():
             return guarded(partial(check, *stages_of(asked.word, names)))

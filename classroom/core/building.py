@@ -1,0 +1,63 @@
+"""Builds the programs of a clone before a word does anything: `./mml build` says how long that takes and how far it is."""
+from __future__ import annotations
+
+import os
+import signal
+import subprocess
+import time
+from types import FrameType
+
+from classroom.core.program import TOP, Fault, built, is_clone
+
+NAMED_BY = {"mml_server": "MML_PROGRAM", "mml_host": "MML_HOST"}  # what in the environment names another program
+SIGNALS = (signal.SIGINT, signal.SIGTERM, signal.SIGHUP)
+POLL = 0.1
+PATIENCE = 2.0  # seconds after a signal in which the build, which a terminal's Ctrl-C reaches too, may end by itself
+STDERR = 2  # results go to standard output, where nothing else may stand
+
+
+def lacks_programs() -> bool:
+    """Returns whether this is a clone in which a program was never built."""
+    wanted = [crate for crate, variable in NAMED_BY.items() if not os.environ.get(variable)]
+    return is_clone() and not all(os.access(built(crate), os.X_OK) for crate in wanted if (TOP / "crates" / crate).is_dir())
+
+
+class Signals:
+    """Notes the signals that end a process, in place of what they did before."""
+
+    def __init__(self) -> None:
+        self.came, self.at = 0, 0.0
+        self.before = {number: signal.getsignal(number) for number in SIGNALS}
+        for number, handler in self.before.items():
+            if handler is not signal.SIG_IGN:
+                signal.signal(number, self)
+
+    def __call__(self, number: int, _: FrameType | None) -> None:
+        self.came, self.at = number, time.monotonic()
+
+    def close(self) -> None:
+        """Puts back what the signals did before."""
+        for number, handler in self.before.items():
+            signal.signal(number, handler)
+
+
+def build() -> int:
+    """Runs `./mml build` to its end, and returns its status. A signal ends both."""
+    signals = Signals()
+    try:
+        process = subprocess.Popen([TOP / "mml", "build"], stdin=subprocess.DEVNULL, stdout=STDERR)
+        while process.poll() is None:
+            if signals.came and (signals.came != signal.SIGINT or time.monotonic() > signals.at + PATIENCE):
+                process.terminate()
+            time.sleep(POLL)
+    finally:
+        signals.close()
+    if signals.came:
+        raise SystemExit(128 + signals.came)
+    return process.returncode
+
+
+def set_up() -> None:
+    """Builds the programs if this is a clone that lacks one. Raises a fault if that fails."""
+    if lacks_programs() and build() != 0:
+        raise Fault("a program isn't built, so nothing was done")

@@ -1,0 +1,134 @@
+"""A small clone with a stand-in `rt`, which proves nothing: it says what `rt ci` says, and keeps what it has "proved"."""
+from __future__ import annotations
+
+import os
+import shutil
+import signal
+import subprocess
+import sys
+import tempfile
+import time
+import unittest
+from pathlib import Path
+
+TOP = Path(__file__).resolve().parents[2]
+LIMIT = 300.0  # seconds after which something hangs
+CRATES = "# A line a crate.\nlow: itoa\nunused: low\nleft: low\nright: low\nmml_server: left\nmml_host: left right\n"
+# Proves one crate after another, waits before the one that the file `waits` names, and fails at the one that `fails` names.
+STAND_IN = '''#!{python}
+import os, pathlib, re, subprocess, sys
+if sys.argv[1:] == ["version"]:
+    sys.exit("a-kit logic 1")
+room = pathlib.Path({room!r})
+named = lambda name: (room / name).read_text() if (room / name).exists() else ""
+(room / "words").write_text(" ".join(sys.argv[1:]))
+(room / "seen").write_text("\\n".join(sorted(str(it) for it in pathlib.Path().rglob("*"))))
+(room / "temporary").write_text(os.environ["TMPDIR"])
+for crate in re.findall(r"(?m)^(\\w+):", pathlib.Path("crates.txt").read_text()):
+    if crate == named("waits"):
+        child = subprocess.Popen(["sleep", "1000"])
+        (room / "pids").write_text(f"{{os.getpid()}} {{child.pid}}")
+        child.wait()
+    kept = room / "kept" / crate
+    if crate == named("fails"):
+        print("== " + crate + "\\nsrc/lib.rt:1:1: error: a goal is open\\nrt: " + crate + " NOT PROVED\\n0 passed, 1 failed")
+        sys.exit(1)
+    how = "is kept: an earlier run on this machine proved the same files" if kept.exists() else "proved"
+    kept.touch()
+    print(f"rt: {{crate}} {{how}}", flush=True)
+    if not crate.startswith("mml_"):
+        os.makedirs(f"crates/{{crate}}/out/rlib/{{crate}}.rlib")
+        pathlib.Path(f"crates/{{crate}}/out/rlib/{{crate}}.rlib/format").write_text("new")
+    else:
+        os.makedirs(f"crates/{{crate}}/out")
+        pathlib.Path(f"crates/{{crate}}/out/{{crate}}").write_text(named("program") or "#!/bin/sh\\necho new\\n")
+print("1 passed, 0 failed")
+'''
+
+
+class InClone(unittest.TestCase):
+    """A test with a clone, a stand-in `rt` on the path, and a folder for temporary files that has to be empty at the end."""
+
+    def setUp(self) -> None:
+        room = tempfile.TemporaryDirectory()
+        self.addCleanup(room.cleanup)
+        self.room = Path(room.name)
+        self.clone, self.bin, self.temporary = (self.room / name for name in ("clone", "bin", "tmp"))
+        for folder in (self.bin, self.temporary, self.room / "kept", self.clone / "tools"):
+            folder.mkdir(parents=True)
+        for name in ("mml", "VERSION", "HANDLES", "tools/__init__.py"):
+            shutil.copy(TOP / name, self.clone / name)
+        shutil.copytree(TOP / "tools/build", self.clone / "tools/build", ignore=shutil.ignore_patterns("__pycache__"))
+        (self.clone / "crates.txt").write_text(CRATES, encoding="utf-8")
+        for crate in ("low", "unused", "left", "right", "mml_server", "mml_host"):
+            source = self.clone / "crates" / crate / "src/lib.rt"
+            source.parent.mkdir(parents=True)
+            source.write_text(f"// {crate}\n", encoding="utf-8")
+        stand_in = self.bin / "rt"
+        stand_in.write_text(STAND_IN.format(python=sys.executable, room=str(self.room)), encoding="utf-8")
+        stand_in.chmod(0o755)
+
+    def environment(self, **more: str) -> dict[str, str]:
+        """Returns an environment in which `rt` is the stand-in, and no program is named."""
+        kept = {name: it for name, it in os.environ.items() if name not in ("MML_PROGRAM", "MML_HOST", "RT_JOBS")}
+        return {**kept, "PATH": f"{self.bin}:{os.environ['PATH']}", "TMPDIR": str(self.temporary), "PYTHONDONTWRITEBYTECODE": "1", **more}
+
+    def set(self, name: str, text: str) -> None:
+        """Tells the stand-in something."""
+        (self.room / name).write_text(text, encoding="utf-8")
+
+    def call(self, *words: str | Path, **more: str) -> subprocess.CompletedProcess[str]:
+        """Runs a command of the clone to its end."""
+        return subprocess.run(words, cwd=self.clone, stdin=subprocess.DEVNULL, capture_output=True, text=True,
+                              env=self.environment(**more), timeout=LIMIT, check=False)
+
+    def begun(self, *words: str | Path) -> subprocess.Popen[str]:
+        """Starts a command as the leader of a group, and waits until the stand-in waits in it."""
+        (self.room / "pids").unlink(missing_ok=True)
+        going = subprocess.Popen(words, cwd=self.clone, stdin=subprocess.DEVNULL, stdout=subprocess.PIPE, stderr=subprocess.PIPE,
+                                 text=True, env=self.environment(), start_new_session=True)
+        self.addCleanup(self.clear, going)
+        self.waits(lambda: self.pids() or going.poll() is not None)
+        if going.poll() is not None:
+            self.fail(str(going.communicate()))
+        return going
+
+    def pids(self) -> list[int]:
+        """Returns the processes of the stand-in that waits."""
+        text = (self.room / "pids").read_text(encoding="utf-8") if (self.room / "pids").exists() else ""
+        return [int(it) for it in text.split()]
+
+    def ended(self, going: subprocess.Popen[str]) -> str:
+        """Waits until a command and the stand-in have ended, and returns what the command said on standard error."""
+        _, error = going.communicate(timeout=LIMIT)
+        self.waits(lambda: not is_there(self.pids()[0]))
+        return str(error)
+
+    def waits(self, holds: object) -> None:
+        """Waits until something holds."""
+        assert callable(holds)
+        until = time.monotonic() + LIMIT
+        while not holds():
+            self.assertLess(time.monotonic(), until)
+            time.sleep(0.02)
+
+    def clear(self, going: subprocess.Popen[str]) -> None:
+        """Kills a command with its group, and the stand-in, if they go on."""
+        if going.poll() is None:
+            os.killpg(going.pid, signal.SIGKILL)
+            going.communicate(timeout=LIMIT)
+        for pid in self.pids():
+            if is_there(pid):
+                os.kill(pid, signal.SIGKILL)
+
+    def program(self, crate: str) -> Path:
+        """Returns where a program of the clone stands."""
+        return self.clone / "crates" / crate / "out" / crate
+
+
+def is_there(pid: int) -> bool:
+    """Returns whether a process hasn't ended."""
+    try:
+        return Path(f"/proc/{pid}/stat").read_text(encoding="utf-8").rpartition(") ")[2][0] != "Z"
+    except OSError:
+        return False

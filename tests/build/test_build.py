@@ -1,0 +1,197 @@
+"""How programs are built: what `rt` is given, the progress line, and what a signal leaves."""
+from __future__ import annotations
+
+import os
+import pty
+import re
+import shutil
+import signal
+import subprocess
+import unittest
+from pathlib import Path
+
+from tests.build.clone import LIMIT, InClone, is_there
+from tools.build.crates import expected, lines, needed
+from tools.build.progress import Progress, chains
+
+USES: dict[str, list[str]] = {"a": [], "b": [], "c": ["a"], "d": ["b"], "e": ["c", "d"]}
+SECONDS = {"a": 10.0, "b": 100.0, "c": 50.0, "d": 20.0, "e": 5.0}
+
+
+class Estimates(unittest.TestCase):
+    """The order of proofs, and how long the rest takes."""
+
+    def test_order(self) -> None:
+        """A crate is proved after those below it, and first the crate with the longest chain above it."""
+        self.assertEqual(chains(USES, SECONDS), {"a": 65.0, "b": 125.0, "c": 55.0, "d": 25.0, "e": 5.0})
+        progress = Progress(USES, SECONDS, 1, 0.0)
+        for crate, after in (("b", "a"), ("a", "c"), ("c", "d"), ("d", "e")):
+            self.assertEqual([*progress.begun], [crate])
+            progress.note(crate, False, 0.0)
+            self.assertEqual([*progress.begun], [after])
+        self.assertEqual([*Progress(USES, SECONDS, 2, 0.0).begun], ["b", "a"])
+
+    def test_what_is_left(self) -> None:
+        """Independent proofs run side by side, as many as there are processors."""
+        self.assertEqual([Progress(USES, SECONDS, number, 0.0).left(0.0) for number in (1, 2, 4)], [185.0, 125.0, 125.0])
+        progress = Progress(USES, SECONDS, 2, 0.0)
+        self.assertEqual(progress.left(60.0), 65.0)
+        progress.note("b", True, 0.0)
+        progress.note("a", True, 0.0)
+        self.assertEqual(progress.left(0.0), 55.0)
+        self.assertEqual(progress.line(0.0), "2 of 5 crates proved, 2 of them earlier; about a minute left")
+        for crate in "cde":
+            progress.note(crate, False, 300.0)
+        self.assertEqual(progress.line(0.0), "5 of 5 crates proved, 2 of them earlier")
+
+    def test_another_pace(self) -> None:
+        """A machine that takes twice as long as the table says is expected to go on so."""
+        seconds = {crate: 100 * it for crate, it in SECONDS.items()}
+        progress = Progress(USES, seconds, 1, 0.0)
+        progress.note("b", False, 20_000.0)
+        self.assertAlmostEqual(progress.left(20_000.0) / 8_500, 2.0, delta=0.05)
+        self.assertGreater(progress.left(2_000_000.0), 8_500)
+
+    def test_the_table(self) -> None:
+        """Each crate of both programs has its time."""
+        crates = needed(["mml_server", "mml_host"])
+        self.assertTrue(set(crates) < set(lines()))
+        self.assertLess(set(needed(["mml_server"])), set(crates))
+        self.assertGreater(min(expected(crates).values()), 0)
+
+
+class Builds(InClone):
+    """Calls of `./mml` in a clone whose `rt` is a stand-in."""
+
+    def test_what_is_proved(self) -> None:
+        """`rt ci` is called in a repository that has the sources of what is needed, and nothing else."""
+        for path in ("low/src/.lib.rt.swp", "low/out/incremental/kept", "low/wrong/bad.edit", "low/must-fail/bad.edit", "low/README.md",
+                     "low/specs/Lib.antt", "low/proofs/f/Proof.antt", "mml_server/stdin", "mml_server/data/lab.toml"):
+            file = self.clone / "crates" / path
+            file.parent.mkdir(parents=True, exist_ok=True)
+            file.touch()
+        done = self.call("./mml")
+        self.assertEqual((done.returncode, done.stdout), (0, "new\n"), done.stderr)
+        files = {it for it in (self.room / "seen").read_text(encoding="utf-8").splitlines() if it.count("/") != 1 and not it.endswith("src")}
+        self.assertEqual(files, {
+            ".git", "HANDLES", "crates", "crates.txt", "crates/low/src/lib.rt", "crates/low/specs", "crates/low/specs/Lib.antt",
+            "crates/low/proofs", "crates/low/proofs/f", "crates/low/proofs/f/Proof.antt", "crates/left/src/lib.rt",
+            "crates/mml_server/src/lib.rt", "crates/mml_server/stdin", "crates/mml_server/data", "crates/mml_server/data/lab.toml",
+        })
+        self.assertEqual((self.room / "words").read_text(encoding="utf-8"), "ci")
+        self.assertTrue((self.clone / "crates/low/out/incremental/kept").exists())
+        self.assertEqual([*self.temporary.iterdir()], [])
+
+    def test_where_it_is_proved(self) -> None:
+        """In a clone of Git the repository stands on the clone's disk, where no check looks, and is removed at the end."""
+        git = self.clone / ".git"
+        git.mkdir()
+        self.set("waits", "left")
+        going = self.begun("./mml", "build")
+        self.assertRegex(str(Path(f"/proc/{self.pids()[0]}/cwd").readlink()), f"^{re.escape(str(git))}/mml-build-[0-9]+-[^/]+/repository$")
+        self.assertTrue(Path((self.room / "temporary").read_text(encoding="utf-8")).is_relative_to(self.temporary))
+        os.kill(going.pid, signal.SIGTERM)
+        self.ended(going)
+        self.waits(lambda: not [*self.temporary.iterdir(), *git.iterdir()])
+
+    def test_libraries(self) -> None:
+        """The clone has the libraries afterwards, but where `rt check` built one, which has a stamp."""
+        for crate, stamp in (("low", "stamp"), ("left", "none")):
+            for name in (f"{crate}.rlib/format", stamp):
+                file = self.clone / "crates" / crate / "out/rlib" / name
+                file.parent.mkdir(parents=True, exist_ok=True)
+                file.write_text("old", encoding="utf-8")
+        self.assertEqual(self.call("./mml", "build").returncode, 0)
+        formats = {crate: (self.clone / f"crates/{crate}/out/rlib/{crate}.rlib/format").read_text(encoding="utf-8") for crate in ("low", "left", "right")}
+        self.assertEqual(formats, {"low": "old", "left": "new", "right": "new"})
+        self.assertFalse((self.clone / "crates/left/out/rlib/none").exists())
+
+    def test_progress(self) -> None:
+        """It is said beforehand how long that takes, and each time how far it is."""
+        done = self.call("./mml", "build", RT_JOBS="3")
+        self.assertEqual(done.returncode, 0, done.stderr)
+        self.assertRegex(done.stderr, r"^mml: building mml_server and mml_host, after proving 5 crates; .*\n"
+                                      r"mml: from nothing that takes (some \d+ minutes|about a minute) on 3 processors, .*\n")
+        self.assertRegex(done.stderr, r"\nmml: \d of 5 crates proved; (some \d+ minutes|about a minute) left\n")
+        self.assertTrue(done.stderr.endswith("\nmml: 5 of 5 crates proved\n"), done.stderr)
+
+    def test_one_line(self) -> None:
+        """On a terminal the progress is one line, which is written over."""
+        self.set("waits", "right")
+        ours, theirs = pty.openpty()
+        going = subprocess.Popen(["./mml", "build"], cwd=self.clone, stdin=subprocess.DEVNULL, stdout=subprocess.DEVNULL, stderr=theirs,
+                                 env=self.environment(), start_new_session=True)
+        os.close(theirs)
+        said = b""
+        while b"2 of 5 crates proved" not in said:
+            said += os.read(ours, 1000)
+        os.kill(self.pids()[1], signal.SIGKILL)
+        while b"5 of 5 crates proved" not in said:
+            said += os.read(ours, 1000)
+        self.assertEqual(going.wait(LIMIT), 0)
+        os.close(ours)
+        shown = said.decode().replace("\r\n", "\n").rpartition("proof\n")[2].split("\r")
+        self.assertGreater(len(shown), 2, said)
+        self.assertTrue(all(re.match(r"mml: \d of 5 crates proved", line) for line in shown[1:]), shown)
+        self.assertFalse(any("\n" in line for line in shown[:-1]), shown)
+
+    def test_a_second_clone(self) -> None:
+        """What was proved on this machine is taken: the host's build proves what the server's didn't, a second clone nothing."""
+        self.call("./mml")
+        done = self.call("./mml", "build")
+        self.assertTrue(done.stderr.endswith("\nmml: 4 of 4 crates proved, 2 of them earlier\n"), done.stderr)
+        second = self.room / "second"
+        shutil.copytree(self.clone, second, ignore=shutil.ignore_patterns("out"))
+        done = self.call(second / "mml", "build")
+        self.assertEqual(done.returncode, 0, done.stderr)
+        self.assertTrue(done.stderr.endswith("\nmml: 5 of 5 crates proved, 5 of them earlier\n"), done.stderr)
+        self.assertTrue((second / "crates/mml_host/out/mml_host").exists())
+
+    def test_interrupted(self) -> None:
+        """A signal ends `rt` and all that it started, and leaves no program, log or temporary file; the next call goes on."""
+        for number, is_group in ((signal.SIGINT, True), (signal.SIGTERM, False), (signal.SIGTERM, True), (signal.SIGHUP, True)):
+            with self.subTest(number=number, is_group=is_group):
+                self.set("waits", "right")
+                going = self.begun("./mml", "build")
+                (os.killpg if is_group else os.kill)(going.pid, number)
+                error = self.ended(going)
+                self.assertEqual(going.returncode, -number)
+                self.assertIn("mml: stopped; what is proved is kept, and the next build goes on there\n", error)
+                self.waits(lambda: not [*self.temporary.iterdir()])
+                self.assertEqual([*self.clone.glob("crates/*/out")] + [*self.clone.glob("crates/*/build.log")], [])
+        self.set("waits", "")
+        done = self.call("./mml", "build")
+        self.assertEqual(done.returncode, 0, done.stderr)
+        self.assertTrue(done.stderr.endswith("\nmml: 5 of 5 crates proved, 2 of them earlier\n"), done.stderr)
+
+    def test_killed(self) -> None:
+        """Where the build is killed at once, `rt` is ended, and the next call clears up."""
+        self.set("waits", "right")
+        going = self.begun("./mml", "build")
+        rt = self.pids()[0]
+        parent = Path(f"/proc/{rt}/stat").read_text(encoding="utf-8").rpartition(") ")[2].split()[1]
+        os.kill(int(parent), signal.SIGKILL)
+        self.ended(going)
+        self.assertFalse(is_there(rt))
+        self.assertEqual(going.returncode, 128 + signal.SIGKILL)
+        self.assertEqual(len([*self.temporary.iterdir()]), 2)
+        self.set("waits", "")
+        self.assertEqual(self.call("./mml", "build").returncode, 0)
+        self.assertEqual([*self.temporary.iterdir()], [])
+
+    def test_failed(self) -> None:
+        """A crate that isn't proved is told with what is wrong, and an older program stays."""
+        self.call("./mml", "build")
+        (self.clone / "crates/low/src/lib.rt").write_text("// another\n", encoding="utf-8")
+        self.set("fails", "left")
+        done = self.call("./mml", "build")
+        self.assertEqual(done.returncode, 1)
+        log = self.clone / "crates/mml_host/build.log"
+        self.assertIn("src/lib.rt:1:1: error: a goal is open\nrt: left NOT PROVED\n", done.stderr)
+        self.assertTrue(done.stderr.endswith(f"mml: the build failed, see {log}; an older program is kept\n"), done.stderr)
+        self.assertIn("0 passed, 1 failed", log.read_text(encoding="utf-8"))
+        self.assertEqual(self.program("mml_server").read_text(encoding="utf-8"), "#!/bin/sh\necho new\n")
+        self.assertEqual([*self.temporary.iterdir()], [])
+        self.set("fails", "")
+        self.assertEqual(self.call("./mml", "build").returncode, 0)
+        self.assertFalse(log.exists())

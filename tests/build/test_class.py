@@ -1,0 +1,113 @@
+"""What a word of `./class` does in a clone whose programs aren't built, and that nothing is left half made."""
+from __future__ import annotations
+
+import os
+import shutil
+import signal
+import subprocess
+
+from tests.build.clone import TOP, InClone
+
+# A program that takes every lab, but for those whose name has a 2 at the end.
+PROGRAM = '#!/bin/sh\n[ "${2%-2.toml}" = "$2" ] || { echo "lab fault: 3" >&2; exit 2; }\necho "ok: 4 nodes, 4 students"\n'
+WORDS = ("maths.toml", "--students", "names.txt")
+FIRST = ("maths.toml", "maths-slips.txt", "maths-slips")
+
+
+class SetsUp(InClone):
+    """Calls of `./class` in a clone whose `rt` is a stand-in."""
+
+    def setUp(self) -> None:
+        super().setUp()
+        shutil.copy(TOP / "class", self.clone / "class")
+        shutil.copytree(TOP / "classroom", self.clone / "classroom", ignore=shutil.ignore_patterns("__pycache__"))
+        (self.clone / "names.txt").write_text("ana\nben\ncyd\ndan\n", encoding="utf-8")
+        self.set("program", PROGRAM)
+
+    def made(self) -> list[str]:
+        """Returns the names of what `new` makes that are there."""
+        return sorted(it.name for it in self.clone.glob("maths*"))
+
+    def new(self, *words: str, **more: str) -> subprocess.CompletedProcess[str]:
+        """Calls `./class new` to its end."""
+        return self.call("./class", "new", *WORDS, *words, **more)
+
+    def test_it_builds_and_goes_on(self) -> None:
+        """It says how long the build takes and how far it is, on standard error alone, and then does what was asked for."""
+        done = self.new()
+        self.assertEqual(done.returncode, 0, done.stderr)
+        self.assertTrue(done.stdout.startswith("maths.toml: 4 nodes, 4 students; slips: "), done.stdout)
+        self.assertRegex(done.stderr, r"^mml: building mml_server and mml_host, after proving 5 crates; .*\nmml: from nothing that takes ")
+        self.assertIn("\nmml: 5 of 5 crates proved\n", done.stderr)
+        self.assertEqual(self.made(), sorted(FIRST))
+        for name in ("maths.toml", "maths-slips.txt"):
+            (self.clone / name).unlink()
+        shutil.rmtree(self.clone / "maths-slips")
+        done = self.new()
+        self.assertEqual((done.returncode, done.stderr), (0, ""))
+
+    def test_words_that_need_no_program(self) -> None:
+        """Help, version and words that aren't understood build nothing."""
+        for words in (("--help",), ("--version",), ("new", "--help"), ("new",), ("demo", "more")):
+            self.assertNotIn("building", self.call("./class", *words).stderr, words)
+        self.assertFalse((self.room / "words").exists())
+
+    def test_each_word(self) -> None:
+        """Each word builds the programs before it does anything: where that fails, it does nothing."""
+        self.set("fails", "low")
+        before = sorted(self.clone.rglob("*"))
+        for words in (("new", *WORDS), ("check", "it.toml"), ("run", "it.toml"), ("attach", "it"), ("key", "it.toml", "ana"), ("mark", "it"),
+                      ("history", "it", "ana"), ("play", "it"), ("practise", "true"), ("grade", "true"), ("experiment",), ("demo",)):
+            done = self.call("./class", *words)
+            self.assertEqual((done.returncode, done.stdout), (1, ""), words)
+            self.assertIn("\nmml: the build failed, see ", done.stderr, words)
+            self.assertTrue(done.stderr.endswith("class: a program isn't built, so nothing was done\n"), done.stderr)
+            (self.clone / "crates/mml_host/build.log").unlink()
+        self.assertEqual(sorted(self.clone.rglob("*")), before)
+
+    def test_no_toolchain(self) -> None:
+        """Without `rt` it says where a release is made, and what that needs."""
+        done = self.new(PATH="/usr/bin:/bin")
+        self.assertEqual((done.returncode, done.stdout, self.made()), (1, "", []))
+        self.assertIn("mml: a release runs without it, on x86_64 Linux with Bash, and Python 3.11 for ./class", done.stderr)
+        self.assertIn("./release makes one in a clone where rt is", done.stderr)
+
+    def test_stopped(self) -> None:
+        """A signal ends the build and the word, which leaves nothing; the next word goes on with the build."""
+        for number, is_group in ((signal.SIGINT, True), (signal.SIGINT, False), (signal.SIGTERM, False)):
+            self.set("waits", "right")
+            going = self.begun("./class", "new", *WORDS)
+            (os.killpg if is_group else os.kill)(going.pid, number)
+            self.ended(going)
+            self.assertEqual((going.returncode, self.made()), (128 + number, []))
+            self.waits(lambda: not [*self.temporary.iterdir()])
+        self.set("waits", "")
+        done = self.new()
+        self.assertEqual(done.returncode, 0, done.stderr)
+        self.assertIn("\nmml: 5 of 5 crates proved, 2 of them earlier\n", done.stderr)
+        self.assertEqual(self.made(), sorted(FIRST))
+
+    def test_named_programs(self) -> None:
+        """Programs that the environment names aren't built; if they aren't there, nothing is made."""
+        done = self.new(MML_PROGRAM=str(self.room / "none"), MML_HOST="/bin/true")
+        self.assertEqual((done.returncode, done.stdout, self.made()), (1, "", []))
+        self.assertIn("mml isn't built", done.stderr)
+        self.assertFalse((self.room / "words").exists())
+
+    def test_all_labs_or_none(self) -> None:
+        """If one of several labs isn't taken, none is left."""
+        (self.clone / "names.txt").write_text("".join(f"student{number}\n" for number in range(8)), encoding="utf-8")
+        done = self.new("--groups", "2")
+        self.assertEqual((done.returncode, done.stdout, self.made()), (2, "", []))
+        self.assertIn("this would be no lab: lab fault: 3", done.stderr)
+
+    def test_a_full_disk(self) -> None:
+        """If a file can't be written whole, neither it nor the others are left: here under a limit on the size of files."""
+        (self.clone / "names.txt").write_text("".join(f"student{number}\n" for number in range(40)), encoding="utf-8")
+        self.assertEqual(self.call("./mml", "build").returncode, 0)
+        for most, full in ((1, "maths.toml"), (8, "maths-slips.txt")):
+            limited = f'ulimit -f {most} && trap "" XFSZ && exec ./class new "$@"'
+            done = self.call("bash", "-c", limited, "bash", *WORDS)
+            self.assertEqual((done.returncode, done.stderr, self.made()), (4, f"class: {full}: File too large\n", []))
+        self.assertEqual(self.new().returncode, 0)
+        self.assertEqual(self.made(), sorted(FIRST))

@@ -1,0 +1,89 @@
+"""Proves and builds programs of this clone.
+
+    python3 -B -m tools.build PROGRAM..     what ./mml calls if a program isn't built from its sources
+
+All processors prove side by side, and what this machine has proved before is taken. The status is 0 if all these
+programs are built, 1 if not. After a signal it ends by that signal, and what is proved by then is kept.
+"""
+from __future__ import annotations
+
+import os
+import re
+import shutil
+import signal
+import sys
+import time
+from pathlib import Path
+
+from tools.build.crates import TOP, Uses, expected, needed
+from tools.build.place import place, take, take_libraries
+from tools.build.progress import Progress, told
+from tools.build.running import Stopped, end_with_parent, heed_signals, run
+
+WRONG = re.compile(r"error|: (not proved|no proof)|NOT PROVED|run rt fmt|^rt: (FAILED|note|the disk)")
+MOST_SHOWN = 5  # lines of what went wrong
+
+
+def say(line: str) -> None:
+    """Says something on standard error, where the progress line is."""
+    print(f"mml: {line}", file=sys.stderr, flush=True)
+
+
+def processors() -> int:
+    """Returns how many proofs run side by side: `rt` asks the same."""
+    asked = os.environ.get("RT_JOBS", "")
+    return max(int(asked) if asked.isdigit() else 0, 0) or len(os.sched_getaffinity(0))
+
+
+def tell_beginning(programs: list[str], crates: Uses, progress: Progress, now: float) -> None:
+    """Says what is done, how long that takes, and what else there is."""
+    side = progress.processors
+    say(f"building {' and '.join(programs)}, after proving {len(crates)} crates; what this machine has proved before is taken")
+    say(f"from nothing that takes {told(progress.left(now))} on {side} processor{'s' if side > 1 else ''}, by the times of another "
+        "machine; stop it when you like, and the next build goes on there; ./try answers without a proof")
+
+
+def tell_failure(log: Path, programs: list[str]) -> None:
+    """Says why the build failed, and keeps the log."""
+    lines = log.read_text(encoding="utf-8", errors="replace").splitlines()
+    for line in [it for it in lines if WRONG.search(it)][:MOST_SHOWN] or lines[-MOST_SHOWN:]:
+        print(line, file=sys.stderr)
+    kept = TOP / "crates" / programs[-1] / "build.log"
+    shutil.copyfile(log, kept)
+    say(f"the build failed, see {kept}; an older program is kept")
+
+
+def build(programs: list[str]) -> int:
+    """Builds programs, and returns the status."""
+    crates = needed(programs)
+    progress = Progress(crates, expected(crates), processors(), time.monotonic())
+    tell_beginning(programs, crates, progress, time.monotonic())
+    with place(crates) as here:
+        status = run(here, progress)
+        if status != 0 or not all([take(here.repository, it) for it in programs]):
+            tell_failure(here.log, programs)
+            return 1
+        take_libraries(here.repository, crates)
+    for program in programs:
+        (TOP / "crates" / program / "build.log").unlink(missing_ok=True)
+    return 0
+
+
+def main(programs: list[str]) -> int:
+    """Builds programs; a signal stops that."""
+    end_with_parent()
+    heed_signals()
+    try:
+        return build(programs)
+    except Stopped as stopped:
+        say("stopped; what is proved is kept, and the next build goes on there")
+        signal.signal(stopped.number, signal.SIG_DFL)
+        os.kill(os.getpid(), stopped.number)
+        return 1
+    except OSError as error:
+        say(f"the build failed: {error.filename or 'output'}: {error.strerror}")
+        return 1
+
+
+if __name__ == "__main__":
+    sys.exit(main(sys.argv[1:]))

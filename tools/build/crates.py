@@ -1,0 +1,41 @@
+"""The crates that a program is built from, and how long their proofs are expected to take."""
+from __future__ import annotations
+
+import re
+from pathlib import Path
+
+TOP = Path(__file__).resolve().parents[2]
+SECONDS = Path(__file__).with_name("seconds.txt")
+UNKNOWN = 60.0  # seconds of a crate's proof if the table has no crate at all
+
+Uses = dict[str, list[str]]
+
+
+def lines() -> dict[str, str]:
+    """Returns each crate of `crates.txt` with its line, in the file's order: each after those that it uses."""
+    text = (TOP / "crates.txt").read_text(encoding="utf-8")
+    return {found[2]: found[1] for found in re.finditer(r"(?m)^((\w+)[^:\n#]*:.*)$", text)}
+
+
+def needed(programs: list[str]) -> Uses:
+    """Returns these programs and all crates below them, each with the crates that it uses, in the file's order."""
+    every = lines()
+    uses = {crate: [it for it in line.partition(":")[2].split() if it in every] for crate, line in every.items()}
+    found, near = set[str](), [*programs]
+    while near:
+        crate = near.pop()
+        if crate not in found:
+            found.add(crate)
+            near += uses[crate]
+    return {crate: used for crate, used in uses.items() if crate in found}
+
+
+def expected(crates: Uses) -> dict[str, float]:
+    """Returns the seconds of each crate's proof by the table. A crate that the table lacks counts as the average."""
+    table = {}
+    for line in SECONDS.read_text(encoding="utf-8").splitlines():
+        if line and not line.startswith("#"):
+            crate, seconds = line.split()
+            table[crate] = float(seconds)
+    average = sum(table.values()) / len(table) if table else UNKNOWN
+    return {crate: table.get(crate, average) for crate in crates}

@@ -1,0 +1,108 @@
+"""Where a build proves: a small repository with the sources of the crates that it needs.
+
+`rt ci` proves in it from nothing what no earlier run on this machine proved, as it does at the top of a clone, and
+leaves programs and libraries there. It sees no file of the clone that may be edited meanwhile, and the clone keeps
+what `rt check` left in it.
+"""
+from __future__ import annotations
+
+import os
+import re
+import shutil
+import tempfile
+from collections.abc import Iterator
+from contextlib import contextmanager
+from dataclasses import dataclass
+from pathlib import Path
+
+from tools.build.crates import TOP, Uses, lines
+
+PREFIX = "mml-build-"
+# What a proof reads of a crate, and what its program is run on.
+FOLDERS = ("src", "specs", "proofs", "data")
+FILES = ("stdin", "stdout", "args", "status")
+NOT_SOURCES = shutil.ignore_patterns(".*", "*~")
+
+
+@dataclass(frozen=True)
+class Place:
+    """The repository, a folder for temporary files, and what `rt ci` writes."""
+
+    repository: Path
+    temporary: Path
+    log: Path
+
+
+def homes() -> list[Path]:
+    """Returns where the repository may stand, and then where temporary files do. Git's own folder is on the clone's
+    disk, and no check looks into it; libraries take gigabytes, which may be more than the system has for temporary
+    files."""
+    git, temporary = TOP / ".git", Path(tempfile.gettempdir())
+    return [git if git.is_dir() and os.access(git, os.W_OK) else temporary, temporary]
+
+
+def sweep() -> None:
+    """Removes the folders of builds that were killed."""
+    for folder in [folder for home in homes() for folder in home.glob(f"{PREFIX}*")]:
+        of = re.match(rf"{PREFIX}(\d+)-", folder.name)
+        if of and not Path(f"/proc/{of[1]}").exists():
+            shutil.rmtree(folder, ignore_errors=True)
+
+
+@contextmanager
+def place(crates: Uses) -> Iterator[Place]:
+    """Gives a place with a repository of these crates, and removes it at the end."""
+    sweep()
+    folders = []
+    try:
+        for home in homes():
+            folders.append(Path(tempfile.mkdtemp(prefix=f"{PREFIX}{os.getpid()}-", dir=home)))
+        room, temporary = folders
+        temporary.chmod(0o711)  # As root, `rt ci` runs programs as nobody, in folders below.
+        fill(room / "repository", crates)
+        yield Place(room / "repository", temporary, room / "log")
+    finally:
+        for folder in [*folders, *folders]:  # Twice: a process that was killed may still have written.
+            shutil.rmtree(folder, ignore_errors=True)
+
+
+def fill(top: Path, crates: Uses) -> None:
+    """Copies the sources of crates, with their lines of `crates.txt` and what `HANDLES` allows."""
+    (top / ".git").mkdir(parents=True)  # `rt ci` wants to be at the top of a repository.
+    every = lines()
+    (top / "crates.txt").write_text("".join(f"{every[crate]}\n" for crate in crates), encoding="utf-8")
+    if (TOP / "HANDLES").exists():
+        shutil.copyfile(TOP / "HANDLES", top / "HANDLES")
+    for crate in crates:
+        here, there = TOP / "crates" / crate, top / "crates" / crate
+        there.mkdir(parents=True)
+        for name in FOLDERS:
+            if (here / name).is_dir():
+                shutil.copytree(here / name, there / name, ignore=NOT_SOURCES)
+        for name in FILES:
+            if (here / name).is_file():
+                shutil.copyfile(here / name, there / name)
+
+
+def take_libraries(top: Path, crates: Uses) -> None:
+    """Moves the libraries of that repository to this clone, where wrong bodies are tried over them. Those that
+    `rt check` has built here, which have a stamp, stay."""
+    for crate in crates:
+        made, to = (it / "crates" / crate / "out/rlib" for it in (top, TOP))
+        if made.is_dir() and not (to / "stamp").exists():
+            to.parent.mkdir(exist_ok=True)
+            shutil.rmtree(to, ignore_errors=True)
+            shutil.move(made, to)
+
+
+def take(top: Path, program: str) -> bool:
+    """Puts a program of that repository where it belongs in this clone; returns whether it was there."""
+    made, to = top / "crates" / program / "out" / program, TOP / "crates" / program / "out" / program
+    if not made.is_file():
+        return False
+    to.parent.mkdir(exist_ok=True)
+    new = to.with_name(f"{program}.{os.getpid()}.new")
+    shutil.copyfile(made, new)
+    new.chmod(0o755)
+    new.replace(to)
+    return True

@@ -1,0 +1,88 @@
+"""How far a build is, and an estimate of how long the rest takes.
+
+`rt ci` says when a crate is proved, and not when its proof begins. So its order is imitated here: as many proofs side
+by side as there are processors, each after the crates below it, and first those with the longest chain above them.
+"""
+from __future__ import annotations
+
+import math
+
+from tools.build.crates import Uses
+
+TRUST = 120.0  # seconds of work that have to be measured before they weigh as much as the table does
+OVERRUN = 0.1  # of the time that a proof has taken is expected once more if it takes longer than the table says
+
+
+def chains(crates: Uses, seconds: dict[str, float]) -> dict[str, float]:
+    """Returns how long the longest chain of proofs is that begins with each crate."""
+    longest = {crate: 0.0 for crate in crates}
+    for crate in reversed([*crates]):
+        longest[crate] += seconds[crate]
+        for below in crates[crate]:
+            longest[below] = max(longest[below], longest[crate])
+    return longest
+
+
+def first(ready: list[str], longest: dict[str, float]) -> list[str]:
+    """Returns crates in the order in which their proofs begin."""
+    return sorted(ready, key=lambda crate: -longest[crate])
+
+
+class Progress:
+    """The crates that are proved, and those whose proofs are under way."""
+
+    def __init__(self, crates: Uses, seconds: dict[str, float], processors: int, now: float) -> None:
+        self.crates, self.seconds, self.processors = crates, seconds, processors
+        self.longest = chains(crates, seconds)
+        self.proved, self.kept = set[str](), set[str]()
+        self.begun: dict[str, float] = {}
+        self.took, self.planned = TRUST, TRUST
+        self.begin(now)
+
+    def begin(self, now: float) -> None:
+        """Begins as many proofs as processors are free."""
+        free = self.processors - len(self.begun)
+        for crate in self.ready(self.proved, {*self.begun})[:max(free, 0)]:
+            self.begun[crate] = now
+
+    def ready(self, proved: set[str], begun: set[str]) -> list[str]:
+        """Returns the crates whose proofs can begin, in their order."""
+        left = [crate for crate in self.crates if crate not in proved and crate not in begun]
+        return first([crate for crate in left if proved.issuperset(self.crates[crate])], self.longest)
+
+    def note(self, crate: str, is_kept: bool, now: float) -> None:
+        """Notes that a crate is proved, now or, if it is kept, by an earlier run."""
+        if crate not in self.crates or crate in self.proved:
+            return
+        begun = self.begun.pop(crate, None)
+        if is_kept:
+            self.kept.add(crate)
+        elif begun is not None:
+            self.took += now - begun
+            self.planned += self.seconds[crate]
+        self.proved.add(crate)
+        self.begin(now)
+
+    def left(self, now: float) -> float:
+        """Returns the seconds that the rest is expected to take at the pace of this machine."""
+        pace = self.took / self.planned
+        ends = {crate: max(self.seconds[crate] * pace - (now - begun), OVERRUN * (now - begun)) for crate, begun in self.begun.items()}
+        proved, at = {*self.proved}, 0.0
+        while ends:
+            crate = min(ends, key=lambda it: ends[it])
+            at = ends.pop(crate)
+            proved.add(crate)
+            for more in self.ready(proved, {*ends})[:self.processors - len(ends)]:
+                ends[more] = at + self.seconds[more] * pace
+        return at
+
+    def line(self, now: float) -> str:
+        """Returns the line that is shown."""
+        count = f"{len(self.proved)} of {len(self.crates)} crates proved"
+        count += f", {len(self.kept)} of them earlier" if self.kept else ""
+        return f"{count}; {told(self.left(now))} left" if len(self.proved) < len(self.crates) else count
+
+
+def told(seconds: float) -> str:
+    """Returns how a time is shown."""
+    return f"some {math.ceil(seconds / 60)} minutes" if seconds > 60 else "about a minute"
