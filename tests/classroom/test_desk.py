@@ -26,6 +26,7 @@ from classroom.daemons import Daemon
 from classroom.desk import Desk
 from classroom.printable import printable
 from classroom.program import host
+from classroom.taking import greeted
 from classroom.teller import Teller
 from classroom.typed import FORMS, NOW, Terminal, Typed, understood
 from tests.classroom.help import CYCLE, EXAMPLES, KEYS, LIMIT, Cycle, Going, InRoom, InTerminal, a_port, stop, words
@@ -173,7 +174,7 @@ class Late(Cycle):
         it = server.start(self.room, CYCLE, 29000, self.room / "journal")
         self.addCleanup(lambda: it.ended() or it.stop())
         lines: list[str] = []
-        desk = Desk(lab, self.room / "journal", Client(it.desk, *lab.teacher), Daemon("by-hand"), lines.append)
+        desk = Desk(lab, self.room / "journal", greeted(it, lab.teacher), Daemon("by-hand"), lines.append)
         typed, found = Typed(), []
         room = Room(self.room)
         self.addCleanup(room.close)
