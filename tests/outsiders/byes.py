@@ -118,3 +118,6 @@ def byes_written_in_parts(room: Path) -> None:
             ends_all(lab, piece, [piece.whole], cut_at(library, at, is_each), f"whose reply is cut at byte {at}")
             if library.counts()[1] < 1:
                 fail(f"outsiders: the reply to {piece.name} and a bye isn't cut at byte {at}")
+
+
+TESTS = [byes_in_parts, byes_written_in_parts]

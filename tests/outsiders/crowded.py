@@ -1,9 +1,10 @@
 """Who comes to a host beside crowds of outsiders, and how many seats a name keeps beside newcomers."""
+import socket
 import time
 from pathlib import Path
 
 from tests.common.hosting import Caller, Host, lab_of, let_in
-from tests.common.lines import BUSY, BYE, hello, look
+from tests.common.lines import BUSY, hello, look
 from tests.common.preload import fail
 from tests.outsiders.load import Outsiders
 
@@ -17,21 +18,26 @@ OWN = 4  # seats that a name keeps
 NAMED = 150  # others a second, of whom more than sixteen come in a quarter of one
 
 
+def told(port: int, line: bytes, seconds: float) -> bytes:
+    """Comes with a line, and goes once it is answered. Returns the reply, or nothing if there is none in that time."""
+    try:
+        with socket.create_connection(("127.0.0.1", port), seconds) as it, it.makefile("rb") as replies:
+            it.sendall(line)
+            return replies.readline()
+    except OSError:
+        return b""
+
+
 def greeted_within(port: int, name: str, most: float) -> float:
     """Comes with a hello, again and again if it is turned away; returns how many seconds that took, or infinitely many
     if it took longer than it may."""
     begun = time.monotonic()
-    while time.monotonic() - begun < most:
-        caller = Caller(port)
-        said = caller.ask(hello(name))
+    while (left := begun + most - time.monotonic()) > 0:
+        said = told(port, hello(name), left)
         if b'"ok":"hello"' in said:
-            taken = time.monotonic() - begun
-            caller.ask(BYE)
-            caller.close()
-            return taken
+            return time.monotonic() - begun
         if said not in (b"", BUSY):
             fail(f"outsiders: an honest hello is told {said!r}")
-        caller.close()
     return float("inf")
 
 

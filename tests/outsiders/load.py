@@ -3,9 +3,9 @@
     python3 -B -m tests.outsiders.load KIND RATE SECONDS PORT..
 
 KIND is what each of them does: `idle` sends nothing, `closing` closes at once, `half` sends half a line, `braces` sends
-`{}`, and `all` is one kind after the other; `names` are two students of the built-in lab, with their keys. Whatever they are told, those who don't close at once stay for two seconds.
-They come to the ports in turn, from many addresses of this machine, since one has no port free after a minute. At the
-end it is told how many came.
+`{}`, and `all` is one kind after the other; `names` are two students of the built-in lab, with their keys. Whatever
+they are told, those who don't close at once stay for two seconds. They come to the ports in turn, from many addresses
+of this machine, since one has no port free after a minute. At the end it is told how many came.
 """
 from __future__ import annotations
 
