@@ -219,11 +219,13 @@ def nodes_of(word: str = "") -> tuple[int, ...]:
 class Client:
     """A connection that has said hello. Not for several threads at once."""
 
-    def __init__(self, port: int, name: str, key: str, host: str = "127.0.0.1", limit: float = 30.0) -> None:
-        """`limit` is how many seconds an answer may take."""
+    def __init__(self, port: int, name: str, key: str, host: str = "127.0.0.1", limit: float = 30.0,
+                 connection: socket.socket | None = None) -> None:
+        """`limit` is how many seconds an answer may take. `connection` is an open connection to the port, if there is
+        one already."""
         self.name, self.port, self.limit = name, port, limit
         try:
-            self._socket = socket.create_connection((host, port), timeout=limit)
+            self._socket = connection or socket.create_connection((host, port), timeout=limit)
         except OSError as error:
             raise NoServer(f"no server at port {port}: {error}") from None
         self._rest = b""

@@ -12,7 +12,7 @@ from dataclasses import dataclass, field, replace
 from pathlib import Path
 from typing import Any
 
-from classroom.client import Client, Closed, Denied, Refused
+from classroom.client import Closed, Denied, Over, Refused
 from classroom.core import lab as labs
 from classroom.core import record
 from classroom.core.folders import Process, Record, title
@@ -27,6 +27,7 @@ from classroom.run.desk import Desk
 from classroom.run.ending import finish
 from classroom.run.heard import Heard
 from classroom.run.house import WAITS, House
+from classroom.run.taking import Left, taken
 from classroom.run.teller import Teller, is_private
 from classroom.run.typed import HELP, HUNG, LEAVE, NOW, Terminal, Typed, read_lines
 
@@ -85,7 +86,8 @@ def open_desk(it: server.Server, run: Running) -> Desk:
     """Writes the record into the run's folder, greets at the desk, and sets up the house and what watches connections;
     a run that goes on is caught up with."""
     run.record(it).write(run.folder)
-    desk = Desk(run.lab, run.folder / "journal", Client(it.desk, *run.lab.teacher), run.close, run.tell)
+    client = taken(it, run.lab.teacher, run.typed, run.tell, run.hung)
+    desk = Desk(run.lab, run.folder / "journal", client, run.close, run.tell)
     recorded = (run.folder / record.FOLDER / "begun").is_file()
     names = run.hands.names if run.hands else {}
     desk.connected = Connected(it.port, run.lab.sessions - 1, desk.client.own_port(), names, not recorded)
@@ -156,15 +158,33 @@ def hold(run: Running, it: server.Server) -> int | None:
         if run.hands is not None:
             run.hands.show(it.port, run.tell)
             run.tell(f"page to play {run.hands.address}")
+    except Left:
+        run.tell("another process takes the desk")
+        return None
     except (Closed, Refused, Denied) as error:
         run.tell(f"the server: {error}")
-        ended = it.ended()
-        it.stop()
-        run.tell(f"the server {'has ended by itself' if ended else 'was ended'}, {it.how()}")
-        return FAILED
+        return give_up(it, run, LATE if isinstance(error, Over) else TICK)
     with contextlib.closing(Room(run.folder, it.process.number)) as room:
         why = attend(desk, it, run.until == "stable", run.typed, room, run.hung)
     return take_leave(it, desk, why, run)
+
+
+def give_up(it: server.Server, run: Running, seconds: float) -> int | None:
+    """Ends a server whose desk can't be held, and gives the status. Only who started a server ends it: one that was
+    found goes on, unless it ends by itself in so many seconds, and then None is given."""
+    ended = it.ended(seconds)
+    if it.child is None and not ended:
+        leave(it, run)
+        return None
+    it.stop()
+    run.tell(f"the server {'has ended by itself' if ended else 'was ended'}, {it.how()}")
+    return FAILED
+
+
+def leave(it: server.Server, run: Running) -> None:
+    """Tells that the server goes on without this program."""
+    run.tell(f"the server is left to itself, process {it.process.number}: while it goes on, {CLASS} attach {run.folder} "
+             f"takes its desk; then {CLASS} mark tells the marks")
 
 
 def take_leave(it: server.Server, desk: Desk, why: str, run: Running) -> int | None:
@@ -183,8 +203,7 @@ def take_leave(it: server.Server, desk: Desk, why: str, run: Running) -> int | N
     if not it.hosted and why != "died":
         it.stop()
     elif not waits(it, run):
-        tell(f"the server is left to itself, process {it.process.number}: while it goes on, {CLASS} attach {run.folder} "
-             f"takes its desk; then {CLASS} mark tells the marks")
+        leave(it, run)
         return None
     elif why == "died" or it.status() != 0 and not it.lacks_record():
         tell(f"the server has ended{' by itself' if why == 'died' and it.status() >= 0 else ''}, {it.how()}")

@@ -3,14 +3,17 @@ from __future__ import annotations
 
 import os
 import signal
+import socket
 import subprocess
 import time
+from collections.abc import Callable
 from dataclasses import dataclass
 from pathlib import Path
 
 from classroom.core import record
 from classroom.core.folders import Process, Record
 from classroom.core.program import LISTENING, Fault, first_free, host, is_clone, plain, program
+from classroom.run.knocking import Knock
 
 AGAIN = 0.01  # seconds between two looks at what a server has printed
 
@@ -25,6 +28,7 @@ class Server:
     hosted: bool
     output: Path
     child: subprocess.Popen[bytes] | None = None  # None where another process has started it.
+    first: socket.socket | None = None  # The first connection at the desk, until it is greeted over.
 
     def ended(self, seconds: float = 0.0) -> bool:
         """Whether its process has ended, or ends in that time."""
@@ -72,16 +76,16 @@ class Server:
         return LISTENING.split(text)[-1].strip()
 
 
-def first_line(process: subprocess.Popen[bytes], output: Path, before: int) -> str:
+def first_line(process: subprocess.Popen[bytes], output: Path, before: int, wait: Callable[[float], None] = time.sleep) -> str:
     """The line in which a server tells its ports, or all that it printed where it ends before. `before` are the bytes
-    that stood there."""
+    that stood there, and `wait` is what passes the time between two looks."""
     while True:
         ended = process.poll() is not None
         text = output.read_bytes()[before:].decode(errors="replace")
         told = LISTENING.search(text)
         if told or ended:
             return told[0] if told else text.strip()
-        time.sleep(AGAIN)
+        wait(AGAIN)
 
 
 def ready(by_number: bool) -> None:
@@ -104,23 +108,30 @@ class Call:
     record: Path
 
     def at(self, port: int, desk: int = 0) -> Server | None:
-        """A server that listens there, the desk's port 0 where the system chooses it; None where a port is taken."""
+        """A server that listens there, the desk's port 0 where any will do; None where a port is taken. While a host
+        starts its desk is knocked at, so that the first connection there is this program's."""
         hosting = host() if self.by_number is None else None
-        words: list[str | Path] = [hosting, "resume" if self.is_resumed else "host"] if hosting else [program(), "serve"]
-        ports = str(port), str(desk if self.by_number is None else self.by_number)
+        if hosting is None:
+            return self.listening([program(), "serve"], port, self.by_number or 0, None)
+        with Knock(desk) as knock:
+            return self.listening([hosting, "resume" if self.is_resumed else "host"], port, knock.port, knock)
+
+    def listening(self, words: list[str | Path], port: int, number: int, knock: Knock | None) -> Server | None:
+        """A server that is called by these words and listens at that port; None where a port is taken. `number` is the
+        desk's port, which is knocked at, or else how many connections are served."""
         output = self.folder / "server.txt"
         with output.open("ab" if self.is_resumed else "wb") as prints:
             before = prints.tell()
             # SIGXFSZ stays ignored, as it is here: where a file may not grow further, a write fails, and nothing ends.
             process = subprocess.Popen(
-                [*words, plain(self.lab), *ports, plain(self.journal), *([plain(self.record)] if hosting else [])],
+                [*words, plain(self.lab), str(port), str(number), plain(self.journal), *([plain(self.record)] if knock else [])],
                 stdin=subprocess.DEVNULL, stdout=prints, stderr=prints, start_new_session=True, restore_signals=False,
             )
-        line = first_line(process, output, before)
+        line = first_line(process, output, before, knock.wait if knock else time.sleep)
         told = LISTENING.fullmatch(line)
         if told:
-            desk_port = int(told["desk"] or told["port"])
-            return Server(Process.of(process.pid), int(told["port"]), desk_port, hosting is not None, output, process)
+            desk, first = int(told["desk"] or told["port"]), knock.taken() if knock else None
+            return Server(Process.of(process.pid), int(told["port"]), desk, knock is not None, output, process, first)
         status = process.wait()
         if not line.endswith("cannot listen"):
             raise Fault(f"the server doesn't start: {line}", status or 4)

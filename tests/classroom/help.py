@@ -91,8 +91,10 @@ class InRoom(unittest.TestCase):
 class Going:
     """A run that is going on; its lines are read one by one."""
 
-    def __init__(self, test: InRoom, lab: Path | None, *more: str | Path, before: tuple[str, ...] = (), **environment: str) -> None:
-        """`before` are words before the call: another program that makes it. Without a lab, `more` are all words."""
+    def __init__(self, test: InRoom, lab: Path | None, *more: str | Path, before: tuple[str, ...] = (), ready: str = "^words: ",
+                 **environment: str) -> None:
+        """`before` are words before the call: another program that makes it. Without a lab, `more` are all words. `ready`
+        is the line up to which it is read."""
         self.lines: list[str] = []
         words: list[str | Path] = ["run", lab, "--into", test.room / "runs", "--port", str(a_port()), *more] if lab else [*more]
         self.process = subprocess.Popen(
@@ -104,7 +106,7 @@ class Going:
         told = re.search(r"^port (\d+), .*; folder (.*)$", self.until("^port .*folder"))
         assert told is not None
         self.port, self.folder = int(told[1]), Path(told[2])
-        self.until("^words: ")
+        self.until(ready)
 
     def until(self, pattern: str) -> str:
         """Reads lines until one has the pattern; a run that doesn't tell it is ended."""

@@ -26,6 +26,7 @@ from classroom.run import server
 from classroom.run.attend import Room, attend
 from classroom.run.daemons import Daemon
 from classroom.run.desk import Desk
+from classroom.run.taking import greeted
 from classroom.run.teller import Teller
 from classroom.run.typed import FORMS, NOW, Terminal, Typed, understood
 from tests.classroom.help import CYCLE, EXAMPLES, KEYS, LIMIT, Cycle, Going, InRoom, InTerminal, a_port, stop, words
@@ -173,7 +174,7 @@ class Late(Cycle):
         it = server.start(self.room, CYCLE, 29000, self.room / "journal")
         self.addCleanup(lambda: it.ended() or it.stop())
         lines: list[str] = []
-        desk = Desk(lab, self.room / "journal", Client(it.desk, *lab.teacher), Daemon("by-hand"), lines.append)
+        desk = Desk(lab, self.room / "journal", greeted(it, lab.teacher), Daemon("by-hand"), lines.append)
         typed, found = Typed(), []
         room = Room(self.room)
         self.addCleanup(room.close)

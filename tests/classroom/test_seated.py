@@ -1,0 +1,208 @@
+"""Somebody else is at the desk before the class is begun, gone on with or taken over."""
+from __future__ import annotations
+
+import json
+import os
+import signal
+import socket
+import subprocess
+import time
+import unittest
+from pathlib import Path
+
+from classroom.client import Client, Refused
+from classroom.run.connected import ESTABLISHED, LISTENING, rows
+from classroom.core.folders import Process, Record
+from classroom.core.lab import read
+from classroom.core.program import TOP, host
+from tests.classroom.help import CLASS, CYCLE, KEYS, LIMIT, Cycle, Going, a_port
+
+# A host that stays the process that was called, and whose first line is told by another one, which does before that
+# what the words ask for: a student sits down at the desk, or it waits until somebody has come there.
+RELAY = """#!/usr/bin/python3
+import os, sys
+sys.path.insert(0, {top!r})
+from tests.classroom.test_seated import relay
+ours, theirs = os.pipe()
+if os.fork():
+    os.dup2(theirs, 1)
+    os.close(ours)
+    os.close(theirs)
+    os.execv({host!r}, [{host!r}, *sys.argv[1:]])
+os.close(theirs)
+relay(ours, {what!r}, {told!r})
+"""
+TESS = read(CYCLE).teacher
+PATIENT = 30.0  # seconds in which somebody comes to a desk that listens, on a slow machine
+
+
+def relay(lines: int, what: str, told: str) -> None:
+    """Hands on what a host prints, and keeps in a file what became of the desk before its first line was handed on."""
+    with open(lines, "rb") as host_lines:
+        first = host_lines.readline()
+        words = first.decode().split()
+        if words[:1] == ["listening"]:
+            kept = seated(int(words[-1])) if what == "seated" else knocked(int(words[-1]))
+            with open(told, "a", encoding="utf-8") as it:
+                it.write(kept)
+        while first:
+            os.write(1, first)
+            first = host_lines.readline()
+
+
+def seated(desk: int) -> str:
+    """A student sits down at a desk, and stays. Returns what the student was told."""
+    it = socket.create_connection(("127.0.0.1", desk), LIMIT)
+    it.sendall(json.dumps({"do": "hello", "name": "gus", "key": KEYS["gus"]}).encode() + b"\n")
+    reply = it.makefile("rb").readline().decode()
+    os.set_inheritable(it.detach(), True)  # It is held as long as this process goes on.
+    return reply
+
+
+def knocked(desk: int) -> str:
+    """Waits until somebody has come to a desk. Returns whether somebody has."""
+    end = time.monotonic() + PATIENT
+    while time.monotonic() < end:
+        if any(own == desk and state == ESTABLISHED for own, _, state, _ in rows()):
+            return "somebody came\n"
+        time.sleep(0.01)
+    return "nobody came\n"
+
+
+@unittest.skipUnless(host(), "not tried: no host is built")
+class Seated(Cycle):
+    """Runs over the cycle of `examples/`."""
+
+    def relayed(self, what: str) -> str:
+        """A host whose first line is told after that was done."""
+        text = RELAY.format(top=str(TOP), host=str(host()), what=what, told=str(self.room / "told"))
+        it = self.file("relayed", text)
+        it.chmod(0o755)
+        return str(it)
+
+    def told(self) -> str:
+        """What became of the desk before the first line was told."""
+        return (self.room / "told").read_text(encoding="utf-8")
+
+    def killed(self) -> tuple[Going, Record]:
+        """A run that was killed after a fault, and its record; its server lives."""
+        going = Going(self, CYCLE, "--close", "by-hand")
+        going.type("fault 1 2 true")
+        going.until("^configuration 1: fault 1 2 true")
+        record = Record.read(going.folder)
+        assert record is not None
+        self.addCleanup(self.end, record.server)
+        going.process.kill()
+        going.process.wait()
+        self.assertTrue(record.server.lives())
+        return going, record
+
+    def end(self, server: Process) -> None:
+        """Ends a server that a test has left."""
+        if server.lives():
+            os.kill(server.number, signal.SIGKILL)
+
+    def goes_on(self, going: Going, events: int) -> None:
+        """Wants a class that works, and ends well."""
+        with Client(going.port, "hana", KEYS["hana"]) as hana:
+            hana.look(read(CYCLE).nodes_of("hana")[0])
+        going.type("link 1 3")
+        going.until(f"^configuration {events + 1}: link 1 3")
+        self.assertEqual(going.ended(), 0, going.lines)
+        self.assertEqual(self.whole(going.folder), events + 1)
+
+    def test_a_student_before_run(self) -> None:
+        going = Going(self, CYCLE, "--close", "by-hand", MML_HOST=self.relayed("seated"))
+        self.assertEqual(self.told(), '{"ok":"hello","who":"gus"}\n')
+        self.goes_on(going, 0)
+
+    def test_a_student_before_a_class_goes_on(self) -> None:
+        going, record = self.killed()
+        self.end(record.server)
+        while record.server.lives():
+            time.sleep(0.01)
+        again = Going(self, None, "run", "--resume", going.folder, "--close", "by-hand", MML_HOST=self.relayed("seated"))
+        self.assertEqual(self.told(), '{"ok":"hello","who":"gus"}\n')
+        self.assertIn("gone on from configuration 1, events 1 of 1000", again.lines)
+        self.goes_on(again, 1)
+
+    def test_a_student_before_attach(self) -> None:
+        going, record = self.killed()
+        gus = Client(record.desk, "gus", KEYS["gus"])
+        self.addCleanup(gus.hang_up)
+        again = Going(self, None, "attach", going.folder)
+        self.assertTrue(record.server.lives())
+        with self.assertRaises(Refused) as refused:
+            gus.look(4)
+        self.assertEqual(refused.exception.word, "busy")
+        self.goes_on(again, 1)
+
+    def attached(self, going: Going, record: Record) -> tuple[Going, Client]:
+        """An `attach` that waits for the desk, which another program of the teacher's has."""
+        tess = Client(record.desk, *TESS)
+        self.addCleanup(tess.hang_up)
+        again = Going(self, None, "attach", going.folder, ready="^somebody else has the desk; it is tried again for a minute$")
+        return again, tess
+
+    def test_the_teacher_at_the_desk_is_waited_for(self) -> None:
+        going, record = self.killed()
+        again, tess = self.attached(going, record)
+        tess.hang_up()
+        again.until("^the desk is held$")
+        again.until("^words: ")
+        self.assertEqual(sum("is tried again" in line for line in again.lines), 1, again.lines)
+        self.goes_on(again, 1)
+
+    def test_a_server_that_was_found_is_not_ended(self) -> None:
+        going, record = self.killed()
+        again, tess = self.attached(going, record)
+        again.process.send_signal(signal.SIGTERM)
+        self.assertEqual(again.ends(), 4, again.lines)
+        self.assertEqual(again.lines[-2:], [
+            "the server: busy: all seats are taken; come again later",
+            f"the server is left to itself, process {record.server.number}: while it goes on, {CLASS} attach {going.folder} takes its desk; "
+            f"then {CLASS} mark tells the marks",
+        ])
+        self.assertTrue(record.server.lives())
+        self.assertTrue(tess.fault(2, None, True).place)
+        self.assertFalse((going.folder / "marks.txt").exists())
+        tess.hang_up()
+        self.goes_on(Going(self, None, "attach", going.folder), 2)
+
+    def test_the_first_at_the_desk_is_run(self) -> None:
+        going = Going(self, CYCLE, "--close", "by-hand", MML_HOST=self.relayed("knocked"))
+        self.assertEqual(self.told(), "somebody came\n")
+        self.goes_on(going, 0)
+
+    def test_the_first_at_the_desk_of_a_class_that_goes_on_is_run(self) -> None:
+        going, record = self.killed()
+        self.end(record.server)
+        while record.server.lives():
+            time.sleep(0.01)
+        again = Going(self, None, "run", "--resume", going.folder, "--close", "by-hand", MML_HOST=self.relayed("knocked"))
+        self.assertEqual(self.told(), "somebody came\n")
+        kept = Record.read(going.folder)
+        assert kept is not None
+        self.assertEqual((kept.port, kept.desk), (record.port, record.desk))
+        self.goes_on(again, 1)
+
+    def test_the_desk_listens_first(self) -> None:
+        """A host's students' port listens once somebody has come to the desk, or after a second."""
+        port, desk = a_port(), a_port()
+        words: list[str | Path | None] = [host(), "host", CYCLE, str(port), str(desk)]
+        it = subprocess.Popen([word for word in words if word], stdout=subprocess.DEVNULL)
+        self.addCleanup(it.wait)
+        self.addCleanup(it.kill)
+        seen: set[frozenset[int]] = set()
+        end = time.monotonic() + LIMIT
+        while not any(port in found for found in seen):
+            self.assertLess(time.monotonic(), end)
+            seen.add(frozenset(own for own, _, state, _ in rows() if state == LISTENING and own in (port, desk)))
+        self.assertEqual(seen - {frozenset()}, {frozenset({desk}), frozenset({port, desk})})
+        with Client(port, "gus", KEYS["gus"]), Client(desk, *TESS):
+            pass
+        self.assertEqual(it.wait(LIMIT), 0)
+
+
+if __name__ == "__main__":
+    unittest.main()

@@ -1,0 +1,123 @@
+"""The teacher's bye at the desk ends the class, whatever comes before it in one piece and however its reply goes out."""
+import threading
+import time
+from collections.abc import Mapping
+from concurrent.futures import ThreadPoolExecutor
+from dataclasses import dataclass
+from pathlib import Path
+
+from tests.common.hosting import Caller, Host, lab_of, let_in
+from tests.common.lines import BID, BYE, CLOSE, OVER, REPORT, fault_at, hello, line_of, look, seduction
+from tests.common.preload import Preloaded, fail
+
+SOON = 60.0  # seconds in which a host ends on a slow machine
+BETWEEN = 0.005  # seconds between two parts of a piece, so that the host reads each by itself
+SIDE_BY_SIDE = 4
+SHORT = 80  # bytes of replies that are cut at each byte
+
+
+@dataclass(frozen=True)
+class Piece:
+    """Lines of the teacher's, the last of which is a bye."""
+
+    name: str
+    before: bytes
+    greets: bool = False  # Whether the hello is one of them.
+
+    @property
+    def whole(self) -> bytes:
+        """All its bytes."""
+        return self.before + BYE
+
+
+PIECES = [
+    Piece("close", CLOSE), Piece("see", line_of(do="see", node=2)), Piece("look", look("ben")), Piece("report", REPORT),
+    Piece("fault", fault_at(2)), Piece("link", line_of(a=1, b=3, do="link")), Piece("release", line_of(do="release", node=1)),
+    Piece("hello", hello("tess"), True), Piece("malformed", b"{}\n"), Piece("two lines", CLOSE + REPORT),
+    Piece("hello and two lines", hello("tess") + CLOSE + REPORT, True),
+]
+
+
+class Asker:
+    """A student who asks without pause until nothing is answered any more."""
+
+    def __init__(self, port: int) -> None:
+        self.caller, _ = let_in(port, hello("ben"))
+        self.said: list[tuple[float, bytes]] = []  # when each line was sent, and its reply
+        self.thread = threading.Thread(target=self.ask, daemon=True)
+        self.thread.start()
+
+    def ask(self) -> None:
+        """Asks to the end."""
+        while not self.said or self.said[-1][1] not in (OVER, b""):
+            begun = time.monotonic()
+            self.said.append((begun, self.caller.ask(look("ben"))))
+
+    def after(self, moment: float) -> list[bytes]:
+        """Returns the replies to lines that were sent after a moment."""
+        self.thread.join(SOON)
+        if self.thread.is_alive():
+            fail("outsiders: after the bye a student is neither answered nor hung up on")
+        self.caller.close()
+        return [reply for begun, reply in self.said if begun > moment]
+
+
+def ends_all(lab: Path, piece: Piece, parts: list[bytes], variables: Mapping[str, str], how: str, stays: bool = False) -> None:
+    """Wants that nothing is answered but `over` once the reply to the bye has come, and that the host ends by itself. The
+    client of the teacher keeps its side open until students are told, or, if it stays, until the host has ended."""
+    with Host(lab, 0, 0, variables=variables) as host:
+        ana, _ = let_in(host.port, hello("ana"))
+        if b'"place":1' not in ana.ask(seduction(0)):
+            fail("outsiders: a move before the bye isn't granted")
+        asker = Asker(host.port)
+        teacher = Caller(host.desk) if piece.greets else let_in(host.desk, hello("tess"))[0]
+        for at, part in enumerate(parts):
+            time.sleep(BETWEEN if at else 0)
+            teacher.send(part)
+        replies = [teacher.line() for _ in piece.whole.splitlines()]
+        moment = time.monotonic()
+        if replies[-1] != BID or b"" in replies or teacher.line() != b"":
+            fail(f"outsiders: {piece.name} and a bye {how} are told {replies}")
+        said = asker.after(moment)
+        if any(reply not in (OVER, b"") for reply in said):
+            fail(f"outsiders: after {piece.name} and a bye {how} {len(said)} lines are answered, as by {said[0]!r}")
+        if not stays:
+            teacher.close()
+        ended = host.end(SOON)
+        teacher.close()
+        ana.close()
+        if ended.status != 0 or not ended.out.startswith(b"done: "):
+            fail(f"outsiders: after {piece.name} and a bye {how} a host ends with {ended}")
+
+
+def cut_at(library: Preloaded, at: int, is_each: bool) -> dict[str, str]:
+    """The variables of a host whose reply to a bye is cut there."""
+    return library.variables({"CUT": str(at), **({"CUT_EACH": "1"} if is_each else {})})
+
+
+def byes_in_parts(room: Path) -> None:
+    """Each line before a bye, in one piece with it, and in two parts cut at each byte."""
+    lab = lab_of(room, 5)
+    for piece in PIECES:
+        ends_all(lab, piece, [piece.whole], {}, "in one piece", True)
+    cuts = [(piece, at) for piece in PIECES for at in range(1, len(piece.whole))]
+    with ThreadPoolExecutor(SIDE_BY_SIDE) as pool:
+        for _ in pool.map(lambda cut: ends_all(lab, cut[0], [cut[0].whole[:cut[1]], cut[0].whole[cut[1]:]], {}, f"cut at byte {cut[1]}"), cuts):
+            pass
+
+
+def byes_written_in_parts(room: Path) -> None:
+    """The reply to a bye, and to the lines before it, go out by two writes, cut at each byte, or by one for each byte."""
+    lab, library = lab_of(room, 5), Preloaded("outsiders/cut.c", room, "CUT_COUNTS")
+    for piece in PIECES:
+        ends_all(lab, piece, [piece.whole], cut_at(library, 0, False), "in one piece")
+        size = library.counts()[0]
+        # Of long replies the bytes around the bye's own are enough.
+        first = 1 if size < SHORT else size - len(BID) - 3
+        for at, is_each in [(1, True), *((at, False) for at in range(first, size))]:
+            ends_all(lab, piece, [piece.whole], cut_at(library, at, is_each), f"whose reply is cut at byte {at}")
+            if library.counts()[1] < 1:
+                fail(f"outsiders: the reply to {piece.name} and a bye isn't cut at byte {at}")
+
+
+TESTS = [byes_in_parts, byes_written_in_parts]

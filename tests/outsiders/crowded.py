@@ -1,0 +1,109 @@
+"""Who comes to a host beside crowds of outsiders, and how many seats a name keeps beside newcomers."""
+import socket
+import time
+from pathlib import Path
+
+from tests.common.hosting import Caller, Host, lab_of, let_in
+from tests.common.lines import BUSY, hello, look
+from tests.common.preload import fail
+from tests.outsiders.load import Outsiders
+
+RATE = 1000  # outsiders a second; fewer come where the machine is slow
+HELLOS = 10  # of which nine are in time
+WAIT = 1.0  # seconds that one takes on this project's usual machine, beside outsiders
+SLOWER = 10  # times what it may take elsewhere
+AGAIN = 20  # times what a hello takes without outsiders, besides
+SETTLED = 60.0  # seconds after which a name has given up its seats, on a slow machine
+OWN = 4  # seats that a name keeps
+NAMED = 150  # others a second, of whom more than sixteen come in a quarter of one
+
+
+def told(port: int, line: bytes, seconds: float) -> bytes:
+    """Comes with a line, and goes once it is answered. Returns the reply, or nothing if there is none in that time."""
+    try:
+        with socket.create_connection(("127.0.0.1", port), seconds) as it, it.makefile("rb") as replies:
+            it.sendall(line)
+            return replies.readline()
+    except OSError:
+        return b""
+
+
+def greeted_within(port: int, name: str, most: float) -> float:
+    """Comes with a hello, again and again if it is turned away; returns how many seconds that took, or infinitely many
+    if it took longer than it may."""
+    begun = time.monotonic()
+    while (left := begun + most - time.monotonic()) > 0:
+        said = told(port, hello(name), left)
+        if b'"ok":"hello"' in said:
+            return time.monotonic() - begun
+        if said not in (b"", BUSY):
+            fail(f"outsiders: an honest hello is told {said!r}")
+    return float("inf")
+
+
+def nine_in_ten(port: int, name: str, most: float, beside: str) -> None:
+    """Wants that of some hellos nine in ten are granted in so many seconds."""
+    late: list[float] = []
+    for _ in range(HELLOS):
+        taken = greeted_within(port, name, most)
+        if taken > most:
+            late.append(taken)
+        if len(late) * 10 > HELLOS:
+            fail(f"outsiders: beside {RATE} {beside} connections a second hellos of {name} take more than {most:.1f} seconds: {late}")
+
+
+def flooded(kind: str, room: Path) -> None:
+    """Outsiders of a kind come to the students' port, and then to the desk."""
+    with Host(lab_of(room, 16), 0, 0) as host:
+        for port, name in ((host.port, "ana"), (host.desk, "tess")):
+            quiet = max(greeted_within(port, name, SETTLED) for _ in range(HELLOS))
+            with Outsiders(kind, RATE, [port]):
+                nine_in_ten(port, name, SLOWER * WAIT + AGAIN * quiet, kind)
+        teacher = let_in(host.desk, hello("tess"))[0]
+        if host.dismissed(teacher).out != b"done: 0 events, configuration 0\n":
+            fail(f"outsiders: beside {kind} connections a host ends otherwise")
+
+
+def idle_crowds(room: Path) -> None:
+    """Connections that send nothing keep nobody out."""
+    flooded("idle", room)
+
+
+def closing_crowds(room: Path) -> None:
+    """Connections that close at once keep nobody out."""
+    flooded("closing", room)
+
+
+def half_a_line(room: Path) -> None:
+    """Connections that send half a line keep nobody out."""
+    flooded("half", room)
+
+
+def crowds_of_braces(room: Path) -> None:
+    """Connections that send a line which is no request keep nobody out."""
+    flooded("braces", room)
+
+
+def alive(callers: list[Caller], name: str) -> list[Caller]:
+    """Those of some connections of a name that still have their seat."""
+    return [caller for caller in callers if b'"ok":"look"' in caller.ask(look(name))]
+
+
+def four_of_a_name(room: Path) -> None:
+    """A name that has all seats keeps four of them beside others of whom each is turned away by those who come later."""
+    with Host(lab_of(room, 16), 0, 0) as host:
+        callers = [let_in(host.port, hello("ana"))[0] for _ in range(15)]
+        with Outsiders("names", NAMED, [host.port]):
+            end = time.monotonic() + SETTLED
+            while len(callers) > OWN:
+                time.sleep(0.1)
+                callers = alive(callers, "ana")
+                if time.monotonic() > end:
+                    fail(f"outsiders: beside {NAMED} others a second a name keeps {len(callers)} seats")
+            time.sleep(2)
+            if len(alive(callers, "ana")) != OWN:
+                fail("outsiders: beside others a name doesn't keep four seats")
+        host.dismissed(let_in(host.desk, hello("tess"))[0])
+
+
+TESTS = [idle_crowds, closing_crowds, half_a_line, crowds_of_braces, four_of_a_name]

@@ -1,0 +1,166 @@
+"""A journal's file is removed, moved, replaced or changed while its class goes on."""
+import os
+import shutil
+import time
+from collections.abc import Callable
+from pathlib import Path
+
+from tests.common.hosting import Caller, Host, audit, lab_of, let_in
+from tests.common.lines import CLOSE, fault_at, hello, refusal_of, seduction
+from tests.common.preload import Ended, fail
+
+NOTICED = 60.0  # seconds in which a host notices it, on a slow machine
+GONE = b"host: the journal's file was removed, moved or replaced: nothing more is granted\n"
+CHANGED = b"host: the journal's file was changed: nothing more is granted\n"
+FAULT = b"journal fault\n"
+REFUSED = refusal_of("journal")
+MOVE = seduction(0)
+
+
+def removed(journal: Path) -> None:
+    """Removes the file."""
+    journal.unlink()
+
+
+def moved(journal: Path) -> None:
+    """Moves the file."""
+    journal.rename(journal.with_name("moved"))
+
+
+def replaced(journal: Path) -> None:
+    """Replaces the file by a copy, as an editor does it."""
+    shutil.copy(journal, journal.with_name("copy"))
+    journal.with_name("copy").replace(journal)
+
+
+def with_folder(journal: Path) -> None:
+    """Moves the folder."""
+    journal.parent.rename(journal.parent.with_name("elsewhere"))
+
+
+def cut(journal: Path) -> None:
+    """Cuts the last line off."""
+    os.truncate(journal, journal.read_bytes()[:-1].rfind(b"\n") + 1)
+
+
+def emptied(journal: Path) -> None:
+    """Empties the file, as `>` of a shell does it."""
+    journal.write_bytes(b"")
+
+
+def longer(journal: Path) -> None:
+    """Writes a line to the file."""
+    with journal.open("ab") as it:
+        it.write(b"3 1 close\n")
+
+
+def seen_elsewhere(journal: Path) -> None:
+    """Does what changes neither the file nor where it is."""
+    os.link(journal, journal.with_name("link"))
+    journal.chmod(0o640)
+    os.utime(journal)
+    journal.read_bytes()
+
+
+WAYS: list[tuple[Callable[[Path], None], bytes]] = [
+    (removed, GONE), (moved, GONE), (replaced, GONE), (with_folder, GONE), (cut, CHANGED), (emptied, CHANGED), (longer, CHANGED),
+]
+
+
+def name_of(way: Callable[[Path], None]) -> str:
+    """What a way is called."""
+    return f"a journal that is {way.__name__}"
+
+
+def refused_soon(ana: Caller, tess: Caller, way: str) -> int:
+    """Disturbs the class until that is refused; returns how many events were granted before."""
+    end, events = time.monotonic() + NOTICED, 0
+    while (said := tess.ask(fault_at(2))) != REFUSED:
+        if b'"place":' not in said or time.monotonic() > end:
+            fail(f"resume: {way}: a fault is told {said!r}")
+        events += 1
+        time.sleep(0.05)
+    if tess.ask(CLOSE) != REFUSED and b'"deny":"empty"' not in tess.ask(CLOSE):
+        fail(f"resume: {way}: a step is closed after a fault was refused")
+    if b'"ok":"look"' not in ana.ask(b'{"do":"look","node":1}\n'):
+        fail(f"resume: {way}: a look isn't answered once nothing is granted")
+    return events
+
+
+def taken_away(room: Path) -> None:
+    """Within a second or two nothing more is granted, standard error says why, and the status is that of a journal's fault."""
+    lab = lab_of(room, 4)
+    for way, line in WAYS:
+        folder = room / "class"
+        folder.mkdir()
+        journal = folder / "journal"
+        with Host(lab, 0, 0, journal) as host:
+            ana, tess = let_in(host.port, hello("ana"))[0], let_in(host.desk, hello("tess"))[0]
+            for who, asked in ((ana, MOVE), (tess, CLOSE)):
+                if b'"place":' not in who.ask(asked):
+                    fail(f"resume: before {name_of(way)} nothing is granted")
+            way(journal)
+            events = 2 + refused_soon(ana, tess, name_of(way))
+            ended = host.dismissed(tess)
+        if ended != Ended(4, b"", line + FAULT):
+            fail(f"resume: with {name_of(way)} a host ends with {ended}")
+        if way is moved:
+            audit(lab, folder / "moved", events)
+        shutil.rmtree(room / "elsewhere" if way is with_folder else folder)
+
+
+def taken_away_in_silence(room: Path) -> None:
+    """It is noticed though nobody asks for anything: what a host says and its status are the same."""
+    lab, journal = lab_of(room, 4), room / "journal"
+    for way, line in ((removed, GONE), (emptied, CHANGED)):
+        with Host(lab, 0, 0, journal) as host:
+            ana, tess = let_in(host.port, hello("ana"))[0], let_in(host.desk, hello("tess"))[0]
+            ana.ask(MOVE)
+            way(journal)
+            assert host.process.stderr is not None
+            said = host.process.stderr.readline()
+            replies = ana.ask(MOVE), tess.ask(CLOSE), tess.ask(fault_at(1))
+            ended = host.dismissed(tess)
+        if said != line or replies[1:] != (REFUSED, REFUSED) or ended != Ended(4, b"", FAULT):
+            fail(f"resume: in silence, with {name_of(way)}, a host says {said!r}, replies {replies}, and ends with {ended}")
+        journal.unlink(missing_ok=True)
+
+
+def left_alone(room: Path) -> None:
+    """A journal to which another link leads, or whose mode and times change, isn't gone."""
+    lab, journal = lab_of(room, 4), room / "journal"
+    with Host(lab, 0, 0, journal) as host:
+        ana, tess = let_in(host.port, hello("ana"))[0], let_in(host.desk, hello("tess"))[0]
+        for turn in range(30):
+            seen_elsewhere(journal)
+            journal.with_name("link").unlink()
+            time.sleep(0.1)
+            if b'"place":' not in tess.ask(fault_at(1)):
+                fail("resume: a journal that is where it was is taken for one that is gone")
+        ana.close()
+        ended = host.dismissed(tess)
+    if ended.status != 0 or ended.error:
+        fail(f"resume: with a journal that is left alone a host ends with {ended}")
+    audit(lab, journal, 30)
+
+
+def gone_after_a_resume(room: Path) -> None:
+    """The same where a class has gone on from its journal, of which a torn line was taken off."""
+    lab, journal = lab_of(room, 4), room / "journal"
+    journal.write_bytes(b"1 0 grant ana 1 seduction\n2 0 cl")
+    with Host(lab, 0, 0, journal, word="resume") as host:
+        ana, tess = let_in(host.port, hello("ana"))[0], let_in(host.desk, hello("tess"))[0]
+        if b'"place":2' not in tess.ask(CLOSE):
+            fail("resume: where a torn line was taken off nothing is granted")
+        time.sleep(3)  # It is looked at some times.
+        if b'"place":3' not in tess.ask(fault_at(1)):
+            fail("resume: where a torn line was taken off nothing is granted after a while")
+        moved(journal)
+        events = 3 + refused_soon(ana, tess, "a journal that is moved after a resume")
+        ended = host.dismissed(tess)
+    if ended.status != 4 or not ended.error.endswith(GONE + FAULT):
+        fail(f"resume: with a journal that is moved after a resume a host ends with {ended}")
+    audit(lab, journal.with_name("moved"), events)
+
+
+TESTS = [taken_away, taken_away_in_silence, left_alone, gone_after_a_resume]
