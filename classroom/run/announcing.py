@@ -1,6 +1,7 @@
 """What a run tells as it goes on: each event, how the class comes back, whom it waits for, and why nothing more is granted."""
 from __future__ import annotations
 
+import time
 from collections.abc import Callable
 from pathlib import Path
 
@@ -13,6 +14,7 @@ from classroom.marks.comeback import Comeback, Recount
 from classroom.run.following import Follower, News
 
 MOST_TOLD = 0.9  # of the limit of events, from which on what is left is told
+LOOKS, PAUSE = 10, 0.1  # how often it is looked what the server says of the journal, and seconds between
 
 
 def listed(report: Report) -> str:
@@ -37,6 +39,7 @@ class Announcer:
         self.go_on = f"{CLASS} run --resume {folder}"
         self.told_waiting = ""
         self.over = ""
+        self.lost_journal: Callable[[], str] = str  # What became of the journal's file, as the server says.
         self.comeback = Comeback(lab)
 
     def gone_on(self) -> None:
@@ -125,10 +128,20 @@ class Announcer:
             return
         self.over = word
         if word == "journal":
-            what = f"journal: no line can be written to it; make room on the disk, then {self.go_on}"
+            what = f"journal: {self.why_journal()}, then {self.go_on}"
         elif self.lab.events < labs.MOST_EVENTS:
             raised = f"raise `events` in {self.folder}/lab.toml, to at most {labs.MOST_EVENTS}"
             what = f"full: {self.events_used()}; {raised}, then {self.go_on} --again"
         else:
             what = f"full: {self.events_used()}, the most that a lab has; go on with a new lab"
         self.tell(f"nothing more is granted: {what}")
+
+    def why_journal(self) -> str:
+        """Why the journal takes nothing more, and what to do. The server says within a moment what became of the file; if
+        it says nothing, no line could be written."""
+        for _ in range(LOOKS):
+            lost = self.lost_journal()
+            if lost:
+                return f"its file {lost}; put back what stood there"
+            time.sleep(PAUSE)
+        return "no line can be written to it; make room on the disk"

@@ -100,7 +100,7 @@ class Desk:
                 self.watch.turn(self.known.report, self.known.book)
             except Refused as refused:
                 raise_unless_memory(refused)
-        if self.known.is_halted():
+        if self.known.is_halted() or self.announcer.lost_journal():
             self.announcer.end_by("journal")
 
     def watched(self) -> Watch:

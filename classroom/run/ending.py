@@ -1,12 +1,32 @@
 """What a run leaves in its folder: a journal of whole lines, its audit, its marks, its page."""
 from __future__ import annotations
 
+import os
 from collections.abc import Callable
 from pathlib import Path
+from typing import IO
 
 from classroom.core.program import Fault, call
 from classroom.marks import mark
 from classroom.pages import play
+
+
+def put_back(journal: IO[bytes], path: Path, tell: Callable[[str], None]) -> None:
+    """Writes what an open journal has to its path, if no file is there any more, or beside it, if another file is. Does
+    nothing if the open file is the one at its path."""
+    try:
+        if os.path.samestat(os.fstat(journal.fileno()), path.stat()):
+            return
+        path = path.with_name(f"{path.name}.saved")
+    except FileNotFoundError:
+        pass
+    journal.seek(0)
+    try:
+        path.touch(0o600)
+        path.write_bytes(journal.read())
+        tell(f"what the journal had is in {path}")
+    except OSError as error:
+        tell(f"what the journal had can't be kept in {path}: {error.strerror}")
 
 
 def whole_lines(journal: Path) -> None:

@@ -24,7 +24,7 @@ from classroom.run.attend import TICK, Room, attend
 from classroom.run.closing import Closing, spelled
 from classroom.run.connected import Connected
 from classroom.run.desk import Desk
-from classroom.run.ending import finish
+from classroom.run.ending import finish, put_back
 from classroom.run.heard import Heard
 from classroom.run.house import WAITS, House
 from classroom.run.taking import Left, taken
@@ -88,6 +88,7 @@ def open_desk(it: server.Server, run: Running) -> Desk:
     run.record(it).write(run.folder)
     client = taken(it, run.lab.teacher, run.typed, run.tell, run.hung)
     desk = Desk(run.lab, run.folder / "journal", client, run.close, run.tell)
+    desk.announcer.lost_journal = it.lost_journal
     recorded = (run.folder / record.FOLDER / "begun").is_file()
     names = run.hands.names if run.hands else {}
     desk.connected = Connected(it.port, run.lab.sessions - 1, desk.client.own_port(), names, not recorded)
@@ -206,6 +207,7 @@ def take_leave(it: server.Server, desk: Desk, why: str, run: Running) -> int | N
         leave(it, run)
         return None
     elif why == "died" or it.status() != 0 and not it.lacks_record():
+        put_back(desk.known.journal, run.folder / "journal", tell)
         tell(f"the server has ended{' by itself' if why == 'died' and it.status() >= 0 else ''}, {it.how()}")
         tell(f"to go on: {desk.announcer.go_on}")
         return FAILED

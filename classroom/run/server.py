@@ -2,6 +2,7 @@
 from __future__ import annotations
 
 import os
+import re
 import signal
 import socket
 import subprocess
@@ -16,6 +17,7 @@ from classroom.core.program import LISTENING, Fault, first_free, host, is_clone,
 from classroom.run.knocking import Knock
 
 AGAIN = 0.01  # seconds between two looks at what a server has printed
+LOST = re.compile(r"(?m)^host: the journal's file (was .*): nothing more is granted$")
 
 
 @dataclass
@@ -61,6 +63,11 @@ class Server:
         """Whether the server ended as it should, but its record didn't take all."""
         lines = self.printed().splitlines()
         return lines[-1:] == ["record fault"] and any(line.startswith("done: ") for line in lines)
+
+    def lost_journal(self) -> str:
+        """What became of the journal's file, if the server has said that: `was changed`, as an example."""
+        told = LOST.search(self.printed())
+        return told[1] if told else ""
 
     def stop(self) -> int:
         """Ends the server by a signal where it hasn't ended, and waits for that; gives the status."""

@@ -23,7 +23,7 @@ from classroom.client import Client, Closed, Refused
 from classroom.core.program import host
 from classroom.run import connected, ending
 from classroom.run.connected import Connected
-from tests.classroom.help import CYCLE, EXAMPLES, KEYS, LIMIT, Cycle, Going
+from tests.classroom.help import CLASS, CYCLE, EXAMPLES, KEYS, LIMIT, Cycle, Going
 
 MOUNT = "mount -t tmpfs -o size=128k tmpfs \"$1\" && shift && exec \"$@\""
 
@@ -121,6 +121,58 @@ class Broken(Cycle):
         going.until("^nothing more is granted: journal: ")
         self.assertEqual(going.ends(), 4, going.lines)
         self.assertEqual(self.whole(going.folder), 60)
+
+    def lost(self, act: Callable[[Path], object], status: int = 4) -> Going:
+        """A run of three events, to whose journal something was done, and which has ended by that with a status."""
+        going = Going(self, CYCLE, "--close", "by-hand", "--beside")
+        for number in range(1, 4):
+            going.type("fault 1 2 true")
+            going.until(f"^configuration {number}: ")
+        act(going.folder / "journal")
+        going.until("^nothing more is granted: journal: its file ")
+        self.assertEqual(going.ends(), status, going.lines)
+        return going
+
+    @unittest.skipUnless(host(), "not tried: no host is built")
+    def test_a_journal_that_is_removed_moved_or_replaced(self) -> None:
+        """Nobody asks for anything: the teacher is told all the same, and nothing is lost."""
+        for act in (self.remove, self.move, self.replace):
+            going = self.lost(act)
+            told = f"its file was removed, moved or replaced; put back what stood there, then {CLASS} run --resume {going.folder}"
+            self.assertIn(f"nothing more is granted: journal: {told}", going.lines)
+            kept = going.folder / ("journal.saved" if act == self.replace else "journal")
+            self.assertIn(f"what the journal had is in {kept}", going.lines)
+            self.assertEqual(kept.read_bytes().count(b"\n"), 3)
+            kept.replace(going.folder / "journal")
+            again = Going(self, None, "run", "--resume", going.folder)
+            self.assertIn("gone on from configuration 3, events 3 of 1000", again.lines)
+            self.assertEqual(again.ended(), 0, again.lines)
+
+    def remove(self, journal: Path) -> None:
+        """Removes a journal."""
+        journal.unlink()
+
+    def move(self, journal: Path) -> None:
+        """Moves a journal out of its folder."""
+        journal.rename(self.room / "moved")
+
+    def replace(self, journal: Path) -> None:
+        """Replaces a journal by another file, as an editor does it."""
+        other = journal.with_name("other")
+        other.write_text("1 0 fault 1 2 true\n", encoding="ascii")
+        other.replace(journal)
+
+    @unittest.skipUnless(host(), "not tried: no host is built")
+    def test_a_journal_that_is_changed(self) -> None:
+        def lengthen(journal: Path) -> None:
+            with journal.open("ab") as it:
+                it.write(b"4 3 close\n")
+
+        acts: list[tuple[Callable[[Path], object], int]] = [(lambda journal: os.truncate(journal, 19), 4), (lengthen, 3)]
+        for act, status in acts:
+            going = self.lost(act, status)
+            self.assertTrue(any(line.startswith("nothing more is granted: journal: its file was changed; put back what stood there, then ")
+                                for line in going.lines), going.lines)
 
     def test_no_event_is_left(self) -> None:
         lab = self.lab("cycle.toml", 8)
