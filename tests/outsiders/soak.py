@@ -1,0 +1,229 @@
+"""Outsiders beside a class of bots, or beside a host alone, by hand.
+
+    python3 -B -m tests.outsiders.soak class [SECONDS [RATE]]
+    python3 -B -m tests.outsiders.soak host [SECONDS [RATE]]
+
+Two outsiders each make so many connections a second (1,000) at both ports, of all kinds. `class` has fifteen bots under
+three daemons, one after the other, ten minutes in all: twelve of `examples/bot.py`, and three that come and go. All
+play to the end, and it is told how long those that come wait for a seat and for a reply. `host` tells each minute of an
+hour which threads, descriptors and memory a host holds; at the end they are what they were at the beginning.
+"""
+from __future__ import annotations
+
+import contextlib
+import os
+import re
+import subprocess
+import sys
+import tempfile
+import threading
+import time
+from collections.abc import Callable
+from dataclasses import dataclass, field
+from pathlib import Path
+
+from classroom.client import Client, Closed, Denied, Over, Refused
+from tests.common.hosting import HOST, Host, audit, lab_of, let_in
+from tests.common.lines import BYE, hello, look
+from tests.common.preload import LIMIT, PROGRAM, TOP, fail
+from tests.outsiders.churn import Held
+from tests.outsiders.load import Outsiders
+
+SECONDS = {"class": 600.0, "host": 3600.0}
+RATE = 1000
+DAEMONS = ("synchronous", "central", "random:0.5")
+STUDENTS, COMING = 15, 3
+SHAKE = 10.0  # seconds after which the class is disturbed again
+LOOKS = 30  # of one that comes and goes
+ROUND = 60.0
+WARM = 20.0  # seconds of load before a host's first figures
+REST = 15.0  # seconds in which the load's last connections end
+
+
+@dataclass
+class Waits:
+    """How many seconds those that come waited."""
+
+    seats: list[float] = field(default_factory=list)
+    replies: list[float] = field(default_factory=list)
+
+    def __str__(self) -> str:
+        return "; ".join(told(name, found) for name, found in vars(self).items())
+
+
+def told(name: str, found: list[float]) -> str:
+    """Waits as a line."""
+    each = sorted(found)
+    if not each:
+        return f"no waits for {name}"
+    late = sum(wait > 1 for wait in each)
+    return (f"{len(each)} waits for {name}: {each[len(each) // 2]:.3f} seconds in the middle, nine in ten below "
+            f"{each[len(each) * 9 // 10]:.3f}, at most {each[-1]:.2f}, {late} longer than one")
+
+
+def lab_of_bots(room: Path) -> Path:
+    """A cycle in which each student owns a node."""
+    rows = ["events = 100000", f"sessions = {STUDENTS + 1}"]
+    rows += [f"links = {[[node, node % STUDENTS + 1] for node in range(1, STUDENTS + 1)]}", '[teacher]\nname = "tess"\nkey = "chalk"']
+    for node in range(1, STUDENTS + 1):
+        rows += [f'[[student]]\nname = "s-{node}"\nkey = "key-{node}"\n[[node]]\nid = {node}\nowner = "s-{node}"']
+    lab = room / "bots.toml"
+    lab.write_text("\n".join(rows) + "\n", encoding="utf-8")
+    return lab
+
+
+class Class:
+    """A class under a daemon, with its bots."""
+
+    def __init__(self, lab: Path, daemon: str, waits: Waits) -> None:
+        self.room, self.waits = lab.parent, waits
+        words: list[str | Path] = ["run", lab, "--into", self.room / "runs", "--port", "20000", "--daemon", daemon, "--typed", "--beside"]
+        self.process = subprocess.Popen(
+            [sys.executable, "-B", TOP / "class", *words], stdin=subprocess.PIPE, stdout=subprocess.PIPE, text=True,
+            env={**os.environ, "MML_HOST": str(HOST), "MML_PROGRAM": str(PROGRAM)},
+        )
+        self.lines: list[str] = []
+        threading.Thread(target=self.read, daemon=True).start()
+        self.until(lambda: any(line.startswith("words: ") for line in self.lines))
+        text = "\n".join(self.lines)
+        self.port, self.desk = (int(re.findall(rf"(?m)^{word} (\d+)", text)[0]) for word in ("port", "desk"))
+
+    def read(self) -> None:
+        """Reads what the class tells."""
+        for line in self.process.stdout or ():
+            self.lines.append(line.rstrip("\n"))
+
+    def until(self, find: Callable[[], bool]) -> None:
+        """Waits until something holds."""
+        end = time.monotonic() + LIMIT
+        while not find():
+            if time.monotonic() > end or self.process.poll() is not None:
+                fail(f"soak: the class: {self.lines[-5:]}")
+            time.sleep(0.1)
+
+    def type(self, line: str) -> None:
+        """Types a line."""
+        assert self.process.stdin is not None
+        self.process.stdin.write(line + "\n")
+        self.process.stdin.flush()
+
+    def bot(self, node: int) -> subprocess.Popen[str]:
+        """Starts a bot of the examples."""
+        slip = self.room / f"{self.port}-{node}.slip"
+        slip.write_text(f"port {self.port}\nname s-{node}\nkey key-{node}\nnodes {node}\n", encoding="utf-8")
+        return subprocess.Popen([sys.executable, TOP / "examples/bot.py", slip], stdout=subprocess.DEVNULL, stderr=subprocess.PIPE, text=True)
+
+    def comes_and_goes(self, node: int) -> None:
+        """A student's program that plays for a moment, says bye, and comes again, until the class is over."""
+        with contextlib.suppress(Over, ConnectionError):
+            while self.process.poll() is None:
+                me = self.greeted(node)
+                for _ in range(LOOKS):
+                    self.plays(me, node)
+                    time.sleep(0.1)
+                me.bye()
+                me.hang_up()
+
+    def greeted(self, node: int) -> Client:
+        """Comes until a seat is free."""
+        begun = time.monotonic()
+        while True:
+            try:
+                me = Client(self.port, f"s-{node}", f"key-{node}")
+                self.waits.seats.append(time.monotonic() - begun)
+                return me
+            except Over:
+                raise
+            except (Closed, Refused):
+                if self.process.poll() is not None:
+                    raise Over("the class has ended") from None
+
+    def plays(self, me: Client, node: int) -> None:
+        """Looks once, and asks for the move that is enabled."""
+        begun = time.monotonic()
+        seen = me.look(node)
+        self.waits.replies.append(time.monotonic() - begun)
+        if seen.rule is not None and seen.chosen is None:
+            with contextlib.suppress(Denied):
+                me.move(seen)
+
+    def plays_on(self, seconds: float, rate: int) -> str:
+        """Plays for so long beside two outsiders, and to a stable end; returns what there is to tell."""
+        bots = [self.bot(node) for node in range(COMING + 1, STUDENTS + 1)]
+        coming = [threading.Thread(target=self.comes_and_goes, args=[node]) for node in range(1, COMING + 1)]
+        for each in coming:
+            each.start()
+        with Outsiders("all", rate, [self.port, self.desk]), Outsiders("all", rate, [self.port, self.desk]):
+            end = time.monotonic() + seconds
+            while (left := end - time.monotonic()) > 0:
+                self.type("shake 5")
+                time.sleep(min(SHAKE, left))
+            before = len(self.lines)
+            self.type("shake 1")
+            self.until(lambda: any("; stable, " in line for line in self.lines[before:]))
+            self.type("end\nend")
+            statuses = [bot.wait(LIMIT) for bot in bots]
+            for each in coming:
+                each.join()
+        status = self.process.wait(LIMIT)
+        steps = sum(line.startswith("configuration ") for line in self.lines)
+        errors = "".join(bot.stderr.read() for bot in bots if bot.stderr)
+        if status not in (0, 5) or any(statuses):
+            fail(f"soak: the class ends with {status}, its bots with {statuses} {errors}: {self.lines[-8:]}")
+        return f"{steps} configurations, {len(bots)} bots and {len(coming)} that come and go played to the end"
+
+
+def beside_a_class(room: Path, seconds: float, rate: int) -> None:
+    """A class under each daemon in turn."""
+    for daemon in DAEMONS:
+        waits = Waits()
+        it = Class(lab_of_bots(room), daemon, waits)
+        print(f"{daemon}: {it.plays_on(seconds / len(DAEMONS), rate)}; {waits}", flush=True)
+
+
+def beside_a_host(room: Path, seconds: float, rate: int) -> None:
+    """A host alone; who has a key comes each second."""
+    lab, journal, waits = lab_of(room, 16, 100_000), room / "journal", Waits()
+    with Host(lab, 0, 0, journal, room / "record") as host:
+        def load(for_so_long: float) -> None:
+            """Two outsiders for so long, and who comes beside them."""
+            with Outsiders("all", rate, [host.port, host.desk]), Outsiders("all", rate, [host.port, host.desk]):
+                end = time.monotonic() + for_so_long
+                while time.monotonic() < end:
+                    begun = time.monotonic()
+                    caller, _ = let_in(host.port, hello("ana"))
+                    waits.seats.append(time.monotonic() - begun)
+                    begun = time.monotonic()
+                    caller.ask(look("ana"))
+                    waits.replies.append(time.monotonic() - begun)
+                    caller.ask(BYE)
+                    caller.close()
+                    time.sleep(1)
+            time.sleep(REST)
+
+        load(WARM)
+        first, minutes = Held.of(host.process.pid), 0
+        end = time.monotonic() + seconds
+        while (left := end - time.monotonic()) > 0:
+            load(min(ROUND, left))
+            minutes += 1
+            print(f"{minutes}: {Held.of(host.process.pid)}; {waits}", flush=True)
+        last = Held.of(host.process.pid)
+        ended = host.dismissed(let_in(host.desk, hello("tess"))[0])
+    audit(lab, journal, 0)
+    if not last.is_as(first) or ended.status not in (0, 4):
+        fail(f"soak: a host holds {last}, first {first}, and ends with {ended}")
+    print(f"host: first {first}, last {last}; {waits}; it ends with {ended.status}")
+
+
+def main() -> None:
+    """Does what the words say."""
+    what, *numbers = sys.argv[1:] or ["class"]
+    seconds = float(numbers[0]) if numbers else SECONDS[what]
+    rate = int(numbers[1]) if numbers[1:] else RATE
+    with tempfile.TemporaryDirectory() as name:
+        (beside_a_class if what == "class" else beside_a_host)(Path(name), seconds, rate)
+
+
+if __name__ == "__main__":
+    main()
