@@ -1,0 +1,135 @@
+"""Requests: which lines are requests, and what they ask for."""
+import json
+import math
+import re
+from collections.abc import Iterable
+from dataclasses import dataclass
+from typing import Any, NoReturn
+
+from model.world import RULES, Move
+
+GREATEST = 2**64 - 1
+DEEPEST = 127
+STRING = re.compile(r'"(?:[^"\\]|\\.)*"')
+
+
+@dataclass(frozen=True)
+class Request:
+    """The word of a request, and the values of the keys that belong to it. The other values are never read."""
+
+    do: str
+    name: str = ""
+    key: str = ""
+    node: int = 0
+    at: int = 0
+    move: Move = Move("update")
+    p: int | None = None
+    m: bool = False
+    a: int = 0
+    b: int = 0
+
+
+class Malformed(ValueError):
+    """The line is no request."""
+
+
+def no_constant(word: str) -> NoReturn:
+    """Refuses NaN and the infinities, which Python reads and JSON doesn't have."""
+    raise Malformed(word)
+
+
+def finite(text: str) -> float:
+    """Returns the value of a number, which must not be past the greatest double."""
+    value = float(text)
+    if not math.isfinite(value):
+        raise Malformed("a number out of range")
+    return value
+
+
+def integer(text: str) -> float | int:
+    """Returns an integer without sign up to the greatest one as an `int`, and any other number as a `float`."""
+    value = finite(text)
+    return int(text) if not text.startswith("-") and int(text) <= GREATEST else value
+
+
+def check_letters(value: Any) -> None:
+    """Refuses strings that have one half of a surrogate pair alone."""
+    if isinstance(value, str) and any("\ud800" <= letter <= "\udfff" for letter in value):
+        raise Malformed("a lone surrogate")
+    if isinstance(value, list):
+        for item in value:
+            check_letters(item)
+
+
+def members(items: Iterable[tuple[str, Any]]) -> dict[str, Any]:
+    """Returns an object's members: of a key that stands twice the last value counts."""
+    found = {}
+    for key, value in items:
+        check_letters(key)
+        check_letters(value)
+        found[key] = value
+    return found
+
+
+def depth(text: str) -> int:
+    """Returns how deep the brackets of a JSON text are nested."""
+    deepest = now = 0
+    for letter in STRING.sub("", text):
+        now += (letter in "[{") - (letter in "]}")
+        deepest = max(deepest, now)
+    return deepest
+
+
+def document(line: bytes) -> dict[str, Any]:
+    """Returns the object that a line spells in strict JSON."""
+    text = line.decode("utf-8")
+    if depth(text) > DEEPEST:
+        raise Malformed("nested too deep")
+    value = json.loads(
+        text, parse_int=integer, parse_float=finite, parse_constant=no_constant, object_pairs_hook=members
+    )
+    if not isinstance(value, dict):
+        raise Malformed("no object")
+    return value
+
+
+def named(value: dict[str, Any], key: str, *kinds: type) -> Any:
+    """Returns the value of a key, which must be there and of one of these kinds to the letter."""
+    if key not in value or type(value[key]) not in kinds:
+        raise Malformed(key)
+    return value[key]
+
+
+def move_of(value: dict[str, Any]) -> Move:
+    """Returns the rule of a move; for a marriage also its partner."""
+    rule = named(value, "rule", str)
+    if rule not in RULES:
+        raise Malformed("rule")
+    return Move(rule, named(value, "with", int)) if rule == "marriage" else Move(rule)
+
+
+def request_of(value: dict[str, Any]) -> Request:
+    """Returns what an object asks for."""
+    do = named(value, "do", str)
+    if do == "hello":
+        return Request(do, name=named(value, "name", str), key=named(value, "key", str))
+    if do in ("see", "look", "release"):
+        return Request(do, node=named(value, "node", int))
+    if do == "move":
+        return Request(do, node=named(value, "node", int), at=named(value, "at", int), move=move_of(value))
+    if do == "fault":
+        p = named(value, "p", int, type(None))
+        return Request(do, node=named(value, "node", int), p=p, m=named(value, "m", bool))
+    if do in ("link", "cut"):
+        return Request(do, a=named(value, "a", int), b=named(value, "b", int))
+    if do in ("bye", "close", "report"):
+        return Request(do)
+    raise Malformed("do")
+
+
+def read_request(line: bytes) -> Request | None:
+    """Returns the request that a line spells, or None if it is malformed."""
+    try:
+        return request_of(document(line))
+    except (ValueError, RecursionError):
+        return None
