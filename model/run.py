@@ -64,12 +64,13 @@ def answer(lab: Lab, world: World, known: str | None, line: bytes) -> Answer:
 
 
 class Run:
-    """The state of a run over a lab: its world, who is known on which connection, and the journal's lines."""
+    """The state of a run over a lab: its world, who is known on which connection, and what it wrote."""
 
     def __init__(self, lab: Lab) -> None:
         self.lab = lab
         self.world = lab.opening()
         self.names: dict[int, str] = {}
+        self.replies: list[str] = []
         self.journal: list[str] = []
 
     def answer(self, connection: int, line: bytes) -> str:
@@ -80,15 +81,16 @@ class Run:
             if found.event is not None:
                 self.journal.append(event_line(self.world, found.known, found.event))
                 apply(self.world, found.event)
+        self.replies.append(f"{connection} {found.reply}\n")
         return found.reply
 
+    def printed(self) -> bytes:
+        """Returns all replies, as a script prints them."""
+        return "".join(self.replies).encode("ascii")
 
-class Played(NamedTuple):
-    """The replies to a script, its journal, and the number of the bad line that ended it, if there is one."""
-
-    replies: bytes
-    journal: bytes
-    bad_line: int | None
+    def written(self) -> bytes:
+        """Returns the journal."""
+        return "".join(self.journal).encode("ascii")
 
 
 def script_line(lab: Lab, line: bytes) -> tuple[int, bytes] | None:
@@ -99,19 +101,14 @@ def script_line(lab: Lab, line: bytes) -> tuple[int, bytes] | None:
     return int(found[1]), found[2]
 
 
-def play(lab: Lab, script: bytes) -> Played:
-    """Plays a script to its end, or to its first bad line. Bytes after the last newline are no line."""
+def play(lab: Lab, script: bytes) -> tuple[Run, int | None]:
+    """Plays a script to its end, or to its first bad line, whose number is returned with the run."""
     run = Run(lab)
-    replies = []
-    bad_line = None
     *lines, last = script.split(b"\n")
     for k, line in enumerate(lines, 1):
         read = script_line(lab, line)
         if read is None:
-            bad_line = k
-            break
-        replies.append(f"{read[0]} {run.answer(*read)}\n")
-    if bad_line is None and len(last) > LONGEST_LINE:
-        bad_line = len(lines) + 1
-    journal = "".join(f"{line}\n" for line in run.journal)
-    return Played("".join(replies).encode("ascii"), journal.encode("ascii"), bad_line)
+            return run, k
+        run.answer(*read)
+    # Bytes after the last newline are no line, and get no reply.
+    return run, len(lines) + 1 if len(last) > LONGEST_LINE else None

@@ -34,12 +34,12 @@ def write_all() -> int:
     scripts = [script for folder in FOLDERS for script in sorted((TOP / folder).glob("*.script"))]
     others = 0
     for script in scripts:
-        played = play(read_lab(lab_of(script).read_bytes()), script.read_bytes())
-        if played.bad_line is not None:
-            print(f"{script.relative_to(TOP)}: line {played.bad_line}: bad line")
-        others += renew(script.with_suffix(".out"), played.replies)
+        run, bad_line = play(read_lab(lab_of(script).read_bytes()), script.read_bytes())
+        if bad_line is not None:
+            print(f"{script.relative_to(TOP)}: line {bad_line}: bad line")
+        others += renew(script.with_suffix(".out"), run.printed())
         # A journal is stored for some scripts only.
         if script.with_suffix(".journal").exists():
-            others += renew(script.with_suffix(".journal"), played.journal)
+            others += renew(script.with_suffix(".journal"), run.written())
     print(f"{len(scripts)} scripts, {others} outputs differ" + "; the new ones are beside them, as FILE.new" * bool(others))
     return 1 if others else 0

@@ -35,15 +35,15 @@ def script(lab: Lab, file: str, journal: str | None = None) -> bytes:
     """
     if journal is not None and Path(journal).exists() and read_file(Path(journal), "journal", MOST_JOURNAL):
         raise Fault("journal fault", 4)
-    played = play(lab, read_file(Path(file), "script", MOST_FILE))
+    run, bad_line = play(lab, read_file(Path(file), "script", MOST_FILE))
     if journal is not None:
         try:
-            Path(journal).write_bytes(played.journal)
+            Path(journal).write_bytes(run.written())
         except OSError:
             raise Fault("journal fault", 4) from None
-    if played.bad_line is not None:
-        raise Fault(f"script: line {played.bad_line}: bad line", 2, played.replies)
-    return played.replies
+    if bad_line is not None:
+        raise Fault(f"script: line {bad_line}: bad line", 2, run.printed())
+    return run.printed()
 
 
 def print_audit(lab: Lab, journal: str) -> bytes:
