@@ -13,7 +13,7 @@ from tools.check.parts import TOP
 
 # Files whose modules have names of their own, and programs that aren't modules of this tree: one call each.
 EXAMPLES_PYTHON = "3.10"  # from which on a student's client and bot run
-CALLS = (("class", "bench", "classroom", "tests", "tools"), ("check",), ("examples",), ("--python-version", EXAMPLES_PYTHON, "examples/bot.py"))
+CALLS = (("class", "bench", "classroom", "model", "tests", "tools"), ("check",), ("examples",), ("--python-version", EXAMPLES_PYTHON, "examples/bot.py"))
 MOST_LETTERS = 160  # of a line
 IGNORED = "E127,E203,E402,W503,W504"  # of the linter's rules: on forms of lines
 
