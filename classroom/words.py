@@ -87,6 +87,7 @@ def add_mark(words: argparse.ArgumentParser) -> None:
     form.add_argument("--total", action="store_true", help="a row a person over all runs (CSV)")
     words.add_argument("--roster", metavar="FILE",
                        help="the class list: its own rows with the totals, to go back into the platform")
+    words.add_argument("--second", action="store_true", help="say whether the plain model (docs/TRUST.md) reads all of it alike")
     lists.add_words(words)
     words.set_defaults(work=mark.mark)
 

@@ -18,7 +18,7 @@ from classroom.core.printable import printable
 from classroom.core.program import Fault
 from classroom.core.statuses import LAB, WARNED
 from classroom.core.tally import DENIED, Asked
-from classroom.marks import totals
+from classroom.marks import second, totals
 from classroom.marks.comeback import recoveries
 from classroom.marks.vouched import Vouched, vouched
 from classroom.pages import replay
@@ -195,7 +195,9 @@ def as_json(runs: list[Run]) -> str:
 def mark(words: argparse.Namespace) -> int:
     """Prints the marks of all journals, or refuses the first that the audit refuses."""
     roster = lists.read(Path(words.roster), words) if words.roster else None
-    runs = [marked(lab, journal) for lab, journal in folders.given(words.runs)]
+    given = folders.given(words.runs)
+    differ = words.second and second.compare(given)
+    runs = [marked(lab, journal) for lab, journal in given]
     students = [(run.lab, run.tally.students, run.asked) for run in runs]
     refused = [f"{run.journal}: {it.line}" for run in runs for it in run.records if it.is_refused]
     for line in refused:
@@ -205,7 +207,7 @@ def mark(words: argparse.Namespace) -> int:
         totals.write(rows_of, roster.delimiter)
         for name in left:
             print(printable(f"class: {words.roster} has no {name}"), file=sys.stderr)
-        return WARNED if left or refused else 0
+        return WARNED if left or refused or differ else 0
     if words.total:
         totals.write(totals.by_labs(students))
     elif words.json:
@@ -214,4 +216,4 @@ def mark(words: argparse.Namespace) -> int:
         csv.writer(sys.stdout, lineterminator="\n").writerows(rows(runs))
     else:
         print(text(runs), end="")
-    return WARNED if refused else 0
+    return WARNED if refused or differ else 0

@@ -16,8 +16,10 @@ from classroom.core.answering import all_of
 from classroom.core.tally import DENIED
 from classroom.marks.mark import marked
 from classroom.pages import replay
+from model import read_lab
 from tests.classroom.help import EXAMPLES, InRoom, words
 from tests.classroom.test_check import GOOD, PAIR
+from tests.record.recording import Recording
 
 # Of each student: the applied updates, marriages, seductions and abandonments, steps, first, last, shared.
 CYCLE = {"gus": (2, 0, 0, 1, 3, 2, 18, 0), "hana": (2, 1, 0, 1, 4, 8, 19, 0), "ines": (2, 1, 0, 1, 3, 1, 10, 0),
@@ -153,6 +155,45 @@ class Mark(InRoom):
         self.assertEqual((done.returncode, done.stderr), (5, f"class: {shorter} has no Eva\n"))
         self.assertEqual([line.split(",")[:3] for line in done.stdout.splitlines()[1:]], [["Zoë M.", "s1", "1"], ["Ben", "s2", "1"], ["New", "s9", "0"]])
         self.assertEqual(words("mark", lab, one, two, "--total").stdout.splitlines()[1], '"Müller, Zoë",s1,2,1,0,0,1,0,1,0,2,0,0,0,0,0,0')
+
+    def recorded(self) -> Path:
+        """A run's folder with a record: a hello that is denied, then a move that is granted, and a close."""
+        folder = self.room / "run"
+        (folder / "record").mkdir(parents=True)
+        run = Recording(read_lab(BUILT_IN.encode()))
+        for seat, line in ((1, b'{"do":"hello","name":"ana","key":"wrong"}'), (1, b'{"do":"hello","name":"ana","key":"a-key"}'),
+                           (1, b'{"do":"move","node":2,"rule":"seduction","at":0}'), (1, b'{"do":"move","node":1,"rule":"seduction","at":0}'),
+                           (2, b'{"do":"hello","name":"tess","key":"chalk"}'), (2, b'{"do":"close"}'), (2, b'{"do":"bye"}')):
+            run.answer(seat, line)
+        run.leave(1)
+        (folder / "lab.toml").write_text(BUILT_IN, encoding="ascii")
+        (folder / "record" / "lab").write_text(BUILT_IN, encoding="ascii")
+        (folder / "record" / "begun").write_text("0\n", encoding="ascii")
+        (folder / "journal").write_bytes(run.journal)
+        for number, text in run.texts.items():
+            (folder / "record" / f"{number}.record").write_bytes(text)
+        return folder
+
+    def test_a_second_opinion(self) -> None:
+        folder = self.recorded()
+        first = words("mark", folder)
+        self.assertEqual((first.returncode, first.stderr), (0, ""))
+        done = words("mark", "--second", folder)
+        self.assertEqual((done.returncode, done.stderr), (0, "class: the plain model agrees about all that is marked\n"))
+        self.assertEqual(done.stdout, first.stdout)
+        # Programs that print one thing otherwise, and how both are told.
+        for other, of, told in (
+            ("s/^student ana 0 0 1/student ana 0 0 2/", "journal", "tally: the program prints 'student ana 0 0 2 "),
+            ("s/^denied ana 1/denied ana 2/", "record", "tally: the program prints 'denied ana 2 "),
+            ("s/, 7 lines/, 8 lines/", "record", "verify: the program prints 'ok: 2 sessions, 8 lines, 2 events', "
+                                                 "the plain model 'ok: 2 sessions, 7 lines, 2 events'\n"),
+        ):
+            lying = self.file("lying", f"#!/bin/sh\n{program.host()} \"$@\" | sed '{other}'\n")
+            lying.chmod(0o755)
+            done = words("mark", "--second", "--json", folder, MML_HOST=str(lying))
+            self.assertEqual(done.returncode, 5, done.stderr)
+            self.assertIn(f"class: {folder / of}: {told}", done.stderr)
+            self.assertEqual(len(json.loads(done.stdout)["runs"]), 1)
 
     def test_forms(self) -> None:
         lab = self.file("lab.toml", GOOD.replace(*PAIR))

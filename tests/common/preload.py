@@ -12,10 +12,10 @@ import subprocess
 import sys
 import tempfile
 from collections.abc import Callable, Mapping, Sequence
-from dataclasses import dataclass
 from pathlib import Path
 from typing import NoReturn, Optional
 
+from model import Ended as Ended
 from tests.common.lines import refusal_of
 
 HERE = Path(__file__).resolve().parent
@@ -44,15 +44,6 @@ def built(source: str, room: Path) -> Path:
     if done.returncode != 0:
         fail(f"{source} can't be built")
     return library
-
-
-@dataclass(frozen=True)
-class Ended:
-    """What a run wrote, and how it ended."""
-
-    status: int
-    out: bytes
-    error: bytes
 
 
 class Preloaded:

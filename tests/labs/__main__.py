@@ -4,31 +4,29 @@
 """
 from pathlib import Path
 
-from tests.common.preload import Ended, fail, in_room, run
+from tests.common.preload import fail, in_room
+from tests.common.second import agreed, called, said
 from tests.labs import shown
 from tests.labs.rows import Row, all_rows
 from tests.labs.sizes import computed_rows
 
 
 def says(row: Row, room: Path) -> None:
-    """Wants that `check` says of the lab of a row what the row says."""
+    """Fails unless `check` says of the lab of a row what the row says, and the plain model says the same."""
     lab = room / "checked.toml"
     lab.write_bytes(row.document)
-    line = f"{row.says}\n".encode()
-    wanted = Ended(0, line, b"") if row.says.startswith("ok: ") else Ended(2, b"", line)
-    found = run(["check", str(lab)], b"", {})
-    if found != wanted:
-        fail(f"{row.name}: {found}, not {wanted}")
+    found = called("check", lab) if row.is_newer else agreed(row.name, "check", lab)
+    if row.says and found != said(row.says):
+        fail(f"{row.name}: {found}, not {row.says!r}")
 
 
 def work(room: Path) -> str:
     """All rows."""
     rows = all_rows() + computed_rows()
     for row in rows:
+        says(row, room)
         if row.shows:
             shown.compare(row, room)
-        else:
-            says(row, room)
     return f"{len(rows)} lab files are read as their tables say"
 
 

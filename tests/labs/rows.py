@@ -11,6 +11,8 @@ And with one of these:
 
 - `says`: the line of `check`: an error, which begins with `lab: `, or the lab's size, which begins with `ok: `;
 - `shows`: all that the lab has, by `tests.labs.shown`; its students are ana, ben and cyd, or the first of these.
+
+With `is_newer = true` the document has a form that TOML 1.1 added, which the model's reader may not know.
 """
 import tomllib
 from dataclasses import dataclass
@@ -34,6 +36,7 @@ class Row:
     shows: str = ""
     teacher: tuple[str, str] = TEACHER
     students: tuple[tuple[str, str], ...] = PEOPLE
+    is_newer: bool = False
 
 
 def built_in() -> str:
@@ -69,7 +72,7 @@ def rows_of(path: Path) -> list[Row]:
         last = document_of(name, table, row, last.decode("utf-8", "replace"))
         if ("says" in row) == ("shows" in row):
             fail(f"{name}: it wants one of `says` and `shows`")
-        rows.append(Row(name, last, row.get("says", ""), row.get("shows", "")))
+        rows.append(Row(name, last, row.get("says", ""), row.get("shows", ""), is_newer=row.get("is_newer", False)))
     return rows
 
 

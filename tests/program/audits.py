@@ -3,12 +3,12 @@
     python3 -B -m tests.program.audits
 
 The rows are written by hand. Then each front of a whole journal is audited, and that journal with each byte
-replaced by others: what is said of these is the model's.
+replaced by others. Of each audit the plain model prints the same.
 """
 from pathlib import Path
 
-from tests.common.preload import TOP, Ended, built_in, fail, in_room, run
-from tests.model import audit, read_lab
+from tests.common.preload import TOP, Ended, built_in, fail, in_room
+from tests.common.second import agreed, said
 
 JOURNAL = (TOP / "examples/whole-run.journal").read_bytes()
 OTHERS = b" \n0123a-"
@@ -70,25 +70,25 @@ class Auditor:
 
     def __init__(self, room: Path, lab: Path) -> None:
         self.lab, self.journal = lab, room / "audited.journal"
-        self.model = read_lab(lab.read_bytes())
         self.calls = self.passed = 0
+
+    def audited(self, journal: bytes) -> Ended:
+        """Returns how the audit of a journal ends, about which the program and the model agree."""
+        self.journal.write_bytes(journal)
+        found = agreed(f"an audit of {journal!r}", "audit", self.lab, self.journal)
+        self.calls += 1
+        self.passed += found.status == 0
+        return found
 
     def wants(self, journal: bytes, line: str) -> None:
         """Wants this line of an audit: on standard output with status 0, or as an error with status 3."""
-        self.journal.write_bytes(journal)
-        found = run(["audit", str(self.lab), str(self.journal)], b"", {})
-        text = f"{line}\n".encode()
-        passes = line.startswith("ok: ")
-        if found != (Ended(0, text, b"") if passes else Ended(3, b"", text)):
+        found = self.audited(journal)
+        if found != said(line):
             fail(f"an audit of {journal!r} says {found}, not {line!r}")
-        self.calls += 1
-        self.passed += passes
 
     def all_of(self, rows: list[tuple[str, str]]) -> None:
-        """Wants what the rows say, and that the model says it too."""
+        """Wants what the rows say."""
         for text, line in rows:
-            if audit(self.model, text.encode()) != line:
-                fail(f"the model says of {text!r}: {audit(self.model, text.encode())}")
             self.wants(text.encode(), line)
 
 
@@ -102,8 +102,6 @@ def fronts(auditor: Auditor) -> None:
         wanted = f"ok: {len(lines)} events, configuration {closes}, {stable}"
         if torn:
             wanted = f"audit: line {len(lines) + 1}: torn"
-        if audit(auditor.model, front) != wanted:
-            fail(f"the model says of {front!r}: {audit(auditor.model, front)}")
         auditor.wants(front, wanted)
 
 
@@ -112,8 +110,7 @@ def replaced(auditor: Auditor) -> None:
     before = auditor.passed
     for at in range(len(JOURNAL)):
         for other in OTHERS:
-            text = JOURNAL[:at] + bytes([other]) + JOURNAL[at + 1 :]
-            auditor.wants(text, audit(auditor.model, text))
+            auditor.audited(JOURNAL[:at] + bytes([other]) + JOURNAL[at + 1 :])
     same = sum(byte in OTHERS for byte in JOURNAL)
     if auditor.passed - before != same:
         fail(f"{auditor.passed - before} journals with a byte replaced pass, not {same}")

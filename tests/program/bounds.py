@@ -3,8 +3,8 @@
     python3 -B -m tests.program bounds
 
 Which steps these are is written down here; that each is legal, what it moves and whether the network is
-stable, the program says as they come, and the audit and the tally of their journal once more. A plain count
-of the journal, and that of the class's words along the reports, give the same numbers.
+stable, the program says as they come, and the audit and the tally of their journal once more. The plain model, and
+the count of the class's words along the reports, give the same numbers.
 """
 import json
 import subprocess
@@ -15,9 +15,8 @@ from typing import Any
 
 from classroom.core.rounds import Recovery
 from tests.common.hosting import HOST
-from tests.common.preload import LIMIT, fail, good
-from tests.model import read_lab
-from tests.tally import plain
+from tests.common.preload import LIMIT, fail
+from tests.common.second import agreed
 
 MOVES = (4, 5, 6, 7, 12, 41, 64, 101, 200)
 ROUNDS = (2, 3, 4, 5, 6, 7, 40, 101, 200)
@@ -119,11 +118,9 @@ def counted(file: Path, steps: list[Step]) -> Counted:
     journal = file.with_suffix(".journal")
     journal.write_text(journal_of(steps), encoding="ascii")
     events = found.moves + len(steps)
-    if good(["audit", str(file), str(journal)]).decode() != f"ok: {events} events, configuration {len(steps)}, stable\n":
+    if agreed(file.name, "audit", file, journal).out.decode() != f"ok: {events} events, configuration {len(steps)}, stable\n":
         fail(f"{file.name}: the audit says another thing of its journal")
-    tally = told(["tally", file, journal])
-    if tally != plain.tally(read_lab(file.read_bytes()), journal.read_text(encoding="ascii"), True):
-        fail(f"{file.name}: the tally is another than that of a plain count")
+    tally = agreed(file.name, "tally", file, journal).out.decode()
     *_, bounds, run = (line.split() for line in tally.splitlines())
     if [int(run[column]) for column in (1, 4, 8)] != [events, len(steps), found.moves]:
         fail(f"{file.name}: the tally has other numbers: {run}")

@@ -11,18 +11,16 @@ import threading
 from pathlib import Path
 from random import Random
 
+from model import Lab, audit, read_lab
+from model.events import apply
+from model.journal import event_line
+from model.run import answer
 from tests.common.preload import Client, Ended, Server, fail, in_room
-from tests.model import Lab, Model, audit, read_lab
-from tests.model.events import grant
-from tests.model.journal import read_line
-from tests.model.policy import denial
-from tests.model.requests import read_request
 
 SEEDS = range(1, 5)
 NODES = 64
 TURNS = 250
 HELLOS = {"ana": ("ana", "a-key"), "ben": ("ben", "b-key"), "tess": ("tess", "chalk")}
-ACTS = ("move", "close", "fault")
 Heard = list[tuple[bytes, bytes]]
 
 
@@ -86,34 +84,36 @@ class Player:
 class Replay:
     """The plain model after a beginning of a list of events."""
 
-    def __init__(self, lab: Lab, journal: list[str]) -> None:
-        self.lab, self.journal = lab, journal
-        self.model = Model(lab)
+    def __init__(self, lab: Lab, journal: bytes) -> None:
+        self.lab = lab
+        _, self.events = audit(lab, journal)
+        self.world = lab.opening()
+        self.known: str | None = None
 
     def step(self) -> bool:
-        """Lets the next event happen, if there is one."""
-        world = self.model.world
-        if world.place == len(self.journal):
+        """Lets the next event happen. Returns whether there is one."""
+        if self.world.place == len(self.events):
             return False
-        read = read_line(self.journal[world.place].encode(), self.lab)
-        assert read is not None
-        grant(world, read[3])
+        apply(self.world, self.events[self.world.place].asked)
         return True
 
     def tells(self, line: bytes, reply: bytes) -> bool:
-        """Whether the model answers a line so at this point, where a grant has to be the list's next event."""
-        asked = read_request(line[:-1])
-        assert asked is not None
-        world = self.model.world
-        granted = b'"place":' in reply
-        who = self.model.names.get(1, "")
-        if asked.do in ACTS and (denial(self.lab, world, who, asked) is None) != granted:
+        """Returns whether the model answers a line so at this point, where a grant has to be the list's next event."""
+        found = answer(self.lab, self.world, self.known, line[:-1])
+        if found.reply.encode() + b"\n" != reply:
             return False
-        if granted and json.loads(reply)["place"] != world.place + 1:
-            return False
-        place = world.place
-        is_told = self.model.answer(1, line[:-1]).encode() + b"\n" == reply
-        return is_told and (not granted or self.model.journal.pop() == self.journal[place])
+        if found.event is not None:
+            own = event_line(self.world, str(found.known), found.event)
+            if self.world.place == len(self.events) or own != self.line():
+                return False
+            apply(self.world, found.event)
+        self.known = found.known
+        return True
+
+    def line(self) -> str:
+        """Returns the list's next event, as the journal has it."""
+        event = self.events[self.world.place]
+        return event_line(self.world, event.who, event.asked)
 
     def meets(self, heard: Heard) -> str:
         """The first answer that isn't met, if there is one."""
@@ -150,19 +150,16 @@ def crowd(room: Path, seed: int) -> int:
     kept.unlink(missing_ok=True)
     server = Server(lambda port: ["serve", str(file), str(port), "3", str(kept)], {})
     players = played(server, seed)
-    ended, journal = server.end(), kept.read_text(encoding="ascii")
-    lines = journal.splitlines()
+    ended = server.end()
     for player in players:
-        replay = Replay(lab, lines)
+        replay = Replay(lab, kept.read_bytes())
         fault = replay.meets(player.heard)
-        if fault or player.name == "tess" and replay.model.world.place != len(lines):
+        if fault or player.name == "tess" and replay.world.place != len(replay.events):
             fail(f"crowd {seed}: {player.name} is told what no beginning of the list tells from there on: {fault}")
     told = sum(b'"place":' in reply for player in players for _, reply in player.heard)
-    number = replay.model.world.number
-    if told != len(lines) or number == 0 or ended != Ended(0, b"done: %d events, configuration %d\n" % (told, number), b""):
-        fail(f"crowd {seed}: {told} events were told of {len(lines)}, and it ended so: {ended}")
-    if not audit(lab, journal.encode()).startswith(f"ok: {told} events, configuration {number}, "):
-        fail(f"crowd {seed}: {audit(lab, journal.encode())}")
+    events, number = len(replay.events), replay.world.number
+    if told != events or number == 0 or ended != Ended(0, b"done: %d events, configuration %d\n" % (told, number), b""):
+        fail(f"crowd {seed}: {told} events were told of {events}, and it ended so: {ended}")
     return told
 
 

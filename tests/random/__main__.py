@@ -14,11 +14,11 @@ from collections import Counter
 from pathlib import Path
 from random import Random
 
+from model import read_lab
+from model.policy import DENIALS
 from tests.common.preload import TOP, fail, in_room
-from tests.model import Lab, audit, play, read_lab
-from tests.model.policy import DENIALS
 from tests.random import ends, tables
-from tests.random.files import Files, first_other, said
+from tests.random.files import Files
 from tests.random.labs import drawn_lab
 from tests.random.meshes import mesh, mesh_script
 from tests.random.scripts import drawn_script
@@ -46,45 +46,29 @@ def hurt(rng: Random, journal: bytes) -> bytes:
     return journal[:at] + rng.choice([byte, byte, byte, b"", journal[at : at + 1] * 2]) + journal[at + 1 :]
 
 
-def audits_of(rng: Random, files: Files, lab: Lab, journal: bytes) -> str:
-    """What is wrong with the audits of a journal, if anything."""
-    texts = [journal] + [hurt(rng, journal) for _ in range(HURTS if journal else 0)]
-    for text in texts:
-        wanted = said(audit(lab, text))
-        found = files.audited(text)
-        if found != wanted:
-            return f"another audit of {text!r}: {found}, not {wanted}"
-    return ""
+def audit_hurt(rng: Random, files: Files) -> None:
+    """Audits the journal of a run as it is, and with a byte hurt."""
+    journal = files.journal.read_bytes()
+    for text in [journal] + [hurt(rng, journal) for _ in range(HURTS if journal else 0)]:
+        files.audited(text)
 
 
-def compare(room: Path, seed: int) -> tuple[str, Counter[bytes]]:
-    """What is wrong with the run of a seed, if anything, and what its replies tell."""
+def compare(room: Path, seed: int) -> Counter[bytes]:
+    """Plays and audits the run of a seed. Returns what its replies tell."""
     rng = Random(seed)
     document = drawn_lab(rng)
-    lab = read_lab(document.encode())
-    script = drawn_script(rng, lab, LINES)
-    files = Files(room, document, script)
-    model = play(lab, script)
-    bad = b"" if model.bad_line is None else b"script: line %d: bad line\n" % model.bad_line
+    script = drawn_script(rng, read_lab(document.encode()), LINES)
+    files = Files(f"seed {seed}", room, document, script)
     found = files.played()
-    told = Counter(TOLD.findall(found.out) + LISTED.findall(found.out))
-    if found.out != model.replies:
-        return f"another output: {first_other(found.out, model.replies)}", told
-    if (found.status, found.error) != (2 if bad else 0, bad):
-        return f"another end: {found.status} {found.error!r}, not {bad!r}", told
-    if files.journal.read_bytes() != model.journal:
-        return f"another journal: {first_other(files.journal.read_bytes(), model.journal)}", told
-    return audits_of(rng, files, lab, model.journal), told
+    audit_hurt(rng, files)
+    return Counter(TOLD.findall(found.out) + LISTED.findall(found.out))
 
 
 def scripts(room: Path) -> None:
     """All drawn scripts, in which each word of a reply is told."""
     told: Counter[bytes] = Counter()
     for seed in SEEDS:
-        fault, words = compare(room, seed)
-        if fault:
-            fail(f"seed {seed}: {fault}")
-        told += words
+        told += compare(room, seed)
     missing = [word for word in WORDS if not told[word.encode()]]
     if missing:
         fail(f"no drawn run is told {missing}")
@@ -100,12 +84,11 @@ def runs_to_an_end(room: Path, worlds: range) -> str:
             rng = Random(seed)
             document = ends.drawn_lab(rng, 1 + seed % 40)
             course = ends.course(rng, document, daemon)
-            found = Files(room, document, course.script.encode()).played().out.decode()
-            if found != course.replies:
-                fail(f"world {seed} under {daemon.__name__}: {first_other(found.encode(), course.replies.encode())}")
+            what = f"world {seed} under {daemon.__name__}"
+            found = Files(what, room, document, course.script.encode()).played().out.decode()
             fault = course.fault(found)
             if fault:
-                fail(f"world {seed} under {daemon.__name__}: {fault}")
+                fail(f"{what}: {fault}")
             moving += '"moved":' in found
             dense += course.is_dense()
     count = len(worlds) * len(ends.DAEMONS)
@@ -118,36 +101,22 @@ def meshes(room: Path) -> None:
     """A thousand events of all kinds over a mesh: what each did, a report and looks after it, and that each was legal."""
     for count in MESHES:
         document, rng = mesh(count), Random(count)
-        lab = read_lab(document.encode())
-        script, replies, journal = mesh_script(rng, lab, EVENTS)
-        files = Files(room, document, script)
-        found = files.played()
-        if found.out != replies:
-            fail(f"a mesh of {count} nodes: {first_other(found.out, replies)}")
-        if files.journal.read_bytes() != journal:
-            fail(f"a mesh of {count} nodes: {first_other(files.journal.read_bytes(), journal)}")
-        told = Counter(TOLD.findall(found.out))
+        files = Files(f"a mesh of {count} nodes", room, document, mesh_script(rng, read_lab(document.encode()), EVENTS))
+        told = Counter(TOLD.findall(files.played().out))
         if sum(told[word.encode()] for word in GRANTS) != EVENTS or not all(told[word.encode()] for word in GRANTS):
-            fail(f"a mesh of {count} nodes: not {EVENTS} events of all kinds")
-        if not audit(lab, journal).startswith(f"ok: {EVENTS} events, "):
-            fail(f"a mesh of {count} nodes: the model says {audit(lab, journal)}")
-        if fault := audits_of(rng, files, lab, journal):
-            fail(f"a mesh of {count} nodes: {fault}")
+            fail(f"{files.what}: not {EVENTS} events of all kinds")
+        if not files.audited(files.journal.read_bytes()).out.startswith(b"ok: %d events, " % EVENTS):
+            fail(f"{files.what}: its journal doesn't pass")
+        audit_hurt(rng, files)
 
 
 def replaced(room: Path) -> int:
     """The journal of docs/JOURNAL.md with each byte replaced by each of some others; how many audits that were."""
-    document = (TOP / "examples/built-in.toml").read_text(encoding="ascii")
-    lab = read_lab(document.encode())
-    files = Files(room, document, b"")
+    files = Files("docs/JOURNAL.md", room, (TOP / "examples/built-in.toml").read_text(encoding="ascii"), b"")
     journal = (TOP / "examples/whole-run.journal").read_bytes()
     for at in range(len(journal)):
         for byte in REPLACEMENTS:
-            text = journal[:at] + bytes([byte]) + journal[at + 1 :]
-            wanted = said(audit(lab, text))
-            found = files.audited(text)
-            if found != wanted:
-                fail(f"another audit with {bytes([byte])!r} at byte {at}: {found}, not {wanted}")
+            files.audited(journal[:at] + bytes([byte]) + journal[at + 1 :])
     return len(journal) * len(REPLACEMENTS)
 
 
@@ -164,6 +133,6 @@ if __name__ == "__main__":
     if sys.argv[1:2] == ["ends"]:
         in_room(lambda room: runs_to_an_end(room, range(1, int(sys.argv[2]) + 1)))
     elif len(sys.argv) > 1:
-        sys.exit(compare(Path.cwd(), int(sys.argv[1]))[0] or None)
+        compare(Path.cwd(), int(sys.argv[1]))
     else:
         in_room(work)

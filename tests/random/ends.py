@@ -5,8 +5,8 @@ from dataclasses import dataclass
 from random import Random
 from typing import Any
 
-from tests.model import Lab, Model, read_lab
-from tests.model.world import Move, World
+from model import Lab, Run, read_lab
+from model.world import Move, World
 from tests.random.labs import Link, Registers, complete, registers
 
 Daemon = Callable[[Random, list[int]], list[int]]
@@ -67,10 +67,9 @@ def drawn_lab(rng: Random, count: int) -> str:
 
 @dataclass
 class Course:
-    """A run's script and replies, the links and nodes of its network, and the rounds that its steps took."""
+    """A run's script, the links and nodes of its network, and the rounds that its steps took."""
 
     script: str
-    replies: str
     nodes: int
     links: int
     rounds: int
@@ -103,15 +102,14 @@ class Runner:
 
     def __init__(self, rng: Random, lab: Lab, daemon: Daemon) -> None:
         self.rng, self.daemon = rng, daemon
-        self.model = Model(lab)
+        self.model = Run(lab)
         self.script: list[str] = []
-        self.replies: list[str] = []
         self.rounds = 0
 
     def ask(self, connection: int, line: str) -> None:
-        """A line, and what the model answers."""
+        """A line, which the model answers."""
         self.script.append(f"{connection} {line}\n")
-        self.replies.append(f"{connection} {self.model.answer(connection, line.encode())}\n")
+        self.model.answer(connection, line.encode())
 
     def move(self, i: int, move: Move) -> None:
         """Asks for a move."""
@@ -156,4 +154,4 @@ def course(rng: Random, document: str, daemon: Daemon) -> Course:
         runner.ask(connection, line)
     runner.run(3 * nodes + 2 * links + 1)
     runner.ask(2, '{"do":"report"}')
-    return Course("".join(runner.script), "".join(runner.replies), nodes, links, runner.rounds)
+    return Course("".join(runner.script), nodes, links, runner.rounds)

@@ -1,35 +1,25 @@
-"""A lab and a script in a folder, and what the program makes of them."""
+"""A lab and a script in a folder, and what the program and the model make of them."""
 from pathlib import Path
 
-from tests.common.preload import Ended, run
+from tests.common.preload import Ended
+from tests.common.second import agreed, agreed_script
 
 
 class Files:
-    """A lab and a script in a folder, and the program's runs over them."""
+    """A lab and a script in a folder, and the runs over them, about which the program and the model agree."""
 
-    def __init__(self, room: Path, lab: str, script: bytes) -> None:
+    def __init__(self, what: str, room: Path, lab: str, script: bytes) -> None:
+        self.what = what
         self.lab, self.script, self.journal = room / "drawn.toml", room / "drawn.script", room / "drawn.journal"
         self.lab.write_text(lab, encoding="ascii")
         self.script.write_bytes(script)
         self.journal.write_bytes(b"")
 
     def played(self) -> Ended:
-        """The script, with its journal."""
-        return run(["script", str(self.lab), str(self.script), str(self.journal)], b"", {})
+        """Returns how the script ends, which writes its journal."""
+        return agreed_script(self.what, self.lab, self.script, self.journal)
 
     def audited(self, journal: bytes) -> Ended:
-        """The audit of a journal."""
+        """Returns how the audit of a journal ends."""
         self.journal.write_bytes(journal)
-        return run(["audit", str(self.lab), str(self.journal)], b"", {})
-
-
-def said(line: str) -> Ended:
-    """How a call ends that says this of a journal: on standard output with status 0, or as an error with status 3."""
-    text = f"{line}\n".encode()
-    return Ended(0, text, b"") if line.startswith("ok: ") else Ended(3, b"", text)
-
-
-def first_other(found: bytes, wanted: bytes) -> str:
-    """The first line that differs."""
-    pairs = list(zip(found.splitlines() + [b""], wanted.splitlines() + [b""]))
-    return next((f"line {k}: {a!r}, not {b!r}" for k, (a, b) in enumerate(pairs, 1) if a != b), "more lines or fewer")
+        return agreed(f"{self.what}, the journal {journal!r}", "audit", self.lab, self.journal)

@@ -3,8 +3,8 @@ import json
 from random import Random
 from typing import Any, Optional
 
-from tests.model import Lab, Model
-from tests.model.world import Move
+from model import Lab, Run
+from model.world import Move
 
 Asked = dict[str, Any]
 PEOPLE = """teacher = { name = "teacher", key = "t-key" }
@@ -28,14 +28,13 @@ class Meshing:
 
     def __init__(self, rng: Random, lab: Lab) -> None:
         self.rng = rng
-        self.model = Model(lab)
+        self.model = Run(lab)
         self.lines: list[str] = []
-        self.replies: list[str] = []
 
     def ask(self, connection: int, line: str) -> None:
-        """A line, and what the model answers."""
+        """A line, which the model answers."""
         self.lines.append(f"{connection} {line}\n")
-        self.replies.append(f"{connection} {self.model.answer(connection, line.encode())}\n")
+        self.model.answer(connection, line.encode())
 
     def after(self, start: int, steps: int) -> int:
         """The node so many steps after another, round the end."""
@@ -92,12 +91,11 @@ class Meshing:
             self.ask(2, f'{{"do":"look","node":{i}}}')
 
 
-def mesh_script(rng: Random, lab: Lab, events: int) -> tuple[bytes, bytes, bytes]:
-    """A script with so many events, its replies and its journal."""
+def mesh_script(rng: Random, lab: Lab, events: int) -> bytes:
+    """A script with so many events."""
     meshing = Meshing(rng, lab)
     for connection, line in enumerate(HELLOS, 1):
         meshing.ask(connection, line)
     for _ in range(events):
         meshing.event()
-    journal = "".join(f"{line}\n" for line in meshing.model.journal)
-    return "".join(meshing.lines).encode(), "".join(meshing.replies).encode(), journal.encode()
+    return "".join(meshing.lines).encode()

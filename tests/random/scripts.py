@@ -2,8 +2,8 @@
 from random import Random
 from typing import Any
 
-from tests.model import Lab, Model
-from tests.model.world import RULES, Move
+from model import Lab, Run
+from model.world import RULES, Move
 from tests.random.lines import odd, spelled
 
 Asked = dict[str, Any]
@@ -21,7 +21,7 @@ class Drawing:
 
     def __init__(self, rng: Random, lab: Lab) -> None:
         self.rng, self.lab = rng, lab
-        self.model = Model(lab)
+        self.model = Run(lab)
         self.nodes = self.model.world.nodes()
 
     def node(self) -> int:

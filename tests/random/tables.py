@@ -10,13 +10,13 @@ from __future__ import annotations
 import re
 import sys
 
+from model import Lab, read_lab
+from model.events import apply
+from model.journal import LINE, read_line
+from model.policy import denial
+from model.requests import GREATEST, Request
+from model.world import Move, World
 from tests.common.preload import TOP, fail
-from tests.model import Lab, read_lab
-from tests.model.events import grant
-from tests.model.journal import LINE, read_line
-from tests.model.policy import denial
-from tests.model.requests import GREATEST, Request
-from tests.model.world import Move, World
 
 TESTS = TOP / "crates/mml_tests_model/src"
 CYCLES = (64, 256)
@@ -81,7 +81,7 @@ def refused_before(count: int) -> str:
         words.add(asked.move.rule if asked.do == "move" else asked.do)
         text += chr(ord("a") + min(refused, 25))
         refused = 0
-        grant(world, asked)
+        apply(world, asked)
     if len(text) < EVENTS or len(words) != 9:
         fail(f"over a cycle of {count} nodes {len(text)} events of these kinds are drawn: {words}")
     return text
@@ -101,7 +101,7 @@ def event_of(lab: Lab, line: bytes) -> str:
     place, before, who, asked = read
     event = "Close"
     if asked.do == "move":
-        student = [name for name in lab.keys if name != lab.teacher].index(who)
+        student = lab.students().index(who)
         rule = asked.move.rule.capitalize() + (f"({rank(asked.move.partner)})" if asked.move.partner else "")
         event = f"Grant {{ who: Student {{ index: {student} }}, node: {rank(asked.node)}, rule: {rule} }}"
     return f"{place} {before} {event}"

@@ -16,14 +16,14 @@ from pathlib import Path
 from random import Random
 from time import sleep
 
+from model import Lab, read_lab
 from tests.common.hosting import HOST, lab_of
-from tests.common.preload import LIMIT, Ended, fail, in_room
-from tests.model import Lab, read_lab
-from tests.model.record import Recording, verify
-from tests.random.files import said
+from tests.common.preload import Ended, fail, in_room
+from tests.common.second import agreed, said
 from tests.random.labs import drawn_lab
 from tests.record.classes import hosted
 from tests.record.drawn import drawn_run
+from tests.record.recording import Recording
 
 SEEDS = range(1, 201)
 HURTS = 6
@@ -44,7 +44,7 @@ TALK = [
 
 
 class Files:
-    """A lab, a journal and a record in a folder, and the program's verdict."""
+    """A lab, a journal and a record in a folder, and the verdict of the program and of the model."""
 
     def __init__(self, room: Path, lab: str) -> None:
         self.lab, self.journal, self.folder = room / "lab.toml", room / "run.journal", room / "record"
@@ -52,24 +52,25 @@ class Files:
         self.folder.mkdir(exist_ok=True)
         self.journal.write_bytes(b"")
 
-    def verified(self, journal: bytes, texts: dict[int, bytes], begun: int = 0) -> Ended:
-        """What the program tells of it."""
+    def write(self, journal: bytes, texts: dict[int, bytes], begun: int = 0) -> None:
+        """Puts a journal and a record into the folder."""
         self.journal.write_bytes(journal)
         (self.folder / "begun").write_text(f"{begun}\n", encoding="ascii")
         for seat, text in texts.items():
             (self.folder / f"{seat}.record").write_bytes(text)
-        return self.ended(self.lab, self.journal, self.folder)
 
-    @staticmethod
-    def ended(*words: Path) -> Ended:
-        """How the program's word ends."""
-        call: list[str | Path] = [HOST, "verify", *words]
-        done = subprocess.run(call, stdin=subprocess.DEVNULL, capture_output=True, env=dict[str, str](), timeout=LIMIT, check=False)
-        return Ended(done.returncode, done.stdout, done.stderr)
+    def ended(self, what: str) -> Ended:
+        """Returns the verdict on what is in the folder, about which both agree."""
+        return agreed(what, "verify", self.lab, self.journal, self.folder)
+
+    def verified(self, what: str, journal: bytes, texts: dict[int, bytes], begun: int = 0) -> Ended:
+        """Returns the verdict on a journal and a record."""
+        self.write(journal, texts, begun)
+        return self.ended(what)
 
     def wants(self, what: str, journal: bytes, texts: dict[int, bytes], line: str, begun: int = 0) -> None:
-        """Fails where the program tells another line."""
-        found = self.verified(journal, texts, begun)
+        """Fails if another line is printed."""
+        found = self.verified(what, journal, texts, begun)
         if found != said(line):
             fail(f"{what}: {found}, not {line!r}")
 
@@ -132,18 +133,14 @@ def by_hand(files: Files, lab: Lab) -> int:
          "place 2: granted in no record"),
         ("a lost grant, cut", {1: b"".join(one.splitlines(keepends=True)[:4]) + b"1 2 !\n1 2 .\n", 2: two},
          f"ok: 2 sessions, {run.lines - 1} lines, 2 events, not whole"),
-        ("a grant told again by its seat", {1: one + replaced(one, b"1 2 .\n", b"").replace(b"1 0 ", b"1 2 "), 2: two}, None),
+        ("a grant told again by its seat", {1: one + replaced(one, b"1 2 .\n", b"").replace(b"1 0 ", b"1 2 "), 2: two},
+         "seat 1, line 10: not the reply of the rules at place 2"),
         ("a grant told twice", {1: one, 2: two, 3: in_seat(1, 3, one)}, "place 1: granted twice"),
         ("cut twice", {1: one + b"1 2 !\n1 2 !\n1 2 .\n", 2: two}, run.told(False).replace("ok: 2 ", "ok: 3 ")),
     ]
     assert place == 2
     for what, texts, line in cases:
-        every = {**rest, **texts}
-        model = verify(lab, journal, every)
-        wanted = model if line is None else line if line.startswith("ok: ") else f"verify: {line}"
-        if model != wanted:
-            fail(f"{what}: the model tells {model!r}, not {wanted!r}")
-        files.wants(what, journal, every, wanted)
+        files.wants(what, journal, {**rest, **texts}, line if line.startswith("ok: ") else f"verify: {line}")
     files.wants("begun later", journal, {**rest, 1: one, 2: two}, "verify: place 1: granted before the record began", 1)
     files.wants("begun where it ends", journal, rest, "ok: 0 sessions, 0 lines, 2 events", 2)
     return len(cases) + 2
@@ -160,18 +157,18 @@ def other_files(files: Files, lab: Lab) -> None:
     files.journal.write_bytes(run.journal)
     for text in (b"", b"x\n", b"-1\n", b"1 \n", b"0\n\n", b"1" * 20):
         begun.write_bytes(text)
-        if files.ended(files.lab, files.journal, files.folder) != fault:
+        if files.ended(f"begun {text!r}") != fault:
             fail(f"a record is read that begins at {text!r}")
     begun.write_bytes(b"0")
-    if files.ended(files.lab, files.journal, files.folder) != Ended(0, f"{run.told()}\n".encode(), b""):
+    if files.ended("begun without a newline") != said(run.told()):
         fail("a record isn't read whose beginning has no newline")
     for file in (begun, seat):
         content = file.read_bytes()
         file.unlink()
-        if files.ended(files.lab, files.journal, files.folder) != fault:
+        if files.ended(f"without {file.name}") != fault:
             fail(f"a record is read without {file.name}")
         file.write_bytes(content)
-    if files.ended(files.lab, files.journal) != Ended(1, b"", b"command line: not understood\n"):
+    if agreed("no record", "verify", files.lab, files.journal) != Ended(1, b"", b"command line: not understood\n"):
         fail("words are understood that name no record")
 
 
@@ -210,7 +207,7 @@ def by_pieces(files: Files, lab: Lab) -> None:
     told = f"ok: {run.sessions + 1} sessions, {run.lines + len(entries)} lines, 2 events"
     files.wants("in pieces", run.journal, {**long, 1: long[1][:-1]}, f"verify: seat 1, line {last + 8001}: torn")
     files.wants("changed in a piece", run.journal, changed, f"verify: seat 1, line {last + 2 * middle + 1}: not the reply of the rules at place 2")
-    files.verified(run.journal, run.texts)
+    files.write(run.journal, run.texts)
     short = most_held(files, lab)
     files.wants("long", run.journal, long, told)
     if most_held(files, lab) > short + 4096:
@@ -228,7 +225,7 @@ def at_each_byte(files: Files, lab: Lab) -> int:
             byte = BYTES[(at + seat) % len(BYTES)]
             hurt = whole[:at] + bytes([byte if byte != whole[at] else byte ^ 1]) + whole[at + 1 :]
             texts[seat] = hurt
-            files.wants(f"seat {seat}, byte {at}", run.journal, texts, verify(lab, run.journal, texts))
+            files.verified(f"seat {seat}, byte {at}", run.journal, texts)
             count += 1
         texts[seat] = whole
     return count
@@ -270,13 +267,11 @@ def compare(room: Path, seed: int) -> Counter[str]:
     files.wants(f"seed {seed}", run.journal, run.texts, run.told())
     told = Counter(["ok"])
     for k in range(HURTS):
-        texts = hurt(rng, run)
-        line = verify(lab, run.journal, texts)
-        told[line.rpartition(": ")[2].partition(" at place")[0] if line.startswith("verify") else "ok"] += 1
-        files.wants(f"seed {seed}, hurt {k}", run.journal, texts, line)
+        found = files.verified(f"seed {seed}, hurt {k}", run.journal, hurt(rng, run))
+        told[found.error.decode().strip().rpartition(": ")[2].partition(" at place")[0] or "ok"] += 1
     last = run.journal.splitlines(keepends=True)[:-1]
     if last:
-        files.wants(f"seed {seed}, an event less", b"".join(last), run.texts, verify(lab, b"".join(last), run.texts))
+        files.verified(f"seed {seed}, an event less", b"".join(last), run.texts)
     return told
 
 

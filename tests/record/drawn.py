@@ -1,9 +1,9 @@
 """Drawn runs of several seats, each with its record."""
 from random import Random
 
-from tests.model import Lab
-from tests.model.record import Recording
+from model import Lab
 from tests.random.scripts import Drawing
+from tests.record.recording import Recording
 
 LINES = 60
 

@@ -1,25 +1,24 @@
-"""What `tally` prints of a journal, and of its record: of those written by hand, and of drawn ones beside a plain count.
+"""What `tally` prints of a journal, and of its record: of those written by hand, and of drawn ones beside the plain model.
 
     python3 -B -m tests.tally [JOURNALS]
 
-The drawn journals are those of the model over drawn labs and scripts; so many are drawn, or 300. Each is told by
-the program as the plain count tells it, and `./class mark` prints the same numbers. As many drawn runs are told with
-their records.
+The drawn journals are those of the model over drawn labs and scripts; so many are drawn, or 300. Of each the program
+prints what the model prints, and `./class mark` reads the same numbers. As many drawn runs are told with their
+records.
 """
 from __future__ import annotations
 
-import subprocess
 import sys
 from pathlib import Path
 from random import Random
 
 from classroom.core import tally as tallies
-from tests.common.hosting import HOST
-from tests.common.preload import LIMIT, TOP, fail, in_room
-from tests.model import audit, play, read_lab
+from model import Ended, play, read_lab
+from tests.common.preload import TOP, fail, in_room
+from tests.common.second import agreed, said
 from tests.random.labs import drawn_lab
 from tests.random.scripts import drawn_script
-from tests.tally import plain, recorded
+from tests.tally import recorded
 
 JOURNALS = 300
 LINES = 80
@@ -63,53 +62,41 @@ bounds 13 5 26
 run 10 4 stable 4 0 0 0 6 6 4
 """
 REFUSED = (
-    ("1 0 grant ana 1 seduction", 3, "audit: line 1: torn\n"),
-    ("1 0 grant ben 1 seduction\n", 3, "audit: line 1: illegal, not-owner\n"),
-    ("1 0 grant ana 1 seduction\n3 0 close\n", 3, "audit: line 2: wrong place or configuration\n"),
+    ("1 0 grant ana 1 seduction", "audit: line 1: torn"),
+    ("1 0 grant ben 1 seduction\n", "audit: line 1: illegal, not-owner"),
+    ("1 0 grant ana 1 seduction\n3 0 close\n", "audit: line 2: wrong place or configuration"),
 )
 
 
-def told(lab: Path, journal: Path) -> tuple[int, str, str]:
-    """How the word ends over two files: status, output and error line."""
-    done = subprocess.run([HOST, "tally", lab, journal], stdin=subprocess.DEVNULL, capture_output=True, timeout=LIMIT, check=False)
-    return done.returncode, done.stdout.decode(), done.stderr.decode()
-
-
 def by_hand(room: Path) -> int:
-    """The journals that were written by hand; how many they are."""
+    """Tries the journals that were written by hand. Returns how many they are."""
     lab, journal = room / "lab.toml", room / "journal"
     lab.write_text(LAB, encoding="ascii")
-    for name, text, wanted in CASES:
+    wanted = [(text, Ended(0, tally.encode(), b"")) for _, text, tally in CASES] + [(text, said(line)) for text, line in REFUSED]
+    for text, end in wanted:
         journal.write_text(text, encoding="ascii")
-        if told(lab, journal) != (0, wanted, ""):
-            fail(f"{name}: {told(lab, journal)}")
-        if plain.tally(read_lab(LAB.encode()), text, stable=False) != wanted:
-            fail(f"{name}: the plain count is another")
-    for text, status, line in REFUSED:
-        journal.write_text(text, encoding="ascii")
-        if told(lab, journal) != (status, "", line):
-            fail(f"{text!r}: {told(lab, journal)}")
-    if told(TOP / "examples/built-in.toml", TOP / "examples/whole-run.journal") != (0, WHOLE, ""):
+        found = agreed(repr(text), "tally", lab, journal)
+        if found != end:
+            fail(f"{text!r}: {found}, not {end}")
+    whole = agreed("the whole run", "tally", TOP / "examples/built-in.toml", TOP / "examples/whole-run.journal")
+    if whole != Ended(0, WHOLE.encode(), b""):
         fail("another tally of the whole run")
-    return len(CASES) + len(REFUSED) + 1
+    return len(wanted) + 1
 
 
 def drawn(room: Path, seed: int) -> bool:
-    """A drawn journal; whether it has an event."""
+    """Tries a drawn journal. Returns whether it has an event."""
     rng = Random(seed)
     document = drawn_lab(rng)
     model = read_lab(document.encode())
-    text = play(model, drawn_script(rng, model, LINES)).journal
+    run, _ = play(model, drawn_script(rng, model, LINES))
     lab, journal = room / "lab.toml", room / "journal"
     lab.write_text(document, encoding="ascii")
-    journal.write_bytes(text)
-    stable = not audit(model, text).endswith("not stable")
-    wanted = plain.tally(model, text.decode(), stable)
-    if told(lab, journal) != (0, wanted, ""):
-        fail(f"seed {seed}: {told(lab, journal)}, not {wanted!r}")
-    if tallies.read(wanted) != tallies.of(lab, journal):
-        fail(f"seed {seed}: ./class reads another tally")
-    return bool(text)
+    journal.write_bytes(run.written())
+    found = agreed(f"seed {seed}", "tally", lab, journal)
+    if found.status or tallies.read(found.out.decode()) != tallies.of(lab, journal):
+        fail(f"seed {seed}: it doesn't pass, or ./class reads another tally")
+    return bool(run.journal)
 
 
 def test(room: Path) -> str:
@@ -123,7 +110,7 @@ def test(room: Path) -> str:
     denied = sum(recorded.drawn(room, seed) for seed in range(1, count + 1))
     if 2 * denied < count:
         fail(f"only in {denied} of {count} drawn runs a student is denied something")
-    return f"{hands} runs by hand, {some} drawn ones and {count} with records are told as a plain count tells them"
+    return f"{hands} runs by hand, {some} drawn ones and {count} with records are told as the model tells them"
 
 
 if __name__ == "__main__":

@@ -1,18 +1,15 @@
-"""What `tally` prints of a run with a record: one by hand, and drawn ones beside a plain count."""
+"""What `tally` prints of a run with a record: one by hand, and drawn ones beside the plain model."""
 from __future__ import annotations
 
-import subprocess
 from pathlib import Path
 from random import Random
 
-from tests.common.hosting import HOST
-from tests.common.preload import LIMIT, fail
-from tests.model import audit, read_lab
-from tests.model.record import Recording
+from model import Ended, read_lab
+from tests.common.preload import fail
+from tests.common.second import agreed, said
 from tests.random.labs import drawn_lab
 from tests.record.drawn import drawn_run
-from tests.tally import plain
-from tests.tally.asked import asked
+from tests.record.recording import Recording
 
 # What is said in the seats one after the other, with the number of the clause that denies it in the comment.
 TALK = (
@@ -57,11 +54,13 @@ class Files:
         for seat, text in run.texts.items():
             (self.folder / f"{seat}.record").write_bytes(text)
 
-    def told(self) -> tuple[int, str, str]:
-        """How the word ends over them."""
-        call: list[str | Path] = [HOST, "tally", self.lab, self.journal, self.folder]
-        done = subprocess.run(call, stdin=subprocess.DEVNULL, capture_output=True, timeout=LIMIT, check=False)
-        return done.returncode, done.stdout.decode(), done.stderr.decode()
+    def told(self, what: str) -> Ended:
+        """Returns how the word ends over them, about which the program and the model agree."""
+        return agreed(what, "tally", self.lab, self.journal, self.folder)
+
+    def bare(self) -> str:
+        """Returns the tally without the record."""
+        return agreed("without a record", "tally", self.lab, self.journal).out.decode()
 
 
 def with_record(tally: str, told: str) -> str:
@@ -72,57 +71,50 @@ def with_record(tally: str, told: str) -> str:
 
 def by_hand(room: Path, document: str) -> int:
     """The run by hand, also where memory was refused, cut, and hurt; how many these are."""
-    lab = read_lab(document.encode())
-    run = Recording(lab)
+    run = Recording(read_lab(document.encode()))
     for seat, line in TALK:
         run.answer(seat, line)
-    bare = plain.tally(lab, run.journal.decode(), stable=False)
     files = Files(room, document, run)
-    wanted = with_record(bare, TOLD)
-    if asked(lab, run.texts) != TOLD or files.told() != (0, wanted, ""):
-        fail(f"another tally of the run with a record: {files.told()}")
+    wanted = with_record(files.bare(), TOLD)
     first = files.folder / "1.record"
     text = first.read_bytes()
     changed = (
+        ("as it came", text, wanted),
         # It is the line that is no request, whatever it was answered.
-        ("memory", text.replace(b'{"refuse":"malformed"}', b'{"refuse":"memory"}'), (0, wanted, "")),
+        ("memory", text.replace(b'{"refuse":"malformed"}', b'{"refuse":"memory"}'), wanted),
         # What was refused so changed nothing, so ana isn't known, and her next hello is granted.
         ("an unheard hello", text.replace(b'{"ok":"hello","who":"ana"}', b'{"refuse":"memory"}').replace(
             b'{"clause":1,"deny":"greeted","text":"this connection has a name already"}', b'{"ok":"hello","who":"ana"}'),
-         (0, wanted.replace("denied ana 2 ", "denied ana 1 "), "")),
-        ("a cut", text + b"1 2 !\n1 2 .\n", (0, wanted.replace("record 3 21 whole", "record 4 21 cut"), "")),
-        ("another clause", text.replace(b'"clause":4', b'"clause":3'), (3, "", "verify: seat 1, line 5: not the reply of the rules at place 0\n")),
+         wanted.replace("denied ana 2 ", "denied ana 1 ")),
+        ("a cut", text + b"1 2 !\n1 2 .\n", wanted.replace("record 3 21 whole", "record 4 21 cut")),
+        ("another clause", text.replace(b'"clause":4', b'"clause":3'), "verify: seat 1, line 5: not the reply of the rules at place 0"),
     )
-    for name, hurt, end in changed:
-        if hurt == text:
+    for name, hurt, told in changed:
+        if hurt == text and name != "as it came":
             fail(f"{name}: nothing is changed")
         first.write_bytes(hurt)
-        if files.told() != end:
-            fail(f"{name}: {files.told()}")
+        found = files.told(name)
+        if found != (said(told) if told.startswith("verify") else Ended(0, told.encode(), b"")):
+            fail(f"{name}: {found}")
     first.unlink()
-    if files.told() != (4, "", "read fault: record\n"):
-        fail(f"a seat without a file: {files.told()}")
+    if files.told("a seat without a file") != Ended(4, b"", b"read fault: record\n"):
+        fail("a seat without a file is told")
     first.write_bytes(text)
     files.journal.write_bytes(run.journal[:-1])
-    if files.told()[::2] != (3, "audit: line 2: torn\n"):
-        fail(f"a torn journal: {files.told()}")
-    return len(changed) + 3
+    if files.told("a torn journal") != said("audit: line 2: torn"):
+        fail("a torn journal is told")
+    return len(changed) + 2
 
 
 def drawn(room: Path, seed: int) -> bool:
-    """A drawn run; whether a student was denied something."""
+    """Tries a drawn run. Returns whether a student was denied something."""
     rng = Random(seed)
     document = drawn_lab(rng)
-    lab = read_lab(document.encode("ascii"))
-    run = drawn_run(rng, lab)
+    run = drawn_run(rng, read_lab(document.encode("ascii")))
     if rng.random() < 0.2:
         run.cut(1)
         run.leave(1)
-    told = asked(lab, run.texts)
-    files = Files(room, document, run)
-    status, text, error = files.told()
-    stable = not audit(lab, run.journal).endswith("not stable")
-    wanted = with_record(plain.tally(lab, run.journal.decode(), stable), told)
-    if (status, text, error) != (0, wanted, ""):
-        fail(f"seed {seed}, with a record: {(status, text, error)}, not {wanted!r}")
-    return any(line.startswith("denied ") and not line.endswith(" 0 0 0 0 0") for line in told.splitlines())
+    found = Files(room, document, run).told(f"seed {seed}, with a record")
+    if found.status:
+        fail(f"seed {seed}, with a record: {found}")
+    return any(line.startswith("denied ") and not line.endswith(" 0 0 0 0 0") for line in found.out.decode().splitlines())

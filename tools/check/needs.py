@@ -81,6 +81,7 @@ NEEDS = {
     "git": Need("the command git", on_path("git"), ("git",)),
     "python3": Need("Debian's own Python", on_path("/usr/bin/python3"), ("python3",)),
     "types": Need("the checkers of Python's types and style", installed(*TYPES), TYPES),
+    "man": Need("the command man, which warns of pages", on_path("man"), ("man-db",)),
     "browser": Need("a browser with its driver", installed(*BROWSER), BROWSER),
     "java": Need("the command java", on_path("java"), ("default-jdk-headless",)),
     "node": Need("the command node", on_path("node"), ("nodejs",)),

@@ -83,7 +83,7 @@ QUICK = [
     Part("record", module("record"), 0.4, 0.5, 1, BUILT),
     Part("wrong-tests", cases("wrong.test_wrong", "wrong.test_beside", "wrong.test_saved"), 0.6, 0.6, 1, ("rt",)),
     Part("build", cases("build.test_build", "build.test_class"), 0.4, 0.9, 0.5, ("git",)),
-    Part("check", cases("check.test_check", "check.test_pieces", "check.test_imports", "check.test_chain"), 0.2, 0.8, 0.5),
+    Part("check", cases("check.test_check", "check.test_pieces", "check.test_imports", "check.test_chain", "check.test_model"), 0.2, 0.8, 0.5),
     Part("memory", module("memory", "uses"), 0.2, 0.4, 0.5, (*BUILT, "rt")),
     Part("tally", module("tally", "20"), 0.1, 0.2, 0.5, BUILT),
     Part("calls", module("program"), 0.2, 0.3, 1, BUILT),
@@ -97,6 +97,7 @@ QUICK = [
     Part("journals", ("bash", "tests/journals/run"), 0.1, 0.2, 0.5, BUILT),
     Part("large", module("program.large"), 0.1, 0.1, 1, BUILT),
     Part("documents", module("documents"), 0.1, 0.1, 1, ("git",)),
+    Part("manuals", cases("documents.test_manuals"), 0.1, 0.1, 1, ("man",)),
     Part("python", module("check.python", of="tools"), 0.5, 0.5, 1, ("git", "types")),
     Part("kit", module("check.kit", of="tools"), 0.1, 0.1, 1, ("rt",)),
 ]

@@ -1,6 +1,8 @@
 """Checks all Python of the repository: its types, strictly, and what a linter says.
 
     python3 -B -m tools.check.python
+
+The settings are those of `pyproject.toml` and `.flake8`, so that who calls a tool by hand, or by an editor, is told the same.
 """
 from __future__ import annotations
 
@@ -13,9 +15,7 @@ from tools.check.parts import TOP
 
 # Files whose modules have names of their own, and programs that aren't modules of this tree: one call each.
 EXAMPLES_PYTHON = "3.10"  # from which on a student's client and bot run
-CALLS = (("class", "bench", "classroom", "tests", "tools"), ("check",), ("examples",), ("--python-version", EXAMPLES_PYTHON, "examples/bot.py"))
-MOST_LETTERS = 160  # of a line
-IGNORED = "E127,E203,E402,W503,W504"  # of the linter's rules: on forms of lines
+CALLS = (("class", "bench", "classroom", "model", "tests", "tools"), ("check",), ("examples",), ("--python-version", EXAMPLES_PYTHON, "examples/bot.py"))
 
 
 def python_files() -> list[str]:
@@ -36,9 +36,9 @@ def main() -> None:
     """Calls both tools."""
     files = python_files()
     with tempfile.TemporaryDirectory() as kept:
-        mypy = ["mypy", "--strict", "--explicit-package-bases", "--no-error-summary", "--cache-dir", kept]
+        mypy = ["mypy", "--config-file", "pyproject.toml", "--cache-dir", kept]
         faults = [fault for call in CALLS for fault in faults_of([*mypy, *call])]
-    faults += faults_of(["flake8", "--isolated", f"--max-line-length={MOST_LETTERS}", f"--extend-ignore={IGNORED}", *files])
+    faults += faults_of(["flake8", "--config", ".flake8", *files])
     for fault in faults:
         print(f"FAILED: {fault}")
     if faults:

@@ -1,5 +1,5 @@
 //! Events that are drawn, legal or not, over a cycle of 64 nodes and one of 256: which of them are legal, as the plain
-//! model in Python, `tests/model`, says too. An error is want of memory.
+//! model in Python, `model/`, says too. An error is want of memory.
 use mml_board::{Board, Event};
 use mml_fakes::Numbers;
 use mml_fakes::cycles::cycle;

@@ -1,12 +1,12 @@
-"""Requests: which lines are one, and what they ask for."""
+"""Requests: which lines are requests, and what they ask for."""
 import json
 import math
 import re
 from collections.abc import Iterable
 from dataclasses import dataclass
-from typing import Any, NoReturn, Optional
+from typing import Any, NoReturn
 
-from tests.model.world import RULES, Move
+from model.world import RULES, Move
 
 GREATEST = 2**64 - 1
 DEEPEST = 127
@@ -15,7 +15,7 @@ STRING = re.compile(r'"(?:[^"\\]|\\.)*"')
 
 @dataclass(frozen=True)
 class Request:
-    """A word, and the values of the keys that it names; the others are as here."""
+    """The word of a request, and the values of the keys that belong to it. The other values are never read."""
 
     do: str
     name: str = ""
@@ -23,7 +23,7 @@ class Request:
     node: int = 0
     at: int = 0
     move: Move = Move("update")
-    p: Optional[int] = None
+    p: int | None = None
     m: bool = False
     a: int = 0
     b: int = 0
@@ -34,12 +34,12 @@ class Malformed(ValueError):
 
 
 def no_constant(word: str) -> NoReturn:
-    """NaN and the infinities are no JSON."""
+    """Refuses NaN and the infinities, which Python reads and JSON doesn't have."""
     raise Malformed(word)
 
 
-def number_in_range(text: str) -> float:
-    """A number with a point or an exponent, and one that is too large for an integer, if it is finite."""
+def finite(text: str) -> float:
+    """Returns the value of a number, which must not be past the greatest double."""
     value = float(text)
     if not math.isfinite(value):
         raise Malformed("a number out of range")
@@ -47,32 +47,32 @@ def number_in_range(text: str) -> float:
 
 
 def integer(text: str) -> float | int:
-    """An integer without sign up to the greatest; any other is a number of another kind."""
-    value = number_in_range(text)
+    """Returns an integer without sign up to the greatest one as an `int`, and any other number as a `float`."""
+    value = finite(text)
     return int(text) if not text.startswith("-") and int(text) <= GREATEST else value
 
 
-def well_formed(value: Any) -> None:
-    """Refuses strings in which half of a surrogate pair stands alone."""
+def check_letters(value: Any) -> None:
+    """Refuses strings that have one half of a surrogate pair alone."""
     if isinstance(value, str) and any("\ud800" <= letter <= "\udfff" for letter in value):
         raise Malformed("a lone surrogate")
     if isinstance(value, list):
         for item in value:
-            well_formed(item)
+            check_letters(item)
 
 
-def pairs(items: Iterable[tuple[str, Any]]) -> dict[str, Any]:
-    """An object: of two values under one key the last counts, and each is well formed."""
+def members(items: Iterable[tuple[str, Any]]) -> dict[str, Any]:
+    """Returns an object's members: of a key that stands twice the last value counts."""
     found = {}
     for key, value in items:
-        well_formed(key)
-        well_formed(value)
+        check_letters(key)
+        check_letters(value)
         found[key] = value
     return found
 
 
 def depth(text: str) -> int:
-    """How deep the brackets of a JSON text are nested."""
+    """Returns how deep the brackets of a JSON text are nested."""
     deepest = now = 0
     for letter in STRING.sub("", text):
         now += (letter in "[{") - (letter in "]}")
@@ -81,12 +81,12 @@ def depth(text: str) -> int:
 
 
 def document(line: bytes) -> dict[str, Any]:
-    """The object that the line spells."""
+    """Returns the object that a line spells in strict JSON."""
     text = line.decode("utf-8")
     if depth(text) > DEEPEST:
         raise Malformed("nested too deep")
     value = json.loads(
-        text, parse_int=integer, parse_float=number_in_range, parse_constant=no_constant, object_pairs_hook=pairs
+        text, parse_int=integer, parse_float=finite, parse_constant=no_constant, object_pairs_hook=members
     )
     if not isinstance(value, dict):
         raise Malformed("no object")
@@ -94,14 +94,14 @@ def document(line: bytes) -> dict[str, Any]:
 
 
 def named(value: dict[str, Any], key: str, *kinds: type) -> Any:
-    """The value of a key, which must be there and of one of these kinds to the letter: a truth value is no number."""
+    """Returns the value of a key, which must be there and of one of these kinds to the letter."""
     if key not in value or type(value[key]) not in kinds:
         raise Malformed(key)
     return value[key]
 
 
 def move_of(value: dict[str, Any]) -> Move:
-    """The rule of a move, and for a marriage its partner."""
+    """Returns the rule of a move; for a marriage also its partner."""
     rule = named(value, "rule", str)
     if rule not in RULES:
         raise Malformed("rule")
@@ -109,7 +109,7 @@ def move_of(value: dict[str, Any]) -> Move:
 
 
 def request_of(value: dict[str, Any]) -> Request:
-    """What an object asks for."""
+    """Returns what an object asks for."""
     do = named(value, "do", str)
     if do == "hello":
         return Request(do, name=named(value, "name", str), key=named(value, "key", str))
@@ -127,8 +127,8 @@ def request_of(value: dict[str, Any]) -> Request:
     raise Malformed("do")
 
 
-def read_request(line: bytes) -> Optional[Request]:
-    """The request that a line spells, or none where it is malformed."""
+def read_request(line: bytes) -> Request | None:
+    """Returns the request that a line spells, or None if it is malformed."""
     try:
         return request_of(document(line))
     except (ValueError, RecursionError):

@@ -1,0 +1,54 @@
+"""A second opinion on marks: the plain model (`model/`) reads the same journals and records as the proved program."""
+from __future__ import annotations
+
+import subprocess
+import sys
+import tempfile
+from itertools import zip_longest
+from pathlib import Path
+
+from classroom.core import record
+from classroom.core.printable import printable
+from classroom.core.program import TOP, Answer, host_call
+from classroom.marks.vouched import vouched
+
+
+def model_call(word: str, *files: Path) -> Answer:
+    """Returns what the plain model prints for a word of the program, and its exit status."""
+    call: list[str | Path] = [sys.executable, "-B", "-m", "model", word, *(file.absolute() for file in files)]
+    done = subprocess.run(call, cwd=TOP, stdin=subprocess.DEVNULL, capture_output=True, text=True, check=False)
+    return Answer(done.returncode, done.stdout, done.stderr.strip())
+
+
+def difference(word: str, *files: Path) -> str:
+    """Returns the first line in which the two differ, or nothing if they print the same and end alike."""
+    proved, plain = host_call(word, *files), model_call(word, *files)
+    if proved == plain:
+        return ""
+    lines = zip_longest((proved.output + proved.error).splitlines(), (plain.output + plain.error).splitlines(), fillvalue="nothing")
+    first, second = next((pair for pair in lines if pair[0] != pair[1]), (f"status {proved.status}", f"status {plain.status}"))
+    return f"{word}: the program prints {first!r}, the plain model {second!r}"
+
+
+def differences(lab: Path, journal: Path) -> list[str]:
+    """Returns what differs of a run: of its tally, and of each record in its folder.
+
+    The journal is copied first, since both must read the same bytes while a run goes on.
+    """
+    found = []
+    with tempfile.TemporaryDirectory() as room:
+        copy = Path(room) / "journal"
+        copy.write_bytes(journal.read_bytes())
+        found.append((journal, difference("tally", lab, copy)))
+    if journal.name == "journal" and record.kept(journal.parent):
+        with vouched(journal.parent) as parts:
+            found += [(part.record, difference(word, part.lab, part.journal, part.copy)) for part in parts for word in ("verify", "tally")]
+    return [f"{of}: {text}" for of, text in found if text]
+
+
+def compare(runs: list[tuple[Path, Path]]) -> bool:
+    """Says on standard error whether the two agree about all these runs. Returns whether they differ."""
+    lines = [line for lab, journal in runs for line in differences(lab, journal)]
+    for line in lines or ["the plain model agrees about all that is marked"]:
+        print(printable(f"class: {line}"), file=sys.stderr)
+    return bool(lines)

@@ -1,0 +1,165 @@
+"""The record: what each line asked and was answered, in a file for each seat, and how it is verified beside a journal."""
+import re
+from dataclasses import dataclass, field
+from pathlib import Path
+from typing import NamedTuple
+
+from model.events import apply
+from model.fault import Fault, read_file
+from model.journal import Event
+from model.lab import Lab
+from model.requests import GREATEST
+from model.run import LONGEST_REQUEST, answer
+
+MOST_BEGUN, MOST_RECORD = 20, 2**30
+BYE, NO_MEMORY, NO_JOURNAL = b'{"ok":"bye"}', b'{"refuse":"memory"}', b'{"refuse":"journal"}'
+NEWLINE = b"\n"
+NUMERAL = rb"(0|[1-9][0-9]{0,19})"
+STAMP = rb"%s %s " % (NUMERAL, NUMERAL)
+ASKED = re.compile(STAMP + rb"> ")
+# The kinds of entries. Another kind has its pattern here, and what it means in `Seat.take`.
+SAID = re.compile(STAMP + rb"(>) ([^\n]*)\n" + STAMP + rb"< ([^\n]*)\n")
+MARK = re.compile(STAMP + rb"([.!])\n")
+
+
+class Entry(NamedTuple):
+    """An entry: its mark, how many events had been seen, where its text ends, and of an answered line both texts."""
+
+    mark: bytes
+    seen: int
+    end: int
+    line: bytes = b""
+    reply: bytes = b""
+
+
+class Said(NamedTuple):
+    """A line that was answered: who was known when it came, the line, and its reply."""
+
+    known: str | None
+    line: bytes
+    reply: bytes
+
+
+@dataclass
+class Record:
+    """What the records of all seats come to."""
+
+    sessions: int = 0
+    said: list[Said] = field(default_factory=list)
+    granted: list[int] = field(default_factory=list)
+    whole: bool = True
+
+
+class Seat:
+    """The record of a seat, which is read entry by entry beside the events of a journal."""
+
+    def __init__(self, lab: Lab, events: list[Event], number: int, record: Record) -> None:
+        self.lab, self.events, self.number, self.record = lab, events, number, record
+        self.world = lab.opening()  # after the events that had been seen
+        self.known: str | None = None  # who is known in the session
+        self.is_over = False  # whether nothing more may be said in the session
+
+    def entry(self, text: bytes, at: int) -> Entry | str:
+        """Returns the entry that begins at a byte of the text, or why none does."""
+        said, mark = SAID.match(text, at), MARK.match(text, at)
+        if said and self.is_stamp(said) and said.group(1, 2) == said.group(5, 6):
+            return Entry(said[3], int(said[2]), said.end(), said[4], said[7])
+        if mark and self.is_stamp(mark):
+            return Entry(mark[3], int(mark[2]), mark.end())
+        # The text breaks off within the entry if its line has no newline, or is asked and the next one has none.
+        line, newline, rest = text[at:].partition(b"\n")
+        asked = ASKED.match(line)
+        is_asked = asked is not None and self.is_stamp(asked)
+        return "torn" if not newline or is_asked and b"\n" not in rest else "not an entry"
+
+    def is_stamp(self, found: re.Match[bytes]) -> bool:
+        """Returns whether an entry has the seat's number, and a number of events of 64 bits."""
+        return int(found[1]) == self.number and int(found[2]) <= GREATEST
+
+    def take(self, entry: Entry) -> str | None:
+        """Takes an entry as the next one of the seat, or returns why it can't be that."""
+        if entry.seen < self.world.place:
+            return "goes back"
+        if entry.seen > len(self.events):
+            return "past the journal's end"
+        while self.world.place < entry.seen:
+            apply(self.world, self.events[self.world.place].asked)
+        # The session ended, and the next one begins: nobody is known.
+        if entry.mark == b".":
+            self.known, self.is_over = None, False
+            self.record.sessions += 1
+            return None
+        # The rest of the session isn't recorded.
+        if entry.mark == b"!":
+            self.known, self.is_over = None, True
+            self.record.whole = False
+            return None
+        return self.judge(entry)
+
+    def judge(self, entry: Entry) -> str | None:
+        """Takes an answered line if its reply is that of the rules, or returns why it isn't."""
+        if self.is_over:
+            return "not the session's end"
+        place = self.world.place
+        found = answer(self.lab, self.world, self.known, entry.line)
+        said = Said(self.known, entry.line, entry.reply)
+        # Memory may be refused to any line, and a granted event by the journal: then nothing changes.
+        refusals = [NO_MEMORY] if found.event is None else [NO_MEMORY, NO_JOURNAL]
+        if entry.reply in refusals and len(entry.line) <= LONGEST_REQUEST:
+            self.record.said.append(said)
+            return None
+        # An event that the line grants must be the next one of the journal.
+        event = found.event and [Event(place + 1, self.world.number, str(self.known), found.event)]
+        is_reply = entry.reply == found.reply.encode("ascii")
+        if is_reply and event and event != self.events[place : place + 1]:
+            return f"not the journal's event at place {place + 1}"
+        if not is_reply or len(entry.line) > LONGEST_REQUEST:
+            return f"not the reply of the rules at place {place}"
+        if found.event is not None:
+            self.record.granted.append(place + 1)
+            apply(self.world, found.event)
+        self.record.said.append(said)
+        self.known, self.is_over = found.known, entry.reply == BYE
+        return None
+
+    def read(self, text: bytes) -> None:
+        """Reads the text of the seat's record. The error names the line of the first entry that can't be."""
+        at = 0
+        while at < len(text):
+            entry = self.entry(text, at)
+            why = entry if isinstance(entry, str) else self.take(entry)
+            if isinstance(entry, str) or why:
+                raise Fault(f"verify: seat {self.number}, line {1 + text.count(NEWLINE, 0, at)}: {why}", 3)
+            at = entry.end
+
+
+def check_places(record: Record, begun: int, events: int) -> None:
+    """Refuses a record unless its seats grant each event once; events before the record began none of them may grant."""
+    seen: set[int] = set()
+    for place in record.granted:
+        if place <= begun:
+            raise Fault(f"verify: place {place}: granted before the record began", 3)
+        if place in seen:
+            raise Fault(f"verify: place {place}: granted twice", 3)
+        seen.add(place)
+    for place in range(begun + 1, events + 1):
+        if record.whole and place not in seen:
+            raise Fault(f"verify: place {place}: granted in no record", 3)
+
+
+def read_record(lab: Lab, events: list[Event], folder: Path) -> Record:
+    """Returns what the record in a folder comes to beside the events of a journal. The error is why it doesn't pass."""
+    begun = read_file(folder / "begun", "record", MOST_BEGUN).removesuffix(b"\n")
+    if not re.fullmatch(rb"[0-9]{1,19}", begun):
+        raise Fault("read fault: record", 4)
+    record = Record()
+    for number in range(1, lab.sessions + 1):
+        Seat(lab, events, number, record).read(read_file(folder / f"{number}.record", "record", MOST_RECORD))
+    check_places(record, int(begun), len(events))
+    return record
+
+
+def verified(record: Record, events: list[Event]) -> str:
+    """Returns what verifying prints of a record that passes."""
+    end = "" if record.whole else ", not whole"
+    return f"ok: {record.sessions} sessions, {len(record.said)} lines, {len(events)} events{end}\n"

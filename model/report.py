@@ -1,0 +1,50 @@
+"""What views show: the registers of a node, a look at its neighbours, and the report."""
+from typing import Any
+
+from model.world import World
+
+
+def registers(world: World, i: int) -> dict[str, Any]:
+    """Returns a node and its registers, as `see` shows them."""
+    return {"node": i, "p": world.p[i], "m": world.m[i]}
+
+
+def look(world: World, i: int) -> dict[str, Any]:
+    """Returns a node with its neighbours, the rule of its chosen move, and its enabled rule."""
+    return {
+        **registers(world, i),
+        "near": [registers(world, j) for j in world.near(i)],
+        "chosen": world.chosen[i].rule if i in world.chosen else None,
+        "rule": world.enabled(i),
+    }
+
+
+def witness(world: World, rules: dict[int, str | None], a: int, b: int) -> tuple[int, str]:
+    """Returns the witness of an open link with the lower end a, and its enabled rule.
+
+    A walk follows the pointers from a, and then one from b, to the first node that is privileged or points at none. Its
+    end is the witness if a rule other than seduction is enabled there. If neither is, a may seduce.
+    """
+    for i in (a, b):
+        j = world.p[i]
+        while rules[i] is None and j is not None:
+            i, j = j, world.p[j]
+        rule = rules[i]
+        if rule is not None and rule != "seduction":
+            return i, rule
+    return a, "seduction"
+
+
+def report(world: World) -> dict[str, Any]:
+    """Returns the pairs, the free nodes, the privileged nodes, and the open links, each with its witness."""
+    rules = {i: world.enabled(i) for i in world.nodes()}
+    free = {i for i in world.nodes() if not world.married(i)}
+    links = [(a, b) for a in world.nodes() for b in world.near(a) if a < b]
+    privileged = [[i, rule] for i, rule in rules.items() if rule is not None]
+    return {
+        "pairs": [[a, b] for a, b in links if world.p[a] == b and world.p[b] == a],
+        "free": sorted(free),
+        "privileged": privileged,
+        "open": [[a, b, *witness(world, rules, a, b)] for a, b in links if a in free and b in free],
+        "stable": not privileged,
+    }

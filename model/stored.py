@@ -1,0 +1,45 @@
+"""The stored outputs of scripts, in `examples` and `tests/scripts`: the model writes them anew beside the old ones."""
+import difflib
+import sys
+from pathlib import Path
+
+from model.lab import read_lab
+from model.run import play
+
+TOP = Path(__file__).resolve().parent.parent
+FOLDERS = ("examples", "tests/scripts")
+
+
+def lab_of(script: Path) -> Path:
+    """Returns the lab of a script: NAME.toml for NAME.script and NAME-run.script, or else the built-in one."""
+    lab = script.with_name(script.stem.removesuffix("-run") + ".toml")
+    return lab if lab.exists() else TOP / "examples/built-in.toml"
+
+
+def renew(stored: Path, content: bytes) -> int:
+    """Writes an output beside the stored one if it differs, and prints the difference. Returns how many differ: 1 or 0."""
+    new = stored.with_name(f"{stored.name}.new")
+    new.unlink(missing_ok=True)
+    old = stored.read_bytes() if stored.exists() else b""
+    if content == old and stored.exists():
+        return 0
+    new.write_bytes(content)
+    before, after = (it.decode("ascii", "replace").splitlines(keepends=True) for it in (old, content))
+    sys.stdout.writelines(difflib.unified_diff(before, after, str(stored.relative_to(TOP)), str(new.relative_to(TOP))))
+    return 1
+
+
+def write_all() -> int:
+    """Plays all scripts; of each output that isn't the stored one writes FILE.new. Returns the exit status."""
+    scripts = [script for folder in FOLDERS for script in sorted((TOP / folder).glob("*.script"))]
+    others = 0
+    for script in scripts:
+        run, bad_line = play(read_lab(lab_of(script).read_bytes()), script.read_bytes())
+        if bad_line is not None:
+            print(f"{script.relative_to(TOP)}: line {bad_line}: bad line")
+        others += renew(script.with_suffix(".out"), run.printed())
+        # A journal is stored for some scripts only.
+        if script.with_suffix(".journal").exists():
+            others += renew(script.with_suffix(".journal"), run.written())
+    print(f"{len(scripts)} scripts, {others} outputs differ" + "; the new ones are beside them, as FILE.new" * bool(others))
+    return 1 if others else 0

@@ -1,0 +1,58 @@
+"""What the programs print, beside what the plain model prints for the same words."""
+from __future__ import annotations
+
+import subprocess
+from pathlib import Path
+
+from model import Ended, ended
+from tests.common.hosting import HOST
+from tests.common.preload import LIMIT, PROGRAM, fail
+
+OF_HOST = ("verify", "tally")
+
+
+def called(*words: str | Path) -> Ended:
+    """Returns how a call of the program that has this word ends."""
+    call: list[str | Path] = [HOST if words[0] in OF_HOST else PROGRAM, *words]
+    done = subprocess.run(call, stdin=subprocess.DEVNULL, capture_output=True, env=dict[str, str](), timeout=LIMIT, check=False)
+    return Ended(done.returncode, done.stdout, done.stderr)
+
+
+def first_other(found: bytes, wanted: bytes) -> str:
+    """Returns the first line that differs."""
+    pairs = list(zip(found.splitlines() + [b""], wanted.splitlines() + [b""]))
+    return next((f"line {k}: {a!r}, not {b!r}" for k, (a, b) in enumerate(pairs, 1) if a != b), "more lines or fewer")
+
+
+def compare(what: str, found: Ended, wanted: Ended) -> None:
+    """Fails if the program ended a call otherwise than the model."""
+    if found.out != wanted.out:
+        fail(f"{what}: another output than the model's: {first_other(found.out, wanted.out)}")
+    if found != wanted:
+        fail(f"{what}: {found.status}, {found.error!r}; the model: {wanted.status}, {wanted.error!r}")
+
+
+def agreed(what: str, *words: str | Path) -> Ended:
+    """Returns how a call of the program ends, which is how the model ends it too."""
+    found = called(*words)
+    compare(what, found, ended([str(word) for word in words]))
+    return found
+
+
+def agreed_script(what: str, lab: Path, script: Path, journal: Path) -> Ended:
+    """Returns how a script ends by the program, which is how it ends by the model too, with the same journal."""
+    found = called("script", lab, script, journal)
+    second = journal.with_suffix(".second")
+    second.unlink(missing_ok=True)
+    compare(what, found, ended(["script", str(lab), str(script), str(second)]))
+    if journal.read_bytes() != second.read_bytes():
+        fail(f"{what}: another journal than the model's: {first_other(journal.read_bytes(), second.read_bytes())}")
+    return found
+
+
+def said(line: str) -> Ended:
+    """Returns how a call ends that prints this line: one of a lab, a journal or a record that passes, or an error."""
+    text = f"{line}\n".encode()
+    if line.startswith("ok: "):
+        return Ended(0, text, b"")
+    return Ended(2 if line.startswith("lab: ") else 3, b"", text)

@@ -1,0 +1,111 @@
+"""The man pages mml(1) and class(1), made from what the words say of themselves.
+
+    python3 -B -m tests.documents.manuals      writes operate/mml.1 and operate/class.1 anew
+
+mml(1) has the lines of `./mml --help`, class(1) the words of `classroom.words` with their options.
+"""
+from __future__ import annotations
+
+import argparse
+import re
+import subprocess
+from collections.abc import Iterator
+from pathlib import Path
+
+from classroom.core.statuses import TABLE
+from classroom.words import EACH, EXAMPLES, parser
+
+TOP = Path(__file__).resolve().parents[2]
+FOLDER = TOP / "operate"
+IN_A_CLONE = "build"  # a word that no release has
+LINE = re.compile(r"  \./mml ?(.*?) {2,}(.*)")
+OF_ITSELF = "-h, --help"
+
+
+def plain(text: str) -> str:
+    """Returns a text as a manual's source has it: hyphens that can be typed, and no line that is a request."""
+    text = text.replace("\\", r"\e").replace("-", r"\-").replace("~", r"\(ti").replace("^", r"\(ha")
+    return re.sub(r"(?m)^([.'])", r"\\&\1", text)
+
+
+def bold(text: str) -> str:
+    """Returns a text in bold."""
+    return rf"\fB{plain(text)}\fR"
+
+
+def form(synopsis: str) -> str:
+    """Returns the form of a call: words in bold, and what is replaced, which stands in capitals, in italics."""
+    return re.sub(r"[A-Z]{2,}", lambda found: rf"\fI{found[0]}\fP", plain(synopsis))
+
+
+def head(name: str, what: str) -> Iterator[str]:
+    """Yields the first lines of a page."""
+    version = (TOP / "VERSION").read_text(encoding="ascii").strip()
+    yield f'.TH {name.upper()} 1 "" "Cenduwa {version}" "Cenduwa"'
+    yield from (".SH NAME", rf"{name} \- {plain(what)}")
+
+
+def foot(name: str, *pages: str) -> Iterator[str]:
+    """Yields the last lines of a page."""
+    named = ", ".join(rf"\fI{plain(page)}\fP" for page in pages)
+    yield from (".SH SEE ALSO", rf".BR {name} (1);", f"{named} of the release.")
+
+
+def mml() -> str:
+    """Returns the page of `mml`, by the lines that it prints for `--help`."""
+    done = subprocess.run([TOP / "mml", "--help"], stdin=subprocess.DEVNULL, capture_output=True, text=True, check=True)
+    first, *lines = done.stdout.splitlines()
+    words = [found.groups() for line in lines if (found := LINE.fullmatch(line))]
+    rest = " ".join(line for line in lines if not LINE.fullmatch(line))
+    source = [*head("mml", first.partition(": ")[2]), ".SH SYNOPSIS", ".B mml", r"[\fIWORD\fP \fI..\fP]"]
+    source += [".SH DESCRIPTION", plain(rest)]
+    for synopsis, what in words:
+        if synopsis != IN_A_CLONE:
+            source += [".TP", form(f"mml {synopsis}".strip()), plain(what) + "."]
+    source += [".SH EXIT STATUS", "0 if the work is done; each error line and its status is in", r"\fIdocs/LAB.md\fP."]
+    return "\n".join([*source, *foot("class", "docs/LAB.md", "docs/PROTOCOL.md", "docs/JOURNAL.md", "docs/RECORD.md", "docs/OPERATE.md")]) + "\n"
+
+
+def choices(every: argparse.ArgumentParser) -> dict[str, argparse.ArgumentParser]:
+    """Returns the parser of each word."""
+    found = (action.choices for action in every._actions if isinstance(action, argparse._SubParsersAction))
+    return dict(next(found))
+
+
+def term(action: argparse.Action) -> str:
+    """Returns how an option is written, or a word that stands by its place."""
+    value = str(action.metavar or (",".join(map(str, action.choices)) if action.choices else action.dest.upper()))
+    if not action.option_strings:
+        return form(value if action.metavar else action.dest.upper())
+    takes = "" if action.nargs == 0 else " " + form(value)
+    return ", ".join(map(bold, action.option_strings)) + takes
+
+
+def word(name: str) -> Iterator[str]:
+    """Yields the lines of a word of `class`: what it does, its options, an example."""
+    yield from (f'.SS "class {plain(name)}"', plain(EACH[name][0][0].upper() + EACH[name][0][1:]) + ".")
+    for action in choices(parser(name))[name]._actions:
+        if ", ".join(action.option_strings) != OF_ITSELF:
+            yield from (".TP", term(action), plain((action.help or "").replace("%%", "%")) or r"\&")
+    yield from (".PP", plain(EXAMPLES[name]))
+
+
+def classes() -> str:
+    """Returns the page of `class`, by its words."""
+    source = [*head("class", "a course on self-stabilising algorithms: labs, classes, marks"), ".SH SYNOPSIS", ".B class",
+              r"\fIWORD\fP [\fI..\fP]", ".SH DESCRIPTION", plain(str(parser("").description)), ".SH WORDS"]
+    for name in EACH:
+        source += word(name)
+    status = TABLE.partition(": ")[2]
+    source += [".SH EXIT STATUS", plain(status[0].upper() + status[1:]) + "."]
+    return "\n".join([*source, *foot("mml", "docs/TEACHER.md", "docs/STUDENT.md", "docs/COURSE.md", "docs/OPERATE.md")]) + "\n"
+
+
+def pages() -> dict[Path, str]:
+    """Returns the source of each page."""
+    return {FOLDER / "mml.1": mml(), FOLDER / "class.1": classes()}
+
+
+if __name__ == "__main__":
+    for page, text in pages().items():
+        page.write_text(text, encoding="ascii")
