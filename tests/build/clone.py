@@ -14,27 +14,40 @@ from pathlib import Path
 TOP = Path(__file__).resolve().parents[2]
 LIMIT = 300.0  # seconds after which something hangs
 CRATES = "# A line a crate.\nlow: itoa\nunused: low\nleft: low\nright: low\nmml_server: left\nmml_host: left right\n"
-# Proves one crate after another, waits before the one that the file `waits` names, and fails at the one that `fails` names.
+# Proves one crate after another by a process that is named as the prover is; in the first repository of a build, where
+# nothing is to be proved, that process doesn't end. Waits before the crate that the file `waits` names, fails at the one
+# that `fails` names, wants those that `meets` names to be proved side by side, and keeps nothing if `lacks` says so.
 STAND_IN = '''#!{python}
-import os, pathlib, re, subprocess, sys
+import os, pathlib, re, subprocess, sys, time
 if sys.argv[1:] == ["version"]:
     sys.exit("a-kit logic 1")
-room = pathlib.Path({room!r})
+room, here = pathlib.Path({room!r}), pathlib.Path.cwd()
 named = lambda name: (room / name).read_text() if (room / name).exists() else ""
 (room / "words").write_text(" ".join(sys.argv[1:]))
 (room / "seen").write_text("\\n".join(sorted(str(it) for it in pathlib.Path().rglob("*"))))
 (room / "temporary").write_text(os.environ["TMPDIR"])
-for crate in re.findall(r"(?m)^(\\w+):", pathlib.Path("crates.txt").read_text()):
+crates = re.findall(r"(?m)^(\\w+):", pathlib.Path("crates.txt").read_text())
+with (room / "runs").open("a") as it:
+    it.write(" ".join(crates) + "\\n")
+for crate in crates:
+    kept = room / "kept" / crate
+    if not kept.exists():
+        subprocess.run([room / "rattle", "1000" if here.name == "1" else "0.1"], cwd=here / "crates" / crate)
     if crate == named("waits"):
         child = subprocess.Popen(["sleep", "1000"])
-        (room / "pids").write_text(f"{{os.getpid()}} {{child.pid}}")
+        (room / "new").write_text(f"{{os.getpid()}} {{child.pid}}")
+        (room / "new").rename(room / "pids")
         child.wait()
-    kept = room / "kept" / crate
-    if crate == named("fails"):
+    if crate in named("meets").split():
+        (room / ("met-" + crate)).touch()
+        until = time.monotonic() + 100
+        while not all((room / ("met-" + it)).exists() for it in named("meets").split()) and time.monotonic() < until:
+            time.sleep(0.05)
+    if crate == named("fails") or crate in named("meets").split() and time.monotonic() >= until:
         print("== " + crate + "\\nsrc/lib.rt:1:1: error: a goal is open\\nrt: " + crate + " NOT PROVED\\n0 passed, 1 failed")
         sys.exit(1)
     how = "is kept: an earlier run on this machine proved the same files" if kept.exists() else "proved"
-    kept.touch()
+    named("lacks") or kept.touch()
     print(f"rt: {{crate}} {{how}}", flush=True)
     if not crate.startswith("mml_"):
         os.makedirs(f"crates/{{crate}}/out/rlib/{{crate}}.rlib")
@@ -42,8 +55,11 @@ for crate in re.findall(r"(?m)^(\\w+):", pathlib.Path("crates.txt").read_text())
     else:
         os.makedirs(f"crates/{{crate}}/out")
         pathlib.Path(f"crates/{{crate}}/out/{{crate}}").write_text(named("program") or "#!/bin/sh\\necho new\\n")
+if named("lacks"):
+    print("rt: note: " + named("lacks"))
 print("1 passed, 0 failed")
 '''
+PROVER = '#!/bin/sh\nsleep "$1" & wait\n'
 
 
 class InClone(unittest.TestCase):
@@ -64,14 +80,15 @@ class InClone(unittest.TestCase):
             source = self.clone / "crates" / crate / "src/lib.rt"
             source.parent.mkdir(parents=True)
             source.write_text(f"// {crate}\n", encoding="utf-8")
-        stand_in = self.bin / "rt"
-        stand_in.write_text(STAND_IN.format(python=sys.executable, room=str(self.room)), encoding="utf-8")
-        stand_in.chmod(0o755)
+        for file, text in ((self.bin / "rt", STAND_IN.format(python=sys.executable, room=str(self.room))), (self.room / "rattle", PROVER)):
+            file.write_text(text, encoding="utf-8")
+            file.chmod(0o755)
 
     def environment(self, **more: str) -> dict[str, str]:
-        """Returns an environment in which `rt` is the stand-in, and no program is named."""
+        """Returns an environment in which `rt` is the stand-in, proofs come one after another, and no program is named."""
         kept = {name: it for name, it in os.environ.items() if name not in ("MML_PROGRAM", "MML_HOST", "RT_JOBS")}
-        return {**kept, "PATH": f"{self.bin}:{os.environ['PATH']}", "TMPDIR": str(self.temporary), "PYTHONDONTWRITEBYTECODE": "1", **more}
+        return {**kept, "PATH": f"{self.bin}:{os.environ['PATH']}", "TMPDIR": str(self.temporary),
+                "PYTHONDONTWRITEBYTECODE": "1", "RT_JOBS": "1", **more}
 
     def set(self, name: str, text: str) -> None:
         """Tells the stand-in something."""

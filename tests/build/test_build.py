@@ -8,11 +8,13 @@ import shutil
 import signal
 import subprocess
 import unittest
+import unittest.mock
 from pathlib import Path
 
 from tests.build.clone import LIMIT, InClone, is_there
 from tools.build.crates import expected, lines, needed
 from tools.build.progress import Progress, chains
+from tools.build.proving import at_once_of, jobs_of, processors
 
 USES: dict[str, list[str]] = {"a": [], "b": [], "c": ["a"], "d": ["b"], "e": ["c", "d"]}
 SECONDS = {"a": 10.0, "b": 100.0, "c": 50.0, "d": 20.0, "e": 5.0}
@@ -24,17 +26,20 @@ class Estimates(unittest.TestCase):
     def test_order(self) -> None:
         """A crate is proved after those below it, and first the crate with the longest chain above it."""
         self.assertEqual(chains(USES, SECONDS), {"a": 65.0, "b": 125.0, "c": 55.0, "d": 25.0, "e": 5.0})
-        progress = Progress(USES, SECONDS, 1, 0.0)
-        for crate, after in (("b", "a"), ("a", "c"), ("c", "d"), ("d", "e")):
-            self.assertEqual([*progress.begun], [crate])
+        progress = Progress(USES, SECONDS, 1)
+        for crate in "bacde":
+            self.assertEqual((progress.next(), progress.is_first(crate)), ([crate], True))
+            progress.begun[crate] = 0.0
+            self.assertEqual(progress.next(), [])
             progress.note(crate, False, 0.0)
-            self.assertEqual([*progress.begun], [after])
-        self.assertEqual([*Progress(USES, SECONDS, 2, 0.0).begun], ["b", "a"])
+        progress = Progress(USES, SECONDS, 2)
+        self.assertEqual((progress.next(), progress.is_first("a")), (["b", "a"], False))
 
     def test_what_is_left(self) -> None:
         """Independent proofs run side by side, as many as there are processors."""
-        self.assertEqual([Progress(USES, SECONDS, number, 0.0).left(0.0) for number in (1, 2, 4)], [185.0, 125.0, 125.0])
-        progress = Progress(USES, SECONDS, 2, 0.0)
+        self.assertEqual([Progress(USES, SECONDS, number).left(0.0) for number in (1, 2, 4)], [185.0, 125.0, 125.0])
+        progress = Progress(USES, SECONDS, 2)
+        progress.begun = {"a": 0.0, "b": 0.0}
         self.assertEqual(progress.left(60.0), 65.0)
         progress.note("b", True, 0.0)
         progress.note("a", True, 0.0)
@@ -44,13 +49,23 @@ class Estimates(unittest.TestCase):
             progress.note(crate, False, 300.0)
         self.assertEqual(progress.line(0.0), "5 of 5 crates proved, 2 of them earlier")
 
+    def test_shares(self) -> None:
+        """Crates and processes of each fill the processors, and one proof more fills what a proof leaves idle at its ends."""
+        with unittest.mock.patch.dict(os.environ, {"RT_JOBS": ""}):
+            shares = [(number, jobs_of(number), at_once_of(number)) for number in (1, 2, 4, 6, 8, 16)]
+        self.assertEqual(shares, [(1, 1, 1), (2, 1, 2), (4, 2, 3), (6, 3, 3), (8, 4, 3), (16, 4, 5)])
+        with unittest.mock.patch.dict(os.environ, {"RT_JOBS": "3"}):
+            self.assertEqual((processors(), jobs_of(3), at_once_of(3)), (3, 1, 3))
+
     def test_another_pace(self) -> None:
         """A machine that takes twice as long as the table says is expected to go on so."""
         seconds = {crate: 100 * it for crate, it in SECONDS.items()}
-        progress = Progress(USES, seconds, 1, 0.0)
+        progress = Progress(USES, seconds, 1)
+        progress.begun = {"b": 0.0}
         progress.note("b", False, 20_000.0)
         self.assertAlmostEqual(progress.left(20_000.0) / 8_500, 2.0, delta=0.05)
-        self.assertGreater(progress.left(2_000_000.0), 8_500)
+        progress.begun = {"a": 20_000.0}
+        self.assertGreater(progress.left(2_000_000.0), 2 * 7_500)
 
     def test_the_table(self) -> None:
         """Each crate of both programs has its time."""
@@ -88,7 +103,7 @@ class Builds(InClone):
         git.mkdir()
         self.set("waits", "left")
         going = self.begun("./mml", "build")
-        self.assertRegex(str(Path(f"/proc/{self.pids()[0]}/cwd").readlink()), f"^{re.escape(str(git))}/mml-build-[0-9]+-[^/]+/repository$")
+        self.assertRegex(str(Path(f"/proc/{self.pids()[0]}/cwd").readlink()), f"^{re.escape(str(git))}/mml-build-[0-9]+-[^/]+/[0-9]+$")
         self.assertTrue(Path((self.room / "temporary").read_text(encoding="utf-8")).is_relative_to(self.temporary))
         os.kill(going.pid, signal.SIGTERM)
         self.ended(going)
@@ -122,18 +137,41 @@ class Builds(InClone):
         going = subprocess.Popen(["./mml", "build"], cwd=self.clone, stdin=subprocess.DEVNULL, stdout=subprocess.DEVNULL, stderr=theirs,
                                  env=self.environment(), start_new_session=True)
         os.close(theirs)
+        self.addCleanup(os.close, ours)
+        self.addCleanup(going.kill)
         said = b""
         while b"2 of 5 crates proved" not in said:
             said += os.read(ours, 1000)
+        self.waits(self.pids)
+        self.set("waits", "")
         os.kill(self.pids()[1], signal.SIGKILL)
         while b"5 of 5 crates proved" not in said:
             said += os.read(ours, 1000)
         self.assertEqual(going.wait(LIMIT), 0)
-        os.close(ours)
         shown = said.decode().replace("\r\n", "\n").rpartition("proof\n")[2].split("\r")
         self.assertGreater(len(shown), 2, said)
         self.assertTrue(all(re.match(r"mml: \d of 5 crates proved", line) for line in shown[1:]), shown)
         self.assertFalse(any("\n" in line for line in shown[:-1]), shown)
+
+    def test_side_by_side(self) -> None:
+        """What doesn't wait for one another is proved side by side, each crate in a repository of its own."""
+        self.set("meets", "left right")
+        done = self.call("./mml", "build", RT_JOBS="2")
+        self.assertEqual(done.returncode, 0, done.stderr)
+        runs = (self.room / "runs").read_text(encoding="utf-8").splitlines()
+        self.assertEqual(runs[:2], ["low left right mml_server mml_host", "low"])
+        self.assertEqual(sorted(runs[2:4]), ["low left", "low right"])
+        self.assertEqual(sorted(runs[4:]), ["low left mml_server", "low left right mml_host"])
+
+    def test_nothing_is_kept(self) -> None:
+        """Where the machine keeps nothing, one run proves all, and not one for each crate all that is below it."""
+        self.set("lacks", "the store cannot be used, so nothing is kept: the next run, and the merge, prove all again")
+        done = self.call("./mml", "build")
+        self.assertEqual(done.returncode, 0, done.stderr)
+        self.assertTrue(done.stderr.endswith("\nmml: 5 of 5 crates proved\n"), done.stderr)
+        every = "low left right mml_server mml_host"
+        self.assertEqual((self.room / "runs").read_text(encoding="utf-8").splitlines(), [every, "low", every])
+        self.assertEqual(self.call("./mml").stdout, "new\n")
 
     def test_a_second_clone(self) -> None:
         """What was proved on this machine is taken: the host's build proves what the server's didn't, a second clone nothing."""
@@ -158,7 +196,7 @@ class Builds(InClone):
                 self.assertEqual(going.returncode, -number)
                 self.assertIn("mml: stopped; what is proved is kept, and the next build goes on there\n", error)
                 self.waits(lambda: not [*self.temporary.iterdir()])
-                self.assertEqual([*self.clone.glob("crates/*/out")] + [*self.clone.glob("crates/*/build.log")], [])
+                self.assertEqual([*self.clone.glob("crates/mml_*/out")] + [*self.clone.glob("crates/*/build.log")], [])
         self.set("waits", "")
         done = self.call("./mml", "build")
         self.assertEqual(done.returncode, 0, done.stderr)

@@ -14,8 +14,8 @@ from classroom.client import LOST, MOST, STOPS
 from classroom.core import lab, statuses
 from classroom.run.run import CLOSING
 from classroom.words import parser
-from tools.build.crates import expected, needed
-from tools.build.progress import Progress
+from tools.build.__main__ import progress_of
+from tools.build.crates import needed
 from tools.check.parts import PROOFS, QUICK, minutes_of, wrong_beside
 
 TOP = Path(__file__).resolve().parents[2]
@@ -84,7 +84,7 @@ def times() -> Iterator[tuple[str, tuple[str, ...]]]:
     """The ways in which README.md may say how long checks and builds take."""
     proofs, quick = minutes_of([[PROOFS, wrong_beside()], QUICK], PROCESSORS)
     both = needed(["mml_server", "mml_host"])
-    build = Progress(both, expected(both), PROCESSORS, 0.0).left(0.0) / 60
+    build = progress_of(both, PROCESSORS).left(0.0) / 60
     for command, minutes in (("| `./check` | sets up, and tests everything, in a clone with the toolchain | {} |", proofs + quick),
                              ("| `./class demo` | sets up, and runs a class with four bots | ten seconds\\*; in a clone, the first time, {} |", build),
                              ("| `./check quick` | all that needs no proof, over the programs that are built | {} |", quick),

@@ -16,12 +16,14 @@ import time
 from pathlib import Path
 
 from tools.build.crates import TOP, Uses, expected, needed
-from tools.build.place import place, take, take_libraries
+from tools.build.place import room
 from tools.build.progress import Progress, told
-from tools.build.running import Stopped, end_with_parent, heed_signals, run
+from tools.build.proving import Proving, at_once_of, jobs_of, processors
+from tools.build.running import Screen, Stopped, end_with_parent, heed_signals
 
 WRONG = re.compile(r"error|: (not proved|no proof)|NOT PROVED|run rt fmt|^rt: (FAILED|note|the disk)")
 MOST_SHOWN = 5  # lines of what went wrong
+ALONE = 0.2  # of a proof is done by one process, however many there are
 
 
 def say(line: str) -> None:
@@ -29,17 +31,17 @@ def say(line: str) -> None:
     print(f"mml: {line}", file=sys.stderr, flush=True)
 
 
-def processors() -> int:
-    """Returns how many proofs run side by side: `rt` asks the same."""
-    asked = os.environ.get("RT_JOBS", "")
-    return max(int(asked) if asked.isdigit() else 0, 0) or len(os.sched_getaffinity(0))
+def progress_of(crates: Uses, number: int) -> Progress:
+    """Returns the progress of proofs that haven't begun, on so many processors."""
+    share = ALONE + (1 - ALONE) / jobs_of(number)
+    return Progress(crates, {crate: seconds * share for crate, seconds in expected(crates).items()}, at_once_of(number))
 
 
-def tell_beginning(programs: list[str], crates: Uses, progress: Progress, now: float) -> None:
+def tell_beginning(programs: list[str], progress: Progress) -> None:
     """Says what is done, how long that takes, and what else there is."""
-    side = progress.processors
-    say(f"building {' and '.join(programs)}, after proving {len(crates)} crates; what this machine has proved before is taken")
-    say(f"from nothing that takes {told(progress.left(now))} on {side} processor{'s' if side > 1 else ''}, by the times of another "
+    side = processors()
+    say(f"building {' and '.join(programs)}, after proving {len(progress.crates)} crates; what this machine has proved before is taken")
+    say(f"from nothing that takes {told(progress.left(0.0))} on {side} processor{'s' if side > 1 else ''}, by the times of another "
         "machine; stop it when you like, and the next build goes on there; ./try answers without a proof")
 
 
@@ -56,16 +58,23 @@ def tell_failure(log: Path, programs: list[str]) -> None:
 def build(programs: list[str]) -> int:
     """Builds programs, and returns the status."""
     crates = needed(programs)
-    progress = Progress(crates, expected(crates), processors(), time.monotonic())
-    tell_beginning(programs, crates, progress, time.monotonic())
-    with place(crates) as here:
-        status = run(here, progress)
-        if status != 0 or not all([take(here.repository, it) for it in programs]):
-            tell_failure(here.log, programs)
+    progress, screen = progress_of(crates, processors()), Screen()
+    tell_beginning(programs, progress)
+    began = time.time()
+    with room() as here:
+        try:
+            failed = Proving(here, crates, progress, screen).all()
+        finally:
+            screen.close(progress)
+        if failed:
+            tell_failure(failed, programs)
             return 1
-        take_libraries(here.repository, crates)
-    for program in programs:
+    made = [TOP / "crates" / it / "out" / it for it in programs]
+    for program, file in zip(programs, made):
         (TOP / "crates" / program / "build.log").unlink(missing_ok=True)
+        if not file.exists() or file.stat().st_mtime < began - 1:
+            say(f"the build failed: it made no {program}")
+            return 1
     return 0
 
 

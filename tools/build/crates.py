@@ -11,17 +11,21 @@ UNKNOWN = 60.0  # seconds of a crate's proof if the table has no crate at all
 Uses = dict[str, list[str]]
 
 
-def lines() -> dict[str, str]:
+def lines(top: Path = TOP) -> dict[str, str]:
     """Returns each crate of `crates.txt` with its line, in the file's order: each after those that it uses."""
-    text = (TOP / "crates.txt").read_text(encoding="utf-8")
+    text = (top / "crates.txt").read_text(encoding="utf-8")
     return {found[2]: found[1] for found in re.finditer(r"(?m)^((\w+)[^:\n#]*:.*)$", text)}
 
 
 def needed(programs: list[str]) -> Uses:
     """Returns these programs and all crates below them, each with the crates that it uses, in the file's order."""
     every = lines()
-    uses = {crate: [it for it in line.partition(":")[2].split() if it in every] for crate, line in every.items()}
-    found, near = set[str](), [*programs]
+    return with_those_below(programs, {crate: [it for it in line.partition(":")[2].split() if it in every] for crate, line in every.items()})
+
+
+def with_those_below(crates: list[str], uses: Uses) -> Uses:
+    """Returns these crates and all below them."""
+    found, near = set[str](), [*crates]
     while near:
         crate = near.pop()
         if crate not in found:

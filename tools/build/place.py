@@ -1,6 +1,6 @@
-"""Where a build proves: a small repository with the sources of the crates that it needs.
+"""Where a build proves: in small repositories with the sources of a crate and of those below it.
 
-`rt ci` proves in it from nothing what no earlier run on this machine proved, as it does at the top of a clone, and
+`rt ci` proves in one from nothing what no earlier run on this machine proved, as it does at the top of a clone, and
 leaves programs and libraries there. It sees no file of the clone that may be edited meanwhile, and the clone keeps
 what `rt check` left in it.
 """
@@ -26,15 +26,34 @@ NOT_SOURCES = shutil.ignore_patterns(".*", "*~")
 
 @dataclass(frozen=True)
 class Place:
-    """The repository, a folder for temporary files, and what `rt ci` writes."""
+    """A repository, a folder for temporary files, and what `rt ci` writes there."""
 
     repository: Path
     temporary: Path
     log: Path
 
 
+@dataclass
+class Room:
+    """The folder in which the repositories of a build stand, the sources as they were when it began, and another
+    folder for temporary files."""
+
+    folder: Path
+    temporary: Path
+    count: int = 0
+
+    def place(self, crates: Uses) -> Place:
+        """Makes a repository of these crates."""
+        self.count += 1
+        place = Place(self.folder / str(self.count), self.temporary, self.folder / f"{self.count}.log")
+        fill(place.repository, crates, self.folder / "sources" if self.count > 1 else TOP)
+        if self.count == 1:
+            fill(self.folder / "sources", crates, place.repository)
+        return place
+
+
 def homes() -> list[Path]:
-    """Returns where the repository may stand, and then where temporary files do. Git's own folder is on the clone's
+    """Returns where the repositories may stand, and then where temporary files do. Git's own folder is on the clone's
     disk, and no check looks into it; libraries take gigabytes, which may be more than the system has for temporary
     files."""
     git, temporary = TOP / ".git", Path(tempfile.gettempdir())
@@ -50,31 +69,30 @@ def sweep() -> None:
 
 
 @contextmanager
-def place(crates: Uses) -> Iterator[Place]:
-    """Gives a place with a repository of these crates, and removes it at the end."""
+def room() -> Iterator[Room]:
+    """Gives a room for repositories, and removes it at the end."""
     sweep()
     folders = []
     try:
         for home in homes():
             folders.append(Path(tempfile.mkdtemp(prefix=f"{PREFIX}{os.getpid()}-", dir=home)))
-        room, temporary = folders
-        temporary.chmod(0o711)  # As root, `rt ci` runs programs as nobody, in folders below.
-        fill(room / "repository", crates)
-        yield Place(room / "repository", temporary, room / "log")
+        folders[1].chmod(0o711)  # As root, `rt ci` runs programs as nobody, in folders below.
+        yield Room(folders[0], folders[1])
     finally:
         for folder in [*folders, *folders]:  # Twice: a process that was killed may still have written.
             shutil.rmtree(folder, ignore_errors=True)
 
 
-def fill(top: Path, crates: Uses) -> None:
-    """Copies the sources of crates, with their lines of `crates.txt` and what `HANDLES` allows."""
+def fill(top: Path, crates: Uses, of: Path) -> None:
+    """Copies the sources of crates, with their lines of `crates.txt` and what `HANDLES` allows, from one folder to
+    another."""
     (top / ".git").mkdir(parents=True)  # `rt ci` wants to be at the top of a repository.
-    every = lines()
+    every = lines(of)
     (top / "crates.txt").write_text("".join(f"{every[crate]}\n" for crate in crates), encoding="utf-8")
-    if (TOP / "HANDLES").exists():
-        shutil.copyfile(TOP / "HANDLES", top / "HANDLES")
+    if (of / "HANDLES").exists():
+        shutil.copyfile(of / "HANDLES", top / "HANDLES")
     for crate in crates:
-        here, there = TOP / "crates" / crate, top / "crates" / crate
+        here, there = of / "crates" / crate, top / "crates" / crate
         there.mkdir(parents=True)
         for name in FOLDERS:
             if (here / name).is_dir():
@@ -84,15 +102,14 @@ def fill(top: Path, crates: Uses) -> None:
                 shutil.copyfile(here / name, there / name)
 
 
-def take_libraries(top: Path, crates: Uses) -> None:
-    """Moves the libraries of that repository to this clone, where wrong bodies are tried over them. Those that
-    `rt check` has built here, which have a stamp, stay."""
-    for crate in crates:
-        made, to = (it / "crates" / crate / "out/rlib" for it in (top, TOP))
-        if made.is_dir() and not (to / "stamp").exists():
-            to.parent.mkdir(exist_ok=True)
-            shutil.rmtree(to, ignore_errors=True)
-            shutil.move(made, to)
+def take_library(top: Path, crate: str) -> None:
+    """Moves a library of that repository to this clone, where wrong bodies are tried over it. One that `rt check` has
+    built here, which has a stamp, stays."""
+    made, to = (it / "crates" / crate / "out/rlib" for it in (top, TOP))
+    if made.is_dir() and not (to / "stamp").exists():
+        to.parent.mkdir(exist_ok=True)
+        shutil.rmtree(to, ignore_errors=True)
+        shutil.move(made, to)
 
 
 def take(top: Path, program: str) -> bool:

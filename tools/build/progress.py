@@ -1,7 +1,6 @@
-"""How far a build is, and an estimate of how long the rest takes.
+"""Which proofs come next, how far a build is, and an estimate of how long the rest takes.
 
-`rt ci` says when a crate is proved, and not when its proof begins. So its order is imitated here: as many proofs side
-by side as there are processors, each after the crates below it, and first those with the longest chain above them.
+A proof comes after those of the crates below it, and first comes the one with the longest chain of proofs above it.
 """
 from __future__ import annotations
 
@@ -23,32 +22,28 @@ def chains(crates: Uses, seconds: dict[str, float]) -> dict[str, float]:
     return longest
 
 
-def first(ready: list[str], longest: dict[str, float]) -> list[str]:
-    """Returns crates in the order in which their proofs begin."""
-    return sorted(ready, key=lambda crate: -longest[crate])
-
-
 class Progress:
-    """The crates that are proved, and those whose proofs are under way."""
+    """The crates that are proved, and those whose proofs are under way, of which so many are side by side."""
 
-    def __init__(self, crates: Uses, seconds: dict[str, float], processors: int, now: float) -> None:
-        self.crates, self.seconds, self.processors = crates, seconds, processors
+    def __init__(self, crates: Uses, seconds: dict[str, float], at_once: int) -> None:
+        self.crates, self.seconds, self.at_once = crates, seconds, at_once
         self.longest = chains(crates, seconds)
         self.proved, self.kept = set[str](), set[str]()
         self.begun: dict[str, float] = {}
         self.took, self.planned = TRUST, TRUST
-        self.begin(now)
-
-    def begin(self, now: float) -> None:
-        """Begins as many proofs as processors are free."""
-        free = self.processors - len(self.begun)
-        for crate in self.ready(self.proved, {*self.begun})[:max(free, 0)]:
-            self.begun[crate] = now
 
     def ready(self, proved: set[str], begun: set[str]) -> list[str]:
         """Returns the crates whose proofs can begin, in their order."""
         left = [crate for crate in self.crates if crate not in proved and crate not in begun]
-        return first([crate for crate in left if proved.issuperset(self.crates[crate])], self.longest)
+        return sorted([crate for crate in left if proved.issuperset(self.crates[crate])], key=lambda crate: -self.longest[crate])
+
+    def next(self) -> list[str]:
+        """Returns the crates whose proofs are to begin now."""
+        return self.ready(self.proved, {*self.begun})[:max(self.at_once - len(self.begun), 0)]
+
+    def is_first(self, crate: str) -> bool:
+        """Returns whether the longest chain of all that is left begins with this crate."""
+        return all(self.longest[crate] >= self.longest[it] for it in self.crates if it not in self.proved)
 
     def note(self, crate: str, is_kept: bool, now: float) -> None:
         """Notes that a crate is proved, now or, if it is kept, by an earlier run."""
@@ -61,19 +56,18 @@ class Progress:
             self.took += now - begun
             self.planned += self.seconds[crate]
         self.proved.add(crate)
-        self.begin(now)
 
     def left(self, now: float) -> float:
         """Returns the seconds that the rest is expected to take at the pace of this machine."""
         pace = self.took / self.planned
         ends = {crate: max(self.seconds[crate] * pace - (now - begun), OVERRUN * (now - begun)) for crate, begun in self.begun.items()}
         proved, at = {*self.proved}, 0.0
-        while ends:
+        while len(proved) < len(self.crates):
+            for more in self.ready(proved, {*ends})[:self.at_once - len(ends)]:
+                ends[more] = at + self.seconds[more] * pace
             crate = min(ends, key=lambda it: ends[it])
             at = ends.pop(crate)
             proved.add(crate)
-            for more in self.ready(proved, {*ends})[:self.processors - len(ends)]:
-                ends[more] = at + self.seconds[more] * pace
         return at
 
     def line(self, now: float) -> str:

@@ -1,4 +1,4 @@
-"""A run of `rt ci` with its progress line, which a signal ends."""
+"""Runs of `rt ci`, side by side, with their progress line. A signal ends them."""
 from __future__ import annotations
 
 import ctypes
@@ -16,9 +16,11 @@ from tools.build.progress import Progress
 
 ENDING = (signal.SIGINT, signal.SIGTERM, signal.SIGHUP)
 PR_SET_PDEATHSIG = 1
-POLL = 0.2  # seconds between two looks at the output
 PATIENCE = 10.0  # seconds that `rt ci` has to end once it was asked to
+LATER = 5  # how much nicer a proof is that the longest chain doesn't wait for
+PROVER = "rattle"  # the name of a process that proves
 PROVED = re.compile(r"^rt: (\w+) (?:proved|(is kept): .*)$", re.MULTILINE)
+NOT_KEPT = re.compile(r"^rt: note: .*(nothing is kept|is not kept)", re.MULTILINE)
 
 
 class Stopped(Exception):
@@ -46,15 +48,10 @@ def end_with_parent() -> None:
     ctypes.CDLL(None, use_errno=True).prctl(PR_SET_PDEATHSIG, signal.SIGTERM, 0, 0, 0)
 
 
-def end(process: subprocess.Popen[bytes]) -> None:
-    """Ends a run of `rt ci` if it goes on, with what it started: what it set apart from its group its own guard ends."""
-    if process.poll() is None:
-        os.killpg(process.pid, signal.SIGTERM)
-        try:
-            process.wait(PATIENCE)
-        except subprocess.TimeoutExpired:
-            os.killpg(process.pid, signal.SIGKILL)
-            process.wait()
+def begin_later() -> None:
+    """As above, for a process that leaves others the processors that they want."""
+    end_with_parent()
+    os.nice(LATER)
 
 
 class Screen:
@@ -62,64 +59,76 @@ class Screen:
 
     def __init__(self) -> None:
         self.is_terminal = sys.stderr.isatty()
-        self.shown, self.at = "", 0.0
+        self.shown, self.at, self.is_new = "", 0.0, True
 
-    def show(self, line: str, is_new: bool) -> None:
-        """Shows a line, at most once a second."""
+    def show(self, progress: Progress) -> None:
+        """Shows how far it is, at most once a second."""
         now = time.monotonic()
-        if line != self.shown and now >= self.at + 1 and (is_new or self.is_terminal):
-            self.put(line)
-            self.at = now
+        if now >= self.at + 1 and (self.is_new or self.is_terminal):
+            self.put(progress.line(now))
+            self.at, self.is_new = now, False
 
     def put(self, line: str) -> None:
-        """Shows a line at once."""
-        begin, end_ = ("\r", "\x1b[K") if self.is_terminal else ("", "\n")
-        print(f"{begin}mml: {line}", end=end_, file=sys.stderr, flush=True)
+        """Shows a line at once, if it is another one."""
+        begin, end = ("\r", "\x1b[K") if self.is_terminal else ("", "\n")
+        if line != self.shown:
+            print(f"{begin}mml: {line}", end=end, file=sys.stderr, flush=True)
         self.shown = line
 
-    def close(self, line: str) -> None:
+    def close(self, progress: Progress) -> None:
         """Shows the last line, and ends it."""
-        if line != self.shown:
-            self.put(line)
+        self.put(progress.line(time.monotonic()))
         if self.is_terminal:
             print(file=sys.stderr, flush=True)
 
 
-class Log:
-    """What `rt ci` writes, of which each line is read once."""
+class Run:
+    """A run of `rt ci` over the repository of a place."""
 
-    def __init__(self, path: Path) -> None:
-        self.path, self.read = path, 0
+    def __init__(self, place: Place, is_first: bool = True) -> None:
+        self.place, self.read = place, 0
+        with place.log.open("wb") as output:
+            self.process = subprocess.Popen(
+                ["rt", "ci"], cwd=place.repository, stdin=subprocess.DEVNULL, stdout=output, stderr=subprocess.STDOUT,
+                env={**os.environ, "TMPDIR": str(place.temporary)}, start_new_session=True,
+                preexec_fn=end_with_parent if is_first else begin_later,
+            )
 
-    def follow(self, progress: Progress) -> bool:
-        """Notes the crates that are proved now; returns whether there are any."""
-        with self.path.open("rb") as it:
+    def follow(self, progress: Progress, screen: Screen) -> None:
+        """Notes the crates that it says are proved, each once."""
+        with self.place.log.open("rb") as it:
             it.seek(self.read)
             whole, newline, _ = it.read().rpartition(b"\n")
         self.read += len(whole + newline)
-        found = [*PROVED.finditer(whole.decode(errors="replace"))]
-        for it_ in found:
-            progress.note(it_[1], bool(it_[2]), time.monotonic())
-        return bool(found)
+        for found in PROVED.finditer(whole.decode(errors="replace")):
+            screen.is_new = screen.is_new or found[1] not in progress.proved
+            progress.note(found[1], bool(found[2]), time.monotonic())
 
+    def has_ended(self) -> bool:
+        """Returns whether it has ended."""
+        return self.process.poll() is not None
 
-def run(place: Place, progress: Progress) -> int:
-    """Runs `rt ci` over the repository of a place, and returns its status. Raises `Stopped` at a signal, after ending
-    the run."""
-    log, screen = Log(place.log), Screen()
-    with log.path.open("wb") as output:
-        process = subprocess.Popen(
-            ["rt", "ci"], cwd=place.repository, stdin=subprocess.DEVNULL, stdout=output, stderr=subprocess.STDOUT,
-            env={**os.environ, "TMPDIR": str(place.temporary)}, start_new_session=True, preexec_fn=end_with_parent,
-        )
-    is_new = True
-    try:
-        while process.poll() is None:
-            screen.show(progress.line(time.monotonic()), is_new)
-            time.sleep(POLL)
-            is_new = log.follow(progress) or is_new and not screen.shown
-    finally:
-        end(process)
-        log.follow(progress)
-        screen.close(progress.line(time.monotonic()))
-    return process.returncode
+    def lacks_keeping(self) -> bool:
+        """Returns whether it says that what it proved isn't kept for other runs."""
+        return bool(NOT_KEPT.search(self.place.log.read_text(encoding="utf-8", errors="replace")))
+
+    def is_proving(self) -> bool:
+        """Returns whether a process below it proves something."""
+        here = str(self.place.repository.resolve())
+        for process in Path("/proc").glob("[0-9]*"):
+            try:
+                if (process / "comm").read_text(encoding="utf-8").strip() == PROVER and os.readlink(process / "cwd").startswith(here):
+                    return True
+            except OSError:
+                continue
+        return False
+
+    def end(self) -> None:
+        """Ends it if it goes on, with what it started: what it set apart from its group its own guard ends."""
+        if not self.has_ended():
+            os.killpg(self.process.pid, signal.SIGTERM)
+            try:
+                self.process.wait(PATIENCE)
+            except subprocess.TimeoutExpired:
+                os.killpg(self.process.pid, signal.SIGKILL)
+                self.process.wait()

@@ -1,0 +1,133 @@
+"""Proves crates by runs of `rt ci`, and puts what they make into the clone.
+
+One run over all crates first takes what this machine has proved before. It is ended where it would prove: alone in its
+repository a crate is proved by several processes, and else mostly by one, while the crates above it wait. So each of
+the others has a run of its own, over what the runs before it kept.
+"""
+from __future__ import annotations
+
+import os
+import re
+import shutil
+import time
+from pathlib import Path
+
+from tools.build.crates import Uses, with_those_below
+from tools.build.place import Place, Room, take, take_library
+from tools.build.progress import Progress
+from tools.build.running import Run, Screen
+
+POLL = 0.2  # seconds between two looks at the runs
+MOST_JOBS = 4  # processes of a proof, at most
+MEMORY = 4_000_000_000  # bytes that have to be free for one more proof side by side
+
+
+def asked() -> int:
+    """Returns how many processes `rt` is told to prove by, each a crate; 0 if it chooses."""
+    number = os.environ.get("RT_JOBS", "")
+    return int(number) if number.isdigit() else 0
+
+
+def processors() -> int:
+    """Returns how many processors there are to prove by."""
+    return asked() or len(os.sched_getaffinity(0))
+
+
+def jobs_of(number: int) -> int:
+    """Returns by how many processes `rt ci` proves a crate that is alone in its repository, on so many processors."""
+    return 1 if asked() else max(1, min(MOST_JOBS, number // 2))
+
+
+def at_once_of(number: int) -> int:
+    """Returns how many crates are proved side by side: one more than fit, since a proof begins and ends as one process."""
+    each = jobs_of(number)
+    return -(-number // each) + (each > 1)
+
+
+def has_memory() -> bool:
+    """Returns whether one more proof fits into the free memory."""
+    free = re.search(r"MemAvailable:\s+(\d+)", Path("/proc/meminfo").read_text(encoding="ascii"))
+    return free is None or 1024 * int(free[1]) >= MEMORY
+
+
+class Proving:
+    """The proofs of crates in a room, with their progress."""
+
+    def __init__(self, room: Room, crates: Uses, progress: Progress, screen: Screen) -> None:
+        self.room, self.crates, self.progress, self.screen = room, crates, progress, screen
+        self.runs: dict[str, Run] = {}
+
+    def all(self) -> Path | None:
+        """Proves all; returns the log of the run that failed, if one did."""
+        try:
+            whole = Run(self.room.place(self.crates))
+            self.runs[""] = whole
+            if self.is_over(whole, is_look=True):
+                return self.outcome(whole, self.crates)
+            whole.end()
+            self.take(whole.place, self.progress.proved)
+            return self.each()
+        finally:
+            for run in self.runs.values():
+                run.end()
+
+    def is_over(self, run: Run, is_look: bool) -> bool:
+        """Follows a run over all crates to its end, or, if it is a look, until it proves; returns whether it has ended."""
+        while not run.has_ended():
+            if is_look and run.is_proving():
+                run.follow(self.progress, self.screen)
+                return run.has_ended()
+            self.screen.show(self.progress)
+            time.sleep(POLL)
+            run.follow(self.progress, self.screen)
+        run.follow(self.progress, self.screen)
+        return True
+
+    def each(self) -> Path | None:
+        """Proves the crates that are left, each by a run of its own; returns the log of one that failed."""
+        self.runs.clear()
+        while len(self.progress.proved) < len(self.crates):
+            self.begin()
+            self.screen.show(self.progress)
+            time.sleep(POLL)
+            for crate, run in [*self.runs.items()]:
+                if run.has_ended():
+                    del self.runs[crate]
+                    run.follow(self.progress, self.screen)
+                    failed = self.outcome(run, [crate])
+                    if failed or run.lacks_keeping():
+                        return failed or self.by_one_run()
+                    shutil.rmtree(run.place.repository, ignore_errors=True)
+        return None
+
+    def by_one_run(self) -> Path | None:
+        """Proves all by one run, since nothing is kept for others; returns its log if it failed."""
+        for run in self.runs.values():
+            run.end()
+        whole = Run(self.room.place(self.crates))
+        self.runs = {"": whole}
+        self.progress.proved.clear()
+        self.progress.begun.clear()
+        self.is_over(whole, is_look=False)
+        return self.outcome(whole, self.crates)
+
+    def begin(self) -> None:
+        """Begins the proofs that come next, as long as there is memory."""
+        for crate in self.progress.next():
+            if not self.runs or has_memory():
+                place = self.room.place(with_those_below([crate], self.crates))
+                self.runs[crate] = Run(place, self.progress.is_first(crate))
+                self.progress.begun[crate] = time.monotonic()
+
+    def outcome(self, run: Run, crates: list[str] | Uses) -> Path | None:
+        """Puts what a run made of crates into the clone; returns its log if it failed."""
+        if run.process.returncode != 0 or not self.progress.proved.issuperset(crates):
+            return run.place.log
+        self.take(run.place, {*crates})
+        return None
+
+    def take(self, place: Place, crates: set[str]) -> None:
+        """Puts the libraries and programs of a repository into the clone."""
+        for crate in crates:
+            take_library(place.repository, crate)
+            take(place.repository, crate)
