@@ -9,7 +9,6 @@ from pathlib import Path
 from typing import Any
 
 from classroom.core.lists import Person
-from classroom.core.printable import printable
 from classroom.core.program import CLASS, Fault, call
 
 MOST_EVENTS = 100_000
@@ -121,8 +120,13 @@ def with_house_apart(told: str, lab: Lab) -> str:
 
 
 def quoted(word: str) -> str:
-    """A string as TOML and JSON both have it."""
-    return json.dumps(word, ensure_ascii=False)
+    """A string as TOML has it, and JSON too where it is printable; what isn't printable is escaped."""
+    return "".join(char if char.isprintable() else escaped(char) for char in json.dumps(word, ensure_ascii=False))
+
+
+def escaped(char: str) -> str:
+    """A character as TOML escapes it."""
+    return f"\\u{ord(char):04x}" if ord(char) < 0x10000 else f"\\U{ord(char):08x}"
 
 
 def text(lab: Lab) -> str:
@@ -134,8 +138,8 @@ def text(lab: Lab) -> str:
     for name, key in lab.students.items():
         lines += ["", "[[student]]", f"name = {quote(name)}", f"key = {quote(key)}"]
         person = lab.people.get(name)
-        lines += [f"written = {quote(printable(person.written))}"] if person else []
-        lines += [f"id = {quote(printable(person.id))}"] if person and person.id else []
+        lines += [f"written = {quote(person.written)}"] if person else []
+        lines += [f"id = {quote(person.id)}"] if person and person.id else []
     for node in lab.nodes:
         lines += ["", "[[node]]", f"id = {node.id}"]
         owners = ", ".join(map(quote, node.owners))
