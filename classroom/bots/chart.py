@@ -8,7 +8,7 @@ from html import escape
 from classroom.bots.measuring import Row
 from classroom.core import bounds
 from classroom.core.bounds import MOVES
-from classroom.pages.drawing import STYLE
+from classroom.pages import colours
 
 WIDE, HIGH = 360, 300  # of a panel
 LEFT, RIGHT, ABOVE, BELOW = 48, 14, 30, 38
@@ -65,7 +65,7 @@ def line(points: Sequence[tuple[float, float]], kind: str, colour: str = "") -> 
     if len(points) == 1:
         points = [(points[0][0] - 8, points[0][1]), (points[0][0] + 8, points[0][1])]
     path = " ".join(f"{'M' if index == 0 else 'L'}{x:.1f} {y:.1f}" for index, (x, y) in enumerate(points))
-    style = f' style="stroke: var({colour})"' if colour else ""
+    style = f' style="stroke: {colours.value(colour)}"' if colour else ""
     return f'<path class="{kind}" d="{path}"{style}/>'
 
 
@@ -97,7 +97,7 @@ def panel(title: str, rows: list[Row]) -> str:
     parts.append(line([(scale.x(size), scale.y(most[size].rounds)) for size in sizes], "bound least"))
     for name, colour, of in MEASURES:
         seen = sorted({(row.nodes, of(row)) for row in rows})
-        parts += [f'<circle cx="{scale.x(size):.1f}" cy="{scale.y(count):.1f}" r="2" style="fill: var({colour})"/>' for size, count in seen]
+        parts += [f'<circle cx="{scale.x(size):.1f}" cy="{scale.y(count):.1f}" r="2" style="fill: {colours.value(colour)}"/>' for size, count in seen]
         by_size = {size: [of(row) for row in rows if row.nodes == size] for size in sizes}
         parts.append(line([(scale.x(size), scale.y(max(by_size[size]))) for size in sizes], f"most {name}", colour))
         parts.append(line([(scale.x(size), scale.y(statistics.median(by_size[size]))) for size in sizes], f"median {name}", colour))
@@ -129,7 +129,7 @@ def chart(rows: list[Row]) -> str:
             own = [row for row in rows if row.daemon == daemon and row.family.partition(":")[0] == family]
             if own:
                 parts.append(f'<g transform="translate({across * WIDE} {down * HIGH})">{panel(f"{family}, {daemon}", own)}</g>')
-    style = f"<style>{STYLE.read_text(encoding='utf-8')}{OWN}</style>"
+    style = colours.style(OWN)
     return (f'<?xml version="1.0" encoding="UTF-8"?>\n<svg xmlns="http://www.w3.org/2000/svg" viewBox="0 0 {wide} {high}" '
             f'width="{wide}" height="{high}" role="img" aria-label="moves, closes and rounds to stability">{style}'
             f'<rect class="ground" width="100%" height="100%"/>{"".join(parts)}'

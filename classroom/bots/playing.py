@@ -28,6 +28,7 @@ PACE = 0.02  # seconds between two looks of the house at its nodes
 SHARED = 0.05  # how often the house asks at such a look for a node that a program plays too
 KEPT_LINES = 20_000  # of a conversation
 FLOOD = 200  # lines over which pauses are counted
+SHOWN = 40  # characters of a word that was asked
 PATIENCE = 0.5  # seconds without a grant after which the random daemon tosses
 
 
@@ -83,6 +84,13 @@ def request_of(line: bytes) -> dict[str, Any]:
     except (ValueError, RecursionError):
         return {}
     return asked if isinstance(asked, dict) else {}
+
+
+def kind_of(asked: dict[str, Any], told: dict[str, Any]) -> str:
+    """What a denial has in common with others, whatever the numbers are: what was asked, of a rule's guard also the rule,
+    and the denial."""
+    what = " ".join(str(asked[key])[:SHOWN] for key in ("do", "rule")[: 2 if told["deny"] == "guard" else 1] if key in asked)
+    return f"{what} is denied as {told['deny']}, clause {told['clause']}"
 
 
 class Playing:
@@ -144,8 +152,7 @@ class Playing:
             heard.denied[told["deny"]] += 1
             if told["deny"] == "chosen":
                 heard.repeats[number_of(asked.get("node")), number_of(asked.get("at"))] += 1
-            text = self.explained(asked, told)
-            self.on_no(No(who, told["deny"], text, text))
+            self.on_no(No(who, told["deny"], self.explained(asked, told), kind_of(asked, told)))
         elif "refuse" in told:
             heard.denied[told["refuse"]] += 1
             note = wrong(line.decode(errors="surrogateescape").replace("\r", " ")) if told["refuse"] == "malformed" else None

@@ -9,7 +9,6 @@ from pathlib import Path
 from typing import Any
 
 from classroom.core.lists import Person
-from classroom.core.printable import printable
 from classroom.core.program import CLASS, Fault, call
 
 MOST_EVENTS = 100_000
@@ -60,6 +59,17 @@ class Lab:
         students = {name: key for name, key in self.students.items() if name != HOUSE}
         nodes = [replace(node, owners=[name for name in node.owners if name != HOUSE]) for node in self.nodes]
         return replace(self, students=students, nodes=nodes)
+
+
+def is_same(one: Lab, other: Lab) -> bool:
+    """Whether two labs agree in all that a journal names; keys and limits may differ."""
+    return named(one) == named(other)
+
+
+def named(lab: Lab) -> object:
+    """What of a lab a journal names: names in their order, nodes with owners and registers, links."""
+    nodes = {node.id: (frozenset(node.owners), node.p, node.m) for node in lab.nodes}
+    return lab.teacher[0], list(lab.students), nodes, {frozenset(link) for link in lab.links}
 
 
 def ordered(link: tuple[int, int]) -> tuple[int, int]:
@@ -121,8 +131,13 @@ def with_house_apart(told: str, lab: Lab) -> str:
 
 
 def quoted(word: str) -> str:
-    """A string as TOML and JSON both have it."""
-    return json.dumps(word, ensure_ascii=False)
+    """A string as TOML has it, and JSON too where it is printable; what isn't printable is escaped."""
+    return "".join(char if char.isprintable() else escaped(char) for char in json.dumps(word, ensure_ascii=False))
+
+
+def escaped(char: str) -> str:
+    """A character as TOML escapes it."""
+    return f"\\u{ord(char):04x}" if ord(char) < 0x10000 else f"\\U{ord(char):08x}"
 
 
 def text(lab: Lab) -> str:
@@ -134,8 +149,8 @@ def text(lab: Lab) -> str:
     for name, key in lab.students.items():
         lines += ["", "[[student]]", f"name = {quote(name)}", f"key = {quote(key)}"]
         person = lab.people.get(name)
-        lines += [f"written = {quote(printable(person.written))}"] if person else []
-        lines += [f"id = {quote(printable(person.id))}"] if person and person.id else []
+        lines += [f"written = {quote(person.written)}"] if person else []
+        lines += [f"id = {quote(person.id)}"] if person and person.id else []
     for node in lab.nodes:
         lines += ["", "[[node]]", f"id = {node.id}"]
         owners = ", ".join(map(quote, node.owners))

@@ -87,7 +87,11 @@ def read(path: Path, words: argparse.Namespace) -> People:
 def table(path: Path, text: str, words: argparse.Namespace) -> People:
     """The people of a table."""
     delimiter = max(",;\t", key=text.partition("\n")[0].count)
-    lines = [row for row in csv.reader(io.StringIO(text, newline=""), delimiter=delimiter) if any(map(str.strip, row))]
+    reader = csv.reader(io.StringIO(text, newline=""), delimiter=delimiter)
+    try:
+        lines = [row for row in reader if any(map(str.strip, row))]
+    except csv.Error as error:
+        raise Fault(f"{path}: line {reader.line_num}: {error}") from None
     heads = [head.strip() for head in lines[0]] if lines else []
     first, last = column(path, heads, words.first_name, FIRST), column(path, heads, words.last_name, LAST)
     whole = column(path, heads, words.column, () if words.first_name or words.last_name else NAMES)

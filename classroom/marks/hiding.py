@@ -4,10 +4,12 @@ from __future__ import annotations
 import json
 import re
 from collections.abc import Iterable
+from itertools import islice
 
 from classroom.core.printable import printable
 
 HIDDEN = '"***"'
+ESCAPE = "\\"
 TEXT = re.compile(r'"(?:[^"\\]|\\.)*"', re.DOTALL)
 WORDS = frozenset((
     "do", "name", "key", "node", "at", "rule", "with", "p", "m", "a", "b", "hello", "bye", "see", "look", "move", "close",
@@ -45,16 +47,27 @@ class Hider:
 
     def tells(self, word: str) -> bool:
         """Whether a text has somebody's key in it; a word of the protocol or a name is never taken for one."""
-        return word not in self.shown and any(key in word for key in self.keys)
+        return word not in self.shown and self.first_key(word) is not None
+
+    def first_key(self, text: str) -> int | None:
+        """Where the first key begins in a text, however it is escaped there; None where no key is."""
+        plain = unescaped(text)
+        found = [at for at in (plain.find(unescaped(key)) for key in self.keys) if at >= 0]
+        if not found:
+            return None
+        return next(islice((at for at, char in enumerate(text) if char != ESCAPE), min(found), None), len(text))
 
     def beginning(self, text: str) -> str:
         """The text up to where a key may stand."""
         found = re.search(r"key|\\u", text, re.IGNORECASE)
         shown = text[:found.start()] if found else text
-        for key in self.keys:
-            at = shown.find(key)
-            shown = shown[:at] if at >= 0 else shown
+        shown = shown[:self.first_key(shown)]
         return shown if len(shown) == len(text) else f"{shown}.. ({len(text) - len(shown)} more that may have a key)"
+
+
+def unescaped(text: str) -> str:
+    """The text without its backslashes: so a key is found in it, however deep it stands in texts within texts."""
+    return text.replace(ESCAPE, "")
 
 
 def is_object(text: str) -> bool:

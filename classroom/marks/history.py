@@ -14,7 +14,7 @@ from classroom.core import lab as labs
 from classroom.core import folders
 from classroom.core.journal import Event, events
 from classroom.core.present import Book
-from classroom.core.printable import printable
+from classroom.core.printable import guarded, printable
 from classroom.core.program import Fault
 from classroom.core.record import CUT, ENDED, Entry, Reader, seats
 from classroom.marks.hiding import Hider
@@ -25,7 +25,6 @@ from classroom.pages.page import page_of
 HEADS = ["place", "seat", "session", "asked", "reply", "denied", "event"]
 MARKS = {CUT: "the rest of this connection isn't recorded", ENDED: "this connection ended"}
 GOES_ON = "this connection goes on"
-FORMULA = ("=", "+", "-", "@", "\t", "\r")  # with which a table's cell would be one
 Session = list[Entry]
 
 
@@ -155,7 +154,7 @@ def times(count: int) -> str:
 def cells(row: Row) -> list[str]:
     """A row's cells; before one that a spreadsheet would take for a formula stands an apostrophe."""
     every = [str(row.place), str(row.seat or ""), str(row.session or ""), row.asked, row.reply, row.denied, row.event]
-    return [f"'{cell}" if cell.startswith(FORMULA) else cell for cell in every]
+    return list(map(guarded, every))
 
 
 def section(title: str, told: list[str], rows: list[Row]) -> str:

@@ -14,7 +14,7 @@ from typing import Any
 from classroom.core import lab as labs
 from classroom.core import folders, lists, record, tally
 from classroom.core.journal import RULES, events, split
-from classroom.core.printable import printable
+from classroom.core.printable import guarded, printable
 from classroom.core.program import Fault
 from classroom.core.statuses import LAB, WARNED
 from classroom.core.tally import DENIED, Asked
@@ -145,7 +145,7 @@ def rows(runs: list[Run]) -> list[list[str]]:
         for name, marks in run.tally.students.items():
             numbers = [marks.granted.total(), marks.applied.total(), *(marks.applied[rule] for rule in RULES), marks.steps,
                        marks.first, marks.last, marks.shared, *run.denied(name)]
-            table.append([str(run.journal), name, *("-" if number is None else str(number) for number in numbers)])
+            table.append([guarded(str(run.journal)), name, *("-" if number is None else str(number) for number in numbers)])
     return table
 
 

@@ -9,6 +9,7 @@ from dataclasses import dataclass, field
 from classroom.core.journal import RULES
 from classroom.core.lab import Lab
 from classroom.core.lists import People, Person
+from classroom.core.printable import guarded, printable
 from classroom.core.tally import DENIED, Asked, Marks
 
 HEADS = ["granted", "applied", *RULES, "steps", "shared", "runs", *DENIED, "recorded"]
@@ -57,14 +58,15 @@ def summed(runs: Runs) -> dict[str, tuple[Person, Total]]:
             if name not in persons:
                 continue
             person = lab.people.get(name, Person(name))
-            found.setdefault(f"id {person.id}" if person.id else f"name {name}", (person, Total()))[1].add(
+            found.setdefault(f"id {printable(person.id)}" if person.id else f"name {name}", (person, Total()))[1].add(
                 marks, asked.denied.get(name, Counter()) if asked else Counter(), is_whole)
     return found
 
 
 def by_labs(runs: Runs) -> list[list[str]]:
     """A row a person of the labs, below a line of heads."""
-    return [["student", "id", *HEADS], *([person.written, person.id, *total.row()] for person, total in summed(runs).values())]
+    return [["student", "id", *HEADS],
+            *([guarded(person.written), guarded(person.id), *total.row()] for person, total in summed(runs).values())]
 
 
 def by_roster(runs: Runs, roster: People) -> tuple[list[list[str]], list[str]]:
@@ -78,13 +80,14 @@ def by_roster(runs: Runs, roster: People) -> tuple[list[list[str]], list[str]]:
             continue
         key = next((key for key, (other, _) in left.items() if same(person, other)), None)
         total = left.pop(key)[1] if key is not None else Total()
-        rows.append([*(cells or [person.written]), *total.row()])
+        rows.append([*(cells or [guarded(person.written)]), *total.row()])
     return rows, [person.written for person, _ in left.values()]
 
 
 def same(person: Person, other: Person) -> bool:
-    """Whether two are one: by their identifiers where both have one, else by what is written."""
-    return person.id == other.id if person.id and other.id else person.written == other.written
+    """Whether two are one: by their identifiers where both have one, else by what is written. What isn't printable counts
+    as it is spelled, since labs of 1.0.0 have it so."""
+    return printable(person.id) == printable(other.id) if person.id and other.id else printable(person.written) == printable(other.written)
 
 
 def write(rows: list[list[str]], delimiter: str = ",") -> None:

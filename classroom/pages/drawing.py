@@ -5,18 +5,16 @@ import math
 from dataclasses import dataclass
 from functools import cached_property
 from html import escape
-from pathlib import Path
 
 from classroom.core.desk_words import EDITS
 from classroom.core.journal import RULES, Event
 from classroom.core.lab import Lab, ordered
-from classroom.pages import labels
+from classroom.pages import colours, labels
 from classroom.pages.frames import OpenLink, State
 from classroom.pages.labels import FORMS, Form, Witnesses
 from classroom.pages.layout import HEIGHT, SMALL_BELOW, WIDTH, Layout
 from classroom.pages.springs import Point
 
-STYLE = Path(__file__).with_name("drawing.css")
 WITNESSES_MOST = 60  # open links up to which each names its witness
 OPEN_MOST = 2000  # open links above which they are told as a number alone
 FAINT_ABOVE = 8  # links for each node above which their lines are the fainter the more they are
@@ -91,9 +89,14 @@ class Drawing:
         """The hue of a student's colour, in degrees; neighbours in the list are far apart."""
         return round(list(self.lab.students).index(student) * 137.508) % 360
 
+    @property
+    def hues(self) -> list[int]:
+        """The hues of all students."""
+        return sorted({self.hue(student) for student in self.lab.students})
+
     def style(self) -> str:
-        """The colours of the students."""
-        return "".join(f".h{hue}{{--hue:{hue}}}" for hue in sorted({self.hue(student) for student in self.lab.students}))
+        """The colours of the students, for a page."""
+        return "".join(f".h{hue}{{--hue:{hue}}}" for hue in self.hues)
 
     def svg(self, state: State, event: Event | None) -> str:
         """The whole element of a state; `event` is the one that led to it."""
@@ -297,7 +300,7 @@ def sector(index: int, count: int, radius: float, hue: int) -> str:
 
 def standalone(drawing: Drawing, state: State, event: Event | None) -> str:
     """The element as a file of its own: with its style inside, and the list of signs where it has them."""
-    style = f"<style>{STYLE.read_text(encoding='utf-8')}{drawing.style()}</style>"
+    style = colours.style(hues=drawing.hues)
     key, high = drawing.key()
     head, tail = drawing.svg(state, event).split("<defs>", 1)
     head = head.replace(f'{WIDTH:g} {HEIGHT:g}"', f'{WIDTH:g} {HEIGHT + high:g}"', 1)

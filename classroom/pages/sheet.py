@@ -4,7 +4,8 @@ from __future__ import annotations
 import re
 
 from classroom.core.counts import plural
-from classroom.pages.drawing import STYLE, Drawing
+from classroom.pages import colours
+from classroom.pages.drawing import Drawing
 from classroom.pages.frames import Frame
 from classroom.pages.layout import HEIGHT, ROOMY, WIDTH, halved
 
@@ -27,7 +28,7 @@ def sheet(drawing: Drawing, frames: list[Frame]) -> str:
     return "\n".join([
         '<?xml version="1.0" encoding="UTF-8"?>',
         f'<svg xmlns="http://www.w3.org/2000/svg" viewBox="0 0 {wide:g} {whole + high:g}" role="group" aria-label="{len(frames)} configurations">',
-        f"<style>{STYLE.read_text(encoding='utf-8')}{OWN}{drawing.style()}</style>",
+        colours.style(OWN, drawing.hues),
         f'<rect class="ground" width="100%" height="100%"/>{arrow[0]}', *cells,
         f'<g transform="translate(0 {whole - HEIGHT:g})">{key}</g></svg>\n' if key else "</svg>\n",
     ])

@@ -6,6 +6,7 @@ import socket
 import sys
 import threading
 import time
+import traceback
 from collections.abc import Callable
 from http.server import BaseHTTPRequestHandler, ThreadingHTTPServer
 from typing import Any, TypeVar
@@ -14,8 +15,11 @@ from classroom.core.program import first_free
 
 KEPT = 8192  # bytes of news that wait for a page
 CONNECTIONS = 32  # at a time
+BACKLOG = 128  # connections that wait to be taken
 ASKING = 5.0  # seconds in which a request has to be there
-TAKING = 60.0  # seconds in which some of an answer has to be taken
+TAKING = 5.0  # seconds in which an answer has to be taken, and of news each piece
+DIGITS = 6  # of a size
+LONGEST = 300  # characters of an error
 POLICY = "default-src 'none'; connect-src 'self'; base-uri 'none'; form-action 'none'; frame-ancestors 'none'"
 Opened = TypeVar("Opened", bound="Web")
 
@@ -24,6 +28,7 @@ class Web(ThreadingHTTPServer):
     """Serves pages of a run on 127.0.0.1."""
 
     daemon_threads = True
+    request_queue_size = BACKLOG
 
     def __init__(self, port: int, asked: type[Asked], title: str) -> None:
         super().__init__(("127.0.0.1", port), asked)
@@ -31,6 +36,7 @@ class Web(ThreadingHTTPServer):
         self.tell: Callable[[str], None] = print
         self.free = threading.BoundedSemaphore(CONNECTIONS)
         self.is_open = False
+        self.faults: set[tuple[str, str]] = set()  # the kinds of errors that were told
 
     def open(self) -> None:
         """Answers from now on."""
@@ -63,10 +69,15 @@ class Web(ThreadingHTTPServer):
             self.free.release()
 
     def handle_error(self, request: Any, client_address: Any) -> None:
-        """Tells what went wrong; a page that went away is no error."""
+        """Tells what went wrong, once of each kind; a page that went away is no error."""
         error = sys.exc_info()[1]
-        if not isinstance(error, (ConnectionError, TimeoutError)):
-            self.tell(f"the page: {type(error).__name__}: {error}")
+        if error is None or isinstance(error, (ConnectionError, TimeoutError)):
+            return
+        last = traceback.extract_tb(error.__traceback__)[-1]
+        kind = type(error).__name__, f"{last.filename}:{last.lineno}"
+        if kind not in self.faults:
+            self.faults.add(kind)
+            self.tell(f"the page: {type(error).__name__}: {error}"[:LONGEST])
 
 
 class InTime(io.RawIOBase):
@@ -112,13 +123,17 @@ class Asked(BaseHTTPRequestHandler):
         return True
 
     def body(self, most: int) -> bytes | None:
-        """What a request carries; None where that is more than so many bytes, or its size is no number."""
+        """What a request carries; None where that is more than so many bytes, or its size is no number of few digits."""
         size = self.headers.get("Content-Length") or "0"
-        return self.rfile.read(int(size)) if size.isascii() and size.isdecimal() and int(size) <= most else None
+        if not (size.isascii() and size.isdecimal() and len(size) <= DIGITS and int(size) <= most):
+            return None
+        return self.rfile.read(int(size))
 
     def answer(self, status: int, kind: str = "", content: bytes = b"", policy: str = "") -> None:
-        """Sends an answer that is whole."""
+        """Sends an answer that is whole, in the time that there is for it."""
+        end = time.monotonic() + TAKING
         self.head(status, kind, len(content), policy)
+        self.connection.settimeout(max(end - time.monotonic(), 0.001))
         self.wfile.write(content)
 
     def head(self, status: int, kind: str = "", size: int | None = 0, policy: str = "") -> None:

@@ -23,17 +23,24 @@ class Doors(unittest.TestCase):
     """Pages of a run that nobody plays."""
 
     path = "/"
+    posts = "/act"
 
     def setUp(self) -> None:
+        self.told: list[str] = []
         self.threads = threading.active_count()
         self.port = self.opened(a_port()).server_port
 
     def opened(self, port: int) -> Web:
         """The page for the projector."""
         pages = open_pages(port, "cycle", read(CYCLE), queue.SimpleQueue())
-        pages.show(Present(State(0, 0, frozenset()), "by-hand"), print)
+        pages.show(Present(State(0, 0, frozenset()), "by-hand"), self.told.append)
         self.addCleanup(pages.stop)
+        self.page, self.posts = f"/{pages.looks}/", f"/{pages.acts}/act"
         return pages
+
+    def unserved(self) -> Web:
+        """The page as it is before its run is there: it listens, and takes nobody."""
+        return open_pages(a_port(), "cycle", read(CYCLE), queue.SimpleQueue())
 
     def connect(self) -> socket.socket:
         """A connection that says nothing yet."""
@@ -51,6 +58,54 @@ class Doors(unittest.TestCase):
             return 0
         finally:
             connection.close()
+
+    def request(self, method: str, path: str, *heads: str) -> bytes:
+        """A request as its bytes."""
+        return "\r\n".join([f"{method} {path} HTTP/1.1", f"Host: 127.0.0.1:{self.port}", *heads, "", ""]).encode("ascii")
+
+    def test_a_size_of_many_digits_is_no_error_of_the_page(self) -> None:
+        for size in ("9" * 5000, "0" * 5000 + "1", "-1", "1e3", "4" * 10):
+            with self.subTest(digits=len(size)):
+                it = self.connect()
+                it.sendall(self.request("POST", self.posts, f"Content-Length: {size}"))
+                self.assertTrue(it.makefile("rb").readline().startswith(b"HTTP/1.0 404 "), size[:10])
+        self.assertEqual(self.told, [])
+
+    def test_an_error_of_one_kind_is_told_once(self) -> None:
+        numbers = iter(range(1000))
+
+        def fails(_: object) -> bool:
+            """An error whose text is another each time."""
+            raise ValueError(f"the {next(numbers)}th")
+
+        with mock.patch("classroom.pages.web.Asked.is_elsewhere", fails):
+            for _ in range(5):
+                self.assertEqual(self.asks(), 0)
+        with mock.patch("classroom.pages.web.Asked.is_elsewhere", side_effect=KeyError("another")):
+            self.assertEqual(self.asks(), 0)
+        self.assertEqual([line.partition(": ")[2] for line in self.told], ["ValueError: the 0th", "KeyError: 'another'"])
+
+    def test_who_takes_no_answer_has_five_seconds(self) -> None:
+        """The page is larger than what the system keeps for who doesn't read."""
+        with mock.patch("classroom.pages.projector.live_page", return_value=("x" * 1_000_000, "")):
+            begun = time.monotonic()
+            for _ in range(CONNECTIONS):
+                it = socket.socket()
+                self.addCleanup(it.close)
+                it.setsockopt(socket.SOL_SOCKET, socket.SO_RCVBUF, 1)
+                it.connect(("127.0.0.1", self.port))
+                it.sendall(self.request("GET", self.page))
+            self.assertEqual(self.asks(), 0, "more are let in than there is room for")
+            while self.asks() != 404:
+                self.assertLess(time.monotonic() - begun, 45, "the page is locked")
+                time.sleep(0.1)
+
+    def test_many_who_come_at_once_are_heard(self) -> None:
+        web = self.unserved()
+        self.addCleanup(web.close)
+        for _ in range(100):
+            it = socket.create_connection(("127.0.0.1", web.server_port), 20)
+            self.addCleanup(it.close)
 
     def test_idle_connections_use_up_no_threads(self) -> None:
         self.assertEqual(self.asks(), 404)
@@ -98,9 +153,14 @@ class DoorsOfHands(Doors):
     def opened(self, port: int) -> Web:
         """The page at which students play by hand."""
         hands = open_hands(port, "cycle", read(CYCLE))
-        hands.show(1, print)
+        hands.show(1, self.told.append)
         self.addCleanup(hands.stop)
+        self.page, self.posts = "/", "/enter"
         return hands
+
+    def unserved(self) -> Web:
+        """The page as it is before its run is there: it listens, and takes nobody."""
+        return open_hands(a_port(), "cycle", read(CYCLE))
 
 
 if __name__ == "__main__":

@@ -1,6 +1,7 @@
 """What is shown of lines that others sent: no key, and no character that a terminal obeys."""
 from __future__ import annotations
 
+import json
 import unittest
 
 from classroom.marks.hiding import Hider
@@ -28,8 +29,26 @@ CASES = (
 )
 
 
+ESCAPED = ('ab"cd', "ef\\gh", "/ij/", "\\\"")
+
+
 class Hiding(unittest.TestCase):
     """Lines by hand."""
+
+    def test_a_key_that_is_escaped_is_hidden_in_any_line(self) -> None:
+        for key in ESCAPED:
+            hider = Hider([key, "chalk"], ["gus"])
+            once = json.dumps(key)[1:-1]
+            twice = json.dumps(once)[1:-1]
+            for spelled in (key, once, twice, json.dumps(twice)[1:-1], key.replace("/", "\\/")):
+                for line in (f'["{spelled}"]', f"look {spelled}", f'"{spelled}', f'{{"do":"hello","name":"{spelled}"', spelled,
+                             json.dumps({"do": "see", "note": f"my {spelled}"}), json.dumps([spelled]), f'{{"note":"{once}"}}',
+                             json.dumps({"note": json.dumps({"key": spelled})})):
+                    shown = hider.line(line.encode())
+                    for form in (key, once, twice):
+                        self.assertNotIn(form, shown, line)
+            self.assertEqual(hider.line(b'{"do":"see","node":1}'), '{"do":"see","node":1}')
+            self.assertEqual(hider.line(b"look 4"), "look 4")
 
     def test_by_hand(self) -> None:
         for line, wanted in CASES:

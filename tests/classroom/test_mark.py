@@ -5,6 +5,8 @@ import csv
 import io
 import json
 import re
+import subprocess
+import sys
 import unittest
 from pathlib import Path
 from typing import Any
@@ -13,11 +15,12 @@ from unittest import mock
 from classroom.core import lab as labs
 from classroom.core import program
 from classroom.core.answering import all_of
+from classroom.core.printable import printable
 from classroom.core.tally import DENIED
 from classroom.marks.mark import marked
 from classroom.pages import replay
 from model import read_lab
-from tests.classroom.help import EXAMPLES, InRoom, words
+from tests.classroom.help import EXAMPLES, LIMIT, InRoom, words
 from tests.classroom.test_check import GOOD, PAIR
 from tests.record.recording import Recording
 
@@ -194,6 +197,54 @@ class Mark(InRoom):
             self.assertEqual(done.returncode, 5, done.stderr)
             self.assertIn(f"class: {folder / of}: {told}", done.stderr)
             self.assertEqual(len(json.loads(done.stdout)["runs"]), 1)
+
+    def test_names_that_have_unprintable_letters_keep_their_marks(self) -> None:
+        names = ["Zoë\u00a0Müller", "می\u200cخواهم", "क्\u200dष", "Ben\x7f \"B\" \\ \u2028"]
+        students = self.file("class.csv", "Name,ID\n" + "".join(
+            '"{}",{}\n'.format(name.replace('"', '""'), f"\u00a0s\u200d{number}" if number < 2 else "") for number, name in enumerate(names)))
+        lab = self.room / "lab.toml"
+        made = words("new", lab, "--students", students, "--family", "path")
+        self.assertEqual(made.returncode, 0, made.stderr)
+        self.assertIn("Zoë\\xa0Müller (s\\u200d0) is ", made.stdout)
+        self.assertTrue(all(map(str.isprintable, lab.read_text(encoding="utf-8").split("\n"))))
+        people = labs.read(lab).people
+        self.assertEqual([person.written for person in people.values()], [name.strip() for name in names])
+        journal = self.file("journal", "".join(f"{place} 0 grant {name} {place} seduction\n" for place, name in enumerate(list(people)[::2], 1))
+                            .replace(" 2 seduction", " 3 seduction"))
+        for roster, more in ((students, ()), (self.file("names", "\n".join(names[:3]) + "\n"), ("--total",))):
+            done = words("mark", lab, journal, "--roster", roster, *more)
+            self.assertEqual(done.stderr, "" if not more else f"class: {roster} has no {printable(names[3].strip())}\n")
+            rows = list(csv.reader(io.StringIO(done.stdout)))
+            granted = rows[0].index("granted")
+            self.assertEqual([(row[0], row[granted]) for row in rows[1:]], [*zip(names, ("1", "0", "1", "0"))][:len(rows) - 1])
+        totals = list(csv.reader(io.StringIO(words("mark", lab, journal, "--total").stdout)))
+        self.assertEqual([row[0] for row in totals[1:]], [name.strip() for name in names])
+        older = lab.read_text(encoding="utf-8").replace("\\u00a0", "\\\\xa0").replace("\\u200", "\\\\u200")
+        old = self.file("old.toml", older)
+        done = words("mark", old, journal, "--roster", students)
+        self.assertEqual((done.returncode, done.stderr), (0, ""))
+        self.assertEqual([row.split(",")[2] for row in done.stdout.splitlines()[1:3]], ["1", "0"])
+
+    def test_no_cell_is_a_formula(self) -> None:
+        students = self.file("names.csv", "Name\n=1+1\n@cmd\n+49\n-2\n")
+        lab = self.room / "lab.toml"
+        self.assertEqual(words("new", lab, "--students", students, "--family", "path").returncode, 0)
+        journal = self.file("=1+1", "")
+        done = subprocess.run([sys.executable, program.TOP / "class", "mark", "--csv", lab, journal.name], cwd=self.room,
+                              capture_output=True, text=True, check=False, timeout=LIMIT)
+        self.assertEqual([row[0] for row in csv.reader(io.StringIO(done.stdout))], ["journal", *["'=1+1"] * 4], done.stderr)
+        heads, *rows = csv.reader(io.StringIO(words("mark", "--total", lab, journal).stdout))
+        self.assertEqual([row[0] for row in rows], ["'=1+1", "'@cmd", "'+49", "'-2"])
+        plain = self.file("names", "=1+1\n@cmd\n+49\n-2\n")
+        heads, *rows = csv.reader(io.StringIO(words("mark", "--total", "--roster", plain, lab, journal).stdout))
+        self.assertEqual([row[0] for row in rows], ["'=1+1", "'@cmd", "'+49", "'-2"])
+
+    def test_a_cell_that_is_too_long_is_an_error_line(self) -> None:
+        roster = self.file("roster.csv", f"Name\nAna\n{'B' * 131_073}\n")
+        for done in (words("new", self.room / "lab.toml", "--students", roster),
+                     words("mark", self.file("lab.toml", BUILT_IN), self.file("journal", ""), "--roster", roster)):
+            self.assertEqual((done.returncode, done.stdout), (1, ""))
+            self.assertEqual(done.stderr, f"class: {roster}: line 3: field larger than field limit (131072)\n")
 
     def test_forms(self) -> None:
         lab = self.file("lab.toml", GOOD.replace(*PAIR))

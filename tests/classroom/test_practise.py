@@ -77,6 +77,19 @@ class Practise(InRoom):
         self.assertEqual(lines[1], "you: 10 times by now: malformed: node is a string, not a number")
         self.assertIn(", 30 malformed lines", lines[2])
 
+    def test_denials_of_a_kind_are_told_once_and_counted(self) -> None:
+        done = self.practises(f"python3 {FAULTY} asks-always", "--nodes", "7", "--daemon", "central")
+        self.assertEqual(done.returncode, 0, done.stdout + done.stderr)
+        lines = [line for line in done.stdout.splitlines() if "stale" in line]
+        self.assertGreater(len(re.findall("(?m)^configuration ", done.stdout)), 2, "the number was the same for all of them")
+        self.assertRegex(lines[0], r"^you: move \d \w+.* is denied as stale, clause 2: this is not the current configuration; "
+                                   r"it was asked under \d+, and the number is \d+$")
+        told = re.fullmatch(r"you: .*, \d+ denials? \(.*?(\d+) stale.*", lines[-1])
+        assert told is not None, lines
+        self.assertGreater(int(told[1]), 2)
+        counts = [10 ** power for power in range(1, len(told[1]))]
+        self.assertEqual(lines[1:-1], [f"you: {count} times by now: move is denied as stale, clause 2" for count in counts])
+
     def test_a_program_that_never_connects_is_told_from_one_that_is_silent(self) -> None:
         done = self.practises(f"python3 {FAULTY} pretends", "--timeout", "1")
         self.assertEqual(done.returncode, 5, done.stdout + done.stderr)

@@ -7,6 +7,7 @@ from tests.common.hosting import HOST, Caller, Host, lab_of, let_in
 from tests.common.lines import BID, BYE, CLOSE, REPORT, UNKNOWN, hello, look, seduction
 from tests.common.preload import LIMIT, Ended, fail
 from tests.record.floods import flooded
+from tests.record.places import TESTS as PLACES
 
 SEATS = 4
 STUDENT = SEATS  # the first who comes to the port has the last seat
@@ -181,7 +182,7 @@ def kept_and_held(room: Path) -> None:
 
 def hosted(room: Path) -> int:
     """All tests of classes; how many there were."""
-    tests = [kept_and_held, killed_and_resumed, full_disk, flooded]
+    tests = [kept_and_held, killed_and_resumed, full_disk, flooded, *PLACES]
     for test in tests:
         test(room)
     return len(tests)

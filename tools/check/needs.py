@@ -83,6 +83,7 @@ NEEDS = {
     "types": Need("the checkers of Python's types and style", installed(*TYPES), TYPES),
     "man": Need("the command man, which warns of pages", on_path("man"), ("man-db",)),
     "browser": Need("a browser with its driver", installed(*BROWSER), BROWSER),
+    "pictures": Need("the command rsvg-convert", on_path("rsvg-convert"), ("librsvg2-bin",)),
     "java": Need("the command java", on_path("java"), ("default-jdk-headless",)),
     "node": Need("the command node", on_path("node"), ("nodejs",)),
     "cc": Need("a compiler of C, as cc", on_path("cc"), ("gcc", "libc6-dev")),

@@ -62,7 +62,7 @@ def classroom() -> Iterator[Part]:
     """The modules of tests/classroom, each with servers, and some with a browser, of its own."""
     for it in sorted((TOP / "tests/classroom").glob("test_*.py")):
         text = it.read_text(encoding="utf-8")
-        needs = (*BUILT, "python3", *["browser"] * ("tests.classroom.browser" in text))
+        needs = (*BUILT, "python3", *["browser"] * ("tests.classroom.browser" in text), *["pictures"] * ('"rsvg-convert"' in text))
         likes = tuple(it for it in LANGUAGES if f'"{it}"' in text)
         name = it.stem.replace("test_", "class-")
         yield Part(name, cases(f"classroom.{it.stem}", python="/usr/bin/python3"), 0.2, 0.4, 0.5, needs, likes)

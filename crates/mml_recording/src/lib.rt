@@ -11,6 +11,7 @@ mod tail;
 
 pub use budgets::{BUDGET, Budgets, SeatBudget};
 pub use folder::RecordFolder;
+pub use paths::is_plain;
 pub use record_sink::RecordSink;
 pub use record_state::{RecordState, end_syncing, sync_until_done};
 pub use seats::{MOST, Seats};

@@ -1,0 +1,133 @@
+"""Pictures outside a browser: drawings and charts as `rsvg-convert` renders them, told by how many of their points have a
+colour."""
+from __future__ import annotations
+
+import math
+import re
+import struct
+import subprocess
+import unittest
+import zlib
+from collections import Counter
+from pathlib import Path
+
+from classroom.core.lab import read
+from classroom.pages import colours
+from classroom.pages.drawing import Drawing
+from classroom.pages.layout import Layout
+from tests.classroom.help import EXAMPLES, LIMIT, InRoom, words
+from tests.classroom.runs import edited_run, journal_of, many_owners
+from tests.classroom.test_experiment import TINY
+
+RENDERER = "rsvg-convert"
+NEAR = 40  # how far apart two colours are that are alike; black and the dark grey of texts aren't
+BYTES = {2: 3, 6: 4}  # of a point by the kind of PNG: red, green, blue, and perhaps how opaque it is
+
+
+def unfiltered(kind: int, row: bytes, above: bytes, step: int) -> bytes:
+    """A row's bytes, by how a PNG tells them: from what stands to the left, `step` bytes before, and above."""
+    if kind == 0:
+        return row
+    if kind == 2:
+        return bytes((byte + up) & 255 for byte, up in zip(row, above))
+    out = bytearray(step) + row
+    corners = bytes(step) + above
+    for at in range(step, len(out)):
+        left, up, corner = out[at - step], corners[at], corners[at - step]
+        if kind == 1:
+            guess = left
+        elif kind == 3:
+            guess = (left + up) // 2
+        else:
+            far = left + up - corner
+            guess = min((abs(far - left), 0, left), (abs(far - up), 1, up), (abs(far - corner), 2, corner))[2]
+        out[at] = (out[at] + guess) & 255
+    return bytes(out[step:])
+
+
+def colours_of(png: bytes) -> Counter[str]:
+    """How many points of a picture have each colour."""
+    wide, high, depth, kind, _, _, interlaced = struct.unpack(">IIBBBBB", png[16:29])
+    assert depth == 8 and kind in BYTES and not interlaced, "another kind of PNG"
+    data, at = b"", 8
+    while at < len(png):
+        size, name = struct.unpack(">I4s", png[at:at + 8])
+        data += png[at + 8:at + 8 + size] if name == b"IDAT" else b""
+        at += size + 12
+    content, step = zlib.decompress(data), BYTES[kind]
+    size = step * wide
+    above, found = bytes(size), Counter[str]()
+    for at in range(0, high * (size + 1), size + 1):
+        above = unfiltered(content[at], content[at + 1:at + 1 + size], above, step)
+        found.update(f"#{above[point:point + 3].hex()}" for point in range(0, size, step))
+    return found
+
+
+def rendered(picture: Path) -> Counter[str]:
+    """How many points of a drawing have each colour, in a program that is no browser."""
+    done = subprocess.run([RENDERER, "--width", "1000", "--keep-aspect-ratio", picture], capture_output=True, check=False, timeout=LIMIT)
+    assert done.returncode == 0, done.stderr
+    return colours_of(done.stdout)
+
+
+def alike(found: Counter[str], colour: str) -> int:
+    """How many points have a colour, or nearly so: what is thin is mixed with what is beside it."""
+    wanted = bytes.fromhex(colour[1:])
+    return sum(count for other, count in found.items() if math.dist(wanted, bytes.fromhex(other[1:])) < NEAR)
+
+
+class Pictures(InRoom):
+    """What `--svg` and `--plot` write."""
+
+    def has(self, picture: Path, *wanted: str) -> None:
+        """Wants these colours in a picture, whose ground is as bright as in a page."""
+        self.assertNotIn("var(", picture.read_text(encoding="utf-8"))
+        found = rendered(picture)
+        self.assertEqual(found.most_common(1)[0][0], colours.value("--ground"), picture)
+        self.assertEqual([colour for colour in wanted if alike(found, colour) < 3], [], picture)
+        self.assertLess(found["#000000"], found.total() / 100, picture)
+
+    def drawn(self, lab: Path, journal: Path, places: str) -> Path:
+        """A picture of these places."""
+        output = self.room / f"{lab.stem}-{places.replace(',', '-')}.svg"
+        done = words("play", lab, journal, "--svg", places, "-o", output)
+        self.assertEqual(done.returncode, 0, done.stderr)
+        return output
+
+    def owners(self, lab: Path) -> list[str]:
+        """The colours of all owners of a lab."""
+        it = read(lab)
+        drawing = Drawing(it, Layout({}, 1.0))
+        return [colours.owned(drawing.hue(name)) for name in it.students if it.nodes_of(name)]
+
+    def test_a_configuration(self) -> None:
+        lab = EXAMPLES / "cycle.toml"
+        journal = journal_of(lab, EXAMPLES / "cycle-run.script", self.room / "journal")
+        self.has(self.drawn(lab, journal, "9"), *self.owners(lab),
+                 *map(colours.value, ("--line", "--rim", "--pair", "--arrow", "--rule", "--chosen", "--text")))
+
+    def test_several_configurations(self) -> None:
+        lab, journal = edited_run(self.room)
+        self.has(self.drawn(lab, journal, "0,7,9,10"), *self.owners(lab), *map(colours.value, ("--open", "--rule", "--text")))
+
+    def test_many_small_nodes(self) -> None:
+        lab = many_owners(self.room, 60)
+        journal = self.file("none.journal", "")
+        self.has(self.drawn(lab, journal, "0"), *self.owners(lab), colours.value("--rule"))
+
+    def test_a_chart(self) -> None:
+        plot = self.room / "runs.svg"
+        done = words("experiment", *TINY, "--csv", self.room / "runs.csv", "--plot", plot)
+        self.assertEqual(done.returncode, 0, done.stdout + done.stderr)
+        self.has(plot, *map(colours.value, ("--open", "--pair", "--rule", "--line")))
+
+    def test_colours_are_those_of_a_page(self) -> None:
+        """What a style sets and a picture has is the same, whichever rule is looked at."""
+        page, picture = colours.STYLE.read_text(encoding="utf-8"), colours.style()
+        used = {name for name in re.findall(r"var\((--[a-z]+)\)", page)} - {"--hue", "--strength", "--tint"}
+        self.assertEqual({name for name in used if colours.value(name) not in picture}, set())
+        self.assertEqual((colours.owned(0), colours.owned(120)), ("#f3c4c4", "#c4f3c4"))
+
+
+if __name__ == "__main__":
+    unittest.main()

@@ -1,0 +1,113 @@
+"""Where a record may be begun: what stands there else stays as it is, under its name."""
+import os
+from pathlib import Path
+
+from tests.common.hosting import Host, lab_of, let_in
+from tests.common.lines import hello
+from tests.common.preload import Ended, fail
+
+SEATS = 4
+REFUSED = Ended(4, b"", b"record fault\n")
+NO_JOURNAL = Ended(4, b"", b"journal fault\n")
+Kept = dict[str, tuple[int, bytes]]
+
+
+def listed(room: Path) -> Kept:
+    """What is in a folder: of each path its inode, and what the file or the link there has."""
+    found = [(path, path.lstat()) for path in sorted(room.rglob("*"))]
+    return {str(path.relative_to(room)): (it.st_ino, os.readlink(path).encode() if path.is_symlink() else
+                                          path.read_bytes() if path.is_file() else b"folder") for path, it in found}
+
+
+def refuses(room: Path, lab: Path, record: object, ended: Ended = REFUSED, journal: object = "", start: str = "") -> None:
+    """Wants a host in a folder that doesn't listen, and leaves all in it as it was."""
+    before = listed(room)
+    call = ["bash", "-c", f'cd "$0" && {start or "true"} && exec "$@"', str(room)]
+    with Host(lab, 0, 0, journal or room / "run.journal", record, before=call) as host:
+        found = host.end() if not host.listens else None
+    if found != ended:
+        fail(f"record: with {record} the host ends with {found}, not {ended}")
+    if listed(room) != before:
+        fail(f"record: with {record} another folder is left: {sorted(listed(room))}, not {sorted(before)}")
+
+
+def takes(room: Path, lab: Path, record: Path) -> None:
+    """Wants a host that keeps its record there."""
+    with Host(lab, 0, 0, room / "run.journal", record) as host:
+        if not host.listens:
+            fail(f"record: with {record} the host ends with {host.end()}")
+        ended = host.dismissed(let_in(host.desk, hello("tess"))[0])
+    names = {"begun", "lab", *(f"{seat}.record" for seat in range(1, SEATS + 1))}
+    if ended.status != 0 or {path.name for path in record.iterdir()} != names or record.stat().st_mode & 0o777 != 0o700:
+        fail(f"record: with {record} the host ends with {ended}, and keeps {sorted(record.iterdir())}")
+    (room / "run.journal").unlink()
+    (room / "run.journal.lab").unlink()
+
+
+def filled(folder: Path, *names: str) -> Path:
+    """A folder with files of these names."""
+    folder.mkdir(parents=True)
+    for name in names:
+        (folder / name).parent.mkdir(exist_ok=True)
+        (folder / name).write_text(name, encoding="ascii")
+    return folder
+
+
+def other_folders_stay(room: Path) -> None:
+    """A folder that has no record is refused, by each of its names, and so is what is no folder."""
+    lab, here = lab_of(room, SEATS), room / "others"
+    filled(here / "Documents", "thesis", "record/1.record", "lab")
+    (here / "link").symlink_to("Documents")
+    (here / "chain").symlink_to(here / "link")
+    (here / "nowhere").symlink_to("none")
+    (here / "file").write_text("a file", encoding="ascii")
+    os.mkfifo(here / "pipe")
+    filled(here / "strange").joinpath("begun").mkdir()
+    for record in (".", "..", "Documents", "Documents/", "./Documents/.", here / "Documents", "link", "chain", "nowhere", "file",
+                   "file/record", "pipe", "strange", "none/record", "/"):
+        refuses(here, lab, record)
+
+
+def old_records_give_way(room: Path) -> None:
+    """A record gives way by its own name, whichever leads there, and one without its beginning too; what is empty or isn't
+    there is taken."""
+    lab, here = lab_of(room, SEATS), filled(room / "places")
+    record, link = here / "record", here / "link"
+    link.symlink_to("record")
+    takes(here, lab, record)
+    (here / "empty").mkdir(0o755)
+    takes(here, lab, here / "empty")
+    for number, name in enumerate((record, link, link), 1):
+        before = {path.name: path.stat().st_ino for path in record.iterdir()}
+        takes(here, lab, name)
+        old = {path.name: path.stat().st_ino for path in (here / f"record.~{number}~").iterdir()}
+        if old != before or not link.is_symlink():
+            fail(f"record: begun at {name} it leaves {sorted(path.name for path in here.iterdir())}")
+    (record / "begun").unlink()
+    takes(here, lab, record)
+    if not (here / "record.~4~" / "1.record").is_file():
+        fail("record: seats' files without their beginning don't give way")
+
+
+def failures_rename_nothing(room: Path) -> None:
+    """Where the files of a record can't be made, or the journal can't be begun, the older record keeps its name."""
+    lab, here = lab_of(room, SEATS), filled(room / "failing")
+    takes(here, lab, here / "record")
+    (here / "empty").mkdir()
+    inodes = listed(here)
+    own = here / "run.lab"
+    own.write_bytes(lab.read_bytes())
+    for record in ("record", "none"):
+        refuses(here, lab, record, start='trap "" XFSZ && ulimit -f 0')
+        refuses(here, own, record, NO_JOURNAL, here / "run")
+    before = sorted(listed(here))
+    for start, told, at in (('trap "" XFSZ && ulimit -f 0', REFUSED, lab), ("true", NO_JOURNAL, own)):
+        with Host(at, 0, 0, here / "run", here / "empty", before=["bash", "-c", f'{start} && exec "$@"', "bash"]) as host:
+            if host.listens or host.end() != told or sorted(listed(here)) != before:
+                fail(f"record: an empty folder isn't left where {told} is told")
+    if {name: it for name, it in listed(here).items() if name in inodes and name != "empty"} != {
+            name: it for name, it in inodes.items() if name != "empty"}:
+        fail("record: where a host fails, an older record is changed")
+
+
+TESTS = (other_folders_stay, old_records_give_way, failures_rename_nothing)
