@@ -8,6 +8,7 @@ import re
 import signal
 import tempfile
 import threading
+import time
 from collections.abc import Iterator
 from pathlib import Path
 
@@ -19,11 +20,14 @@ from classroom.core.answering import answerer
 from classroom.core.counts import positive, seconds
 from classroom.core.folders import new_folder
 from classroom.core.printable import printable
+from classroom.core.processes import end_at_once, end_strays, reap_orphans
 from classroom.core.program import Fault, program
 from classroom.core.statuses import FAILED, WARNED
 from classroom.run.daemons import daemons
 
 MOST_AT_ONCE = 16  # bots that run side by side
+LONG = 0.5  # seconds that writing the results takes at most where they are written after each case
+SPARING = 9  # times as long as writing took they aren't written, where it takes longer
 
 
 def add_words(words: argparse.ArgumentParser) -> None:
@@ -75,16 +79,52 @@ def results_of(bots: list[Bot], cases: list[Case], words: argparse.Namespace, to
                 yield result
 
 
-def write_all(words: argparse.Namespace, results: list[Result]) -> list[str]:
-    """Writes the forms that were asked for; gives a line for each that couldn't be written."""
-    faults = []
-    for form in graded.FORMS:
-        if getattr(words, form):
+class Written:
+    """The results so far, in the order of bots and cases, and the files that have them."""
+
+    def __init__(self, words: argparse.Namespace, bots: list[Bot], cases: list[Case], results: list[Result]) -> None:
+        """`results` are those of bots that can't be run."""
+        self.files = {form: Path(getattr(words, form)) for form in graded.FORMS if getattr(words, form)}
+        pairs = [(bot.name, case.name()) for bot in bots for case in cases]
+        self.order = {pair: index for index, pair in enumerate(pairs)}
+        self.results = results
+        self.next = 0.0  # when they are written again
+
+    def add(self, result: Result) -> None:
+        """Writes the results with one more. Where that takes long, they are written now and then."""
+        self.results.append(result)
+        begun = time.monotonic()
+        if begun >= self.next:
+            self.write()
+            taken = time.monotonic() - begun
+            self.next = time.monotonic() + SPARING * taken * (taken > LONG)
+
+    def write(self) -> list[str]:
+        """Writes the results in the forms that were asked for; gives a line for each that couldn't be written."""
+        self.results.sort(key=lambda result: self.order[result.bot, graded.named(result)])
+        faults = []
+        for form, file in self.files.items():
             try:
-                graded.write(form, Path(getattr(words, form)), results)
+                graded.write(form, file, self.results)
             except Fault as fault:
                 faults.append(f"{fault}; what stood there stays: make room, or name another file")
-    return faults
+        return faults
+
+
+def interruptible() -> threading.Event:
+    """What an interrupt sets. After a second one all is killed, whatever is waited for; the results are written."""
+    stop, first = threading.Event(), threading.Event()
+
+    def interrupt(*_: object) -> None:
+        """Sets it, or ends at once."""
+        if first.is_set():
+            end_at_once(FAILED)
+        first.set()
+        stop.set()
+
+    for number in (signal.SIGINT, signal.SIGTERM, signal.SIGHUP):
+        signal.signal(number, interrupt)
+    return stop
 
 
 def numbered(bots: list[Bot]) -> list[Bot]:
@@ -111,25 +151,23 @@ def grade(words: argparse.Namespace) -> int:
         print(f"class: {fault}", flush=True)
     runnable = [bot for bot in bots if not bot.fault]
     top = new_folder(Path(words.into), Path("grade")) if runnable else Path()
-    stop = threading.Event()
-    for number in (signal.SIGINT, signal.SIGTERM, signal.SIGHUP):
-        signal.signal(number, lambda *_: stop.set())
+    reap_orphans()
+    stop = interruptible()
     results = [Result(bot.name, case.lab, case.daemon.spelled(), case.seed, False, bot.fault, started=False)
                for bot in bots for case in cases if bot.fault]
+    written = Written(words, bots, cases, results)
     full = False
     try:
         for result in results_of(runnable, cases, words, top, stop):
-            results.append(result)
+            written.add(result)
             print(graded.told(result), flush=True)
             if result.unkept and not full:
                 print(f"class: {printable(result.unkept)}; --into names another folder", flush=True)
             full = full or bool(result.unkept)
     finally:
         stop.set()
-        pairs = [(bot.name, case.name()) for bot in bots for case in cases]
-        order = {pair: index for index, pair in enumerate(pairs)}
-        results.sort(key=lambda result: order[result.bot, graded.named(result)])
-        unwritten = write_all(words, results)
+        unwritten = written.write()
+    end_strays()
     print(graded.table(results))
     if runnable:
         print(f"records and pages: {top}")

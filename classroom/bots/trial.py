@@ -2,13 +2,16 @@
 from __future__ import annotations
 
 import itertools
+import os
 import random
+import tempfile
 import threading
 import time
 from dataclasses import dataclass, field
 from pathlib import Path
+from typing import IO
 
-from classroom.bots.bots import Bot, Kept
+from classroom.bots.bots import Bot, Kept, last_line
 from classroom.bots.playing import TEACHER, No, Playing
 from classroom.bots.suites import CUT, Case
 from classroom.core.program import Fault, call
@@ -18,6 +21,7 @@ from classroom.setup import slips
 QUIET = 0.6  # seconds that a bot is watched at rest
 LATE = 0.2  # seconds after which it is looked at what a bot asks at rest
 ALLOWED = ("stale", "chosen")
+MOST_KEPT = 1 << 20  # bytes of what a bot printed
 MOST_REPEATS = 3  # `chosen` for one node under one number
 FLOODS = "it floods: line after line without a pause; a bot waits when it has looked at its nodes"
 
@@ -62,9 +66,9 @@ class Limits:
 class Trial:
     """A bot in a case."""
 
-    def __init__(self, bot: Bot, case: Case, limits: Limits, room: Path, stop: threading.Event) -> None:
-        """`room` is the bot's own folder, which is empty."""
-        self.bot, self.case, self.limits, self.room, self.stop = bot, case, limits, room, stop
+    def __init__(self, bot: Bot, case: Case, limits: Limits, room: Path, output: IO[bytes], stop: threading.Event) -> None:
+        """`room` is the bot's own folder, which is empty; what it prints goes to `output`, which no folder has."""
+        self.bot, self.case, self.limits, self.room, self.output, self.stop = bot, case, limits, room, output, stop
         self.playing = Playing(case.made, [case.who], case.daemon, case.name())
         self.heard = self.playing.heard[case.who]
         self.wrong = ""
@@ -85,7 +89,7 @@ class Trial:
 
     def launch(self) -> None:
         """Starts the bot."""
-        self.kept = Kept(self.bot, self.slip, self.room, self.limits.seconds, self.limits.megabytes)
+        self.kept = Kept(self.bot, self.slip, self.room, self.limits.seconds, self.limits.megabytes, self.output.fileno())
 
     def run(self) -> None:
         """The whole case; raises what is wrong."""
@@ -120,12 +124,11 @@ class Trial:
 
     def told(self, how: str) -> str:
         """How the bot ended, with what it printed last."""
-        assert self.kept is not None
         kind, _, what = how.partition(" ")
         if kind == "killed" and what.startswith(f"{self.bot.words[0]}: "):
             raise NotStarted(f"it can't be started: {what}")
         text = f"it ended by itself, status {what}" if kind == "ended" else f"it was ended: {what}"
-        last = self.kept.printed()
+        last = last_line(self.output.fileno())
         return f"{text}; it printed last: {last}" if last else text
 
     def until_stable(self, what: str) -> None:
@@ -200,9 +203,7 @@ class Trial:
         """Leaves the case's record and page."""
         folder.mkdir(parents=True)
         self.playing.write(folder)
-        output = self.room / "output.txt"
-        if output.is_file():
-            (folder / "output.txt").write_bytes(output.read_bytes()[:1 << 20])
+        (folder / "output.txt").write_bytes(os.pread(self.output.fileno(), MOST_KEPT, 0))
         answer = call("script", folder / "lab.toml", folder / "script", folder / "journal")
         if answer.status == 0:
             (folder / "run.html").write_text(play.page(folder / "lab.toml", folder / "journal"), encoding="utf-8")
@@ -210,9 +211,14 @@ class Trial:
 
 def tried(bot: Bot, case: Case, limits: Limits, room: Path, folder: Path, stop: threading.Event) -> Result | None:
     """How a bot does in a case; its record goes into `folder`. None where it was interrupted."""
-    begun = time.monotonic()
-    result = Result(bot.name, case.lab, case.daemon.spelled(), case.seed, False, "")
-    trial = Trial(bot, case, limits, room, stop)
+    with tempfile.TemporaryFile() as output:
+        return tried_with(Trial(bot, case, limits, room, output, stop), folder)
+
+
+def tried_with(trial: Trial, folder: Path) -> Result | None:
+    """How a trial ends; its record goes into `folder`. None where it was interrupted."""
+    begun, case = time.monotonic(), trial.case
+    result = Result(trial.bot.name, case.lab, case.daemon.spelled(), case.seed, False, "")
     try:
         trial.run()
         result.passed = True

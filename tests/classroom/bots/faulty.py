@@ -3,6 +3,7 @@
 from __future__ import annotations
 
 import os
+import signal
 import socket
 import subprocess
 import sys
@@ -172,6 +173,29 @@ def pretends() -> None:
         time.sleep(PAUSE)
 
 
+def swaps_output() -> None:
+    """It puts a pipe that nobody fills where its output was kept once, and ends."""
+    output = Path(os.environ["HOME"]) / "output.txt"
+    output.unlink(missing_ok=True)
+    os.mkfifo(output)
+    os._exit(3)
+
+
+def halts() -> None:
+    """It stops whoever started it, again and again, and says nothing."""
+    while True:
+        os.kill(os.getppid(), signal.SIGSTOP)
+        time.sleep(0.01)
+
+
+def kills() -> None:
+    """It kills whoever started it, and leaves programs behind that don't have its environment."""
+    for _ in range(3):
+        subprocess.Popen(["/bin/sleep", SLEEP], start_new_session=True, env={"HOME": "/"})
+    os.kill(os.getppid(), signal.SIGKILL)
+    os.execve("/bin/sleep", ["sleep", SLEEP], {"HOME": "/"})
+
+
 FAULTS = {
     "right": lambda: loop(right),
     "never-updates": lambda: loop(never_updates),
@@ -190,5 +214,8 @@ FAULTS = {
     "bombs": bombs,
     "eats-memory": eats_memory,
     "pretends": pretends,
+    "swaps-output": swaps_output,
+    "halts": halts,
+    "kills": kills,
 }
 FAULTS[FAULT]()
