@@ -2,20 +2,26 @@
 started."""
 from __future__ import annotations
 
+import json
 import os
+import select
 import shlex
 import shutil
 import signal
+import socket
 import subprocess
 import sys
+import tempfile
 import time
-from dataclasses import dataclass
+from dataclasses import asdict, dataclass
 from pathlib import Path
 
+from classroom.bots import seen
+from classroom.bots.apart import World
 from classroom.core.processes import begin, end_below, end_strays, is_halted
 from classroom.core.program import TOP, Fault
 
-KEEPER = f"import sys; sys.path.insert(0, {str(TOP)!r}); from classroom.bots.keeper import main; main(sys.argv[1:])"
+KEEPER = f"import sys; sys.path.insert(0, {str(TOP)!r}); from classroom.bots.keeper import main; main()"
 KEPT = ("PATH", "LANG", "LC_ALL", "JAVA_HOME")
 RUN_BY = {".py": [sys.executable], ".java": ["java", "-XX:TieredStopAtLevel=1", "-XX:+UseSerialGC"], ".js": ["node"]}
 SHOWN = 400  # bytes of what a bot printed last
@@ -71,19 +77,41 @@ def runs_itself(file: Path) -> bool:
 class Kept:
     """A bot that runs, kept within limits."""
 
-    def __init__(self, bot: Bot, slip: Path, folder: Path, seconds: float | None, megabytes: int, output: int = 2) -> None:
+    def __init__(self, bot: Bot, slip: Path, folder: Path, seconds: float | None, megabytes: int, output: int = 2,
+                 world: World | None = None) -> None:
         """It runs in `folder`, and what it prints goes to `output`, a file's descriptor. Without a limit of seconds it is
-        its student's own, at home, and has this process's environment."""
+        its student's own, at home, and has this process's environment. With a world it is kept apart."""
         self.how = ""
+        self.channel, theirs = socket.socketpair()
         at_home = seconds is None
         environment = dict(os.environ) if at_home else {word: os.environ[word] for word in KEPT if word in os.environ}
         environment |= {} if at_home else {"HOME": str(folder), "TMPDIR": str(folder), "PYTHONUNBUFFERED": "1", "PYTHONDONTWRITEBYTECODE": "1"}
-        words: list[str | Path] = [sys.executable, "-I", "-S", "-B", "-c", KEEPER, str(megabytes), str(int(seconds or 0)), *bot.words, slip]
+        plan = {"words": [*bot.words, str(slip)], "folder": str(folder), "megabytes": megabytes, "seconds": int(seconds or 0),
+                "channel": theirs.fileno(), "world": asdict(world) if world else None}
         try:
-            self.process = begin(words, stdin=subprocess.PIPE, stdout=subprocess.PIPE, stderr=output, cwd=folder, env=environment,
-                                 start_new_session=True)
+            with theirs:
+                self.process = begin([sys.executable, "-I", "-S", "-B", "-c", KEEPER], stdin=subprocess.PIPE, stdout=subprocess.PIPE,
+                                     stderr=output, cwd=folder, env=environment, start_new_session=True, pass_fds=[theirs.fileno()] * bool(world))
         except OSError as error:
+            self.channel.close()
             raise Fault(f"{error.filename or folder}: {error.strerror}", 4) from None
+        self.tell(json.dumps(plan))
+
+    def tell(self, line: str) -> None:
+        """Writes a line to the keeper; one that is gone is seen at once."""
+        assert self.process.stdin is not None
+        try:
+            self.process.stdin.write(line.encode() + b"\n")
+            self.process.stdin.flush()
+        except OSError:
+            pass
+
+    def listener(self) -> socket.socket | None:
+        """The listener in the bot's world; none while it isn't made."""
+        if not select.select([self.channel], [], [], AGAIN)[0]:
+            return None
+        files = socket.recv_fds(self.channel, 1, 1)[1]
+        return socket.socket(fileno=files[0]) if files else None
 
     def ended(self) -> str:
         """How the bot has ended, `ended STATUS` or `killed REASON`; empty while it runs. One that halts its keeper is
@@ -121,6 +149,7 @@ class Kept:
     def stop(self) -> str:
         """Ends the bot with all that it started; gives how it ended."""
         assert self.process.stdin is not None
+        self.channel.close()
         try:
             self.process.stdin.close()
         except OSError:
@@ -136,6 +165,19 @@ class Kept:
             self.how = "killed it stopped its keeper"
             self.force()
         return self.ended()
+
+
+def no_worlds() -> str:
+    """Why bots can't be kept apart on this system; empty where they can."""
+    it = Bot("true", ("/bin/true",))
+    with tempfile.TemporaryDirectory() as room, tempfile.TemporaryFile() as output:
+        world = World(seen.shown(it.words), (), "", 1024)
+        kept = Kept(it, Path(room, "bot.slip"), Path(room), PATIENCE, 64, output.fileno(), world)
+        while not (how := kept.ended()):
+            if (listener := kept.listener()) is not None:
+                listener.close()
+        kept.stop()
+    return "" if how == "ended 0" else how.removeprefix("killed no namespaces of its own: ")
 
 
 def last_line(output: int) -> str:

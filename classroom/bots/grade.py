@@ -10,17 +10,18 @@ import tempfile
 import threading
 import time
 from collections.abc import Iterator
+from contextlib import contextmanager
 from pathlib import Path
 
-from classroom.bots import graded, suites
-from classroom.bots.bots import Bot
+from classroom.bots import graded, seen, suites
+from classroom.bots.bots import Bot, no_worlds
 from classroom.bots.suites import Case
-from classroom.bots.trial import Limits, Result, tried
+from classroom.bots.trial import Limits, Result, Seen, tried
 from classroom.core.answering import answerer
 from classroom.core.counts import positive, seconds
 from classroom.core.folders import new_folder
 from classroom.core.printable import printable
-from classroom.core.processes import end_at_once, end_strays, reap_orphans
+from classroom.core.processes import end_at_once, end_strays, reap_orphans, run
 from classroom.core.program import Fault, program
 from classroom.core.statuses import FAILED, WARNED
 from classroom.run.daemons import daemons
@@ -43,6 +44,8 @@ def add_words(words: argparse.ArgumentParser) -> None:
     words.add_argument("--memory", type=positive, default=512, metavar="MB",
                        help="what a bot may take, with all that it starts (512)")
     words.add_argument("--at-once", type=positive, help="how many cases run side by side")
+    words.add_argument("--show", action="append", default=[], metavar="FOLDER", help="what bots may read beside their own folders and programs")
+    words.add_argument("--not-apart", action="store_true", help="bots run one after another, as you, and see your files")
     words.add_argument("--into", default="grades", help="where the cases' records and pages are kept (grades)")
     for form, what in (("json", "a list of cases"), ("junit", "JUnit's form"), ("gradescope", "Gradescope's form")):
         words.add_argument(f"--{form}", metavar="FILE", help=what)
@@ -55,8 +58,24 @@ def folder_of(top: Path, bot: Bot, case: Case) -> Path:
     return top / plain[0] / plain[1]
 
 
-def results_of(bots: list[Bot], cases: list[Case], words: argparse.Namespace, top: Path, stop: threading.Event) -> Iterator[Result]:
-    """The result of each case of each bot as it ends; of a case that was interrupted there is none."""
+@contextmanager
+def own_room() -> Iterator[Path]:
+    """A new folder, which goes with all that a bot made in it, however deep that is. No link is followed."""
+    folder = Path(tempfile.mkdtemp(prefix="bot-"))
+    try:
+        yield folder
+    finally:
+        if folder.is_symlink():
+            folder.unlink()
+        else:
+            for command in ("chmod", "-R", "u+rwx"), ("rm", "-rf"):
+                run([*command, "--", folder])
+
+
+def results_of(bots: list[Bot], cases: list[Case], words: argparse.Namespace, top: Path, stop: threading.Event,
+               seen_by: dict[str, Seen] | None = None) -> Iterator[Result]:
+    """The result of each case of each bot as it ends; of a case that was interrupted there is none. Bots run side by side
+    where it is said what each sees, and else one after another."""
     limits = Limits(words.timeout, words.memory)
     at_once = words.at_once or min(MOST_AT_ONCE, 3 * (os.cpu_count() or 1))
 
@@ -64,19 +83,39 @@ def results_of(bots: list[Bot], cases: list[Case], words: argparse.Namespace, to
         """How a bot does in a case, failed where no folder can be made for it; None where it was interrupted."""
         if stop.is_set():
             return None
+        why = "not tried: "
         try:
-            with tempfile.TemporaryDirectory(prefix="bot-", ignore_cleanup_errors=True) as room:
-                return tried(bot, case, limits, Path(room), folder_of(top, bot, case), stop)
+            with own_room() as room:
+                return tried(bot, case, limits, room, folder_of(top, bot, case), stop, seen_by[bot.name] if seen_by else None)
         except OSError as error:
-            why = f"not tried: {error.filename or tempfile.gettempdir()}: {error.strerror}; TMPDIR names another folder"
-            return Result(bot.name, case.lab, case.daemon.spelled(), case.seed, False, why)
+            why += f"{error.filename or tempfile.gettempdir()}: {error.strerror}; TMPDIR names another folder"
+        except Exception as error:  # It takes no other result away.
+            why += f"{type(error).__name__}: {error}"
+        return Result(bot.name, case.lab, case.daemon.spelled(), case.seed, False, why)
 
-    with concurrent.futures.ThreadPoolExecutor(at_once) as pool:
-        going = [pool.submit(one, bot, case) for bot in bots for case in cases]
-        for each in concurrent.futures.as_completed(going):
-            result = each.result()
-            if result is not None:
-                yield result
+    for group in [bots] if seen_by else [[bot] for bot in bots]:
+        with concurrent.futures.ThreadPoolExecutor(at_once) as pool:
+            going = [pool.submit(one, bot, case) for bot in group for case in cases]
+            for each in concurrent.futures.as_completed(going):
+                result = each.result()
+                if result is not None:
+                    yield result
+
+
+def kept_apart(bots: list[Bot], words: argparse.Namespace, top: Path) -> dict[str, Seen] | None:
+    """What each bot sees; None, and a line, where the system doesn't keep them apart."""
+    why = "--not-apart" if words.not_apart else no_worlds()
+    if why:
+        print(f"class: bots aren't kept apart ({printable(why)}): they run one after another, as you, and see your files (docs/COURSE.md)", flush=True)
+        return None
+    into = Path(words.into).resolve()
+    more = [Path(each).absolute() for each in words.show]
+    found = {}
+    for bot in bots:
+        others = [other.words for other in bots if other is not bot]
+        results = top.resolve() if seen.holds(into, seen.files_of(bot.words)) else into
+        found[bot.name] = seen.shown(bot.words, more), seen.hidden(bot.words, others, results)
+    return found
 
 
 class Written:
@@ -152,13 +191,14 @@ def grade(words: argparse.Namespace) -> int:
     runnable = [bot for bot in bots if not bot.fault]
     top = new_folder(Path(words.into), Path("grade")) if runnable else Path()
     reap_orphans()
+    seen_by = kept_apart(runnable, words, top) if runnable else None
     stop = interruptible()
     results = [Result(bot.name, case.lab, case.daemon.spelled(), case.seed, False, bot.fault, started=False)
                for bot in bots for case in cases if bot.fault]
     written = Written(words, bots, cases, results)
     full = False
     try:
-        for result in results_of(runnable, cases, words, top, stop):
+        for result in results_of(runnable, cases, words, top, stop, seen_by):
             written.add(result)
             print(graded.told(result), flush=True)
             if result.unkept and not full:
