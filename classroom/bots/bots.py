@@ -170,13 +170,16 @@ class Kept:
 def no_worlds() -> str:
     """Why bots can't be kept apart on this system; empty where they can."""
     it = Bot("true", ("/bin/true",))
-    with tempfile.TemporaryDirectory() as room, tempfile.TemporaryFile() as output:
-        world = World(seen.shown(it.words), (), "", 1024)
-        kept = Kept(it, Path(room, "bot.slip"), Path(room), PATIENCE, 64, output.fileno(), world)
-        while not (how := kept.ended()):
-            if (listener := kept.listener()) is not None:
-                listener.close()
-        kept.stop()
+    try:
+        with tempfile.TemporaryDirectory() as room, tempfile.TemporaryFile() as output:
+            world = World(seen.shown(it.words), (), "", 1024)
+            kept = Kept(it, Path(room, "bot.slip"), Path(room), PATIENCE, 64, output.fileno(), world)
+            while not (how := kept.ended()):
+                if (listener := kept.listener()) is not None:
+                    listener.close()
+            kept.stop()
+    except OSError as error:
+        return f"{error.filename or tempfile.gettempdir()}: {error.strerror}"
     return "" if how == "ended 0" else how.removeprefix("killed no namespaces of its own: ")
 
 

@@ -109,7 +109,10 @@ def kept_apart(bots: list[Bot], words: argparse.Namespace, top: Path) -> dict[st
         print(f"class: bots aren't kept apart ({printable(why)}): they run one after another, as you, and see your files (docs/COURSE.md)", flush=True)
         return None
     into = Path(words.into).resolve()
-    more = [Path(each).absolute() for each in words.show]
+    more = [Path(each).resolve() for each in words.show]
+    for folder in more:
+        if not folder.exists() or seen.holds(folder, [Path(tempfile.gettempdir())]):
+            raise Fault(f"--show {folder}: a folder that is there, and not above that of temporary files")
     found = {}
     for bot in bots:
         others = [other.words for other in bots if other is not bot]

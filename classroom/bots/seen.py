@@ -4,13 +4,16 @@ from __future__ import annotations
 import os
 import tempfile
 from collections.abc import Iterable
+from functools import cache
 from pathlib import Path
 
 from classroom.core.program import TOP
 
 SYSTEM = ("/usr", "/bin", "/sbin", "/lib", "/lib32", "/lib64", "/libx32", "/nix/store", "/gnu/store")
 OF_ETC = ("alternatives", "ld.so*", "java*", "python*", "node*", "localtime", "passwd", "group", "nsswitch.conf", "hosts", "ssl/certs")
-BESIDE = ("lib", "lib64", "libexec")  # what an installation has beside its folder of programs
+OF_PROGRAMS = ("bin", "sbin", "shims")  # folders of an installation that have its programs
+BESIDE = ("lib", "lib64", "libexec")  # what it has beside these
+CLIENT = "client.py"  # which students copy beside their bots
 APART = "=:,"  # between paths in a word
 
 
@@ -36,15 +39,17 @@ def is_private(folder: Path) -> bool:
 
 
 def around(file: Path) -> list[Path]:
-    """A file with what it needs: its folder, or the installation that this is the folder of programs of."""
+    """A file with what it needs: its folder, or the installation that this is the folder of programs of. Of a private
+    folder only the file is shown, with the module that students use."""
     folder = file.parent
-    beside = [folder.parent / each for each in BESIDE if (folder.parent / each).is_dir()]
+    beside = [folder.parent / each for each in BESIDE if folder.name in OF_PROGRAMS and (folder.parent / each).is_dir()]
     if beside and not is_private(folder.parent):
         return [folder.parent]
-    return [file if is_private(folder) else folder, *beside]
+    return [*((file, folder / CLIENT) if is_private(folder) else (folder,)), *beside]
 
 
-def files_of(words: Iterable[str]) -> list[Path]:
+@cache
+def files_of(words: tuple[str, ...]) -> list[Path]:
     """The files and folders that the words of a command name, with those to which their links lead."""
     found: list[Path] = []
     for word in words:
@@ -55,14 +60,15 @@ def files_of(words: Iterable[str]) -> list[Path]:
     return list(dict.fromkeys(found))
 
 
+@cache
 def common() -> list[Path]:
     """What every bot sees: the system's programs, those of the path, and the module that students use."""
     found = [Path(each) for each in SYSTEM] + [file for each in OF_ETC for file in Path("/etc").glob(each)]
     for each in os.environ.get("PATH", "").split(":"):
         if each.startswith("/") and Path(each).is_dir() and not is_private(Path(each)):
             found += [place for step in steps(Path(each)) for place in around(step / "program")]
-    java = os.environ.get("JAVA_HOME", "")
-    return [*found, TOP / "classroom", *([Path(java)] if java.startswith("/") else [])]
+    java = Path(os.environ.get("JAVA_HOME", "."))
+    return [*found, TOP / "classroom", *([java] if java.is_absolute() and not is_private(java) else [])]
 
 
 def shown(words: tuple[str, ...], more: Iterable[Path] = ()) -> tuple[tuple[str, str], ...]:

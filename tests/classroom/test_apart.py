@@ -85,10 +85,10 @@ class Apart(Grades):
         self.assertEqual({word for word, is_so in seen.items() if is_so == "True"}, {"read of-own"}, output)
         self.assertEqual(len(seen), 2 * len(files) + 3)
 
-    def peeked(self, *bots: str) -> str:
+    def peeked(self, *bots: str, more: tuple[str | Path, ...] = ()) -> str:
         """What the first bot printed last."""
         call: list[str | Path] = [sys.executable, TOP / "class", "grade", *bots, "--labs", self.room / "labs", "--daemon", "central",
-                                  "--into", self.room / "grades", "--json", self.room / "cases.json", "--timeout", "60"]
+                                  "--into", self.room / "grades", "--json", self.room / "cases.json", "--timeout", "60", *more]
         done = subprocess.run(call, stdin=subprocess.DEVNULL, capture_output=True, text=True, check=False, timeout=LIMIT)
         why: str = json.loads((self.room / "cases.json").read_text(encoding="utf-8"))[0]["why"]
         self.assertRegex(why, "^it ended by itself, status 3; it printed last: ", done.stdout)
@@ -101,6 +101,14 @@ class Apart(Grades):
         words = spelled("1", self.room / "one.py", self.room / "two.py")
         output = self.peeked(f"python3 {self.room / 'one.py'} peeks {words}", f"python3 {self.room / 'two.py'} right")
         self.assertIn("read one.py: True; read two.py: False; write one.py: False; ", output)
+
+    def test_a_folder_that_is_named_is_shown(self) -> None:
+        for name in ("library", "other"):
+            (self.room / name).mkdir()
+            (self.room / name / f"of-{name}").write_bytes(HIDDEN)
+        words = spelled("1", self.room / "library/of-library", self.room / "other/of-other")
+        output = self.peeked(f"python3 {FAULTY} peeks {words}", more=("--show", self.room / "library"))
+        self.assertIn("read of-library: True; read of-other: False; write of-library: False; ", output)
 
     def test_room_and_memory_that_no_process_has_are_limited(self) -> None:
         output = self.grades("fills", "hides-memory", "shares-memory", "digs")

@@ -248,19 +248,28 @@ class Calls(InRoom):
         nothing_left(self)
 
     def test_bots_that_fight_their_keeper_take_no_result_away(self) -> None:
-        table = self.room / "cases.json"
-        bots = [f"python3 {FAULTY} {fault}" for fault in ("swaps-output", "halts", "kills", "right")]
+        """In namespaces of their own they don't reach it, and without them they end it."""
         labs = self.room / "labs"
         labs.mkdir()
         shutil.copy(EXAMPLES / "path.toml", labs)
-        done = words("grade", *bots, "--labs", labs, "--timeout", "60", "--into", self.room / "grades", "--json", table)
+        self.fight(labs)
+        whys = self.fight(labs, "--not-apart")
+        self.assertEqual(whys["halts"], {"it was ended: it stopped its keeper"})
+        self.assertEqual(whys["kills"], {"it was ended: it killed its keeper"})
+
+    def fight(self, labs: Path, *more: str) -> dict[str, set[str]]:
+        """Grades them beside a right one; gives why each failed."""
+        table = self.room / "cases.json"
+        faults = ("swaps-output", "halts", "kills", "right")
+        done = words("grade", *(f"python3 {FAULTY} {fault}" for fault in faults), "--labs", labs, "--timeout", "60", "--into", self.room / "grades",
+                     "--json", table, *more)
         self.assertEqual(done.returncode, 5, done.stdout + done.stderr)
-        for fault in ("swaps-output", "halts", "kills"):
-            self.assertIn(f"\npython3 faulty.py {fault}: 0 of 3 cases passed\n", done.stdout)
-        self.assertIn("\npython3 faulty.py right: 3 of 3 cases passed\n", done.stdout)
-        self.assertEqual(done.stdout.count("it ended by itself, status 3\n"), 3, done.stdout)
-        self.assertEqual(len(json.loads(table.read_text(encoding="utf-8"))), 12)
         nothing_left(self)
+        cases = json.loads(table.read_text(encoding="utf-8"))
+        self.assertEqual([each["passed"] for each in cases], [False] * 9 + [True] * 3)
+        whys = {fault: {each["why"] for each in cases[3 * index:][:3]} for index, fault in enumerate(faults)}
+        self.assertEqual(whys["swaps-output"], {"it ended by itself, status 3"})
+        return whys
 
     def test_a_second_interrupt_ends_it_whatever_it_waits_for(self) -> None:
         """What was graded before is kept. It waits for programs that answer no more."""

@@ -186,17 +186,22 @@ def swaps_output() -> None:
 
 
 def halts() -> None:
-    """It stops whoever started it, again and again, and says nothing."""
-    while True:
+    """It stops whoever started it, again and again, says nothing, and gives up at last."""
+    for _ in range(1000):
         os.kill(os.getppid(), signal.SIGSTOP)
         time.sleep(0.01)
+    os._exit(3)
 
 
 def kills() -> None:
     """It kills whoever started it, and leaves programs behind that don't have its environment."""
     for _ in range(3):
         subprocess.Popen(["/bin/sleep", SLEEP], start_new_session=True, env={"HOME": "/"})
-    os.kill(os.getppid(), signal.SIGKILL)
+    keeper = os.getppid()
+    os.kill(keeper, signal.SIGKILL)
+    time.sleep(1)
+    if os.getppid() == keeper:
+        os._exit(3)
     os.execve("/bin/sleep", ["sleep", SLEEP], {"HOME": "/"})
 
 
