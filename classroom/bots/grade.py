@@ -27,6 +27,7 @@ from classroom.core.statuses import FAILED, WARNED
 from classroom.run.daemons import daemons
 
 MOST_AT_ONCE = 16  # bots that run side by side
+ROOMS: set[Path] = set()  # the folders of bots that run
 LONG = 0.5  # seconds that writing the results takes at most where they are written after each case
 SPARING = 9  # times as long as writing took they aren't written, where it takes longer
 
@@ -62,9 +63,11 @@ def folder_of(top: Path, bot: Bot, case: Case) -> Path:
 def own_room() -> Iterator[Path]:
     """A new folder, which goes with all that a bot made in it, however deep that is. No link is followed."""
     folder = Path(tempfile.mkdtemp(prefix="bot-"))
+    ROOMS.add(folder)
     try:
         yield folder
     finally:
+        ROOMS.discard(folder)
         if folder.is_symlink():
             folder.unlink()
         else:
@@ -160,7 +163,7 @@ def interruptible() -> threading.Event:
     def interrupt(*_: object) -> None:
         """Sets it, or ends at once."""
         if first.is_set():
-            end_at_once(FAILED)
+            end_at_once(FAILED, list(ROOMS))
         first.set()
         stop.set()
 

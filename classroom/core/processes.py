@@ -3,11 +3,12 @@ from __future__ import annotations
 
 import ctypes
 import os
+import shutil
 import signal
 import subprocess
 import threading
 import time
-from collections.abc import Sequence
+from collections.abc import Iterable, Sequence
 from pathlib import Path
 from typing import Any
 
@@ -116,16 +117,21 @@ def end_strays() -> None:
         time.sleep(PAUSE)
 
 
-def end_at_once(status: int) -> None:
-    """Kills all that descends from this process, and exits, whatever its threads wait for."""
-    STARTING.acquire(timeout=LAST)  # From now on nothing is started.
-    end = time.monotonic() + LAST
-    while time.monotonic() < end and (left := below(os.getpid())):
-        kill(left)
-        try:
+def end_at_once(status: int, folders: Iterable[Path]) -> None:
+    """Kills all that descends from this process, removes folders, and exits, whatever its threads wait for."""
+    try:
+        STARTING.acquire(timeout=LAST)  # From now on nothing is started.
+        end = time.monotonic() + LAST
+        while time.monotonic() < end and (left := below(os.getpid())):
+            kill(left)
             while os.waitpid(-1, os.WNOHANG)[0]:
                 pass
-        except OSError:
-            break
-        time.sleep(PAUSE)
-    os._exit(status)
+            time.sleep(PAUSE)
+    except ChildProcessError:
+        pass
+    finally:
+        try:
+            for folder in folders:
+                shutil.rmtree(folder, ignore_errors=True)
+        finally:
+            os._exit(status)

@@ -274,10 +274,13 @@ class Calls(InRoom):
     def test_a_second_interrupt_ends_it_whatever_it_waits_for(self) -> None:
         """What was graded before is kept. It waits for programs that answer no more."""
         table = self.room / "cases.json"
+        rooms = self.room / "rooms"
+        rooms.mkdir()
         bots = [f"python3 {FAULTY} {fault}" for fault in ("forks", "leaves")]
         going = subprocess.Popen(
             [sys.executable, TOP / "class", "grade", *bots, "--suite", "small", "--daemon", "by-hand", "--into", self.room / "grades", "--json", table,
-             "--timeout", str(LIMIT), "--at-once", "24"], stdout=subprocess.PIPE, stderr=subprocess.STDOUT, text=True)
+             "--timeout", str(LIMIT), "--at-once", "24"], stdout=subprocess.PIPE, stderr=subprocess.STDOUT, text=True,
+            env={**os.environ, "TMPDIR": str(rooms)})
         assert going.stdout is not None
         self.addCleanup(going.kill)
         failed = 0
@@ -285,11 +288,14 @@ class Calls(InRoom):
             failed += line.startswith("FAILED  python3 faulty.py forks: ")
             if failed == 12:
                 break
-        answering = [child for child in children(going.pid) if b"answer" in command_of(child)]
-        self.assertEqual(len(answering), 12)
+        late = time.monotonic() + LIMIT
+        while len(answering := [child for child in children(going.pid) if b"answer" in command_of(child)]) != 12:
+            self.assertLess(time.monotonic(), late, answering)
+            time.sleep(0.05)
         for child in answering:
             self.addCleanup(end, child)
             os.kill(child, signal.SIGSTOP)
+        time.sleep(5)  # By then the bots, which look again and again, have asked for what isn't answered.
         going.send_signal(signal.SIGINT)
         with self.assertRaises(subprocess.TimeoutExpired):
             going.wait(3)
@@ -298,6 +304,7 @@ class Calls(InRoom):
         going.stdout.close()
         self.assertEqual([each["bot"] for each in json.loads(table.read_text(encoding="utf-8"))], ["python3 faulty.py forks"] * 12)
         self.assertEqual([child for child in answering if Path(f"/proc/{child}").exists()], [])
+        self.assertEqual(list(rooms.iterdir()), [])
         nothing_left(self)
 
     def test_a_grade_that_is_killed_leaves_nothing_running(self) -> None:
