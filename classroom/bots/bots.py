@@ -2,22 +2,31 @@
 started."""
 from __future__ import annotations
 
+import json
 import os
+import select
 import shlex
 import shutil
 import signal
+import socket
 import subprocess
 import sys
+import tempfile
 import time
-from dataclasses import dataclass
+from dataclasses import asdict, dataclass
 from pathlib import Path
 
-from classroom.core.program import Fault
+from classroom.bots import seen
+from classroom.bots.apart import World
+from classroom.core.processes import begin, end_below, end_strays, is_halted
+from classroom.core.program import TOP, Fault
 
-KEEPER = Path(__file__).resolve().parent / "keeper.py"
+KEEPER = f"import sys; sys.path.insert(0, {str(TOP)!r}); from classroom.bots.keeper import main; main()"
 KEPT = ("PATH", "LANG", "LC_ALL", "JAVA_HOME")
 RUN_BY = {".py": [sys.executable], ".java": ["java", "-XX:TieredStopAtLevel=1", "-XX:+UseSerialGC"], ".js": ["node"]}
 SHOWN = 400  # bytes of what a bot printed last
+PATIENCE = 30.0  # seconds that a keeper has to end its bot
+AGAIN = 0.1  # seconds after which a keeper is told again to go on: its bot may stop it again
 
 
 @dataclass(frozen=True)
@@ -65,73 +74,117 @@ def runs_itself(file: Path) -> bool:
         return it.read(2) == b"#!"
 
 
-def end_strays(folder: Path) -> None:
-    """Kills the processes that have that folder as HOME in their environment, until none is left."""
-    mark = f"HOME={folder}".encode()
-    while True:
-        found = False
-        for each in Path("/proc").iterdir():
-            try:
-                if each.name.isdecimal() and mark in (each / "environ").read_bytes().split(b"\0"):
-                    os.kill(int(each.name), signal.SIGKILL)
-                    found = True
-            except OSError:
-                continue
-        if not found:
-            return
-        time.sleep(0.01)
-
-
 class Kept:
     """A bot that runs, kept within limits."""
 
-    def __init__(self, bot: Bot, slip: Path, folder: Path, seconds: float | None, megabytes: int) -> None:
-        """It runs in `folder`, and what it prints goes to a file there. Without a limit of seconds it is its student's
-        own, at home: it has this process's environment, and prints to this process's standard error."""
-        self.folder, self.output = folder, folder / "output.txt"
+    def __init__(self, bot: Bot, slip: Path, folder: Path, seconds: float | None, megabytes: int, output: int = 2,
+                 world: World | None = None) -> None:
+        """It runs in `folder`, and what it prints goes to `output`, a file's descriptor. Without a limit of seconds it is
+        its student's own, at home, and has this process's environment. With a world it is kept apart."""
         self.how = ""
+        self.channel, theirs = socket.socketpair()
         at_home = seconds is None
         environment = dict(os.environ) if at_home else {word: os.environ[word] for word in KEPT if word in os.environ}
         environment |= {} if at_home else {"HOME": str(folder), "TMPDIR": str(folder), "PYTHONUNBUFFERED": "1", "PYTHONDONTWRITEBYTECODE": "1"}
-        words: list[str | Path] = [sys.executable, "-S", "-E", "-s", KEEPER, str(megabytes), str(int(seconds or 0)), *bot.words, slip]
+        plan = {"words": [*bot.words, str(slip)], "folder": str(folder), "megabytes": megabytes, "seconds": int(seconds or 0),
+                "channel": theirs.fileno(), "world": asdict(world) if world else None}
         try:
-            with open(os.dup(2), "wb") if at_home else self.output.open("ab") as prints:
-                self.process = subprocess.Popen(
-                    words, stdin=subprocess.PIPE, stdout=subprocess.PIPE, stderr=prints, cwd=folder, env=environment,
-                    start_new_session=True,
-                )
+            with theirs:
+                self.process = begin([sys.executable, "-I", "-S", "-B", "-c", KEEPER], stdin=subprocess.PIPE, stdout=subprocess.PIPE,
+                                     stderr=output, cwd=folder, env=environment, start_new_session=True, pass_fds=[theirs.fileno()] * bool(world))
         except OSError as error:
+            self.channel.close()
             raise Fault(f"{error.filename or folder}: {error.strerror}", 4) from None
+        self.tell(json.dumps(plan))
+
+    def tell(self, line: str) -> None:
+        """Writes a line to the keeper; one that is gone is seen at once."""
+        assert self.process.stdin is not None
+        try:
+            self.process.stdin.write(line.encode() + b"\n")
+            self.process.stdin.flush()
+        except OSError:
+            pass
+
+    def listener(self) -> socket.socket | None:
+        """The listener in the bot's world; none while it isn't made."""
+        if not select.select([self.channel], [], [], AGAIN)[0]:
+            return None
+        files = socket.recv_fds(self.channel, 1, 1)[1]
+        return socket.socket(fileno=files[0]) if files else None
 
     def ended(self) -> str:
-        """How the bot has ended, `ended STATUS` or `killed REASON`; empty while it runs."""
+        """How the bot has ended, `ended STATUS` or `killed REASON`; empty while it runs. One that halts its keeper is
+        ended."""
         if self.process.poll() is None:
-            return ""
+            if not is_halted(self.process.pid):
+                return ""
+            self.how = "killed it stopped its keeper"
+            self.force()
         assert self.process.stdout is not None
         if not self.process.stdout.closed:
-            self.how = self.process.stdout.read().decode(errors="replace").strip()
+            end_strays()
+            self.how = self.how or self.told() or "killed it killed its keeper"
             self.process.stdout.close()
-            if not self.how:
-                self.how = "killed its keeper"
-                end_strays(self.folder)
         return self.how
+
+    def told(self) -> str:
+        """What the keeper told before it ended; empty where it was killed. A bot may hold its pipe too, so that nothing
+        is waited for."""
+        assert self.process.stdout is not None
+        os.set_blocking(self.process.stdout.fileno(), False)
+        try:
+            line = os.read(self.process.stdout.fileno(), 1 << 12)
+        except OSError:
+            return ""
+        return line.decode(errors="replace").strip() if self.process.returncode == 0 else ""
+
+    def force(self) -> None:
+        """Kills the keeper, whatever it waits for: first all below it, for which this process would be the parent then."""
+        end_below(self.process.pid)
+        self.process.kill()
+        self.process.wait()
+        end_strays()
 
     def stop(self) -> str:
         """Ends the bot with all that it started; gives how it ended."""
         assert self.process.stdin is not None
+        self.channel.close()
         try:
             self.process.stdin.close()
         except OSError:
             pass
-        self.process.wait()
+        end = time.monotonic() + PATIENCE
+        while self.process.poll() is None and time.monotonic() < end:
+            self.process.send_signal(signal.SIGCONT)
+            try:
+                self.process.wait(AGAIN)
+            except subprocess.TimeoutExpired:
+                continue
+        if self.process.poll() is None:
+            self.how = "killed it stopped its keeper"
+            self.force()
         return self.ended()
 
-    def printed(self) -> str:
-        """The last line that the bot printed into its file; empty where there is none."""
-        try:
-            with self.output.open("rb") as it:
-                it.seek(max(0, self.output.stat().st_size - SHOWN))
-                lines = it.read().decode(errors="replace").strip().splitlines()
-        except OSError:
-            return ""
-        return lines[-1] if lines else ""
+
+def no_worlds() -> str:
+    """Why bots can't be kept apart on this system; empty where they can."""
+    it = Bot("true", ("/bin/true",))
+    try:
+        with tempfile.TemporaryDirectory() as room, tempfile.TemporaryFile() as output:
+            world = World(seen.shown(it.words), (), "", 1024)
+            kept = Kept(it, Path(room, "bot.slip"), Path(room), PATIENCE, 64, output.fileno(), world)
+            while not (how := kept.ended()):
+                if (listener := kept.listener()) is not None:
+                    listener.close()
+            kept.stop()
+    except OSError as error:
+        return f"{error.filename or tempfile.gettempdir()}: {error.strerror}"
+    return "" if how == "ended 0" else how.removeprefix("killed no namespaces of its own: ")
+
+
+def last_line(output: int) -> str:
+    """The last line that a bot printed into such a file; empty where there is none."""
+    size = os.fstat(output).st_size
+    lines = os.pread(output, SHOWN, max(0, size - SHOWN)).decode(errors="replace").strip().splitlines()
+    return lines[-1] if lines else ""

@@ -8,22 +8,28 @@ import re
 import signal
 import tempfile
 import threading
+import time
 from collections.abc import Iterator
+from contextlib import contextmanager
 from pathlib import Path
 
-from classroom.bots import graded, suites
-from classroom.bots.bots import Bot
+from classroom.bots import graded, seen, suites
+from classroom.bots.bots import Bot, no_worlds
 from classroom.bots.suites import Case
-from classroom.bots.trial import Limits, Result, tried
+from classroom.bots.trial import Limits, Result, Seen, tried
 from classroom.core.answering import answerer
 from classroom.core.counts import positive, seconds
 from classroom.core.folders import new_folder
 from classroom.core.printable import printable
+from classroom.core.processes import end_at_once, end_strays, reap_orphans, run
 from classroom.core.program import Fault, program
 from classroom.core.statuses import FAILED, WARNED
 from classroom.run.daemons import daemons
 
 MOST_AT_ONCE = 16  # bots that run side by side
+ROOMS: set[Path] = set()  # the folders of bots that run
+LONG = 0.5  # seconds that writing the results takes at most where they are written after each case
+SPARING = 9  # times as long as writing took they aren't written, where it takes longer
 
 
 def add_words(words: argparse.ArgumentParser) -> None:
@@ -39,6 +45,8 @@ def add_words(words: argparse.ArgumentParser) -> None:
     words.add_argument("--memory", type=positive, default=512, metavar="MB",
                        help="what a bot may take, with all that it starts (512)")
     words.add_argument("--at-once", type=positive, help="how many cases run side by side")
+    words.add_argument("--show", action="append", default=[], metavar="FOLDER", help="what bots may read beside their own folders and programs")
+    words.add_argument("--not-apart", action="store_true", help="bots run one after another, as you, and see your files")
     words.add_argument("--into", default="grades", help="where the cases' records and pages are kept (grades)")
     for form, what in (("json", "a list of cases"), ("junit", "JUnit's form"), ("gradescope", "Gradescope's form")):
         words.add_argument(f"--{form}", metavar="FILE", help=what)
@@ -51,8 +59,26 @@ def folder_of(top: Path, bot: Bot, case: Case) -> Path:
     return top / plain[0] / plain[1]
 
 
-def results_of(bots: list[Bot], cases: list[Case], words: argparse.Namespace, top: Path, stop: threading.Event) -> Iterator[Result]:
-    """The result of each case of each bot as it ends; of a case that was interrupted there is none."""
+@contextmanager
+def own_room() -> Iterator[Path]:
+    """A new folder, which goes with all that a bot made in it, however deep that is. No link is followed."""
+    folder = Path(tempfile.mkdtemp(prefix="bot-"))
+    ROOMS.add(folder)
+    try:
+        yield folder
+    finally:
+        ROOMS.discard(folder)
+        if folder.is_symlink():
+            folder.unlink()
+        else:
+            for command in ("chmod", "-R", "u+rwx"), ("rm", "-rf"):
+                run([*command, "--", folder])
+
+
+def results_of(bots: list[Bot], cases: list[Case], words: argparse.Namespace, top: Path, stop: threading.Event,
+               seen_by: dict[str, Seen] | None = None) -> Iterator[Result]:
+    """The result of each case of each bot as it ends; of a case that was interrupted there is none. Bots run side by side
+    where it is said what each sees, and else one after another."""
     limits = Limits(words.timeout, words.memory)
     at_once = words.at_once or min(MOST_AT_ONCE, 3 * (os.cpu_count() or 1))
 
@@ -60,31 +86,90 @@ def results_of(bots: list[Bot], cases: list[Case], words: argparse.Namespace, to
         """How a bot does in a case, failed where no folder can be made for it; None where it was interrupted."""
         if stop.is_set():
             return None
+        why = "not tried: "
         try:
-            with tempfile.TemporaryDirectory(prefix="bot-", ignore_cleanup_errors=True) as room:
-                return tried(bot, case, limits, Path(room), folder_of(top, bot, case), stop)
+            with own_room() as room:
+                return tried(bot, case, limits, room, folder_of(top, bot, case), stop, seen_by[bot.name] if seen_by else None)
         except OSError as error:
-            why = f"not tried: {error.filename or tempfile.gettempdir()}: {error.strerror}; TMPDIR names another folder"
-            return Result(bot.name, case.lab, case.daemon.spelled(), case.seed, False, why)
+            why += f"{error.filename or tempfile.gettempdir()}: {error.strerror}; TMPDIR names another folder"
+        except Exception as error:  # It takes no other result away.
+            why += f"{type(error).__name__}: {error}"
+        return Result(bot.name, case.lab, case.daemon.spelled(), case.seed, False, why)
 
-    with concurrent.futures.ThreadPoolExecutor(at_once) as pool:
-        going = [pool.submit(one, bot, case) for bot in bots for case in cases]
-        for each in concurrent.futures.as_completed(going):
-            result = each.result()
-            if result is not None:
-                yield result
+    for group in [bots] if seen_by else [[bot] for bot in bots]:
+        with concurrent.futures.ThreadPoolExecutor(at_once) as pool:
+            going = [pool.submit(one, bot, case) for bot in group for case in cases]
+            for each in concurrent.futures.as_completed(going):
+                result = each.result()
+                if result is not None:
+                    yield result
 
 
-def write_all(words: argparse.Namespace, results: list[Result]) -> list[str]:
-    """Writes the forms that were asked for; gives a line for each that couldn't be written."""
-    faults = []
-    for form in graded.FORMS:
-        if getattr(words, form):
+def kept_apart(bots: list[Bot], words: argparse.Namespace, top: Path) -> dict[str, Seen] | None:
+    """What each bot sees; None, and a line, where the system doesn't keep them apart."""
+    why = "--not-apart" if words.not_apart else no_worlds()
+    if why:
+        print(f"class: bots aren't kept apart ({printable(why)}): they run one after another, as you, and see your files (docs/COURSE.md)", flush=True)
+        return None
+    into = Path(words.into).resolve()
+    more = [Path(each).resolve() for each in words.show]
+    for folder in more:
+        if not folder.exists() or seen.holds(folder, [Path(tempfile.gettempdir())]):
+            raise Fault(f"--show {folder}: a folder that is there, and not above that of temporary files")
+    found = {}
+    for bot in bots:
+        others = [other.words for other in bots if other is not bot]
+        results = top.resolve() if seen.holds(into, seen.files_of(bot.words)) else into
+        found[bot.name] = seen.shown(bot.words, more), seen.hidden(bot.words, others, results)
+    return found
+
+
+class Written:
+    """The results so far, in the order of bots and cases, and the files that have them."""
+
+    def __init__(self, words: argparse.Namespace, bots: list[Bot], cases: list[Case], results: list[Result]) -> None:
+        """`results` are those of bots that can't be run."""
+        self.files = {form: Path(getattr(words, form)) for form in graded.FORMS if getattr(words, form)}
+        pairs = [(bot.name, case.name()) for bot in bots for case in cases]
+        self.order = {pair: index for index, pair in enumerate(pairs)}
+        self.results = results
+        self.next = 0.0  # when they are written again
+
+    def add(self, result: Result) -> None:
+        """Writes the results with one more. Where that takes long, they are written now and then."""
+        self.results.append(result)
+        begun = time.monotonic()
+        if begun >= self.next:
+            self.write()
+            taken = time.monotonic() - begun
+            self.next = time.monotonic() + SPARING * taken * (taken > LONG)
+
+    def write(self) -> list[str]:
+        """Writes the results in the forms that were asked for; gives a line for each that couldn't be written."""
+        self.results.sort(key=lambda result: self.order[result.bot, graded.named(result)])
+        faults = []
+        for form, file in self.files.items():
             try:
-                graded.write(form, Path(getattr(words, form)), results)
+                graded.write(form, file, self.results)
             except Fault as fault:
                 faults.append(f"{fault}; what stood there stays: make room, or name another file")
-    return faults
+        return faults
+
+
+def interruptible() -> threading.Event:
+    """What an interrupt sets. After a second one all is killed, whatever is waited for; the results are written."""
+    stop, first = threading.Event(), threading.Event()
+
+    def interrupt(*_: object) -> None:
+        """Sets it, or ends at once."""
+        if first.is_set():
+            end_at_once(FAILED, list(ROOMS))
+        first.set()
+        stop.set()
+
+    for number in (signal.SIGINT, signal.SIGTERM, signal.SIGHUP):
+        signal.signal(number, interrupt)
+    return stop
 
 
 def numbered(bots: list[Bot]) -> list[Bot]:
@@ -111,25 +196,24 @@ def grade(words: argparse.Namespace) -> int:
         print(f"class: {fault}", flush=True)
     runnable = [bot for bot in bots if not bot.fault]
     top = new_folder(Path(words.into), Path("grade")) if runnable else Path()
-    stop = threading.Event()
-    for number in (signal.SIGINT, signal.SIGTERM, signal.SIGHUP):
-        signal.signal(number, lambda *_: stop.set())
+    reap_orphans()
+    seen_by = kept_apart(runnable, words, top) if runnable else None
+    stop = interruptible()
     results = [Result(bot.name, case.lab, case.daemon.spelled(), case.seed, False, bot.fault, started=False)
                for bot in bots for case in cases if bot.fault]
+    written = Written(words, bots, cases, results)
     full = False
     try:
-        for result in results_of(runnable, cases, words, top, stop):
-            results.append(result)
+        for result in results_of(runnable, cases, words, top, stop, seen_by):
+            written.add(result)
             print(graded.told(result), flush=True)
             if result.unkept and not full:
                 print(f"class: {printable(result.unkept)}; --into names another folder", flush=True)
             full = full or bool(result.unkept)
     finally:
         stop.set()
-        pairs = [(bot.name, case.name()) for bot in bots for case in cases]
-        order = {pair: index for index, pair in enumerate(pairs)}
-        results.sort(key=lambda result: order[result.bot, graded.named(result)])
-        unwritten = write_all(words, results)
+        unwritten = written.write()
+    end_strays()
     print(graded.table(results))
     if runnable:
         print(f"records and pages: {top}")

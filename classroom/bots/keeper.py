@@ -1,47 +1,67 @@
-#!/usr/bin/env python3
-"""Keeps a program within limits: keeper.py MEGABYTES SECONDS PROGRAM WORD.. (0 seconds: no limit)
+"""Keeps a program within limits. The first line of standard input is a plan.
 
 All that the program starts, whatever session it goes to, is this process's to end: it is ended when the program ends,
-when it takes more memory than that in all or is more than 64 processes, or when standard input ends, which is where
-whoever started this has gone.
+when it takes more memory or room for files than it may or is more than 64 processes, or when standard input ends, which
+is where whoever started this has gone.
 Then a line tells how it was: `ended STATUS`, or `killed REASON`.
 """
-import ctypes
+from __future__ import annotations
+
+import errno
+import json
 import os
 import resource
 import select
 import signal
+import stat
 import subprocess
 import sys
 import time
+from collections.abc import Callable
+from dataclasses import dataclass
+from pathlib import Path
+from typing import Any
 
-SUBREAPER = 36  # prctl's PR_SET_CHILD_SUBREAPER
-PAUSE = 0.05
+from classroom.bots import apart
+from classroom.core.processes import PAUSE, below, kill, reap_orphans
+
+LOOK = 0.05  # seconds between two looks at what is to be kept
+SELDOM = 1.0  # seconds between two looks at all files of a folder
 MOST_PROCESSES = 64
-FILE_BYTES = 16 << 20
+FILE_BYTES = 16 << 20  # of one file
+FOLDER_MEGABYTES = 64
+LEAST = 1 << 12  # bytes for which each file counts, also an empty one
+Identity = tuple[int, int]
 
 
-def parents() -> dict[int, int]:
-    """Each process's parent."""
-    found = {}
-    for name in os.listdir("/proc"):
-        if name.isdecimal():
-            try:
-                with open(f"/proc/{name}/stat", "rb") as it:
-                    found[int(name)] = int(it.read().rpartition(b") ")[2].split()[1])
-            except (OSError, IndexError):
-                pass
-    return found
+@dataclass(frozen=True)
+class Plan:
+    """A program with its limits; of seconds 0 is none, and its student's own is kept within memory alone."""
+
+    words: list[str]
+    folder: str
+    megabytes: int
+    seconds: int
+    channel: int = -1  # where the listener goes in a world of its own
+    world: apart.World | None = None
+
+    @staticmethod
+    def read() -> Plan:
+        """The plan that standard input begins with."""
+        line = b""
+        while not line.endswith(b"\n"):
+            more = os.read(0, 1 << 16)
+            if not more:
+                sys.exit(1)
+            line += more
+        told: dict[str, Any] = json.loads(line)
+        world = told.pop("world")
+        return Plan(**told, world=apart.World(**world) if world else None)
 
 
-def below(top: int) -> list[int]:
-    """The numbers of all processes that descend from one."""
-    found, known = parents(), {top}
-    while True:
-        more = {child for child, parent in found.items() if parent in known} - known
-        if not more:
-            return sorted(known - {top})
-        known |= more
+def identity(of: os.stat_result) -> Identity:
+    """What tells a file from all others."""
+    return of.st_dev, of.st_ino
 
 
 def resident(process: int) -> int:
@@ -53,69 +73,157 @@ def resident(process: int) -> int:
         return 0
 
 
+def nameless(process: int) -> dict[Identity, int]:
+    """The bytes of the files without a name that a process holds, as those of `memfd_create`."""
+    found = {}
+    try:
+        for each in os.scandir(f"/proc/{process}/fd"):
+            try:
+                it = each.stat()
+            except OSError:
+                continue
+            if stat.S_ISREG(it.st_mode) and not it.st_nlink:
+                found[identity(it)] = it.st_blocks * 512
+    except OSError:
+        pass
+    return found
+
+
+def shared() -> int:
+    """The bytes of the memory that processes share by number, in this namespace."""
+    try:
+        rows = Path("/proc/sysvipc/shm").read_text(encoding="ascii").splitlines()
+        return sum(int(row.split()[rows[0].split().index("rss")]) for row in rows[1:])
+    except (OSError, ValueError, IndexError):
+        return 0
+
+
+def room_of(folder: str) -> int:
+    """The bytes of all files of a folder. No link is followed; what lies too deep to be named counts as too much."""
+    total, left = 0, [folder]
+    while left:
+        try:
+            for each in os.scandir(left.pop()):
+                it = each.stat(follow_symlinks=False)
+                total += max(LEAST, it.st_blocks * 512)
+                if stat.S_ISDIR(it.st_mode):
+                    left.append(each.path)
+                if total > FOLDER_MEGABYTES << 20:
+                    return total
+        except OSError as error:
+            total += (error.errno == errno.ENAMETOOLONG) * (FOLDER_MEGABYTES << 21)
+    return total
+
+
+def room_here() -> int:
+    """The bytes of all files of this namespace's own root."""
+    it = os.statvfs("/")
+    return (it.f_blocks - it.f_bfree) * it.f_frsize
+
+
 def end_all() -> None:
     """Ends all that descend from this process; they are stopped first, so that none is faster."""
     while True:
-        left = below(os.getpid())
-        for number in (signal.SIGSTOP, signal.SIGKILL):
-            for process in left:
-                try:
-                    os.kill(process, number)
-                except OSError:
-                    pass
+        kill(below(os.getpid()))
         try:
             while os.waitpid(-1, os.WNOHANG)[0]:
                 pass
         except ChildProcessError:
             return
-        time.sleep(0.005)
+        time.sleep(PAUSE)
 
 
-def limits(seconds: int) -> None:
+def limits(plan: Plan) -> None:
     """Limits what the program's process, and each that it starts, may use, and begins a session for them; without
     seconds there is no limit but on core files."""
     resource.setrlimit(resource.RLIMIT_CORE, (0, 0))
-    if seconds:
-        resource.setrlimit(resource.RLIMIT_CPU, (seconds, seconds + 1))
+    if plan.seconds:
+        resource.setrlimit(resource.RLIMIT_CPU, (plan.seconds, plan.seconds + 1))
         resource.setrlimit(resource.RLIMIT_FSIZE, (FILE_BYTES, FILE_BYTES))
     os.setsid()
+    if plan.world:
+        apart.drop_rights()
 
 
-def watched(process: "subprocess.Popen[bytes]", megabytes: int) -> str:
+class Watch:
+    """What a program takes, as it is looked at."""
+
+    def __init__(self, plan: Plan) -> None:
+        self.plan = plan
+        self.output = identity(os.fstat(2))  # which isn't memory
+        self.seldom = 0.0
+
+    def memory(self, every: set[int]) -> int:
+        """The bytes that these processes have in memory."""
+        if not self.plan.seconds:
+            return sum(map(resident, every))
+        own = os.stat("/").st_dev if self.plan.world else -1  # counted as room for files
+        files: dict[Identity, int] = {}
+        for process in every:
+            files |= nameless(process)
+        held = sum(size for it, size in files.items() if it != self.output and it[0] != own)
+        return sum(map(resident, every)) + held + (shared() if self.plan.world else 0)
+
+    def room(self) -> int:
+        """The bytes of the files that the program made; of a folder of the host's it is seldom looked at."""
+        if self.plan.world:
+            return room_here()
+        if not self.plan.seconds or time.monotonic() < self.seldom:
+            return 0
+        found = room_of(self.plan.folder)
+        self.seldom = time.monotonic() + SELDOM
+        return found
+
+    def fault(self) -> str:
+        """The limit that is passed; empty where none is."""
+        every = below(os.getpid())
+        if len(every) > MOST_PROCESSES:
+            return f"more than {MOST_PROCESSES} processes"
+        if self.memory(every) > self.plan.megabytes << 20:
+            return f"more than {self.plan.megabytes} megabytes of memory"
+        if self.room() > FOLDER_MEGABYTES << 20:
+            return f"more than {FOLDER_MEGABYTES} megabytes in files"
+        return ""
+
+
+def watched(process: subprocess.Popen[bytes], fault: Callable[[], str]) -> str:
     """Waits for its end, or for a reason to end it; gives `ended STATUS`, or `killed REASON`."""
     while True:
-        if select.select([sys.stdin], [], [], PAUSE)[0] and not os.read(0, 4096):
+        if select.select([sys.stdin], [], [], LOOK)[0] and not os.read(0, 4096):
             return "killed asked"
         status = process.poll()
         if status is not None:
             return f"ended {status}"
-        every = below(os.getpid())
-        if len(every) > MOST_PROCESSES:
-            return f"killed more than {MOST_PROCESSES} processes"
-        if sum(map(resident, every)) > megabytes << 20:
-            return f"killed more than {megabytes} megabytes of memory"
+        if why := fault():
+            return f"killed {why}"
 
 
-def main(words: "list[str]") -> None:
+def kept(plan: Plan) -> str:
+    """Keeps the program, and gives how it was."""
+    if plan.world:
+        try:
+            apart.enter(plan.world, plan.folder, FOLDER_MEGABYTES, plan.channel)
+        except OSError as error:
+            return f"killed no namespaces of its own: {error.filename}: {error.strerror}"
+    reap_orphans()
+    try:
+        process = subprocess.Popen(plan.words, stdin=subprocess.DEVNULL, preexec_fn=lambda: limits(plan))
+    except OSError as error:
+        how = f"killed {plan.words[0]}: {error.strerror}"
+    else:
+        how = watched(process, Watch(plan).fault)
+    end_all()
+    return how
+
+
+def main() -> None:
     """Keeps the program, and tells how it was."""
-    megabytes, seconds = int(words[0]), int(words[1])
-    ctypes.CDLL(None, use_errno=True).prctl(SUBREAPER, 1, 0, 0, 0)
     for number in (signal.SIGINT, signal.SIGHUP, signal.SIGTERM):
         signal.signal(number, signal.SIG_IGN)
     said = os.dup(1)
     os.dup2(2, 1)
-    try:
-        process = subprocess.Popen(words[2:], stdin=subprocess.DEVNULL, preexec_fn=lambda: limits(seconds))
-    except OSError as error:
-        how = f"killed {words[2]}: {error.strerror}"
-    else:
-        how = watched(process, megabytes)
-    end_all()
+    how = kept(Plan.read())
     try:
         os.write(said, f"{how}\n".encode())
     except OSError:
         pass
-
-
-if __name__ == "__main__":
-    main(sys.argv[1:])

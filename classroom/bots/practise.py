@@ -22,6 +22,7 @@ from classroom.core import bounds, networks
 from classroom.core.answering import answerer
 from classroom.core.counts import plural, positive, seconds
 from classroom.core.folders import new_folder
+from classroom.core.processes import reap_orphans
 from classroom.core.program import TOP, Fault, call, first_free, program
 from classroom.core.rounds import Recovery
 from classroom.core.statuses import WARNED
@@ -200,6 +201,7 @@ def leave(playing: Playing, folder: Path, tell: Callable[[str], None]) -> None:
 def practise(words: argparse.Namespace) -> int:
     """Plays a class of one student to its end."""
     program(), answerer()
+    reap_orphans()
     bots = [Bot.of(word) for word in words.bots]
     for bot in bots:
         if bot.fault:

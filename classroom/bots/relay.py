@@ -39,6 +39,14 @@ class Relay:
         self.selector = selectors.DefaultSelector()
         self.selector.register(self.listener, selectors.EVENT_READ)
 
+    def move(self, listener: socket.socket) -> None:
+        """Listens there from now on, and no longer where it did."""
+        self.selector.unregister(self.listener)
+        self.listener.close()
+        self.listener = listener
+        self.listener.setblocking(False)
+        self.selector.register(self.listener, selectors.EVENT_READ)
+
     def turn(self, seconds: float) -> None:
         """Answers what is there; where nothing is, waits for it so many seconds at most."""
         for each in self.callers:

@@ -2,13 +2,17 @@
 from __future__ import annotations
 
 import itertools
+import os
 import random
+import tempfile
 import threading
 import time
 from dataclasses import dataclass, field
 from pathlib import Path
+from typing import IO
 
-from classroom.bots.bots import Bot, Kept
+from classroom.bots.apart import World
+from classroom.bots.bots import Bot, Kept, last_line
 from classroom.bots.playing import TEACHER, No, Playing
 from classroom.bots.suites import CUT, Case
 from classroom.core.program import Fault, call
@@ -18,7 +22,10 @@ from classroom.setup import slips
 QUIET = 0.6  # seconds that a bot is watched at rest
 LATE = 0.2  # seconds after which it is looked at what a bot asks at rest
 ALLOWED = ("stale", "chosen")
+LATEST = 120.0  # seconds in which a bot's namespaces are made
+MOST_KEPT = 1 << 20  # bytes of what a bot printed
 MOST_REPEATS = 3  # `chosen` for one node under one number
+Seen = tuple[tuple[tuple[str, str], ...], tuple[str, ...]]  # what is shown, where and what, and what of it is hidden
 FLOODS = "it floods: line after line without a pause; a bot waits when it has looked at its nodes"
 
 
@@ -59,11 +66,20 @@ class Limits:
     megabytes: int = 512
 
 
+@dataclass(frozen=True)
+class Room:
+    """Where a bot runs: its own folder, which is empty, a file that no folder has for what it prints, and what it sees
+    of other files, and doesn't, where it is kept apart."""
+
+    folder: Path
+    output: IO[bytes]
+    seen: Seen | None = None
+
+
 class Trial:
     """A bot in a case."""
 
-    def __init__(self, bot: Bot, case: Case, limits: Limits, room: Path, stop: threading.Event) -> None:
-        """`room` is the bot's own folder, which is empty."""
+    def __init__(self, bot: Bot, case: Case, limits: Limits, room: Room, stop: threading.Event) -> None:
         self.bot, self.case, self.limits, self.room, self.stop = bot, case, limits, room, stop
         self.playing = Playing(case.made, [case.who], case.daemon, case.name())
         self.heard = self.playing.heard[case.who]
@@ -71,9 +87,14 @@ class Trial:
         self.playing.on_no = self.denied
         self.chance = random.Random(f"{case.name()} faults")
         self.kept: Kept | None = None
-        self.slip = room / "bot.slip"
+        self.slip = room.folder / "bot.slip"
+        self.world: World | None = None
+        text = "".join(f"{line}\n" for line in slips.slip(case.made, case.who, self.playing.relay.port))
+        if room.seen is not None:
+            self.world = World(*room.seen, text, self.playing.relay.port)
+            return
         try:
-            self.slip.write_text("".join(f"{line}\n" for line in slips.slip(case.made, case.who, self.playing.relay.port)))
+            self.slip.write_text(text)
         except OSError:
             self.playing.end()
             raise
@@ -84,8 +105,19 @@ class Trial:
             self.wrong = no.text
 
     def launch(self) -> None:
-        """Starts the bot."""
-        self.kept = Kept(self.bot, self.slip, self.room, self.limits.seconds, self.limits.megabytes)
+        """Starts the bot; where it is kept apart, its world has the class's port."""
+        self.kept = Kept(self.bot, self.slip, self.room.folder, self.limits.seconds, self.limits.megabytes, self.room.output.fileno(), self.world)
+        end = time.monotonic() + LATEST
+        while self.world is not None:
+            listener = self.kept.listener()
+            if listener is not None:
+                return self.playing.relay.move(listener)
+            if how := self.kept.ended():
+                raise Fails(self.told(how))
+            if self.stop.is_set():
+                raise Stopped
+            if time.monotonic() > end:
+                raise Fails(f"it can't be started: its namespaces aren't made after {LATEST:g} seconds")
 
     def run(self) -> None:
         """The whole case; raises what is wrong."""
@@ -120,12 +152,11 @@ class Trial:
 
     def told(self, how: str) -> str:
         """How the bot ended, with what it printed last."""
-        assert self.kept is not None
         kind, _, what = how.partition(" ")
         if kind == "killed" and what.startswith(f"{self.bot.words[0]}: "):
             raise NotStarted(f"it can't be started: {what}")
         text = f"it ended by itself, status {what}" if kind == "ended" else f"it was ended: {what}"
-        last = self.kept.printed()
+        last = last_line(self.room.output.fileno())
         return f"{text}; it printed last: {last}" if last else text
 
     def until_stable(self, what: str) -> None:
@@ -200,19 +231,22 @@ class Trial:
         """Leaves the case's record and page."""
         folder.mkdir(parents=True)
         self.playing.write(folder)
-        output = self.room / "output.txt"
-        if output.is_file():
-            (folder / "output.txt").write_bytes(output.read_bytes()[:1 << 20])
+        (folder / "output.txt").write_bytes(os.pread(self.room.output.fileno(), MOST_KEPT, 0))
         answer = call("script", folder / "lab.toml", folder / "script", folder / "journal")
         if answer.status == 0:
             (folder / "run.html").write_text(play.page(folder / "lab.toml", folder / "journal"), encoding="utf-8")
 
 
-def tried(bot: Bot, case: Case, limits: Limits, room: Path, folder: Path, stop: threading.Event) -> Result | None:
-    """How a bot does in a case; its record goes into `folder`. None where it was interrupted."""
-    begun = time.monotonic()
-    result = Result(bot.name, case.lab, case.daemon.spelled(), case.seed, False, "")
-    trial = Trial(bot, case, limits, room, stop)
+def tried(bot: Bot, case: Case, limits: Limits, own: Path, folder: Path, stop: threading.Event, seen: Seen | None = None) -> Result | None:
+    """How a bot does in a case, in a folder of its own; its record goes into `folder`. None where it was interrupted."""
+    with tempfile.TemporaryFile() as output:
+        return tried_with(Trial(bot, case, limits, Room(own, output, seen), stop), folder)
+
+
+def tried_with(trial: Trial, folder: Path) -> Result | None:
+    """How a trial ends; its record goes into `folder`. None where it was interrupted."""
+    begun, case = time.monotonic(), trial.case
+    result = Result(trial.bot.name, case.lab, case.daemon.spelled(), case.seed, False, "")
     try:
         trial.run()
         result.passed = True

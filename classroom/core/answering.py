@@ -10,6 +10,7 @@ from typing import Any
 
 from classroom.client import Denied, Refused, reply_of
 from classroom.core import lab as labs
+from classroom.core.processes import begin
 from classroom.core.program import Fault, host, is_clone
 
 AT_ONCE = 16_000  # bytes of lines that are sent before their replies are read; a pipe takes more
@@ -33,7 +34,7 @@ def started(lab: labs.Lab) -> subprocess.Popen[bytes]:
     try:
         with open(file, "wb", closefd=False) as it:
             it.write(labs.text(lab).encode())
-        return subprocess.Popen(
+        return begin(
             [program, "answer", f"/dev/fd/{file}"], stdin=subprocess.PIPE, stdout=subprocess.PIPE,
             stderr=subprocess.PIPE, pass_fds=(file,), start_new_session=True,
         )

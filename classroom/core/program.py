@@ -4,7 +4,6 @@ from __future__ import annotations
 import os
 import re
 import shlex
-import subprocess
 import sys
 from collections.abc import Callable
 from dataclasses import dataclass
@@ -12,6 +11,7 @@ from functools import cache
 from pathlib import Path
 from typing import TypeVar
 
+from classroom.core.processes import run
 from classroom.core.statuses import FAILED
 
 PORTS = 50  # of which the first free one is taken
@@ -123,8 +123,7 @@ def host_call(*words: str | Path, files: tuple[int, ...] = ()) -> Answer:
 
 def answer_of(path: Path, *words: str | Path, files: tuple[int, ...] = ()) -> Answer:
     """What a program answers to words."""
-    done = subprocess.run([path, *map(plain, words)], stdin=subprocess.DEVNULL, capture_output=True, check=False,
-                          restore_signals=False, pass_fds=files)
+    done = run([path, *map(plain, words)], restore_signals=False, pass_fds=files)
     return Answer(done.returncode, done.stdout.decode(errors="replace"), done.stderr.decode(errors="replace").strip())
 
 

@@ -10,6 +10,7 @@ from dataclasses import dataclass
 from itertools import accumulate, combinations, pairwise
 
 from classroom.core.networks import Links
+from classroom.core.processes import run
 from classroom.pages.springs import Point, by_springs, tangles
 
 WIDTH, HEIGHT, MARGIN = 1000.0, 700.0, 75.0
@@ -71,13 +72,11 @@ def by_graphviz(nodes: list[int], links: Links) -> dict[int, Point] | None:
         return None
     rows = ["graph {", "node [shape=point]", *map(str, nodes), *(f"{a} -- {b}" for a, b in links), "}"]
     try:
-        done = subprocess.run(
-            [neato, "-Tplain", "-Goverlap=scale"], input="\n".join(rows), capture_output=True, text=True,
-            check=True, timeout=PATIENCE,
-        )
+        done = run([neato, "-Tplain", "-Goverlap=scale"], "\n".join(rows).encode(), PATIENCE)
+        done.check_returncode()
     except (OSError, subprocess.SubprocessError):
         return None
-    words = (line.split() for line in done.stdout.splitlines())
+    words = (line.split() for line in done.stdout.decode().splitlines())
     points = {int(row[1]): (float(row[2]), -float(row[3])) for row in words if row[:1] == ["node"]}
     return points if set(points) == set(nodes) else None
 

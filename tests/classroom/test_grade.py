@@ -19,6 +19,7 @@ from xml.etree import ElementTree
 from classroom.bots import suites, trial
 from classroom.bots.bots import Bot
 from classroom.bots.trial import Limits, Result, tried
+from classroom.core.processes import parents
 from classroom.core.program import TOP, call
 from classroom.run.daemons import Daemon
 from tests.classroom.help import EXAMPLES, LIMIT, InRoom, words
@@ -71,6 +72,27 @@ def left_behind() -> list[str]:
         except OSError:
             continue
     return found
+
+
+def children(process: int) -> list[int]:
+    """The processes that a process started."""
+    return sorted(child for child, parent in parents().items() if parent == process)
+
+
+def end(process: int) -> None:
+    """Kills a process, where it is still there."""
+    try:
+        os.kill(process, signal.SIGKILL)
+    except ProcessLookupError:
+        pass
+
+
+def command_of(process: int) -> list[bytes]:
+    """The words of a process; none where it has ended."""
+    try:
+        return Path(f"/proc/{process}/cmdline").read_bytes().split(b"\0")
+    except OSError:
+        return []
 
 
 def nothing_left(test: unittest.TestCase) -> None:
@@ -223,6 +245,66 @@ class Calls(InRoom):
         self.assertEqual(going.wait(LIMIT), 4, lines)
         self.assertIn("interrupted: 12 of 24 cases\n", lines)
         self.assertEqual(len(json.loads(table.read_text(encoding="utf-8"))), 12)
+        nothing_left(self)
+
+    def test_bots_that_fight_their_keeper_take_no_result_away(self) -> None:
+        """In namespaces of their own they don't reach it, and without them they end it."""
+        labs = self.room / "labs"
+        labs.mkdir()
+        shutil.copy(EXAMPLES / "path.toml", labs)
+        self.fight(labs)
+        whys = self.fight(labs, "--not-apart")
+        self.assertEqual(whys["halts"], {"it was ended: it stopped its keeper"})
+        self.assertEqual(whys["kills"], {"it was ended: it killed its keeper"})
+
+    def fight(self, labs: Path, *more: str) -> dict[str, set[str]]:
+        """Grades them beside a right one; gives why each failed."""
+        table = self.room / "cases.json"
+        faults = ("swaps-output", "halts", "kills", "right")
+        done = words("grade", *(f"python3 {FAULTY} {fault}" for fault in faults), "--labs", labs, "--timeout", "60", "--into", self.room / "grades",
+                     "--json", table, *more)
+        self.assertEqual(done.returncode, 5, done.stdout + done.stderr)
+        nothing_left(self)
+        cases = json.loads(table.read_text(encoding="utf-8"))
+        self.assertEqual([each["passed"] for each in cases], [False] * 9 + [True] * 3)
+        whys = {fault: {each["why"] for each in cases[3 * index:][:3]} for index, fault in enumerate(faults)}
+        self.assertEqual(whys["swaps-output"], {"it ended by itself, status 3"})
+        return whys
+
+    def test_a_second_interrupt_ends_it_whatever_it_waits_for(self) -> None:
+        """What was graded before is kept. It waits for programs that answer no more."""
+        table = self.room / "cases.json"
+        rooms = self.room / "rooms"
+        rooms.mkdir()
+        bots = [f"python3 {FAULTY} {fault}" for fault in ("forks", "leaves")]
+        going = subprocess.Popen(
+            [sys.executable, TOP / "class", "grade", *bots, "--suite", "small", "--daemon", "by-hand", "--into", self.room / "grades", "--json", table,
+             "--timeout", str(LIMIT), "--at-once", "24"], stdout=subprocess.PIPE, stderr=subprocess.STDOUT, text=True,
+            env={**os.environ, "TMPDIR": str(rooms)})
+        assert going.stdout is not None
+        self.addCleanup(going.kill)
+        failed = 0
+        for line in going.stdout:
+            failed += line.startswith("FAILED  python3 faulty.py forks: ")
+            if failed == 12:
+                break
+        late = time.monotonic() + LIMIT
+        while len(answering := [child for child in children(going.pid) if b"answer" in command_of(child)]) != 12:
+            self.assertLess(time.monotonic(), late, answering)
+            time.sleep(0.05)
+        for child in answering:
+            self.addCleanup(end, child)
+            os.kill(child, signal.SIGSTOP)
+        time.sleep(5)  # By then the bots, which look again and again, have asked for what isn't answered.
+        going.send_signal(signal.SIGINT)
+        with self.assertRaises(subprocess.TimeoutExpired):
+            going.wait(3)
+        going.send_signal(signal.SIGINT)
+        self.assertEqual(going.wait(LIMIT), 4)
+        going.stdout.close()
+        self.assertEqual([each["bot"] for each in json.loads(table.read_text(encoding="utf-8"))], ["python3 faulty.py forks"] * 12)
+        self.assertEqual([child for child in answering if Path(f"/proc/{child}").exists()], [])
+        self.assertEqual(list(rooms.iterdir()), [])
         nothing_left(self)
 
     def test_a_grade_that_is_killed_leaves_nothing_running(self) -> None:

@@ -1,20 +1,25 @@
 #!/usr/bin/env python3
-"""Bots of known faults: faulty.py FAULT SLIP. Each is right but for what its fault says."""
+"""Bots of known faults: faulty.py FAULT WORD.. SLIP. Each is right but for what its fault says."""
 from __future__ import annotations
 
+import ctypes
 import os
+import signal
 import socket
 import subprocess
 import sys
+import threading
 import time
 from collections.abc import Callable
 from pathlib import Path
 
 sys.path.append(str(Path(__file__).resolve().parents[3]))
-from classroom.client import Client, Closed, Denied, Look, Refused, Slip
+from classroom.client import Client, Closed, Denied, Look, NoSlip, Refused, Slip
 
 FAULT = sys.argv[1]
-SLIP = Slip.read(sys.argv[2])
+OWN = Path(sys.argv[-1])
+SLIP = Slip.read(OWN)
+GIVEN = [bytes.fromhex(word).decode() for word in sys.argv[2:-1]]  # so that no command has their text
 PAUSE = 0.05
 SLEEP = "98765.25"  # what is left behind is known by it
 
@@ -172,6 +177,144 @@ def pretends() -> None:
         time.sleep(PAUSE)
 
 
+def swaps_output() -> None:
+    """It puts a pipe that nobody fills where its output was kept once, and ends."""
+    output = Path(os.environ["HOME"]) / "output.txt"
+    output.unlink(missing_ok=True)
+    os.mkfifo(output)
+    os._exit(3)
+
+
+def halts() -> None:
+    """It stops whoever started it, again and again, says nothing, and gives up at last."""
+    for _ in range(1000):
+        os.kill(os.getppid(), signal.SIGSTOP)
+        time.sleep(0.01)
+    os._exit(3)
+
+
+def kills() -> None:
+    """It kills whoever started it, and leaves programs behind that don't have its environment."""
+    for _ in range(3):
+        subprocess.Popen(["/bin/sleep", SLEEP], start_new_session=True, env={"HOME": "/"})
+    keeper = os.getppid()
+    os.kill(keeper, signal.SIGKILL)
+    time.sleep(1)
+    if os.getppid() == keeper:
+        os._exit(3)
+    os.execve("/bin/sleep", ["sleep", SLEEP], {"HOME": "/"})
+
+
+def spoil() -> None:
+    """Greets for others, whose slips lie beside its own, and sends what no right bot would."""
+    while True:
+        for slip in OWN.parent.parent.glob("bot-*/bot.slip"):
+            try:
+                if slip != OWN:
+                    with Client.of(Slip.read(slip)) as it:
+                        it._socket.sendall(b"nonsense\n" * 3)
+                        it._line()
+            except (OSError, Closed, Denied, Refused, NoSlip):
+                continue
+        time.sleep(PAUSE)
+
+
+def spoils() -> None:
+    """It plays, and spoils what others do."""
+    threading.Thread(target=spoil, daemon=True).start()
+    loop(right)
+
+
+def copies() -> None:
+    """It looks for another's command, and runs that with its own slip; after a while it gives up."""
+    for _ in range(100):
+        for each in Path("/proc").glob("[0-9]*"):
+            try:
+                words = (each / "cmdline").read_bytes().split(b"\0")[:-1]
+            except OSError:
+                continue
+            if words and words[-1].endswith(b"/bot.slip") and FAULT.encode() not in words and b"-S" not in words:
+                os.execv(words[0], [*words[:-1], os.fsencode(OWN)])
+        time.sleep(PAUSE)
+    os._exit(3)
+
+
+def fills() -> None:
+    """It fills its folder."""
+    for number in range(100):
+        try:
+            Path(f"filled-{number}").write_bytes(bytes(8 << 20))
+        except OSError:
+            time.sleep(PAUSE)
+    time.sleep(1000)
+
+
+def hides_memory() -> None:
+    """It takes memory in files without a name."""
+    held = []
+    for _ in range(100):
+        held.append(os.memfd_create("hidden"))
+        os.write(held[-1], bytes(8 << 20))
+        time.sleep(0.01)
+    time.sleep(1000)
+
+
+def shares_memory() -> None:
+    """It takes memory that belongs to no process."""
+    libc = ctypes.CDLL(None)
+    libc.shmat.restype = ctypes.c_void_p
+    for _ in range(100):
+        place = libc.shmat(libc.shmget(0, ctypes.c_size_t(8 << 20), 0o1600), None, 0)
+        ctypes.memset(place, 1, 8 << 20)
+        libc.shmdt(ctypes.c_void_p(place))
+        time.sleep(0.01)
+    time.sleep(1000)
+
+
+def links() -> None:
+    """It puts a link where its output was kept once, and ends."""
+    output = OWN.parent / "output.txt"
+    output.unlink(missing_ok=True)
+    output.symlink_to(GIVEN[0])
+    os._exit(3)
+
+
+def moves_out() -> None:
+    """It puts a link to another folder where its own was, and ends."""
+    OWN.parent.rename(f"{OWN.parent}-moved")
+    OWN.parent.symlink_to(GIVEN[0])
+    os._exit(3)
+
+
+def digs() -> None:
+    """It makes folders in folders, deeper than any name of a file can be, the last of which it locks."""
+    for _ in range(3000):
+        os.mkdir("deeper")
+        os.chdir("deeper")
+    os.chmod(".", 0)
+    os._exit(3)
+
+
+def tries(what: Callable[[], object]) -> str:
+    """Whether something can be done."""
+    try:
+        return str(bool(what()))
+    except OSError:
+        return "False"
+
+
+def peeks() -> None:
+    """It tells which files it can read and write, and what else it can do, in its last line."""
+    found = [f"read {file.name}: {tries(file.read_bytes)}" for file in map(Path, GIVEN[1:])]
+    found += [f"write {file.name}: {tries(lambda: os.access(file, os.W_OK))}" for file in map(Path, GIVEN[1:])]
+    found += [f"connect: {tries(lambda: socket.create_connection(('127.0.0.1', int(GIVEN[0]))))}"]
+    found += [f"unshare: {subprocess.run(['unshare', '-U', 'true'], stderr=subprocess.DEVNULL).returncode == 0}"]
+    found += [f"processes: {sum(each.name.isdecimal() for each in Path('/proc').iterdir())}"]
+    found += [f"trace: {tries(lambda: Path('/proc/1/environ').read_bytes())}"]
+    print(*found, sep="; ", flush=True)
+    os._exit(3)
+
+
 FAULTS = {
     "right": lambda: loop(right),
     "never-updates": lambda: loop(never_updates),
@@ -190,5 +333,17 @@ FAULTS = {
     "bombs": bombs,
     "eats-memory": eats_memory,
     "pretends": pretends,
+    "swaps-output": swaps_output,
+    "halts": halts,
+    "kills": kills,
+    "spoils": spoils,
+    "copies": copies,
+    "fills": fills,
+    "hides-memory": hides_memory,
+    "shares-memory": shares_memory,
+    "links": links,
+    "moves-out": moves_out,
+    "digs": digs,
+    "peeks": peeks,
 }
 FAULTS[FAULT]()

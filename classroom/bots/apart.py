@@ -1,0 +1,159 @@
+"""Namespaces of its own for a program under test: it sees its own processes, a loopback where only its server listens,
+and of the files those that it needs, which it can't change. No right of the superuser is wanted.
+
+What a program writes is kept in memory, in a file system of limited size, and goes with it.
+"""
+from __future__ import annotations
+
+import ctypes
+import fcntl
+import os
+import signal
+import socket
+import struct
+import sys
+from dataclasses import dataclass
+from pathlib import Path
+
+# Of <linux/sched.h>: users, mounts, processes, messages, network.
+NAMESPACES = 0x10000000 | 0x00020000 | 0x20000000 | 0x08000000 | 0x40000000
+READ_ONLY, NO_SETUID, NO_DEVICES, NO_PROGRAMS, BIND, DEEP, PRIVATE = 1, 2, 4, 8, 1 << 12, 1 << 14, 1 << 18  # of <sys/mount.h>
+DETACH, HERE, ALL_BELOW, MOUNT_SETATTR = 2, -100, 0x8000, 442
+DEATH_SIGNAL, DROP_BOUND, NO_NEW_RIGHTS, AMBIENT, CLEAR_ALL = 1, 24, 38, 47, 4  # of <sys/prctl.h>
+RIGHTS_VERSION, MOST_RIGHTS = 0x20080522, 64
+SET_FLAGS, UP = 0x8914, 1  # of an interface of the network
+HOST = "/.host"  # where all that was there is seen until the program starts
+DEVICES = ("null", "zero", "full", "random", "urandom")
+LINKS = (("fd", "/proc/self/fd"), ("stdin", "/proc/self/fd/0"), ("stdout", "/proc/self/fd/1"), ("stderr", "/proc/self/fd/2"))
+OF_KERNEL = ("sys", "sysrq-trigger", "irq", "bus", "fs")  # below /proc, what the superuser could change
+OWN = ("/tmp", "/dev/shm")  # folders that programs expect to write to
+MOST_FILES = 16_384
+SPARE = 16  # megabytes beyond the limit, so that it is told when it is reached
+LIBC = ctypes.CDLL(None, use_errno=True)
+
+
+@dataclass(frozen=True)
+class World:
+    """What a program sees of this machine."""
+
+    shown: tuple[tuple[str, str], ...]  # files and folders that it reads: where it sees each, and where that is
+    hidden: tuple[str, ...]  # what of these it doesn't see
+    slip: str
+    port: int  # where it finds its server
+
+
+def done(result: int, what: str) -> None:
+    """Raises the error of a call of the system that failed."""
+    if result < 0:
+        number = ctypes.get_errno()
+        raise OSError(number, os.strerror(number), what)
+
+
+def mount(source: str, target: str, kind: str | None, flags: int, options: str = "") -> None:
+    """Mounts a file system, or a folder at a second place."""
+    words = [None if word is None else os.fsencode(word) for word in (source, target, kind)]
+    done(LIBC.mount(*words, ctypes.c_ulong(flags), options.encode() or None), target)
+
+
+def lock(target: str) -> None:
+    """Makes what is mounted at a place, and below it, read-only."""
+    wanted = struct.pack("4Q", READ_ONLY | NO_SETUID, 0, 0, 0)
+    done(LIBC.syscall(MOUNT_SETATTR, HERE, os.fsencode(target), ALL_BELOW, wanted, ctypes.c_size_t(len(wanted))), target)
+
+
+def show(target: str, source: str) -> None:
+    """Shows a file or folder of the host, read-only; one that isn't there is left out."""
+    if os.path.isdir(HOST + source):
+        os.makedirs(target, exist_ok=True)
+    elif os.path.exists(HOST + source):
+        os.makedirs(os.path.dirname(target), exist_ok=True)
+        with open(target, "xb"):
+            pass
+    else:
+        return
+    mount(HOST + source, target, None, BIND | DEEP)
+    lock(target)
+
+
+def hide(target: str) -> None:
+    """Puts something empty over a file or folder, where it is seen."""
+    if os.path.isdir(target):
+        mount("none", target, "tmpfs", READ_ONLY | NO_SETUID | NO_DEVICES, "size=4k")
+    elif os.path.exists(target):
+        mount("/dev/null", target, None, BIND)
+
+
+def own_users(user: int, group: int) -> None:
+    """Names this process's user and group in its namespace, and nobody else."""
+    for name, text in (("setgroups", "deny"), ("uid_map", f"{user} {user} 1"), ("gid_map", f"{group} {group} 1")):
+        Path(f"/proc/self/{name}").write_text(text, encoding="ascii")
+
+
+def own_files(world: World, folder: str, megabytes: int) -> None:
+    """Makes a root of its own, with what is shown; the program's folder is as it was called before."""
+    mount("none", "/", None, DEEP | PRIVATE)
+    mount("none", folder, "tmpfs", NO_SETUID | NO_DEVICES, f"size={megabytes + SPARE}m,nr_inodes={MOST_FILES},mode=0755")
+    os.chdir(folder)
+    os.mkdir(HOST[1:])
+    done(LIBC.pivot_root(b".", os.fsencode(HOST[1:])), folder)
+    os.chdir("/")
+    for each in ("/proc", *OWN, folder):
+        os.makedirs(each, exist_ok=True)
+    for name in DEVICES:
+        with open(f"/dev/{name}", "xb"):
+            pass
+        mount(f"{HOST}/dev/{name}", f"/dev/{name}", None, BIND)
+    for name, target in LINKS:
+        os.symlink(target, f"/dev/{name}")
+    for target, source in world.shown:
+        show(target, source)
+    for each in world.hidden:
+        hide(each)
+    own_processes()
+    done(LIBC.umount2(os.fsencode(HOST), DETACH), HOST)
+    os.rmdir(HOST)
+    Path(folder, "bot.slip").write_text(world.slip, encoding="utf-8")
+    os.chdir(folder)
+
+
+def own_processes() -> None:
+    """Shows the processes of this namespace, whose programs can't have further ones; of the kernel nothing is changed."""
+    mount("proc", "/proc", "proc", NO_SETUID | NO_DEVICES | NO_PROGRAMS)
+    Path("/proc/sys/user/max_user_namespaces").write_text("0", encoding="ascii")
+    for name in OF_KERNEL:
+        if os.path.exists(f"/proc/{name}"):
+            mount(f"/proc/{name}", f"/proc/{name}", None, BIND | DEEP)
+            lock(f"/proc/{name}")
+
+
+def own_server(port: int, channel: int) -> None:
+    """Listens at a port of this namespace's loopback, and hands the listener on."""
+    with socket.socket() as it:
+        fcntl.ioctl(it, SET_FLAGS, struct.pack("16sh22x", b"lo", UP))
+    with socket.socket(fileno=channel) as its, socket.create_server(("127.0.0.1", port), backlog=32) as listener:
+        socket.send_fds(its, [b"."], [listener.fileno()])
+
+
+def enter(world: World, folder: str, megabytes: int, channel: int) -> None:
+    """Goes on in namespaces of its own, as the first process there: when it ends, so do all others. The process that
+    called this waits for it, and has no other use. Raises an `OSError` with what the system refused."""
+    user, group = os.geteuid(), os.getegid()
+    done(LIBC.unshare(NAMESPACES), "unshare")
+    own_users(user, group)
+    child = os.fork()
+    if child:
+        sys.stdin.close()
+        os.close(channel)
+        os._exit(max(0, os.waitstatus_to_exitcode(os.waitpid(child, 0)[1])))
+    LIBC.prctl(DEATH_SIGNAL, signal.SIGKILL, 0, 0, 0)
+    own_files(world, folder, megabytes)
+    own_server(world.port, channel)
+
+
+def drop_rights() -> None:
+    """Gives up what the first process of the namespaces may do there, for a program and all that it starts."""
+    for right in range(MOST_RIGHTS):
+        LIBC.prctl(DROP_BOUND, right, 0, 0, 0)
+    LIBC.prctl(AMBIENT, CLEAR_ALL, 0, 0, 0)
+    done(LIBC.capset(struct.pack("Ii", RIGHTS_VERSION, 0), bytes(24)), "capset")
+    done(LIBC.prctl(NO_NEW_RIGHTS, 1, 0, 0, 0), "prctl")

@@ -1,0 +1,137 @@
+"""Processes: those that this one started, those below one, and those that programs under test leave behind."""
+from __future__ import annotations
+
+import ctypes
+import os
+import shutil
+import signal
+import subprocess
+import threading
+import time
+from collections.abc import Iterable, Sequence
+from pathlib import Path
+from typing import Any
+
+SUBREAPER = 36  # prctl's PR_SET_CHILD_SUBREAPER
+PAUSE = 0.005
+LAST = 10.0  # seconds in which everything is ended at once
+STARTING = threading.Lock()  # held while a process is started, so that each child that isn't in OWN is another's
+OWN: list[subprocess.Popen[bytes]] = []
+reaps = threading.Event()  # whether orphans below this process become its children
+
+
+def begin(words: Sequence[str | Path], **how: Any) -> subprocess.Popen[bytes]:
+    """Starts a process, which is known as this one's own until it has ended."""
+    with STARTING:
+        OWN[:] = [each for each in OWN if each.returncode is None]
+        OWN.append(subprocess.Popen(words, **how))
+        return OWN[-1]
+
+
+def run(words: Sequence[str | Path], given: bytes = b"", seconds: float | None = None, **how: Any) -> subprocess.CompletedProcess[bytes]:
+    """Runs a process of this one's own to its end, which gets `given` as its input; raises `TimeoutExpired` where it
+    takes longer, and kills it."""
+    source = subprocess.PIPE if given else subprocess.DEVNULL
+    with begin(words, stdin=source, stdout=subprocess.PIPE, stderr=subprocess.PIPE, **how) as process:
+        try:
+            output, error = process.communicate(given or None, seconds)
+        except BaseException:
+            process.kill()
+            raise
+    return subprocess.CompletedProcess(words, process.returncode, output, error)
+
+
+def parents() -> dict[int, int]:
+    """Each process's parent."""
+    found = {}
+    for name in os.listdir("/proc"):
+        if name.isdecimal():
+            try:
+                with open(f"/proc/{name}/stat", "rb") as it:
+                    found[int(name)] = int(it.read().rpartition(b") ")[2].split()[1])
+            except (OSError, IndexError):
+                pass
+    return found
+
+
+def below(*tops: int) -> set[int]:
+    """The numbers of all processes that descend from these."""
+    found, known = parents(), set(tops)
+    while more := {child for child, parent in found.items() if parent in known} - known:
+        known |= more
+    return known - set(tops)
+
+
+def state(process: int) -> bytes:
+    """The letter of a process's state; empty where it is gone."""
+    try:
+        with open(f"/proc/{process}/stat", "rb") as it:
+            return it.read().rpartition(b") ")[2][:1]
+    except OSError:
+        return b""
+
+
+def is_halted(process: int) -> bool:
+    """Whether a process was stopped by a signal or by a debugger."""
+    return state(process) in (b"T", b"t")
+
+
+def end_below(process: int) -> None:
+    """Kills all that descends from a process, until only the process itself is left."""
+    while left := {each for each in below(process) if state(each) not in (b"", b"Z", b"X")}:
+        kill(left)
+        time.sleep(PAUSE)
+
+
+def reap_orphans() -> None:
+    """Makes orphans below this process its children, whatever session they went to."""
+    ctypes.CDLL(None, use_errno=True).prctl(SUBREAPER, 1, 0, 0, 0)
+    reaps.set()
+
+
+def kill(processes: set[int]) -> None:
+    """Kills processes; all are stopped first, so that none is faster."""
+    for number in (signal.SIGSTOP, signal.SIGKILL):
+        for process in processes:
+            try:
+                os.kill(process, number)
+            except OSError:
+                pass
+
+
+def end_strays() -> None:
+    """Kills the children that this process didn't start, with all below them, until none is left: programs whose keeper
+    they killed. Does nothing in a process that doesn't reap orphans."""
+    while reaps.is_set():
+        with STARTING:
+            own = {each.pid for each in OWN if each.returncode is None}
+            strays = {child for child, parent in parents().items() if parent == os.getpid()} - own
+            if not strays:
+                return
+            kill(strays | below(*strays))
+            for stray in strays:
+                try:
+                    os.waitpid(stray, os.WNOHANG)
+                except OSError:
+                    pass
+        time.sleep(PAUSE)
+
+
+def end_at_once(status: int, folders: Iterable[Path]) -> None:
+    """Kills all that descends from this process, removes folders, and exits, whatever its threads wait for."""
+    try:
+        STARTING.acquire(timeout=LAST)  # From now on nothing is started.
+        end = time.monotonic() + LAST
+        while time.monotonic() < end and (left := below(os.getpid())):
+            kill(left)
+            while os.waitpid(-1, os.WNOHANG)[0]:
+                pass
+            time.sleep(PAUSE)
+    except ChildProcessError:
+        pass
+    finally:
+        try:
+            for folder in folders:
+                shutil.rmtree(folder, ignore_errors=True)
+        finally:
+            os._exit(status)

@@ -1,0 +1,153 @@
+"""`./class grade` among bots that read, copy, spoil and fill: each is kept apart where the system lets it, or tried alone."""
+from __future__ import annotations
+
+import json
+import re
+import shutil
+import socket
+import subprocess
+import sys
+import unittest
+from pathlib import Path
+
+from classroom.bots.bots import no_worlds
+from classroom.core.program import TOP
+from tests.classroom.help import EXAMPLES, LIMIT, InRoom
+
+FAULTY = TOP / "tests/classroom/bots/faulty.py"
+HIDDEN = bytes(range(97, 123)) * 20  # the text of what no bot is to see
+WITHOUT = ("unshare", "-U", "--map-root-user", "sh", "-c", 'echo 0 > /proc/sys/user/max_user_namespaces && exec "$@"', "sh")
+
+
+def can_be_without() -> bool:
+    """Whether a program can be run here that gets no namespaces."""
+    return shutil.which("unshare") is not None and subprocess.run([*WITHOUT, "true"], capture_output=True, check=False).returncode == 0
+
+
+def spelled(*words: str | Path) -> str:
+    """Words that a bot reads, and that name no file in its command."""
+    return " ".join(str(word).encode().hex() for word in words)
+
+
+class Grades(InRoom):
+    """Bots that are graded together."""
+
+    def setUp(self) -> None:
+        super().setUp()
+        (self.room / "labs").mkdir()
+        shutil.copy(EXAMPLES / "path.toml", self.room / "labs")
+
+    def grades(self, *faults: str, before: tuple[str, ...] = (), more: tuple[str | Path, ...] = ()) -> str:
+        """What a grade of these over the three usual daemons tells."""
+        bots = [f"python3 {FAULTY} {fault}" for fault in faults]
+        call: list[str | Path] = [*before, sys.executable, TOP / "class", "grade", *bots, "--labs", self.room / "labs", "--timeout", "60",
+                                  "--memory", "200", "--into", self.room / "grades", "--json", self.room / "cases.json", *more]
+        done = subprocess.run(call, stdin=subprocess.DEVNULL, capture_output=True, text=True, check=False, timeout=LIMIT)
+        self.assertIn(done.returncode, (0, 5), done.stdout + done.stderr)
+        self.assertEqual(done.stderr, "")
+        return done.stdout
+
+    def passed(self, output: str, fault: str) -> int:
+        """How many of its cases a bot passed."""
+        found = re.search(rf"(?m)^python3 faulty.py {fault}: (\d) of 3 cases passed$", output)
+        assert found is not None, output
+        return int(found[1])
+
+
+@unittest.skipIf(no_worlds(), f"bots can't be kept apart here: {no_worlds()}")
+class Apart(Grades):
+    """Each has namespaces of its own."""
+
+    def test_nobody_spoils_what_another_does(self) -> None:
+        output = self.grades("right", "spoils")
+        self.assertEqual([self.passed(output, fault) for fault in ("right", "spoils")], [3, 3], output)
+        self.assertNotIn("class: ", output)
+
+    def test_nobody_copies_another(self) -> None:
+        output = self.grades("right", "copies")
+        self.assertEqual([self.passed(output, fault) for fault in ("right", "copies")], [3, 0], output)
+
+    def test_a_bot_sees_its_own_files_alone_and_changes_none(self) -> None:
+        own, other = self.room / "own", self.room / "other"
+        for folder in (own, other):
+            folder.mkdir()
+            shutil.copy(FAULTY, folder / "bot.py")
+            (folder / f"of-{folder.name}").write_bytes(HIDDEN)
+        beside = self.file("beside", "beside")
+        text = FAULTY.read_text(encoding="utf-8").replace("Path(__file__).resolve().parents[3]", repr(str(TOP)))
+        (own / "bot.py").write_text(text, encoding="utf-8")
+        with socket.create_server(("127.0.0.1", 0)) as listener:
+            files = (own / "of-own", other / "of-other", beside, Path.home() / ".bashrc", self.room / "cases.json")
+            words = spelled(str(listener.getsockname()[1]), *files)
+            output = self.peeked(f"python3 {own / 'bot.py'} peeks {words}", f"python3 {other / 'bot.py'} right")
+        seen = dict(each.split(": ") for each in output.split("; "))
+        self.assertEqual(seen.pop("processes"), "2", output)  # it and its keeper, but for the program that it ran
+        self.assertEqual({word for word, is_so in seen.items() if is_so == "True"}, {"read of-own"}, output)
+        self.assertEqual(len(seen), 2 * len(files) + 3)
+
+    def peeked(self, *bots: str, more: tuple[str | Path, ...] = ()) -> str:
+        """What the first bot printed last."""
+        call: list[str | Path] = [sys.executable, TOP / "class", "grade", *bots, "--labs", self.room / "labs", "--daemon", "central",
+                                  "--into", self.room / "grades", "--json", self.room / "cases.json", "--timeout", "60", *more]
+        done = subprocess.run(call, stdin=subprocess.DEVNULL, capture_output=True, text=True, check=False, timeout=LIMIT)
+        why: str = json.loads((self.room / "cases.json").read_text(encoding="utf-8"))[0]["why"]
+        self.assertRegex(why, "^it ended by itself, status 3; it printed last: ", done.stdout)
+        return why.partition("it printed last: ")[2]
+
+    def test_of_bots_in_one_folder_none_sees_another(self) -> None:
+        text = FAULTY.read_text(encoding="utf-8").replace("Path(__file__).resolve().parents[3]", repr(str(TOP)))
+        for name in ("one.py", "two.py"):
+            self.file(name, text)
+        words = spelled("1", self.room / "one.py", self.room / "two.py")
+        output = self.peeked(f"python3 {self.room / 'one.py'} peeks {words}", f"python3 {self.room / 'two.py'} right")
+        self.assertIn("read one.py: True; read two.py: False; write one.py: False; ", output)
+
+    def test_a_folder_that_is_named_is_shown(self) -> None:
+        for name in ("library", "other"):
+            (self.room / name).mkdir()
+            (self.room / name / f"of-{name}").write_bytes(HIDDEN)
+        words = spelled("1", self.room / "library/of-library", self.room / "other/of-other")
+        output = self.peeked(f"python3 {FAULTY} peeks {words}", more=("--show", self.room / "library"))
+        self.assertIn("read of-library: True; read of-other: False; write of-library: False; ", output)
+
+    def test_room_and_memory_that_no_process_has_are_limited(self) -> None:
+        output = self.grades("fills", "hides-memory", "shares-memory", "digs")
+        self.assertEqual(output.count("\n        it was ended: more than 64 megabytes in files\n"), 3, output)
+        self.assertEqual(output.count("\n        it was ended: more than 200 megabytes of memory\n"), 6, output)
+        self.assertEqual(self.passed(output, "digs"), 0)
+
+
+class Together(Grades):
+    """The system gives no namespaces, or isn't asked for any."""
+
+    @unittest.skipUnless(can_be_without(), "a program can't be run here so that it gets no namespaces")
+    def test_without_namespaces_one_is_tried_after_another_and_it_is_told_why(self) -> None:
+        output = self.grades("right", "spoils", "copies", before=WITHOUT)
+        self.assertEqual([self.passed(output, fault) for fault in ("right", "copies")], [3, 0], output)
+        self.assertTrue(output.startswith("class: bots aren't kept apart (unshare: No space left on device): they run one after another, as you, "
+                                          "and see your files (docs/COURSE.md)\n"), output)
+
+    def test_limits_hold_as_well(self) -> None:
+        output = self.grades("fills", "hides-memory", more=("--not-apart",))
+        self.assertEqual(output.count("\n        it was ended: more than 64 megabytes in files\n"), 3, output)
+        self.assertEqual(output.count("\n        it was ended: more than 200 megabytes of memory\n"), 3, output)
+        self.assertTrue(output.startswith("class: bots aren't kept apart (--not-apart): "), output)
+
+    def test_no_link_of_a_bot_is_followed_and_nothing_of_it_is_left(self) -> None:
+        kept, rooms = self.room / "kept", self.room / "rooms"
+        for folder in (kept, rooms):
+            folder.mkdir()
+        (kept / "secret").write_bytes(HIDDEN)
+        kept.chmod(0o500)
+        self.addCleanup(kept.chmod, 0o700)
+        faults = (f"links {spelled(kept / 'secret')}", f"moves-out {spelled(kept)}", "digs")
+        output = self.grades(*faults, before=("env", f"TMPDIR={rooms}"), more=("--not-apart",))
+        self.assertLessEqual(6, output.count("it ended by itself, status 3"), output)  # One that digs may be ended before.
+        self.assertEqual((kept.stat().st_mode & 0o777, (kept / "secret").read_bytes()), (0o500, HIDDEN))
+        found = [file for file in (self.room / "grades").rglob("*") if file.is_file() and HIDDEN in file.read_bytes()]
+        self.assertEqual(found, [])
+        self.assertEqual([each.name for each in rooms.iterdir() if not each.name.endswith("-moved")], [])
+
+
+if __name__ == "__main__":
+    unittest.main()
