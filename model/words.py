@@ -11,7 +11,6 @@ from model.run import play
 from model.tally import tally
 
 MOST_FILE, MOST_JOURNAL = 2**20, 2**24
-NOT_UNDERSTOOD = Fault("command line: not understood", 1)
 
 
 class Ended(NamedTuple):
@@ -33,12 +32,13 @@ def script(lab: Lab, file: str, journal: str | None = None) -> bytes:
 
     The proved program keeps what that file had under another name. Here it has to be new or empty.
     """
-    if journal is not None and Path(journal).exists() and read_file(Path(journal), "journal", MOST_JOURNAL):
+    kept = None if journal is None else Path(journal)
+    if kept is not None and kept.exists() and (not kept.is_file() or kept.stat().st_size > 0):
         raise Fault("journal fault", 4)
     run, bad_line = play(lab, read_file(Path(file), "script", MOST_FILE))
-    if journal is not None:
+    if kept is not None:
         try:
-            Path(journal).write_bytes(run.written())
+            kept.write_bytes(run.written())
         except OSError:
             raise Fault("journal fault", 4) from None
     if bad_line is not None:
@@ -65,23 +65,29 @@ def verify(lab: Lab, journal: str, record: str) -> bytes:
     return verified(read_record(lab, events, Path(record)), events).encode()
 
 
-# Each word with what it prints, and how many files it takes: the lab first.
-WORDS: dict[str, tuple[Callable[..., bytes], tuple[int, ...]]] = {
-    "check": (check, (1,)),
-    "script": (script, (2, 3)),
-    "audit": (print_audit, (2,)),
-    "verify": (verify, (3,)),
-    "tally": (print_tally, (2, 3)),
+class Word(NamedTuple):
+    """What a word prints of a lab and further files, and how many files it takes with the lab."""
+
+    work: Callable[..., bytes]
+    counts: tuple[int, ...]
+
+
+WORDS = {
+    "check": Word(check, (1,)),
+    "script": Word(script, (2, 3)),
+    "audit": Word(print_audit, (2,)),
+    "verify": Word(verify, (3,)),
+    "tally": Word(print_tally, (2, 3)),
 }
 
 
 def ended(words: list[str]) -> Ended:
     """Returns how a call with these words ends, as that of the proved program would."""
+    name, *files = words or [""]
+    if name not in WORDS or len(files) not in WORDS[name].counts or any(file.startswith("-") for file in files):
+        return Ended(1, b"", b"command line: not understood\n")
     try:
-        work, counts = WORDS.get(words[0] if words else "", (check, ()))
-        if len(words) - 1 not in counts or any(word.startswith("-") for word in words):
-            raise NOT_UNDERSTOOD
-        lab = read_lab(read_file(Path(words[1]), "lab", MOST_FILE))
-        return Ended(0, work(lab, *words[2:]), b"")
+        lab = read_lab(read_file(Path(files[0]), "lab", MOST_FILE))
+        return Ended(0, WORDS[name].work(lab, *files[1:]), b"")
     except Fault as fault:
         return Ended(fault.status, fault.out, f"{fault.line}\n".encode())

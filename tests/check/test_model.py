@@ -1,11 +1,16 @@
-"""The plain model stands alone, and is short enough to be read in an hour."""
+"""The plain model stands alone, is short enough to be read in an hour, and prints what scripts have stored."""
 from __future__ import annotations
 
 import ast
 import re
+import shutil
+import subprocess
 import sys
+import tempfile
 import unittest
+from pathlib import Path
 
+from model import Ended, ended
 from model.policy import DENIALS
 from tools.check.parts import TOP
 
@@ -46,6 +51,60 @@ class Model(unittest.TestCase):
                           if re.search(r"\breturn\b|denied\(", line)]
         for denial, (number, _) in DENIALS.items():
             self.assertIn((denial, str(number)), found)
+
+
+class Called(unittest.TestCase):
+    """Calls of the model, in a folder where it stands with the examples alone."""
+
+    def setUp(self) -> None:
+        room = tempfile.TemporaryDirectory()
+        self.addCleanup(room.cleanup)
+        self.room = Path(room.name)
+        for name in ("model", "examples"):
+            shutil.copytree(TOP / name, self.room / name, ignore=shutil.ignore_patterns("__pycache__"))
+
+    def called(self, *words: str | Path) -> tuple[int, str, str]:
+        """Returns how a call ends: status, output, and standard error."""
+        done = subprocess.run([sys.executable, "-B", "-m", "model", *words], cwd=self.room, capture_output=True, text=True, check=False)
+        return done.returncode, done.stdout, done.stderr
+
+    def test_stored_outputs(self) -> None:
+        done = subprocess.run([sys.executable, "-B", "-m", "model", "--all"], cwd=TOP, capture_output=True, text=True, check=False)
+        self.assertEqual((done.returncode, done.stderr), (0, ""), done.stdout)
+        self.assertRegex(done.stdout, r"^[0-9]+ scripts, 0 outputs differ\n$")
+
+    def test_an_output_that_differs_is_written_beside_the_old_one(self) -> None:
+        stored, new = self.room / "examples/path-run.out", self.room / "examples/path-run.out.new"
+        right = stored.read_text(encoding="ascii")
+        wrong = right.replace('"ok":"close"', '"ok":"closed"', 1)
+        stored.write_text(wrong, encoding="ascii")
+        status, out, error = self.called("--all")
+        self.assertEqual((status, error, new.read_text(encoding="ascii"), stored.read_text(encoding="ascii")), (1, "", right, wrong))
+        changed = [line for line in out.splitlines() if re.match(r"[-+]\d", line)]
+        self.assertEqual([line[0] for line in changed], ["-", "+"], out)
+        self.assertIn('"ok":"closed"', changed[0])
+        self.assertIn(", 1 outputs differ; the new ones are beside them, as FILE.new\n", out)
+        stored.write_text(right, encoding="ascii")
+        self.assertEqual(self.called("--all")[0], 0)
+        self.assertFalse(new.exists())
+
+    def test_words(self) -> None:
+        lab, journal = self.room / "examples/path.toml", self.room / "journal"
+        self.assertEqual(self.called("check", lab), (0, "ok: 6 nodes, 5 links, 6 students\n", ""))
+        calls: list[list[str | Path]] = [["serve", lab], ["check"], ["audit", lab], ["audit", lab, "-"], ["verify", lab, journal], []]
+        for words in calls:
+            status, out, error = self.called(*words)
+            self.assertEqual((status, out, error.splitlines()[0]), (1, "", "command line: not understood"), words)
+        self.assertEqual(ended(["audit", str(lab), str(journal)]), Ended(4, b"", b"read fault: journal\n"))
+        self.assertEqual(ended(["audit", str(journal), str(lab)]), Ended(4, b"", b"read fault: lab\n"))
+
+    def test_no_journal_is_overwritten(self) -> None:
+        lab, script, journal = self.room / "examples/path.toml", self.room / "examples/path-run.script", self.room / "journal"
+        self.assertEqual(ended(["script", str(lab), str(script), str(journal)]).status, 0)
+        kept = journal.read_bytes()
+        self.assertTrue(kept)
+        self.assertEqual(ended(["script", str(lab), str(script), str(journal)]), Ended(4, b"", b"journal fault\n"))
+        self.assertEqual(journal.read_bytes(), kept)
 
 
 if __name__ == "__main__":
