@@ -173,7 +173,7 @@ def ends_after(caller: Caller, begun: float, piece: bytes, every: float, left: l
 
 
 def deadlines(room: Path) -> None:
-    """Who doesn't greet stays for ten seconds, whatever is said, the desk's too, and is told why it is ended."""
+    """Who doesn't greet stays for ten seconds, at the desk for five, whatever is said, and is told why it is ended."""
     lab = lab_of(room, 16)
     with Host(lab, 0, 0) as host:
         early = let_in(host.port, hello("cyd"))[0]
@@ -191,7 +191,8 @@ def deadlines(room: Path) -> None:
             wait.start()
         for wait in waits:
             wait.join()
-        if sorted(times) != [*range(len(kept))] or min(times.values()) < 9:
+        least = [4 if port == host.desk else 9 for port, _ in kept]
+        if sorted(times) != [*range(len(kept))] or any(times[at] < least[at] for at in times):
             fail(f"host: connections without a greeting are ended after {times} seconds")
         if [lines[-1:] for lines in told] != [[LATE]] * len(kept):
             fail(f"host: connections without a greeting are told {told}")
