@@ -2,7 +2,7 @@
 use crate::end_reason::EndReason;
 use std::alloc::Global;
 use std::collections::VecDeque;
-use std::io::{Read, Write};
+use std::io::{ErrorKind, Read, Write};
 use std::net::{Shutdown, TcpStream};
 use std::sync::{Mutex, Wait};
 use std::thread;
@@ -41,7 +41,7 @@ impl Parting {
         }
         let stream = self.stream;
         if self.is_told {
-            take_unwanted(&stream);
+            let _may_send = take_unwanted(&stream);
             return None;
         }
         tell(&stream, UNKNOWN);
@@ -54,10 +54,9 @@ impl Parting {
 // milliseconds after `now`; none if the other side is gone already.
 fn closing(stream: TcpStream, now: Instant) -> Option<Parting> {
     // It is refused if the other side is gone.
-    if stream.shutdown(Shutdown::Write).is_err() {
+    if stream.shutdown(Shutdown::Write).is_err() || !take_unwanted(&stream) {
         return None;
     }
-    take_unwanted(&stream);
     let next = now.checked_add(Duration::from_millis(PARTING))?;
     Some(Parting {
         stream,
@@ -85,11 +84,15 @@ pub(crate) fn tell(stream: &TcpStream, line: &[u8]) {
 }
 
 /// Reads and drops what the other side sent, up to 4096 bytes in one read, which waits as long as the stream's own time
-/// limit lets it: a socket that is closed over bytes which nobody took throws away what it has still to send.
-pub(crate) fn take_unwanted(stream: &TcpStream) {
+/// limit lets it: a socket that is closed over bytes which nobody took throws away what it has still to send. Returns
+/// whether the other side may send more: false if it has ended, or is gone.
+pub(crate) fn take_unwanted(stream: &TcpStream) -> bool {
     let mut stream = stream;
     let mut unwanted = [0; PARTING_SIZE];
-    let _ = stream.read(&mut unwanted);
+    match stream.read(&mut unwanted) {
+        Ok(count) => count > 0,
+        Err(error) => error.kind() == ErrorKind::WouldBlock,
+    }
 }
 
 /// The connections that have left a port and aren't closed yet: those that are still owed the denial of their hello,
@@ -180,7 +183,7 @@ impl Partings {
         for _ in 0..all.len() {
             if let Some(first) = all.pop_front() {
                 if first.is_told {
-                    take_unwanted(&first.stream);
+                    let _may_send = take_unwanted(&first.stream);
                 } else {
                     // It has the room that it had.
                     let _ = all.push_back(first);
@@ -207,7 +210,7 @@ impl Partings {
         thread::sleep(rt, Duration::from_millis(PARTING));
         for _ in 0..all.len() {
             if let Some(parting) = all.pop_front() {
-                take_unwanted(&parting.stream);
+                let _may_send = take_unwanted(&parting.stream);
             }
         }
     }

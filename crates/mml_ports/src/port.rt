@@ -22,6 +22,9 @@ const PLACE: u64 = 500;
 // How many newcomers may wait at a time.
 const WAITING: usize = 16;
 
+// How many milliseconds a newcomer may take until its first line has come, before it counts as silent.
+const SILENCE: u64 = 5;
+
 // How often a port is called that doesn't answer.
 const CALLS: u32 = 50;
 
@@ -36,6 +39,8 @@ struct Newcomer<'a, Rt> {
     cut_off: SocketCutOff<'a, Rt>,
     connection: SharedConnection<'a, Rt>,
     since: Instant,
+    // Whether a look at what has come doesn't wait, as it is from the first look on.
+    is_looked_at: bool,
     // Whether a line was seen to have come.
     has_spoken: bool,
 }
@@ -50,10 +55,19 @@ impl<'a, Rt: Clock + Wait + Eprint> Newcomer<'a, Rt> {
 
     // Looks whether a line has come from the newcomer, and returns that.
     fn look_for_line(&mut self) -> bool {
-        if !self.has_spoken {
-            self.has_spoken = self.connection.socket.has_line(self.connection.rt);
+        let SharedConnection { rt, socket, .. } = &self.connection;
+        if !self.is_looked_at {
+            self.is_looked_at = socket.set_waiting(*rt, false);
+        }
+        if self.is_looked_at && !self.has_spoken {
+            self.has_spoken = socket.has_line(*rt);
         }
         self.has_spoken
+    }
+
+    // Whether no line has come from the newcomer, though it has had `SILENCE` for that.
+    fn is_silent(&mut self, now: Instant) -> bool {
+        now.duration_since(self.since) >= Duration::from_millis(SILENCE) && !self.look_for_line()
     }
 }
 
@@ -139,6 +153,7 @@ impl<'a, Rt: Clock + Wait + Eprint> Port<'a, Rt> {
             cut_off,
             connection,
             since,
+            is_looked_at: false,
             has_spoken: false,
         })
     }
@@ -155,11 +170,11 @@ impl<'a, Rt: Clock + Wait + Eprint> Port<'a, Rt> {
         }
     }
 
-    // Puts one who has come behind those who wait for a seat. If too many wait one of them is turned away, of those from
-    // whom no line has come if there are such; without memory the newcomer is.
+    // Puts one who has come behind those who wait for a seat. If too many wait one of them is turned away: the first who
+    // is silent, if there is one, else the first of all. Without memory the newcomer is.
     fn queue(&mut self, newcomer: Newcomer<'a, Rt>) {
         if self.waiting.len() >= WAITING {
-            let index = self.find_first(false);
+            let index = self.first_silent(newcomer.since);
             if let Some(dropped) = self.waiting.remove(index) {
                 dropped.turn_away(EndReason::Busy);
             }
@@ -200,12 +215,24 @@ impl<'a, Rt: Clock + Wait + Eprint> Port<'a, Rt> {
         None
     }
 
-    // The index of the first of those who wait from whom a line has come, if `has_spoken`, or has not come; if there is
-    // no such one, that of the first of all.
-    fn find_first(&mut self, has_spoken: bool) -> usize {
+    // The index of the first of those who wait that is silent; that of the first of all if none is.
+    fn first_silent(&mut self, now: Instant) -> usize {
         for index in 0..self.waiting.len() {
             if let Some(newcomer) = self.waiting.get_mut(index)
-                && newcomer.look_for_line() == has_spoken
+                && newcomer.is_silent(now)
+            {
+                return index;
+            }
+        }
+        0
+    }
+
+    // The index of the first of those who wait from whom a line has come; that of the first of all if there is no such
+    // one.
+    fn first_to_speak(&mut self) -> usize {
+        for index in 0..self.waiting.len() {
+            if let Some(newcomer) = self.waiting.get_mut(index)
+                && newcomer.look_for_line()
             {
                 return index;
             }
@@ -217,7 +244,7 @@ impl<'a, Rt: Clock + Wait + Eprint> Port<'a, Rt> {
     fn bring(&mut self, now: Instant) -> Option<Brought<'a, Rt>> {
         // One who waits alone isn't looked at.
         let index = if self.waiting.len() > 1 {
-            self.find_first(true)
+            self.first_to_speak()
         } else {
             0
         };
@@ -228,8 +255,12 @@ impl<'a, Rt: Clock + Wait + Eprint> Port<'a, Rt> {
             cut_off,
             connection,
             since: _,
+            is_looked_at,
             has_spoken: _,
         } = first;
+        if is_looked_at {
+            let _is_waiting = connection.socket.set_waiting(self.rt, true);
+        }
         if self
             .crowd
             .note_served(self.rt, connection.socket, now)

@@ -68,9 +68,19 @@ impl SharedSocket {
         *self.end_reason.lock(rt)
     }
 
-    /// Whether a whole line stands in the first 512 bytes that have come, which are left to be read; false where the
-    /// socket was given back, or can't be looked at. Only before the connection is served: for the look the shared socket
-    /// is set not to wait, and a read or write of another thread would fail then.
+    /// Sets whether reads and writes wait; whether a whole line has come may be asked only while they don't. Returns
+    /// whether they are set so: false if the socket was given back, or the system refuses it. Only before the connection
+    /// is served.
+    pub(crate) fn set_waiting<Rt: Wait>(&self, rt: &Rt, is_waiting: bool) -> bool {
+        let stream = self.stream.read(rt);
+        match &*stream {
+            Some(stream) => stream.set_nonblocking(!is_waiting).is_ok(),
+            None => false,
+        }
+    }
+
+    /// Whether a whole line stands in the first 512 bytes that have come, which are left to be read; false if the socket
+    /// was given back, or can't be looked at. Reads are set not to wait.
     pub(crate) fn has_line<Rt: Wait>(&self, rt: &Rt) -> bool {
         let stream = self.stream.read(rt);
         match &*stream {
@@ -147,16 +157,12 @@ impl SharedSocket {
     }
 }
 
-// Whether a newline stands in the first 512 bytes that have come at a socket, without a wait for them; they are left
-// there. False too where the system refuses the look.
+// Whether a newline stands in the first 512 bytes that have come at a socket whose reads don't wait; they are left
+// there. False too if the system refuses the look.
 fn has_line(stream: &TcpStream) -> bool {
     let mut seen = [0; GLANCE];
-    if stream.set_nonblocking(true).is_err() {
-        return false;
-    }
-    let found = match stream.peek(&mut seen) {
+    match stream.peek(&mut seen) {
         Ok(count) => seen[..count.min(GLANCE)].contains(&b'\n'),
         Err(_) => false,
-    };
-    stream.set_nonblocking(false).is_ok() && found
+    }
 }
