@@ -9,7 +9,7 @@ from pathlib import Path
 
 from classroom.counts import plural
 from classroom.lab import Lab
-from classroom.record import CUT, ENDED, Entry, Reader, seats
+from classroom.record import CUT, ENDED, PAUSED, RESUMED, Entry, Reader, seats
 
 PAUSE = 1.0  # seconds between two looks
 MOST = 1 << 20  # bytes of a seat that are read at one look
@@ -111,9 +111,9 @@ class Heard:
         who = seat.name or NOBODY
         if entry.mark == ENDED:
             seat.name = None
-        elif entry.mark == CUT:
+        elif entry.mark in (CUT, PAUSED):
             self.cut.append(who)
-        else:
+        elif entry.mark != RESUMED:
             self.lines[who] += entry.seat != DESK
             told = entry.told()
             self.over = told["refuse"] if told.get("refuse") in OVER else self.over

@@ -19,11 +19,14 @@ from classroom.page import page_of
 from classroom.present import Book
 from classroom.printable import printable
 from classroom.program import Fault
-from classroom.record import CUT, ENDED, Entry, Reader, seats
+from classroom.record import CUT, ENDED, PAUSED, RESUMED, Entry, Reader, seats
 from classroom.vouched import Vouched, vouched
 
 HEADS = ["place", "seat", "session", "asked", "reply", "denied", "event"]
-MARKS = {CUT: "the rest of this connection isn't recorded", ENDED: "this connection ended"}
+MARKS = {
+    CUT: "the rest of this connection isn't recorded", ENDED: "this connection ended",
+    PAUSED: "from here on lines aren't recorded", RESUMED: "lines that weren't recorded: {}",
+}
 GOES_ON = "this connection goes on"
 FORMULA = ("=", "+", "-", "@", "\t", "\r")  # with which a table's cell would be one
 Session = list[Entry]
@@ -97,7 +100,7 @@ def left_open(part: Vouched, said: Session, session: int) -> list[Row]:
 def row_of(entry: Entry, session: int, hider: Hider) -> Row:
     """A row of an entry."""
     if entry.mark:
-        return Row(entry.place, entry.seat, session, event=MARKS[entry.mark])
+        return Row(entry.place, entry.seat, session, event=MARKS[entry.mark].format(entry.missed))
     told = entry.told()
     reply = printable(entry.reply.decode(errors="backslashreplace"))
     denied = told.get("deny") or told.get("refuse") or ""

@@ -6,7 +6,9 @@ from pathlib import Path
 from tests.common.hosting import HOST, Caller, Host, lab_of, let_in
 from tests.common.lines import BID, BYE, CLOSE, REPORT, UNKNOWN, hello, look, seduction
 from tests.common.preload import LIMIT, Ended, fail
-from tests.record.floods import flooded
+from tests.model import read_lab
+from tests.model.record import whole_line
+from tests.record.floods import flooded, outsiders_first
 
 SEATS = 4
 STUDENT = SEATS  # the first who comes to the port has the last seat
@@ -40,7 +42,9 @@ TESS = b"""\
 
 
 def verified(lab: Path, journal: Path, record: Path, line: bytes) -> None:
-    """Wants that line of the record's verifying."""
+    """Wants that line of the record's verifying, and behind it that all is recorded of everybody, or of nobody where
+    it isn't whole."""
+    line += f"{whole_line(read_lab(lab.read_bytes()), b'not whole' in line)}\n".encode("ascii")
     call: list[str | Path] = [HOST, "verify", lab, journal, record]
     done = subprocess.run(call, stdin=subprocess.DEVNULL, capture_output=True, env=dict[str, str](), timeout=LIMIT, check=False)
     if (done.returncode, done.stdout, done.stderr) != (0, line, b""):
@@ -181,7 +185,7 @@ def kept_and_held(room: Path) -> None:
 
 def hosted(room: Path) -> int:
     """All tests of classes; how many there were."""
-    tests = [kept_and_held, killed_and_resumed, full_disk, flooded]
+    tests = [kept_and_held, killed_and_resumed, full_disk, flooded, outsiders_first]
     for test in tests:
         test(room)
     return len(tests)

@@ -19,7 +19,8 @@ class Asked:
         self.denied = {name: dict.fromkeys([*CLAUSES, "malformed"], 0) for name in students}
         self.moves = {i: {name: none() for name in students if name in owners}
                       for i, owners in sorted(lab.owners.items()) if len(owners) == 2}
-        self.sessions = self.lines = self.cuts = 0
+        self.names, self.lacking = list(lab.keys), set[str]()
+        self.sessions = self.lines = self.cuts = self.pauses = 0
 
     def seat(self, text: bytes) -> None:
         """The text of a seat's record."""
@@ -29,8 +30,10 @@ class Asked:
             assert found is not None
             at = found.end()
             if found.re is MARK:
-                known = ""
+                self.lacking |= {known} if found[3] == b"-" else set()
+                known = "" if found[3] in (b"!", b".") else known
                 self.cuts += found[3] == b"!"
+                self.pauses += found[3] == b"-"
                 self.sessions += found[3] == b"."
             else:
                 self.lines += 1
@@ -54,13 +57,17 @@ class Asked:
         lines: list[list[object]] = [["denied", name, *counts.values()] for name, counts in self.denied.items()]
         for node, owners in self.moves.items():
             lines.append(["asked", node, *(word for name, rules in owners.items() for word in (name, *rules.values()))])
-        lines.append(["record", self.sessions, self.lines, "cut" if self.cuts else "whole"])
+        lines.append(["record", self.sessions, self.lines, "cut" if self.cuts or self.pauses else "whole"])
         return "".join(" ".join(map(str, line)) + "\n" for line in lines)
 
+    def whole(self) -> str:
+        """The last line of the tally: of whom all is recorded."""
+        return " ".join(["whole", *(name for name in self.names if not self.cuts and name not in self.lacking)]) + "\n"
 
-def asked(lab: Lab, texts: dict[int, bytes]) -> str:
-    """What must be printed of a record that passes."""
+
+def asked(lab: Lab, texts: dict[int, bytes]) -> tuple[str, str]:
+    """What must be printed of a record that passes: before what may follow from the run, and at the end."""
     count = Asked(lab)
     for text in texts.values():
         count.seat(text)
-    return count.text()
+    return count.text(), count.whole()

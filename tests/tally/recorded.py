@@ -41,6 +41,7 @@ denied ben 2 0 1 0 0
 asked 2 ana 1 0 3 0 ben 0 1 0 0
 record 3 21 whole
 """
+WHOLE = "whole tess ana ben\n"
 
 
 class Files:
@@ -64,10 +65,10 @@ class Files:
         return done.returncode, done.stdout.decode(), done.stderr.decode()
 
 
-def with_record(tally: str, told: str) -> str:
+def with_record(tally: str, told: str, whole: str) -> str:
     """The tally with what is told of the record where it belongs."""
     front, bounds, end = tally.partition("bounds ")
-    return front + told + bounds + end
+    return front + told + bounds + end + whole
 
 
 def by_hand(room: Path, document: str) -> int:
@@ -78,8 +79,8 @@ def by_hand(room: Path, document: str) -> int:
         run.answer(seat, line)
     bare = plain.tally(lab, run.journal.decode(), stable=False)
     files = Files(room, document, run)
-    wanted = with_record(bare, TOLD)
-    if asked(lab, run.texts) != TOLD or files.told() != (0, wanted, ""):
+    wanted = with_record(bare, TOLD, WHOLE)
+    if asked(lab, run.texts) != (TOLD, WHOLE) or files.told() != (0, wanted, ""):
         fail(f"another tally of the run with a record: {files.told()}")
     first = files.folder / "1.record"
     text = first.read_bytes()
@@ -90,7 +91,10 @@ def by_hand(room: Path, document: str) -> int:
         ("an unheard hello", text.replace(b'{"ok":"hello","who":"ana"}', b'{"refuse":"memory"}').replace(
             b'{"clause":1,"deny":"greeted","text":"this connection has a name already"}', b'{"ok":"hello","who":"ana"}'),
          (0, wanted.replace("denied ana 2 ", "denied ana 1 "), "")),
-        ("a cut", text + b"1 2 !\n1 2 .\n", (0, wanted.replace("record 3 21 whole", "record 4 21 cut"), "")),
+        ("a cut", text + b"1 2 !\n1 2 .\n", (0, wanted.replace("record 3 21 whole", "record 4 21 cut").replace(WHOLE, "whole\n"), "")),
+        ("a pause", text + b"1 2 -\n1 2 + 3\n1 2 .\n", (0, wanted.replace("record 3 21 whole", "record 4 21 cut"), "")),
+        ("a pause for ana", text.replace(b'1 2 > {"do":"bye"}', b'1 2 -\n1 2 + 1\n1 2 .\n1 2 > {"do":"bye"}'),
+         (0, wanted.replace("record 3 21 whole", "record 4 21 cut").replace(WHOLE, "whole tess ben\n"), "")),
         ("another clause", text.replace(b'"clause":4', b'"clause":3'), (3, "", "verify: seat 1, line 5: not the reply of the rules at place 0\n")),
     )
     for name, hurt, end in changed:
@@ -115,14 +119,19 @@ def drawn(room: Path, seed: int) -> bool:
     document = drawn_lab(rng)
     lab = read_lab(document.encode("ascii"))
     run = drawn_run(rng, lab)
-    if rng.random() < 0.2:
+    draw = rng.random()
+    if draw < 0.2:
         run.cut(1)
         run.leave(1)
-    told = asked(lab, run.texts)
+    elif draw < 0.4:
+        run.pause(1)
+        run.resume(1, rng.randrange(100))
+        run.leave(1)
+    told, whole = asked(lab, run.texts)
     files = Files(room, document, run)
     status, text, error = files.told()
     stable = not audit(lab, run.journal).endswith("not stable")
-    wanted = with_record(plain.tally(lab, run.journal.decode(), stable), told)
+    wanted = with_record(plain.tally(lab, run.journal.decode(), stable), told, whole)
     if (status, text, error) != (0, wanted, ""):
         fail(f"seed {seed}, with a record: {(status, text, error)}, not {wanted!r}")
     return any(line.startswith("denied ") and not line.endswith(" 0 0 0 0 0") for line in told.splitlines())
