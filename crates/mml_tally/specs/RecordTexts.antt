@@ -50,7 +50,11 @@ record_line f = codes "record" ++ (numbers_text (f.sessions ∷ f.lines ∷ []) 
 abbrev pub record_text : LabValue → Findings → List Ask → List ℕ
 record_text lab f asks = denied_text lab asks (length lab.roster.students) ++ (asked_text lab asks (length lab.ids) ++ record_line f)
 
--- the tally of a run with a record, and of whom all is recorded
+-- the lines of a run with a record
+abbrev pub recorded_run_text : LabValue → World → List Event → Findings → List Ask → List ℕ
+recorded_run_text lab w es f asks =
+    students_text lab es (length lab.roster.students) ++ (nodes_text lab es (length lab.ids) ++ (record_text lab f asks ++ ends_text w es))
+
+-- the tally of a run with a record: these lines, and that of those of whom all is recorded
 abbrev pub recorded_text : LabValue → World → List Event → Findings → List Ask → List ℕ
-recorded_text lab w es f asks =
-    students_text lab es (length lab.roster.students) ++ (nodes_text lab es (length lab.ids) ++ (record_text lab f asks ++ (ends_text w es ++ recorded_line lab f)))
+recorded_text lab w es f asks = recorded_run_text lab w es f asks ++ recorded_line lab f

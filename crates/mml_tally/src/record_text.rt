@@ -1,5 +1,5 @@
 ghost use Rattle.std.specs.Prelude.{◌≡◌, ◌<◌, ◌++◌, All, length, OnOk};
-ghost use Rattle.mml_tally.specs.RecordTexts.{denied_line, denied_text, askers_text, asked_line, asked_text, whole_text, record_line, record_text, recorded_text};
+ghost use Rattle.mml_tally.specs.RecordTexts.{denied_line, denied_text, askers_text, asked_line, asked_text, whole_text, record_line, record_text, recorded_run_text, recorded_text};
 
 use crate::ask::{Ask, Denials, denials_of, moves_asked_by};
 use crate::granted_move::moves_of;
@@ -44,11 +44,27 @@ pub fn put_recorded_tally(
     ensures { OnOk result (out.new.items
         ≡ out.old.items ++ recorded_text lab.now board.now events.now findings.now asks.now) }
 {
+    put_recorded_run(out, alloc, lab, board, events, findings, asks)?;
+    put_recorded(out, lab, findings)
+}
+
+/// Puts the lines that any run has, and before the last two of them those of the record.
+fn put_recorded_run(
+    out: &mut Vec<u8>,
+    alloc: Global,
+    lab: &Lab,
+    board: &Board,
+    events: &[Event],
+    findings: &Findings,
+    asks: &[Ask],
+) -> Result<(), Memory>
+    ensures { OnOk result (out.new.items ≡ out.old.items
+        ++ recorded_run_text lab.now board.now events.now findings.now asks.now) }
+{
     let all = moves_of(alloc, events)?;
     put_granted(out, alloc, lab, &all)?;
     put_record(out, alloc, lab, findings, asks)?;
-    put_ends(out, board, events, &all)?;
-    put_recorded(out, lab, findings)
+    put_ends(out, board, events, &all)
 }
 
 /// Puts the lines of a record: what was denied, what was asked for at nodes that several own, and what it comes to.
