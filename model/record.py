@@ -19,7 +19,9 @@ STAMP = rb"%s %s " % (NUMERAL, NUMERAL)
 ASKED = re.compile(STAMP + rb"> ")
 # The kinds of entries. Another kind has its pattern here, and what it means in `Seat.take`.
 SAID = re.compile(STAMP + rb"(>) ([^\n]*)\n" + STAMP + rb"< ([^\n]*)\n")
-MARK = re.compile(STAMP + rb"([.!])\n")
+MARK = re.compile(STAMP + rb"(?:([.!-])|(\+) %s)\n" % NUMERAL)
+# Where a session stands: lines may come, or none until its end, or none until recording resumes, or only a hello.
+OPEN, OVER, PAUSED, RESUMING = "open", "over", "paused", "resuming"
 
 
 class Entry(NamedTuple):
@@ -47,7 +49,17 @@ class Record:
     sessions: int = 0
     said: list[Said] = field(default_factory=list)
     granted: list[int] = field(default_factory=list)
-    whole: bool = True
+    is_cut: bool = False  # whether anything may be missing somewhere
+    is_paused: bool = False  # whether recording paused somewhere
+    lacking: set[str] = field(default_factory=set)  # who was known when it paused
+
+    def is_whole(self) -> bool:
+        """Returns whether nothing is missing."""
+        return not self.is_cut and not self.is_paused
+
+    def whole(self, lab: Lab) -> list[str]:
+        """Returns the word `whole` and the accounts whose record is whole, the teacher first."""
+        return ["whole", *(name for name in lab.keys if not self.is_cut and name not in self.lacking)]
 
 
 class Seat:
@@ -57,15 +69,15 @@ class Seat:
         self.lab, self.events, self.number, self.record = lab, events, number, record
         self.world = lab.opening()  # after the events that had been seen
         self.known: str | None = None  # who is known in the session
-        self.is_over = False  # whether nothing more may be said in the session
+        self.stage = OPEN
 
     def entry(self, text: bytes, at: int) -> Entry | str:
         """Returns the entry that begins at a byte of the text, or why none does."""
         said, mark = SAID.match(text, at), MARK.match(text, at)
         if said and self.is_stamp(said) and said.group(1, 2) == said.group(5, 6):
             return Entry(said[3], int(said[2]), said.end(), said[4], said[7])
-        if mark and self.is_stamp(mark):
-            return Entry(mark[3], int(mark[2]), mark.end())
+        if mark and self.is_stamp(mark) and int(mark[5] or 0) <= GREATEST:
+            return Entry(mark[3] or mark[4], int(mark[2]), mark.end())
         # The text breaks off within the entry if its line has no newline, or is asked and the next one has none.
         line, newline, rest = text[at:].partition(b"\n")
         asked = ASKED.match(line)
@@ -86,20 +98,40 @@ class Seat:
             apply(self.world, self.events[self.world.place].asked)
         # The session ended, and the next one begins: nobody is known.
         if entry.mark == b".":
-            self.known, self.is_over = None, False
+            self.known, self.stage = None, OPEN
             self.record.sessions += 1
-            return None
-        # The rest of the session isn't recorded.
-        if entry.mark == b"!":
-            self.known, self.is_over = None, True
-            self.record.whole = False
-            return None
-        return self.judge(entry)
+        # Anything may be missing up to the session's end.
+        elif entry.mark == b"!":
+            self.known, self.stage = None, OVER
+            self.record.is_cut = True
+        # Recording pauses, for whoever is known.
+        elif entry.mark == b"-":
+            self.stage = PAUSED
+            self.record.is_paused = True
+            self.record.lacking.update([] if self.known is None else [self.known])
+        # Recording resumes, which it does after a pause only.
+        elif entry.mark == b"+":
+            if self.stage != PAUSED:
+                return "not after a pause"
+            self.stage = RESUMING
+        else:
+            return self.judge(entry)
+        return None
 
     def judge(self, entry: Entry) -> str | None:
-        """Takes an answered line if its reply is that of the rules, or returns why it isn't."""
-        if self.is_over:
+        """Takes an answered line if one may come and its reply is that of the rules, or returns why it can't be."""
+        if self.stage in (OVER, PAUSED):
             return "not the session's end"
+        before = self.known
+        why = self.check(entry)
+        # The line after a pause is a hello that is granted: nobody was known, and somebody is.
+        if self.stage == RESUMING and (why or before is not None or self.known is None):
+            return "not a hello that is granted"
+        self.stage = OVER if entry.reply == BYE else OPEN
+        return why
+
+    def check(self, entry: Entry) -> str | None:
+        """Takes an answered line if its reply is that of the rules, or returns why it isn't."""
         place = self.world.place
         found = answer(self.lab, self.world, self.known, entry.line)
         said = Said(self.known, entry.line, entry.reply)
@@ -119,7 +151,7 @@ class Seat:
             self.record.granted.append(place + 1)
             apply(self.world, found.event)
         self.record.said.append(said)
-        self.known, self.is_over = found.known, entry.reply == BYE
+        self.known = found.known
         return None
 
     def read(self, text: bytes) -> None:
@@ -143,7 +175,7 @@ def check_places(record: Record, begun: int, events: int) -> None:
             raise Fault(f"verify: place {place}: granted twice", 3)
         seen.add(place)
     for place in range(begun + 1, events + 1):
-        if record.whole and place not in seen:
+        if record.is_whole() and place not in seen:
             raise Fault(f"verify: place {place}: granted in no record", 3)
 
 
@@ -159,7 +191,8 @@ def read_record(lab: Lab, events: list[Event], folder: Path) -> Record:
     return record
 
 
-def verified(record: Record, events: list[Event]) -> str:
+def verified(lab: Lab, record: Record, events: list[Event]) -> str:
     """Returns what verifying prints of a record that passes."""
-    end = "" if record.whole else ", not whole"
-    return f"ok: {record.sessions} sessions, {len(record.said)} lines, {len(events)} events{end}\n"
+    end = "" if record.is_whole() else ", not whole"
+    first = f"ok: {record.sessions} sessions, {len(record.said)} lines, {len(events)} events{end}"
+    return f"{first}\n{' '.join(record.whole(lab))}\n"

@@ -123,8 +123,9 @@ def tally(lab: Lab, world: World, events: list[Event], record: Record | None) ->
     lines += at_shared("node", count.shared)
     if record is not None:
         lines += lines_asked(lab, record.said)
-        lines.append(["record", record.sessions, len(record.said), "whole" if record.whole else "cut"])
+        lines.append(["record", record.sessions, len(record.said), "whole" if record.is_whole() else "cut"])
     changes = [count.words[word] for word in CHANGES]
     run = [world.place, world.number, "stable" if world.stable() else "unstable", count.words["close"], *changes]
     lines += [bounds(world), ["run", *run, count.moves, count.moves_since, count.closes_since]]
+    lines += [] if record is None else [[*record.whole(lab)]]
     return "".join(" ".join(map(str, line)) + "\n" for line in lines)

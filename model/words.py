@@ -62,7 +62,7 @@ def print_tally(lab: Lab, journal: str, record: str | None = None) -> bytes:
 def verify(lab: Lab, journal: str, record: str) -> bytes:
     """Returns what a record comes to."""
     _, events = audit(lab, read_file(Path(journal), "journal", MOST_JOURNAL))
-    return verified(read_record(lab, events, Path(record)), events).encode()
+    return verified(lab, read_record(lab, events, Path(record)), events).encode()
 
 
 class Word(NamedTuple):

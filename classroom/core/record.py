@@ -13,18 +13,20 @@ from classroom.core import plain
 from classroom.core.program import Fault
 
 FOLDER = "record"  # of a run's folder
-ENDED, CUT = ".", "!"
+ENDED, CUT, PAUSED, RESUMED = ".", "!", "-", "+"
 
 
 @dataclass(frozen=True)
 class Entry:
-    """A line with its reply, or a mark: `.` where a session ended, `!` where the rest of one isn't recorded."""
+    """A line with its reply, or a mark: `.` where a session ended, `!` where anything may be missing of one, `-` where
+    recording pauses, and `+` where it resumes."""
 
     seat: int
     place: int  # How many events had been seen.
     line: bytes = b""
     reply: bytes = b""
     mark: str = ""
+    missed: int = 0  # How many lines weren't recorded, by a `+`.
 
     def told(self) -> dict[str, str]:
         """The reply's values that are texts."""
@@ -69,10 +71,12 @@ class Reader:
             return None
         sign = words[2].decode(errors="replace")
         asked, self.line = self.line, None
-        if sign in (ENDED, CUT) and len(words) == 3:
+        if sign in (ENDED, CUT, PAUSED) and len(words) == 3:
             return Entry(seat, place, mark=sign)
         if len(words) == 3:
             return None
+        if sign == RESUMED:
+            return Entry(seat, place, mark=sign, missed=int(words[3])) if words[3].isdigit() else None
         if sign == ">":
             self.line = words[3]
         return Entry(seat, place, asked, words[3]) if sign == "<" and asked is not None else None

@@ -36,11 +36,12 @@ DENIED = ("clause1", "clause2", "clause3", "clause4", "malformed")
 @dataclass
 class Asked:
     """What a record tells: how many of each student's lines each clause denied, and how many were no request; what each
-    owner of a shared node asked for there; and whether nothing is left out of it."""
+    owner of a shared node asked for there; whether nothing is left out of it; and of whom nothing is, by name."""
 
     denied: dict[str, Counter[str]] = field(default_factory=dict)
     moves: dict[int, dict[str, Counter[str]]] = field(default_factory=dict)
     whole: bool = True
+    all_of: frozenset[str] | None = None
 
     def add(self, other: Asked) -> None:
         """Adds what the run's next record tells."""
@@ -50,6 +51,7 @@ class Asked:
             for name, counts in owners.items():
                 self.moves.setdefault(node, {}).setdefault(name, Counter()).update(counts)
         self.whole = self.whole and other.whole
+        self.all_of = other.all_of if self.all_of is None or other.all_of is None else self.all_of & other.all_of
 
 
 @dataclass
@@ -95,6 +97,8 @@ def read(text: str) -> Tally:
             asked.moves[int(rest[0])] = by_owner(rest[1:])
         elif word == "record":
             tally.asked, asked.whole = asked, rest[2] == "whole"
+        elif word == "whole":
+            asked.all_of = frozenset(rest)
         elif word == "bounds":
             tally.bounds = Bounds(*map(int, rest))
         elif word == "run":
@@ -124,7 +128,7 @@ def place(word: str) -> int | None:
 
 
 def take_run(tally: Tally, words: list[str]) -> None:
-    """Takes what the line of the run tells, which is the last."""
+    """Takes what the line of the run tells."""
     tally.stable = words.pop(2) == "stable"
     (tally.events, tally.configuration, tally.closes, tally.faults, tally.links, tally.cuts, tally.moves, *since) = map(int, words)
     tally.since = (since[0], since[1])

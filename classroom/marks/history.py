@@ -16,14 +16,17 @@ from classroom.core.journal import Event, events
 from classroom.core.present import Book
 from classroom.core.printable import guarded, printable
 from classroom.core.program import Fault
-from classroom.core.record import CUT, ENDED, Entry, Reader, seats
+from classroom.core.record import CUT, ENDED, PAUSED, RESUMED, Entry, Reader, seats
 from classroom.marks.hiding import Hider
 from classroom.marks.vouched import Vouched, vouched
 from classroom.pages.frames import frames_of
 from classroom.pages.page import page_of
 
 HEADS = ["place", "seat", "session", "asked", "reply", "denied", "event"]
-MARKS = {CUT: "the rest of this connection isn't recorded", ENDED: "this connection ended"}
+MARKS = {
+    CUT: "the rest of this connection isn't recorded", ENDED: "this connection ended",
+    PAUSED: "from here on lines aren't recorded", RESUMED: "lines that weren't recorded: {}",
+}
 GOES_ON = "this connection goes on"
 Session = list[Entry]
 
@@ -96,7 +99,7 @@ def left_open(part: Vouched, said: Session, session: int) -> list[Row]:
 def row_of(entry: Entry, session: int, hider: Hider) -> Row:
     """A row of an entry."""
     if entry.mark:
-        return Row(entry.place, entry.seat, session, event=MARKS[entry.mark])
+        return Row(entry.place, entry.seat, session, event=MARKS[entry.mark].format(entry.missed))
     told = entry.told()
     reply = printable(entry.reply.decode(errors="backslashreplace"))
     denied = told.get("deny") or told.get("refuse") or ""

@@ -78,7 +78,7 @@ class Run:
                 "granted": {rule: marks.granted[rule] for rule in RULES},
                 "applied": {rule: marks.applied[rule] for rule in RULES},
                 "steps": marks.steps, "first": marks.first, "last": marks.last, "shared": marks.shared,
-                **dict(zip(DENIED, self.denied(name))),
+                **dict(zip(DENIED, self.denied(name))), "whole": asked is not None and name in (asked.all_of or ()),
             }
             for name, marks in self.tally.students.items()
         }
@@ -124,9 +124,11 @@ def recorded(journal: Path) -> list[Recorded]:
 
 def asked_in(part: Vouched) -> Asked | None:
     """What the lines of a record asked, if it passes; where its server hasn't ended it counts as one that isn't
-    whole."""
+    whole, of nobody."""
     asked = tally.of(part.lab, part.journal, record=part.copy).asked if part.status == 0 else None
-    return None if asked is None else replace(asked, whole=asked.whole and part.has_ended)
+    if asked is None or part.has_ended:
+        return asked
+    return replace(asked, whole=False, all_of=frozenset())
 
 
 def refusal(journal: Path, error: str) -> str:

@@ -138,7 +138,7 @@ def vouch(record: Path, into: Path, journal: bytes, is_whole: bool, lives: bool)
     if answer.status and not is_whole:
         mark(into)
         answer = verified(into)
-    line = (answer.output or answer.error).strip()
+    line = (answer.output or answer.error).strip().partition("\n")[0]
     return Vouched(record, into, answer.status, line if is_whole else f"{line}: {UNENDED}", is_whole, not is_whole and lives)
 
 

@@ -11,7 +11,7 @@ from classroom.core import plain
 from classroom.core.counts import plural
 from classroom.core.lab import Lab
 from classroom.core.program import Fault
-from classroom.core.record import CUT, ENDED, Entry, Reader, seats
+from classroom.core.record import CUT, ENDED, PAUSED, RESUMED, Entry, Reader, seats
 
 PAUSE = 1.0  # seconds between two looks
 MOST = 1 << 20  # bytes of a seat that are read at one look
@@ -113,9 +113,9 @@ class Heard:
         who = seat.name or NOBODY
         if entry.mark == ENDED:
             seat.name = None
-        elif entry.mark == CUT:
+        elif entry.mark in (CUT, PAUSED):
             self.cut.append(who)
-        else:
+        elif entry.mark != RESUMED:
             self.lines[who] += entry.seat != DESK
             told = entry.told()
             self.over = told["refuse"] if told.get("refuse") in OVER else self.over

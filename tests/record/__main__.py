@@ -23,11 +23,11 @@ from tests.common.second import agreed, said
 from tests.random.labs import drawn_lab
 from tests.record.classes import hosted
 from tests.record.drawn import drawn_run
-from tests.record.recording import Recording
+from tests.record.recording import Recording, whole_line
 
 SEEDS = range(1, 201)
 HURTS = 6
-BYTES = b" 03-eA\n\xff>.!<"
+BYTES = b" 03-eA\n\xff>.!<+"
 # What the seats say one after the other in the short run, of which most is refused.
 TALK = [
     (1, b'{"do":"hello","name":"tess","key":"chalk"}'),
@@ -96,6 +96,40 @@ def in_seat(seat: int, other: int, text: bytes) -> bytes:
     return re.sub(rb"(?m)^%d " % seat, b"%d " % other, text)
 
 
+def pauses(lab: Lab, run: Recording) -> list[tuple[str, dict[int, bytes], str]]:
+    """Pauses behind the short record, in a seat of their own."""
+    ana = b'3 2 > {"do":"hello","name":"ana","key":"a-key"}\n3 2 < {"ok":"hello","who":"ana"}\n'
+    again = ana.replace(b'{"ok":"hello","who":"ana"}', b'{"clause":1,"deny":"greeted","text":"this connection has a name already"}')
+    noise = b'3 2 > x\n3 2 < {"refuse":"malformed"}\n'
+
+    def told(sessions: int, lines: int, *lacking: str) -> str:
+        first = f"ok: {run.sessions + sessions} sessions, {run.lines + lines} lines, 2 events, not whole"
+        return f"{first}\n{whole_line(lab, lacking=lacking)}"
+
+    found: list[tuple[str, bytes, str]] = [
+        ("paused for nobody", noise + b"3 2 -\n3 2 + 7\n3 2 .\n", told(1, 1)),
+        ("paused to the end", b"3 2 -\n", told(0, 0)),
+        ("paused behind a bye", b'3 2 > {"do":"bye"}\n3 2 < {"ok":"bye"}\n3 2 -\n3 2 + 0\n3 2 .\n', told(1, 1)),
+        ("resumed at a hello", noise + b"3 2 -\n3 2 + 2600\n" + ana + noise + b"3 2 .\n" + noise, told(1, 4)),
+        ("paused for ana", ana + b"3 2 -\n3 2 + 5\n3 2 .\n" + noise, told(1, 2, "ana")),
+        ("paused and cut", ana + b"3 2 -\n3 2 !\n3 2 .\n", told(1, 1, *lab.keys)),
+        ("resumed without a hello", b"3 2 -\n3 2 + 1\n" + noise, "seat 3, line 3: not a hello that is granted"),
+        ("resumed at a hello in vain", b"3 2 -\n3 2 + 1\n" + ana.replace(b"a-key", b"b-key"),
+         "seat 3, line 3: not a hello that is granted"),
+        ("resumed at a second hello", ana + b"3 2 -\n3 2 + 1\n" + again, "seat 3, line 5: not a hello that is granted"),
+        ("resumed without a pause", noise + b"3 2 + 1\n3 2 .\n", "seat 3, line 3: not after a pause"),
+        ("resumed twice", b"3 2 -\n3 2 + 1\n3 2 + 1\n", "seat 3, line 3: not after a pause"),
+        ("resumed behind a cut", b"3 2 !\n3 2 + 1\n", "seat 3, line 2: not after a pause"),
+        ("said in a pause", b"3 2 -\n" + noise, "seat 3, line 2: not the session's end"),
+        ("greeted in a pause", b"3 2 -\n" + ana, "seat 3, line 2: not the session's end"),
+        ("a count with a zero", b"3 2 -\n3 2 + 01\n", "seat 3, line 2: not an entry"),
+        ("a count of 65 bits", b"3 2 -\n3 2 + 18446744073709551616\n", "seat 3, line 2: not an entry"),
+        ("no count", b"3 2 -\n3 2 +\n", "seat 3, line 2: not an entry"),
+        ("a torn count", b"3 2 -\n3 2 + 1", "seat 3, line 2: torn"),
+    ]
+    return [(what, {1: run.texts[1], 2: run.texts[2], 3: text}, line) for what, text, line in found]
+
+
 def by_hand(files: Files, lab: Lab) -> int:
     """The short record, whole, and with one thing changed each; how many records that were."""
     run = short_run(lab)
@@ -132,17 +166,18 @@ def by_hand(files: Files, lab: Lab) -> int:
         ("a lost grant", {1: b"".join(one.splitlines(keepends=True)[:4]) + b"1 2 .\n", 2: two},
          "place 2: granted in no record"),
         ("a lost grant, cut", {1: b"".join(one.splitlines(keepends=True)[:4]) + b"1 2 !\n1 2 .\n", 2: two},
-         f"ok: 2 sessions, {run.lines - 1} lines, 2 events, not whole"),
+         f"ok: 2 sessions, {run.lines - 1} lines, 2 events, not whole\nwhole"),
         ("a grant told again by its seat", {1: one + replaced(one, b"1 2 .\n", b"").replace(b"1 0 ", b"1 2 "), 2: two},
          "seat 1, line 10: not the reply of the rules at place 2"),
         ("a grant told twice", {1: one, 2: two, 3: in_seat(1, 3, one)}, "place 1: granted twice"),
         ("cut twice", {1: one + b"1 2 !\n1 2 !\n1 2 .\n", 2: two}, run.told(False).replace("ok: 2 ", "ok: 3 ")),
     ]
+    cases += pauses(lab, run)
     assert place == 2
     for what, texts, line in cases:
         files.wants(what, journal, {**rest, **texts}, line if line.startswith("ok: ") else f"verify: {line}")
     files.wants("begun later", journal, {**rest, 1: one, 2: two}, "verify: place 1: granted before the record began", 1)
-    files.wants("begun where it ends", journal, rest, "ok: 0 sessions, 0 lines, 2 events", 2)
+    files.wants("begun where it ends", journal, rest, f"ok: 0 sessions, 0 lines, 2 events\n{whole_line(lab)}", 2)
     return len(cases) + 2
 
 
@@ -172,35 +207,28 @@ def other_files(files: Files, lab: Lab) -> None:
         fail("words are understood that name no record")
 
 
-def most_held(files: Files) -> int:
-    """The most kB of memory that the program had where it has come to its line, for which the pipe has no room yet."""
+def most_held(files: Files, lab: Lab) -> int:
+    """The most kB of memory that the program had where it comes to the last seat, whose file is a pipe."""
+    pipe = files.folder / f"{lab.sessions}.record"
+    pipe.unlink()
+    os.mkfifo(pipe)
     call: list[str | Path] = [HOST, "verify", files.lab, files.journal, files.folder]
-    reader, writer = os.pipe()
-    os.set_blocking(writer, False)
-    held = 0
-    try:
-        while True:
-            held += os.write(writer, bytes(1 << 16))
-    except BlockingIOError:
-        os.set_blocking(writer, True)
-    with subprocess.Popen(call, stdin=subprocess.DEVNULL, stdout=writer, stderr=subprocess.DEVNULL, env=dict[str, str]()) as process:
-        os.close(writer)
-        while process.poll() is None and not waits(process.pid):
-            sleep(0.02)
+    with subprocess.Popen(call, stdin=subprocess.DEVNULL, stdout=subprocess.DEVNULL, stderr=subprocess.DEVNULL, env=dict[str, str]()) as process:
+        writer = -1
+        while writer < 0 and process.poll() is None:
+            try:
+                writer = os.open(pipe, os.O_WRONLY | os.O_NONBLOCK)
+            except OSError:
+                sleep(0.02)
         status = Path(f"/proc/{process.pid}/status").read_text(encoding="ascii")
-        with open(reader, "rb") as it:
-            told = it.read()[held:]
+        if writer >= 0:
+            os.close(writer)
+    pipe.unlink()
+    pipe.write_bytes(b"")
     found = re.search(r"VmHWM:\s+(\d+) kB", status)
-    if process.returncode or not told.startswith(b"ok: ") or found is None:
-        fail(f"the program ends with {process.returncode} before it is let tell its line, and tells {told!r}")
+    if process.returncode or found is None:
+        fail(f"the program ends with {process.returncode} before the last seat's pipe is read")
     return int(found[1])
-
-
-def waits(process: int) -> bool:
-    """Whether a process waits for room in a pipe, as far as the system says it: it sleeps, with all of its record read."""
-    stat = Path(f"/proc/{process}/stat").read_text(encoding="ascii", errors="replace")
-    files = {os.readlink(it) for it in Path(f"/proc/{process}/fd").iterdir() if it.is_symlink()}
-    return stat.rpartition(") ")[2][:1] == "S" and not any(it.endswith(".record") for it in files)
 
 
 def by_pieces(files: Files, lab: Lab) -> None:
@@ -211,13 +239,13 @@ def by_pieces(files: Files, lab: Lab) -> None:
     long = {**run.texts, 1: run.texts[1] + b"".join(entries) + b"1 2 .\n"}
     other = entries[middle].replace(b"malformed", b"full")
     changed = {**long, 1: run.texts[1] + b"".join([*entries[:middle], other, *entries[middle + 1 :]])}
-    told = f"ok: {run.sessions + 1} sessions, {run.lines + len(entries)} lines, 2 events"
+    told = f"ok: {run.sessions + 1} sessions, {run.lines + len(entries)} lines, 2 events\n{whole_line(lab)}"
     files.wants("in pieces", run.journal, {**long, 1: long[1][:-1]}, f"verify: seat 1, line {last + 8001}: torn")
     files.wants("changed in a piece", run.journal, changed, f"verify: seat 1, line {last + 2 * middle + 1}: not the reply of the rules at place 2")
     files.write(run.journal, run.texts)
-    short = most_held(files)
+    short = most_held(files, lab)
     files.wants("long", run.journal, long, told)
-    if most_held(files) > short + 4096:
+    if most_held(files, lab) > short + 4096:
         fail("a record of 5 MB needs 4 MB more than a short one")
 
 

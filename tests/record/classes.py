@@ -3,11 +3,13 @@ import resource
 import subprocess
 from pathlib import Path
 
+from model import read_lab
 from tests.common.hosting import HOST, Caller, Host, lab_of, let_in
 from tests.common.lines import BID, BYE, CLOSE, REPORT, UNKNOWN, hello, look, seduction
 from tests.common.preload import LIMIT, Ended, fail
-from tests.record.floods import flooded
+from tests.record.floods import flooded, outsiders_first
 from tests.record.places import TESTS as PLACES
+from tests.record.recording import whole_line
 
 SEATS = 4
 STUDENT = SEATS  # the first who comes to the port has the last seat
@@ -41,7 +43,9 @@ TESS = b"""\
 
 
 def verified(lab: Path, journal: Path, record: Path, line: bytes) -> None:
-    """Wants that line of the record's verifying."""
+    """Wants that line of the record's verifying, and behind it that all is recorded of everybody, or of nobody where
+    it isn't whole."""
+    line += f"{whole_line(read_lab(lab.read_bytes()), b'not whole' in line)}\n".encode("ascii")
     call: list[str | Path] = [HOST, "verify", lab, journal, record]
     done = subprocess.run(call, stdin=subprocess.DEVNULL, capture_output=True, env=dict[str, str](), timeout=LIMIT, check=False)
     if (done.returncode, done.stdout, done.stderr) != (0, line, b""):
@@ -182,7 +186,7 @@ def kept_and_held(room: Path) -> None:
 
 def hosted(room: Path) -> int:
     """All tests of classes; how many there were."""
-    tests = [kept_and_held, killed_and_resumed, full_disk, flooded, *PLACES]
+    tests = [kept_and_held, killed_and_resumed, full_disk, flooded, outsiders_first, *PLACES]
     for test in tests:
         test(room)
     return len(tests)

@@ -6,23 +6,32 @@ from pathlib import Path
 from tests.common.hosting import HOST, Caller, Host, lab_of, let_in
 from tests.common.lines import BID, BYE, CLOSE, MALFORMED, hello, look, seduction
 from tests.common.preload import LIMIT, Ended, fail
+from model import read_lab
+from tests.record.recording import whole_line
 
 SEATS = 4
 BUDGET = 8 << 20
+STRANGER = 64 << 10  # what a connection has while nobody is known there
 LONG = b'{"do":"dance"%s}\n' % (b" " * 4000)
 ENTRY = 2 * len(b"4 0 > ") + len(LONG) + len(MALFORMED)
 VISIT = 200  # at least as many bytes has the record of a visit
 LINES = BUDGET // ENTRY + 50  # more than a budget takes
 BATCH = 25
+OUTSIDERS = 2600  # lines before which nobody greets
+AT_ONCE = 20  # of them in a connection, more than it has room for
+DENIED = 50
 MOVE = seduction(0)
+MARKS = (b"!\n", b"-\n", b"+", b".\n")
 
 
 @dataclass
 class Session:
-    """What a record has of a session, in one of the seats: its lines and replies, and its marks."""
+    """What a record has of a session, in one of the seats: its lines and replies, its marks, and how many lines weren't
+    recorded."""
 
     said: list[bytes]
     marks: list[bytes]
+    missed: int = 0
 
     def is_of(self, name: str) -> bool:
         """Whether the session begins with this one's hello."""
@@ -37,16 +46,16 @@ def sessions_in(record: Path) -> list[Session]:
     """The sessions of all seats' files, each of which has an end."""
     found = []
     for seat in range(1, SEATS + 1):
-        said: list[bytes] = []
-        marks: list[bytes] = []
+        session = Session([], [])
         for line in (record / f"{seat}.record").read_bytes().splitlines(keepends=True):
             mark = line.split(b" ")[2]
-            (marks if mark in (b"!\n", b".\n") else said).append(line if mark in (b">", b"<") else mark)
+            (session.marks if mark in MARKS else session.said).append(mark if mark in MARKS else line)
+            session.missed += int(line.split(b" ")[3]) if mark == b"+" else 0
             if mark == b".\n":
-                found.append(Session(said, marks))
-                said, marks = [], []
-        if said or marks:
-            fail(f"record: seat {seat} has no end after a flood, but {marks}")
+                found.append(session)
+                session = Session([], [])
+        if session.said or session.marks:
+            fail(f"record: seat {seat} has no end after a flood, but {session.marks}")
     return found
 
 
@@ -77,13 +86,15 @@ def whole_visit(host: Host, name: str) -> None:
     leave(caller)
 
 
-def unknown_flood(host: Host) -> None:
-    """Who doesn't greet floods, by as many connections as it takes."""
+def unknown_flood(host: Host, lines: int, at_once: int) -> int:
+    """Who doesn't greet floods, by as many connections as it takes, each of which says so many lines at most; how many
+    were answered."""
     done = 0
-    while done < LINES:
+    while done < lines:
         caller, reply = let_in(host.port, LONG)
-        done += flood(caller, LINES - done) if reply else 0
+        done += 1 + flood(caller, min(lines - done, at_once) - 1) if reply else 0
         caller.close()
+    return done
 
 
 def wants_budget(who: str, sessions: list[Session]) -> None:
@@ -100,21 +111,22 @@ def wants_whole(name: str, found: list[Session], count: int) -> None:
         fail(f"record: beside a flood {name}'s visits are recorded as {[(len(v.said), v.marks) for v in visits]}")
 
 
-def verified(lab: Path, journal: Path, record: Path, found: list[Session]) -> None:
-    """Wants that the record is verified as one that isn't whole."""
+def verified(lab: Path, journal: Path, record: Path, found: list[Session], lacking: tuple[str, ...] = ()) -> None:
+    """Wants that the record is verified as one that isn't whole, of whom all is recorded but of those."""
     lines = sum(len(session.said) // 2 for session in found)
     call: list[str | Path] = [HOST, "verify", lab, journal, record]
     done = subprocess.run(
         call, stdin=subprocess.DEVNULL, capture_output=True, env=dict[str, str](), timeout=LIMIT, check=False,
     )
-    wanted = b"ok: %d sessions, %d lines, 1 events, not whole\n" % (len(found), lines)
+    first = f"ok: {len(found)} sessions, {lines} lines, 1 events, not whole"
+    wanted = f"{first}\n{whole_line(read_lab(lab.read_bytes()), lacking=lacking)}\n".encode("ascii")
     if (done.returncode, done.stdout, done.stderr) != (0, wanted, b""):
         fail(f"record: after a flood the record is verified as {done}, not {wanted!r}")
 
 
 def flooded(room: Path) -> None:
-    """A student floods, then one who isn't known: each has a budget, in all seats together, and the record has a
-    mark where that is used up; all that others say is recorded, in the same seats too."""
+    """A student floods, then one who isn't known: each has a budget, in all seats together, and the record says where
+    that is used up; all that others say is recorded, in the same seats too."""
     lab, journal, record = lab_of(room, SEATS), room / "flood.journal", room / "flood"
     with Host(lab, 0, 0, journal, record) as host:
         tess, _ = let_in(host.desk, hello("tess"))
@@ -127,7 +139,7 @@ def flooded(room: Path) -> None:
             whole_visit(host, "ana")
         leave(ana)
         whole_visit(host, "ben")
-        unknown_flood(host)
+        unknown_flood(host, LINES, LINES)
         whole_visit(host, "cyd")
         ended = host.dismissed(tess)
     if ended != Ended(0, b"done: 1 events, configuration 0\n", b""):
@@ -135,12 +147,49 @@ def flooded(room: Path) -> None:
     found = sessions_in(record)
     floods = [session for session in found if session.is_of("ana")]
     unknown = [session for session in found if session.said and b'"ok":"hello"' not in session.said[1]]
-    cut = [session for session in found if session.marks == [b"!\n", b".\n"]]
+    cut = [session for session in found if session.marks == [b"-\n", b"+", b".\n"]]
     large = [session for session in cut if session.is_of("ana") and session.size() > BUDGET // 2]
-    if len(large) != 1 or all(session.said for session in cut):
+    if len(large) != 1 or all(session.said for session in cut) or any(b"!\n" in session.marks for session in found):
         fail(f"record: beside a flood these are cut: {[(len(session.said), session.marks) for session in cut]}")
+    if sum(session.missed for session in found if session in large) < LINES - BUDGET // ENTRY:
+        fail(f"record: a flood of {LINES} lines is told to have missed {large[0].missed}")
     wants_budget("ana", floods)
-    wants_budget("who isn't known", unknown)
+    if not unknown or any(session.size() > STRANGER for session in unknown):
+        fail(f"record: of a connection before a hello {[session.size() for session in unknown]} bytes are recorded")
     wants_whole("ben", found, 2)
     wants_whole("cyd", found, 1)
+    verified(lab, journal, record, found, ("ana",))
+
+
+def asks_in_vain(caller: Caller) -> None:
+    """A student asks so often in vain, and then is granted a move."""
+    said = [caller.ask(seduction(7)) for _ in range(DENIED)]
+    if any(b'"deny":"stale"' not in reply for reply in said) or b'"place":1' not in caller.ask(MOVE):
+        fail(f"record: behind outsiders a student is answered {said[-1]!r}")
+
+
+def outsiders_first(room: Path) -> None:
+    """Who doesn't greet uses up what is recorded of all who aren't known, and then a student's session begins with a line
+    like that: from the hello on all is recorded, how many lines weren't is told, and so is that nobody lacks a line."""
+    lab, journal, record = lab_of(room, SEATS), room / "outsiders.journal", room / "outsiders"
+    with Host(lab, 0, 0, journal, record) as host:
+        tess, _ = let_in(host.desk, hello("tess"))
+        asked = unknown_flood(host, OUTSIDERS, AT_ONCE)
+        ana, _ = let_in(host.port, LONG)
+        if b'"ok":"hello"' not in ana.ask(hello("ana")):
+            fail("record: behind outsiders a student isn't greeted")
+        asks_in_vain(ana)
+        leave(ana)
+        ended = host.dismissed(tess)
+    if ended != Ended(0, b"done: 1 events, configuration 0\n", b""):
+        fail(f"record: a class behind outsiders ends with {ended}")
+    found = sessions_in(record)
+    unknown = [session for session in found if session.said and b'"refuse"' in session.said[1]]
+    recorded = sum(len(session.said) // 2 for session in unknown)
+    wants_budget("outsiders", unknown)
+    (own,) = [session for session in found if session.is_of("ana")] or [Session([], [])]
+    if len(own.said) != 2 * (1 + DENIED + 1 + 1) or b'"place":1' not in own.said[-3] or own.marks[-2:] != [b"+", b".\n"]:
+        fail(f"record: behind outsiders a student's session has {len(own.said)} lines, and {own.marks}")
+    if sum(session.missed for session in found) != asked + 1 - recorded:
+        fail(f"record: of {asked + 1} lines of outsiders {recorded} are recorded, and {[session.missed for session in found]} missed")
     verified(lab, journal, record, found)

@@ -1,5 +1,6 @@
 """Records that a run of many seats leaves: a text for each seat, written as the lines come."""
 import json
+from collections.abc import Collection
 
 from model import Lab, Run
 
@@ -12,11 +13,17 @@ def is_shown(reply: str) -> bool:
     return json.loads(reply).get("ok") in SHOWN
 
 
+def whole_line(lab: Lab, cut: bool = False, lacking: Collection[str] = ()) -> str:
+    """Returns the line of those of whom all is recorded, the teacher first and students in the lab's order: nobody, if
+    anything may be missing, or all but those for whom recording paused."""
+    return " ".join(["whole", *(name for name in lab.keys if not cut and name not in lacking)])
+
+
 class Recording:
     """A run of many seats, each with its record."""
 
     def __init__(self, lab: Lab) -> None:
-        self.model = Run(lab)
+        self.lab, self.model = lab, Run(lab)
         self.texts: dict[int, bytes] = {seat: b"" for seat in range(1, lab.sessions + 1)}
         self.sessions = self.lines = 0
 
@@ -38,8 +45,16 @@ class Recording:
         self.texts[seat] += b"%d %d .\n" % (seat, self.model.world.place)
 
     def cut(self, seat: int) -> None:
-        """Says that the rest of the session in a seat isn't recorded."""
+        """Says that anything may be missing in a seat up to the session's end."""
         self.texts[seat] += b"%d %d !\n" % (seat, self.model.world.place)
+
+    def pause(self, seat: int) -> None:
+        """Says that from here on lines in a seat aren't recorded."""
+        self.texts[seat] += b"%d %d -\n" % (seat, self.model.world.place)
+
+    def resume(self, seat: int, missed: int) -> None:
+        """Says that so many lines weren't recorded in a seat, and that a hello or the session's end comes."""
+        self.texts[seat] += b"%d %d + %d\n" % (seat, self.model.world.place, missed)
 
     @property
     def journal(self) -> bytes:
@@ -49,4 +64,5 @@ class Recording:
     def told(self, whole: bool = True) -> str:
         """Returns what verifying must print of the record."""
         end = "" if whole else ", not whole"
-        return f"ok: {self.sessions} sessions, {self.lines} lines, {self.model.world.place} events{end}"
+        first = f"ok: {self.sessions} sessions, {self.lines} lines, {self.model.world.place} events{end}"
+        return f"{first}\n{whole_line(self.lab, not whole)}"

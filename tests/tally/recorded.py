@@ -38,6 +38,7 @@ denied ben 2 0 1 0 0
 asked 2 ana 1 0 3 0 ben 0 1 0 0
 record 3 21 whole
 """
+WHOLE = "whole tess ana ben\n"
 
 
 class Files:
@@ -63,10 +64,10 @@ class Files:
         return agreed("without a record", "tally", self.lab, self.journal).out.decode()
 
 
-def with_record(tally: str, told: str) -> str:
-    """The tally with what is told of the record where it belongs."""
+def with_record(tally: str) -> str:
+    """Returns the tally with what is printed of the record where it belongs."""
     front, bounds, end = tally.partition("bounds ")
-    return front + told + bounds + end
+    return front + TOLD + bounds + end + WHOLE
 
 
 def by_hand(room: Path, document: str) -> int:
@@ -75,7 +76,7 @@ def by_hand(room: Path, document: str) -> int:
     for seat, line in TALK:
         run.answer(seat, line)
     files = Files(room, document, run)
-    wanted = with_record(files.bare(), TOLD)
+    wanted = with_record(files.bare())
     first = files.folder / "1.record"
     text = first.read_bytes()
     changed = (
@@ -86,7 +87,10 @@ def by_hand(room: Path, document: str) -> int:
         ("an unheard hello", text.replace(b'{"ok":"hello","who":"ana"}', b'{"refuse":"memory"}').replace(
             b'{"clause":1,"deny":"greeted","text":"this connection has a name already"}', b'{"ok":"hello","who":"ana"}'),
          wanted.replace("denied ana 2 ", "denied ana 1 ")),
-        ("a cut", text + b"1 2 !\n1 2 .\n", wanted.replace("record 3 21 whole", "record 4 21 cut")),
+        ("a cut", text + b"1 2 !\n1 2 .\n", wanted.replace("record 3 21 whole", "record 4 21 cut").replace(WHOLE, "whole\n")),
+        ("a pause", text + b"1 2 -\n1 2 + 3\n1 2 .\n", wanted.replace("record 3 21 whole", "record 4 21 cut")),
+        ("a pause for ana", text.replace(b'1 2 > {"do":"bye"}', b'1 2 -\n1 2 + 1\n1 2 .\n1 2 > {"do":"bye"}'),
+         wanted.replace("record 3 21 whole", "record 4 21 cut").replace(WHOLE, "whole tess ben\n")),
         ("another clause", text.replace(b'"clause":4', b'"clause":3'), "verify: seat 1, line 5: not the reply of the rules at place 0"),
     )
     for name, hurt, told in changed:
@@ -111,8 +115,13 @@ def drawn(room: Path, seed: int) -> bool:
     rng = Random(seed)
     document = drawn_lab(rng)
     run = drawn_run(rng, read_lab(document.encode("ascii")))
-    if rng.random() < 0.2:
+    draw = rng.random()
+    if draw < 0.2:
         run.cut(1)
+        run.leave(1)
+    elif draw < 0.4:
+        run.pause(1)
+        run.resume(1, rng.randrange(100))
         run.leave(1)
     found = Files(room, document, run).told(f"seed {seed}, with a record")
     if found.status:

@@ -1,10 +1,25 @@
 -- What is told of a record.
-use Rattle.std.specs.Prelude.{ℕ, if◌then◌else◌, List, [], ◌∷◌, codes, decimal}
+use Rattle.std.specs.Prelude.{ℕ, Bool, true, false, List, [], ◌∷◌, ◌++◌, codes, decimal}
 use Rattle.std.specs.List.{concat}
+use Rattle.std.specs.FinSet as set
+use Rattle.mml_lab.specs.Labs.{LabValue}
 use Rattle.mml_tally.specs.declared.record_text.Findings.{Findings}
+use Rattle.mml_tally.specs.Lacking.{recorded_line}
+
+-- what is found where there are no records
+abbrev pub no_findings : Findings
+no_findings = record { sessions = 0; lines = 0; whole = true; is_cut = false; lacks_teacher = false; lacking = set.empty }
+
+-- what stands behind the number of events, by whether a record is whole
+abbrev pub end_of : Bool → List ℕ
+end_of true = codes " events\n"
+end_of false = codes " events, not whole\n"
 
 -- the line that tells what a record that passed comes to, and how many events its journal has
 abbrev pub verified_line : Findings → ℕ → List ℕ
 verified_line found events =
-    concat (codes "ok: " ∷ decimal found.sessions ∷ codes " sessions, " ∷ decimal found.lines ∷ codes " lines, " ∷ decimal events
-    ∷ (if found.whole then codes " events\n" else codes " events, not whole\n") ∷ [])
+    concat (codes "ok: " ∷ decimal found.sessions ∷ codes " sessions, " ∷ decimal found.lines ∷ codes " lines, " ∷ decimal events ∷ end_of found.whole ∷ [])
+
+-- that line, and the line of those of whom all is recorded
+abbrev pub verified_text : LabValue → Findings → ℕ → List ℕ
+verified_text lab found events = verified_line found events ++ recorded_line lab found

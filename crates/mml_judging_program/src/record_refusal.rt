@@ -16,6 +16,10 @@ pub enum RecordRefusal {
     PastEnd(u8, u64),
     #[error("seat {0}, line {1}: not the session's end")]
     NoEnd(u8, u64),
+    #[error("seat {0}, line {1}: not a hello that is granted")]
+    NoHello(u8, u64),
+    #[error("seat {0}, line {1}: not after a pause")]
+    NoPause(u8, u64),
     #[error("seat {0}, line {1}: not the journal's event at place {2}")]
     OtherEvent(u8, u64, u64),
     #[error("seat {0}, line {1}: not the reply of the rules at place {2}")]
@@ -39,6 +43,8 @@ impl RecordRefusal {
             Why::GoesBack => RecordRefusal::GoesBack(seat, line),
             Why::PastEnd => RecordRefusal::PastEnd(seat, line),
             Why::NoEnd => RecordRefusal::NoEnd(seat, line),
+            Why::NoHello => RecordRefusal::NoHello(seat, line),
+            Why::NoPause => RecordRefusal::NoPause(seat, line),
             Why::OtherEvent => RecordRefusal::OtherEvent(seat, line, place.saturating_add(1)),
             Why::OtherReply => RecordRefusal::OtherReply(seat, line, place),
         }

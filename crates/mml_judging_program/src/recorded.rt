@@ -75,7 +75,7 @@ fn read_seats<R: Files<File = File> + AllocGlobal>(
         let text = read_seat(rt, folder, seat + 1)?;
         let text = text.as_slice();
         let found = read_lines(rt.alloc(), lab, events, seat + 1, text, &mut granted, asks)?;
-        all = together(all, found);
+        all = together(&all, &found);
     }
     granted_once(
         rt.alloc(),

@@ -1,25 +1,26 @@
 //! Whether the record of a class is one beside its journal.
-ghost use Rattle.std.specs.Prelude.{◌≡◌, ◌≤◌, ◌∷◌, [], true, codes, decimal, OnOk, IfOk, vec_len};
-ghost use Rattle.std.specs.List.{concat};
+ghost use Rattle.std.specs.Prelude.{◌≡◌, ◌≤◌, ◌++◌, ◌&&◌, ◌||◌, ℕ, true, OnOk, IfOk, vec_len};
+ghost use Rattle.std.specs.FinSet as set;
 ghost use Rattle.std.specs.Io.KnownBytes.{Appends};
 ghost use Rattle.mml_board.specs.Lists.{is_legal_in};
-ghost use Rattle.mml_judging_program.specs.Verifying.{verified_line};
+ghost use Rattle.mml_lab.specs.declared.who.Who.{Who};
+ghost use Rattle.mml_tally.specs.Lacking.{lacks};
+ghost use Rattle.mml_judging_program.specs.Verifying.{end_of, no_findings, verified_text};
 
 use crate::fault::Fault;
 use crate::granting::find_misgranted;
 use crate::record_refusal::RecordRefusal;
+use crate::tally::write_text;
 use crate::words::VerifyTask;
 use mml_audit::audit_events;
 use mml_board::Event;
 use mml_ends::Retrying;
-use mml_ids::Piece;
+use mml_ids::{Memory, NodeSet, Piece, put};
 use mml_lab::Lab;
 use mml_lines::{WholeFault, read_whole};
-use mml_program::{
-    Fault as ProgramFault, lab_of, memory_if_lacked, memory_or, read_journal, write_pieces,
-};
+use mml_program::{Fault as ProgramFault, lab_of, memory_if_lacked, memory_or, read_journal};
 use mml_record::{PieceFault, Verdict, read_record_from};
-use mml_tally::Findings;
+use mml_tally::{Findings, put_recorded};
 use std::alloc::Global;
 use std::fs::File;
 use std::io::Write;
@@ -43,7 +44,8 @@ pub fn verify<R: Files<File = File> + Print + AllocGlobal>(
     let begun = read_begun(rt, task.record)?;
     let found = verify_seats(rt, &lab, events.as_slice(), begun, task.record)?;
     let mut writer = Retrying::new(io::writer(rt));
-    match write_verified(rt.alloc(), found, events.len() as u64, &mut writer) {
+    let count = events.len() as u64;
+    match write_verified(rt.alloc(), &lab, &found, count, &mut writer) {
         Ok(()) => Ok(()),
         Err(fault) => Err(memory_if_lacked(Fault::from(fault), writer.lacked_memory)),
     }
@@ -78,7 +80,7 @@ fn verify_seats<R: Files<File = File> + AllocGlobal>(
     let mut all = no_findings();
     for seat in 0..lab.sessions() {
         match verify_seat(rt, lab, events, seat + 1, folder, &mut granted)? {
-            Verdict::Passed(found) => all = together(all, found),
+            Verdict::Passed(found) => all = together(&all, &found),
             Verdict::Refused(bad) => return Err(Fault::Record(RecordRefusal::of(seat + 1, bad))),
         }
     }
@@ -92,11 +94,16 @@ fn verify_seats<R: Files<File = File> + AllocGlobal>(
 }
 
 // What is found where there are no records: nothing ended, nothing answered, nothing left out.
-pub(crate) fn no_findings() -> Findings {
+pub(crate) fn no_findings() -> Findings
+    ensures { result ≡ no_findings }
+{
     Findings {
         sessions: 0,
         lines: 0,
         whole: true,
+        is_cut: false,
+        lacks_teacher: false,
+        lacking: NodeSet::empty(),
     }
 }
 
@@ -161,14 +168,33 @@ fn decimal_in(digits: &[u8]) -> Option<u64> {
     Some(number)
 }
 
-// What two parts of a record come to together: the sum of their sessions and of their lines, and whether both are
-// whole.
-pub(crate) fn together(a: Findings, b: Findings) -> Findings {
+// What two parts of a record come to together: the sum of their sessions and of their lines, whether both are whole, and
+// for whom recording paused in either.
+pub(crate) fn together(a: &Findings, b: &Findings) -> Findings
+    ensures whole { result.whole ≡ (a.now.whole && b.now.whole) }
+    ensures cut { result.is_cut ≡ (a.now.is_cut || b.now.is_cut) }
+    ensures lacks { (who : Who) → lacks result who ≡ (lacks a.now who || lacks b.now who) }
+{
     Findings {
         sessions: a.sessions.saturating_add(b.sessions),
         lines: a.lines.saturating_add(b.lines),
         whole: a.whole && b.whole,
+        is_cut: a.is_cut || b.is_cut,
+        lacks_teacher: a.lacks_teacher || b.lacks_teacher,
+        lacking: union(a.lacking, b.lacking),
     }
+}
+
+// The ranks that are in either set.
+fn union(a: NodeSet, b: NodeSet) -> NodeSet
+    ensures { (q : ℕ) → set.contains result q ≡ (set.contains a q || set.contains b q) }
+{
+    let mut all = a;
+    let mut left = b;
+    'ranks: while let Some(rank) = left.take_least() {
+        all = all.with(rank);
+    }
+    all
 }
 
 // The bytes of the file of a seat's record; the record's read fault where that can't be opened or read, or is too
@@ -257,36 +283,31 @@ fn open_plain<R: Files<File = File>>(rt: &R, path: &str) -> io::Result<Option<Fi
     }
 }
 
-/// Writes the line that tells what a record that passed comes to, and how many events its journal has; the error is
-/// that the write failed, or want of memory.
+/// Writes what a record that passed comes to, and how many events its journal has, and then the line of those of whom
+/// all is recorded; the error is that the write failed, or want of memory.
 pub fn write_verified<W: Write>(
     alloc: Global,
-    found: Findings,
+    lab: &Lab,
+    found: &Findings,
     events: u64,
-    writer: &mut W,
-) -> Result<(), ProgramFault>
-    ensures { OnOk result
-        (Appends (W.contents writer.old) (W.contents writer.new) (verified_line found events)) }
-{
-    if found.whole {
-        write_ended(alloc, found, events, " events\n", writer)
-    } else {
-        write_ended(alloc, found, events, " events, not whole\n", writer)
-    }
-}
-
-// Writes the line that tells what a record that passed comes to, with `end` behind the number of events.
-fn write_ended<W: Write>(
-    alloc: Global,
-    found: Findings,
-    events: u64,
-    end: &str,
     writer: &mut W,
 ) -> Result<(), ProgramFault>
     ensures { OnOk result (Appends (W.contents writer.old) (W.contents writer.new)
-        (concat (codes "ok: " ∷ decimal found.sessions ∷ codes " sessions, " ∷ decimal found.lines
-        ∷ codes " lines, " ∷ decimal events ∷ end.now ∷ []))) }
+        (verified_text lab.now found.now events)) }
 {
+    let mut text = Vec::new(alloc);
+    match put_verified(&mut text, lab, found, events) {
+        Ok(()) => write_text(&text, writer),
+        Err(_) => Err(ProgramFault::Memory),
+    }
+}
+
+// Puts what a record that passed comes to, and the line of those of whom all is recorded.
+fn put_verified(text: &mut Vec<u8>, lab: &Lab, found: &Findings, events: u64) -> Result<(), Memory>
+    ensures { OnOk result
+        (text.new.items ≡ text.old.items ++ verified_text lab.now found.now events) }
+{
+    let end = end_of(found.whole);
     let pieces = [
         Piece::Text("ok: "),
         Piece::Number(found.sessions),
@@ -296,5 +317,17 @@ fn write_ended<W: Write>(
         Piece::Number(events),
         Piece::Text(end),
     ];
-    write_pieces(alloc, &pieces, writer)
+    put(text, &pieces)?;
+    put_recorded(text, lab, found)
+}
+
+// What stands behind the number of events, by whether a record is whole.
+fn end_of(is_whole: bool) -> &'static str
+    ensures { result.now ≡ end_of is_whole }
+{
+    if is_whole {
+        " events\n"
+    } else {
+        " events, not whole\n"
+    }
 }

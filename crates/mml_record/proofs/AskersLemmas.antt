@@ -29,8 +29,8 @@ use Rattle.mml_board.specs.Lists.{world_in}
 use Rattle.mml_window.specs.Rulings.{ruling_at}
 use Rattle.mml_tally.specs.declared.ask.Ask.{Ask}
 use Rattle.mml_tally.specs.AskMeaning.{is_numbered, IsKnownOf, AreAsksOf}
-use Rattle.mml_session.specs.declared.recorder.Entry.{Entry}
-use Rattle.mml_session.specs.declared.recorder.Entry.TheVariants as entry
+use Rattle.mml_record.specs.declared.kept_entry.Entry.{Entry}
+use Rattle.mml_record.specs.declared.kept_entry.Entry.TheVariants as entry
 use Rattle.mml_record.specs.Certified.{FitsRuling, FitsGreeting, FitsAsked, Fits}
 use Rattle.mml_record.specs.Asks.{student_of, clause_in, AreAskedOf}
 use Rattle.mml_record.proofs.DenialLemmas.{of_err, student_meets, node_meets, rule_meets, pointer_meets}
@@ -124,3 +124,5 @@ are_asks_of lab l known k [] asks h = subst (AreAsksOf (length lab.roster.studen
 are_asks_of lab l known k (entry.Said p line out ∷ es) asks h = grind (arith, nat_tests, known_of, one_there, (are_asks_of lab l h.1 (one_there lab l (take p l) known k line h.0 h.1 h.4) es h.2 h.6))
 are_asks_of lab l known k (entry.Left p ∷ es) asks h = are_asks_of lab l None tt es asks h
 are_asks_of lab l known k (entry.Unrecorded p ∷ es) asks h = are_asks_of lab l None tt es asks h
+are_asks_of lab l known k (entry.Paused p ∷ es) asks h = are_asks_of lab l known k es asks h
+are_asks_of lab l known k (entry.Resumed p missed ∷ es) asks h = are_asks_of lab l known k es asks h

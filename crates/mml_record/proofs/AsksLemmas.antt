@@ -24,9 +24,11 @@ use Rattle.mml_codec.specs.Facts.{object_text}
 use Rattle.mml_codec.specs.Lines.{request_in}
 use Rattle.mml_codec.specs.Replies.{text, reply_line, place_in}
 use Rattle.mml_session.specs.Turns.{is_bye}
-use Rattle.mml_session.specs.declared.recorder.Entry.{Entry}
-use Rattle.mml_session.specs.declared.recorder.Entry.TheVariants as entry
-use Rattle.mml_record.specs.Certified.{seen_after, FitsGreeting, FitsAsked, Fits, GoesOn}
+use Rattle.mml_record.specs.declared.kept_entry.Entry.{Entry}
+use Rattle.mml_record.specs.declared.kept_entry.Entry.TheVariants as entry
+use Rattle.mml_record.specs.declared.stage.Stage.{Stage}
+use Rattle.mml_record.specs.declared.stage.Stage.TheVariants as stages
+use Rattle.mml_record.specs.Certified.{seen_after, stage_after, FitsGreeting, FitsAsked, Fits, GoesOn}
 use Rattle.mml_record.specs.Asks.{unended, clause_first, clause_second, clause_member, clause_told, memory_text, known_by, known_asked, known_after, line_of, student_of}
 use Rattle.mml_record.specs.Asks.{asks_from, clause_in, AreAskedOf}
 use Rattle.mml_journal.proofs.CuttingLemmas.{avoids, cut_here}
@@ -141,24 +143,32 @@ module _ (lab : LabValue) (l first : List Event) (known : Option Who) (r : Reply
     unfolding known_after
     known_is f = by_text (bytes_eq (text lab.ids lab.roster r) memory_text) refl f
 
+-- who is known behind a line is told by the bytes of its reply's line
+pub known_of : (lab : LabValue) (l : List Event) (p : ℕ) (known : Option Who) (line out : List ℕ) (r : Reply) (known' : Option Who)
+    → out ≡ reply_line lab.ids lab.roster r → Fits lab l (take p l) known line r known' → known_after lab.roster known line (unended out) ≡ known'
+known_of lab l p known line out r known' at f =
+    let bytes : unended out ≡ text lab.ids lab.roster r = ap unended at ∙ unended_is (text lab.ids lab.roster r) in
+    ap (known_after lab.roster known line) bytes ∙ known_is lab l (take p l) known r known' line f
+
 -- ---- all entries
 
-pub asked_of_rules : (lab : LabValue) (l : List Event) (known : Option Who) (gone : Bool) (least : ℕ) (es : List Entry) (ps : List ℕ)
-    → GoesOn lab l known gone least es ps → AreAskedOf lab l known es (asks_from lab.roster known es)
-asked_of_rules lab l known gone least [] ps on = refl
-asked_of_rules lab l known gone least (entry.Said p line out ∷ es) ps on =
-    let r : Reply = on.4 in
+pub asked_of_rules : (lab : LabValue) (l : List Event) (known : Option Who) (stage : Stage) (least : ℕ) (es : List Entry) (ps : List ℕ)
+    → GoesOn lab l known stage least es ps → AreAskedOf lab l known es (asks_from lab.roster known es)
+asked_of_rules lab l known stage least [] ps on = refl
+asked_of_rules lab l known stage least (entry.Said p line out ∷ es) ps on =
+    let r : Reply = on.3 in
     let bytes : unended out ≡ text lab.ids lab.roster r = ap unended on.7 ∙ unended_is (text lab.ids lab.roster r) in
     let clause : clause_told (unended out) ≡ clause_in r = ap clause_told bytes ∙ told_is lab.ids lab.roster r in
-    let behind : known_after lab.roster known line (unended out) ≡ on.5 =
-    ap (known_after lab.roster known line) bytes ∙ known_is lab l (take p l) known r on.5 line on.8 in (
+    let behind : known_after lab.roster known line (unended out) ≡ on.4 = known_of lab l p known line out r on.4 on.7 on.8 in (
       r,
-      on.5,
-      asks_from lab.roster on.5 es,
+      on.4,
+      asks_from lab.roster on.4 es,
       on.7,
       on.8,
       λ k. record { who = student_of known; line = line_of (request_in line); denied = clause k } ∷ asks_from lab.roster (behind k) es,
-      asked_of_rules lab l on.5 (is_bye r) (seen_after p (place_in r)) es on.6 on.10,
+      asked_of_rules lab l on.4 (stage_after (is_bye r)) (seen_after p (place_in r)) es on.5 on.10,
     )
-asked_of_rules lab l known gone least (entry.Left p ∷ es) ps on = asked_of_rules lab l None false p es ps on.2
-asked_of_rules lab l known gone least (entry.Unrecorded p ∷ es) ps on = asked_of_rules lab l None true p es ps on.2
+asked_of_rules lab l known stage least (entry.Left p ∷ es) ps on = asked_of_rules lab l None stages.Open p es ps on.2
+asked_of_rules lab l known stage least (entry.Unrecorded p ∷ es) ps on = asked_of_rules lab l None stages.Over p es ps on.2
+asked_of_rules lab l known stage least (entry.Paused p ∷ es) ps on = asked_of_rules lab l known stages.Paused p es ps on.2
+asked_of_rules lab l known stage least (entry.Resumed p missed ∷ es) ps on = asked_of_rules lab l known stages.Resuming p es ps on.4

@@ -27,8 +27,8 @@ use Rattle.mml_journal.specs.Words.{◌>>=◌, split_at_byte, is_word}
 use Rattle.mml_tally.specs.declared.ask.Ask.{Ask}
 use Rattle.mml_tally.specs.declared.ask.Line.{Line}
 use Rattle.mml_tally.specs.declared.ask.Line.TheVariants as lines
-use Rattle.mml_session.specs.declared.recorder.Entry.{Entry}
-use Rattle.mml_session.specs.declared.recorder.Entry.TheVariants as entry
+use Rattle.mml_record.specs.declared.kept_entry.Entry.{Entry}
+use Rattle.mml_record.specs.declared.kept_entry.Entry.TheVariants as entry
 use Rattle.mml_record.specs.Certified.{Fits}
 
 -- ---- what a line is
@@ -135,14 +135,14 @@ ask_of known line out = record { who = student_of known; line = line_of (request
 -- what an entry tells that was asked: one thing, if it is a line that was answered
 abbrev pub asks_at : Option Who → Entry → List Ask
 asks_at known (entry.Said p line out) = ask_of known line out ∷ []
-asks_at known (entry.Left p) = []
-asks_at known (entry.Unrecorded p) = []
+asks_at known _ = []
 
 -- who is known behind an entry
 abbrev pub known_behind : RosterValue → Option Who → Entry → Option Who
 known_behind roster known (entry.Said p line out) = known_after roster known line (unended out)
 known_behind roster known (entry.Left p) = None
 known_behind roster known (entry.Unrecorded p) = None
+known_behind roster known _ = known
 
 -- what entries tell that was asked, in order, from where someone is known, or nobody
 abbrev pub asks_from : RosterValue → Option Who → List Entry → List Ask
@@ -168,3 +168,4 @@ AreAskedOf lab l known (entry.Said p line out ∷ es) asks =
     × (asks ≡ record { who = student_of known; line = line_of (request_in line); denied = clause_in r } ∷ more) × AreAskedOf lab l known' es more
 AreAskedOf lab l known (entry.Left p ∷ es) asks = AreAskedOf lab l None es asks
 AreAskedOf lab l known (entry.Unrecorded p ∷ es) asks = AreAskedOf lab l None es asks
+AreAskedOf lab l known (_ ∷ es) asks = AreAskedOf lab l known es asks

@@ -4,9 +4,9 @@ ghost use Rattle.mml_ids.specs.Lines.{ended};
 ghost use Rattle.mml_lab.specs.Rosters.{IsPrincipal};
 ghost use Rattle.mml_codec.specs.Lines.{request_in};
 ghost use Rattle.mml_board.specs.Lists.{is_legal_in};
-ghost use Rattle.mml_session.specs.declared.recorder.Entry.{Entry};
+ghost use Rattle.mml_record.specs.declared.kept_entry.Entry.{Entry};
 ghost use Rattle.mml_record.specs.Certified.{IsRecordOf};
-ghost use Rattle.mml_session.specs.Records.{record_text};
+ghost use Rattle.mml_record.specs.Entries.{record_text};
 ghost use Rattle.mml_journal.specs.Words.{seen};
 ghost use Rattle.mml_record.specs.inside.RawEntries.{entry_view};
 ghost use Rattle.mml_record.specs.Asks.{kind_asked, line_of_command, line_of_request, line_of, digit_first, clause_first, clause_second, clause_member, clause_told, memory_text, known_by, known_asked, known_after, student_in, student_of, ask_of, asks_at, known_behind, asks_in};
@@ -218,8 +218,8 @@ fn ask_and_known(
     }
 }
 
-// Puts what an entry's line asked behind `asks`, and gives who is known behind the entry; an entry that has no line
-// asks nothing, and nobody is known behind it. An error means that memory was refused to this call.
+// Puts what an entry's line asked behind `asks`, and gives who is known behind the entry. An entry that has no line
+// asks nothing; nobody is known behind a session's end, nor where anything may be missing. An error means that memory was refused to this call.
 fn read_ask(
     alloc: Global,
     lab: &Lab,
@@ -241,6 +241,7 @@ fn read_ask(
             Ok(then)
         }
         RawEntry::Left { .. } | RawEntry::Unrecorded { .. } => Ok(None),
+        RawEntry::Paused { .. } | RawEntry::Resumed { .. } => Ok(known),
     }
 }
 

@@ -2,7 +2,7 @@
 use mml_tally::Findings;
 
 /// What a text is found to be.
-#[derive(Clone, Copy, Debug, PartialEq, Eq, Drop)]
+#[derive(Clone, Copy, Debug, Drop)]
 pub enum Verdict {
     /// A record, which comes to these findings.
     Passed(Findings),
@@ -33,8 +33,12 @@ pub enum Why {
     GoesBack,
     /// It says that more events had been seen than the journal has.
     PastEnd,
-    /// Something is said after a bye, or after a mark that the rest of the session isn't recorded.
+    /// Something is said after a bye, or after a mark that lines aren't recorded.
     NoEnd,
+    /// Recording resumes at a line that is no hello which is granted.
+    NoHello,
+    /// Recording resumes where it hasn't paused.
+    NoPause,
     /// The reply tells of an event that the rules grant there, and that isn't the next of the journal.
     OtherEvent,
     /// The rules answer otherwise there, or the line is longer than a request may be.

@@ -9,7 +9,7 @@ mod record_state;
 mod seats;
 mod tail;
 
-pub use budgets::{BUDGET, Budgets, SeatBudget};
+pub use budgets::{BUDGET, Budgets, STRANGER, SeatBudget};
 pub use folder::RecordFolder;
 pub use paths::is_plain;
 pub use record_sink::RecordSink;

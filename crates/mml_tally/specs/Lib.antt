@@ -5,6 +5,7 @@ pub mod Asks
 pub mod Runs
 pub mod inside
 pub mod Texts
+pub mod Lacking
 pub mod RecordTexts
 pub mod Meaning
 pub mod AskMeaning

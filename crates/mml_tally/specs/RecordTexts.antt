@@ -9,6 +9,7 @@ use Rattle.mml_stable.specs.Reports.{each_below}
 use Rattle.mml_tally.specs.declared.ask.Ask.{Ask}
 use Rattle.mml_tally.specs.declared.ask.Denials.{Denials}
 use Rattle.mml_tally.specs.declared.record_text.Findings.{Findings}
+use Rattle.mml_tally.specs.Lacking.{recorded_line}
 use Rattle.mml_tally.specs.Owners.{owners_in_order, is_shared}
 use Rattle.mml_tally.specs.Asks.{denials_of, moves_asked_by}
 use Rattle.mml_tally.specs.Texts.{numbers_text, owner_text, students_text, nodes_text, ends_text}
@@ -49,7 +50,11 @@ record_line f = codes "record" ++ (numbers_text (f.sessions ∷ f.lines ∷ []) 
 abbrev pub record_text : LabValue → Findings → List Ask → List ℕ
 record_text lab f asks = denied_text lab asks (length lab.roster.students) ++ (asked_text lab asks (length lab.ids) ++ record_line f)
 
--- the tally of a run with a record
-abbrev pub recorded_text : LabValue → World → List Event → Findings → List Ask → List ℕ
-recorded_text lab w es f asks =
+-- the lines of a run with a record
+abbrev pub recorded_run_text : LabValue → World → List Event → Findings → List Ask → List ℕ
+recorded_run_text lab w es f asks =
     students_text lab es (length lab.roster.students) ++ (nodes_text lab es (length lab.ids) ++ (record_text lab f asks ++ ends_text w es))
+
+-- the tally of a run with a record: these lines, and that of those of whom all is recorded
+abbrev pub recorded_text : LabValue → World → List Event → Findings → List Ask → List ℕ
+recorded_text lab w es f asks = recorded_run_text lab w es f asks ++ recorded_line lab f

@@ -1,17 +1,18 @@
 ghost use Rattle.std.specs.Prelude.{◌≡◌, ◌<◌, ◌++◌, All, length, OnOk};
-ghost use Rattle.mml_tally.specs.RecordTexts.{denied_line, denied_text, askers_text, asked_line, asked_text, whole_text, record_line, record_text, recorded_text};
+ghost use Rattle.mml_tally.specs.RecordTexts.{denied_line, denied_text, askers_text, asked_line, asked_text, whole_text, record_line, record_text, recorded_run_text, recorded_text};
 
 use crate::ask::{Ask, Denials, denials_of, moves_asked_by};
 use crate::granted_move::moves_of;
+use crate::lacking::put_recorded;
 use crate::owners::{is_shared, owners_of};
 use crate::text::{put_ends, put_granted, put_numbers, put_owner};
 use mml_board::{Board, Event};
-use mml_ids::{Memory, Piece, Rank, put};
+use mml_ids::{Memory, NodeSet, Piece, Rank, put};
 use mml_lab::{Lab, Roster, Student, Who};
 use std::alloc::Global;
 
 /// What a record comes to.
-#[derive(Clone, Copy, Debug, PartialEq, Eq, Drop)]
+#[derive(Clone, Copy, Debug, Drop)]
 pub struct Findings {
     /// How many sessions ended.
     pub sessions: u64,
@@ -19,11 +20,18 @@ pub struct Findings {
     pub lines: u64,
     /// Whether no entry says that something was left out.
     pub whole: bool,
+    /// Whether an entry says that anything may be missing, of everybody.
+    pub is_cut: bool,
+    /// Whether recording paused while the teacher was known, so that lines of the teacher's may be missing.
+    pub lacks_teacher: bool,
+    /// The students during whose sessions recording paused, so that lines of theirs may be missing. A rank of the set
+    /// is the index of a student.
+    pub lacking: NodeSet,
 }
 
-/// Puts at the end of a text the tally of a run that was recorded: the lines that any run has, and before the last
-/// two of them those of the record. The board is the world after the events; the asks are what the record's lines
-/// asked.
+/// Puts at the end of a text the tally of a run that was recorded: the lines that any run has, before the last two of
+/// them those of the record, and at the end the line of those of whom all is recorded. The board is the world after the
+/// events; the asks are what the record's lines asked.
 pub fn put_recorded_tally(
     out: &mut Vec<u8>,
     alloc: Global,
@@ -35,6 +43,23 @@ pub fn put_recorded_tally(
 ) -> Result<(), Memory>
     ensures { OnOk result (out.new.items
         ≡ out.old.items ++ recorded_text lab.now board.now events.now findings.now asks.now) }
+{
+    put_recorded_run(out, alloc, lab, board, events, findings, asks)?;
+    put_recorded(out, lab, findings)
+}
+
+/// Puts the lines that any run has, and before the last two of them those of the record.
+fn put_recorded_run(
+    out: &mut Vec<u8>,
+    alloc: Global,
+    lab: &Lab,
+    board: &Board,
+    events: &[Event],
+    findings: &Findings,
+    asks: &[Ask],
+) -> Result<(), Memory>
+    ensures { OnOk result (out.new.items ≡ out.old.items
+        ++ recorded_run_text lab.now board.now events.now findings.now asks.now) }
 {
     let all = moves_of(alloc, events)?;
     put_granted(out, alloc, lab, &all)?;

@@ -1,4 +1,5 @@
-use Rattle.std.proofs.Common.{None, false, length}
+use Rattle.std.proofs.Common.{None, length}
+use Rattle.mml_record.specs.declared.stage.Stage.TheVariants as stages
 use Rattle.mml_tally.specs.Asks.{is_malformed}
 use Rattle.mml_tally.proofs.AsksLemmas.{asks_sum, denied_sum}
 use Rattle.mml_record.specs.Asks.{asks_in}
@@ -7,14 +8,14 @@ use Rattle.mml_record.proofs.AskersLemmas.{are_asks_of}
 use Rattle.mml_record.proofs.laws.asks_are_of_the_labs_students.Goals as goal
 
 pub returns-clause-asks : goal.returns-clause-asks
-returns-clause-asks c = λ lab l es ps on. are_asks_of lab l None tt es (asks_in lab.roster es) (asked_of_rules lab l None false 0 es ps on)
+returns-clause-asks c = λ lab l es ps on. are_asks_of lab l None tt es (asks_in lab.roster es) (asked_of_rules lab l None stages.Open 0 es ps on)
 
 pub returns-clause-denied : goal.returns-clause-denied
 returns-clause-denied c = λ lab l es ps on.
     denied_sum (length lab.roster.students) (asks_in lab.roster es)
-    (are_asks_of lab l None tt es (asks_in lab.roster es) (asked_of_rules lab l None false 0 es ps on))
+    (are_asks_of lab l None tt es (asks_in lab.roster es) (asked_of_rules lab l None stages.Open 0 es ps on))
 
 pub returns-clause-malformed : goal.returns-clause-malformed
 returns-clause-malformed c = λ lab l es ps on.
     asks_sum (λ a. is_malformed a.line) (length lab.roster.students) (asks_in lab.roster es)
-    (are_asks_of lab l None tt es (asks_in lab.roster es) (asked_of_rules lab l None false 0 es ps on))
+    (are_asks_of lab l None tt es (asks_in lab.roster es) (asked_of_rules lab l None stages.Open 0 es ps on))

@@ -1,0 +1,36 @@
+-- Of whom all is recorded.
+use Rattle.std.specs.Prelude.{◌<◌, ℕ, Bool, ◌&&◌, not, List, [], ◌++◌, length, codes, if◌then◌else◌}
+use Rattle.std.specs.FinSet as set
+use Rattle.mml_ids.specs.declared.TheConstants.{MAX_NODES}
+use Rattle.mml_lab.specs.declared.who.Who.{Who}
+use Rattle.mml_lab.specs.declared.who.Who.TheVariants as who
+use Rattle.mml_lab.specs.Labs.{LabValue}
+use Rattle.mml_lab.specs.Rosters.{RosterValue, name_of}
+use Rattle.mml_stable.specs.Reports.{each_below}
+use Rattle.mml_tally.specs.declared.record_text.Findings.{Findings}
+
+-- the teacher, or a student whose index a set can have
+abbrev pub IsCounted : Who → Type 0
+IsCounted who.Teacher = Unit {0}
+IsCounted (who.Student s) = s < MAX_NODES
+
+-- lines may be missing, because recording paused while this one was known
+abbrev pub lacks : Findings → Who → Bool
+lacks f who.Teacher = f.lacks_teacher
+lacks f (who.Student s) = set.contains f.lacking s
+
+-- all lines of this one are recorded: nothing says that anything may be missing, nor that recording paused while this one was known
+abbrev pub has_all_of : Findings → Who → Bool
+has_all_of f who = not f.is_cut && not (lacks f who)
+
+-- the name of one of whom all is recorded, with a space before it
+abbrev pub whole_name : RosterValue → Findings → Who → List ℕ
+whole_name r f who = if has_all_of f who then codes " " ++ name_of r who else []
+
+-- the names of those of the first n students of whom all is recorded, in the lab's order
+abbrev pub whole_names : RosterValue → Findings → ℕ → List ℕ
+whole_names r f n = each_below n (λ s. whole_name r f (who.Student s))
+
+-- the line of those of whom all is recorded: the teacher first, and then students in the lab's order
+abbrev pub recorded_line : LabValue → Findings → List ℕ
+recorded_line lab f = codes "whole" ++ (whole_name lab.roster f who.Teacher ++ (whole_names lab.roster f (length lab.roster.students) ++ codes "\n"))

@@ -1,0 +1,76 @@
+//! Of whom all is recorded.
+ghost use Rattle.std.specs.Prelude.{◌≡◌, ◌++◌, length, OnOk};
+ghost use Rattle.mml_lab.specs.Rosters.{IsPrincipal};
+ghost use Rattle.mml_tally.specs.Lacking.{IsCounted, lacks, has_all_of, whole_name, whole_names, recorded_line};
+
+use crate::record_text::Findings;
+use mml_ids::{Memory, Piece, Rank, put};
+use mml_lab::{Lab, Roster, Student, Who};
+
+impl Findings {
+    /// Whether lines may be missing because recording paused while `who` was known.
+    pub fn lacks(&self, who: Who) -> bool
+        requires { IsCounted who }
+        ensures { result ≡ lacks self.now who }
+    {
+        match who {
+            Who::Teacher => self.lacks_teacher,
+            Who::Student(student) => self.lacking.has(Rank::at(u64::from(student.index()))),
+        }
+    }
+
+    /// Whether all lines of `who` are recorded: nothing says that anything may be missing, nor that recording paused
+    /// while `who` was known.
+    pub fn has_all_of(&self, who: Who) -> bool
+        requires { IsCounted who }
+        ensures { result ≡ has_all_of self.now who }
+    {
+        !self.is_cut && !self.lacks(who)
+    }
+}
+
+/// Puts at the end of a text the line of those of whom all is recorded: `whole`, and each name, first the teacher's and
+/// then those of students in the lab's order.
+pub fn put_recorded(out: &mut Vec<u8>, lab: &Lab, findings: &Findings) -> Result<(), Memory>
+    ensures { OnOk result
+        (out.new.items ≡ out.old.items ++ recorded_line lab.now findings.now) }
+{
+    put(out, &[Piece::Text("whole")])?;
+    put_if_whole(out, lab.roster(), findings, Who::Teacher)?;
+    put_students(out, lab, findings)?;
+    put(out, &[Piece::Text("\n")])
+}
+
+/// Puts the names of the students of whom all is recorded, in the lab's order, each with a space before it.
+fn put_students(out: &mut Vec<u8>, lab: &Lab, findings: &Findings) -> Result<(), Memory>
+    ensures { OnOk result (out.new.items ≡ out.old.items
+        ++ whole_names lab.now.roster findings.now (length lab.now.roster.students)) }
+{
+    let roster = lab.roster();
+    for index in 0..roster.student_count() {
+        let student = Student::new(index as u16);
+        put_if_whole(out, roster, findings, Who::Student(student))?;
+    }
+    Ok(())
+}
+
+/// Puts the name of `who`, with a space before it, if all of whom is recorded.
+fn put_if_whole(
+    out: &mut Vec<u8>,
+    roster: &Roster,
+    findings: &Findings,
+    who: Who,
+) -> Result<(), Memory>
+    requires { IsPrincipal roster.now who }
+    ensures { OnOk result
+        (out.new.items ≡ out.old.items ++ whole_name roster.now findings.now who) }
+{
+    // By what this reader ensures, there are at most as many students as a set has ranks.
+    let _count = roster.student_count();
+    let who = &who;
+    if findings.has_all_of(*who) {
+        put(out, &[Piece::Text(" "), Piece::Text(roster.name_of(*who))])
+    } else {
+        Ok(())
+    }
+}
