@@ -2,15 +2,20 @@
 from __future__ import annotations
 
 import json
+import os
 import re
 from dataclasses import asdict, dataclass, field
 from datetime import datetime
 from pathlib import Path
 
+from classroom.core import plain
 from classroom.core.program import Fault
 
+MOST_SECONDS, LAST_PORT = 1e9, 65535
 Run = tuple[Path, Path]
 RECORD = "run.json"
+FILES = (RECORD, f"{RECORD}.new", "lab.toml", "journal", "journal.lab", "journal.torn", "server.txt", "run.txt", "audit.txt",
+         "marks.txt", "marks.json", "run.html")
 
 
 def new_folder(into: Path, lab: Path) -> Path:
@@ -39,7 +44,9 @@ def given(words: list[str]) -> list[Run]:
 
 
 def of_folder(folder: Path) -> Run:
-    """Lab and journal of a run's folder."""
+    """Lab and journal of a run's folder, in which whatever a run reads or writes is a plain file."""
+    for name in FILES:
+        plain.want(folder / name)
     if not (folder / "lab.toml").is_file() or not (folder / "journal").is_file():
         raise Fault(f"{folder}: no folder of a run: it has lab.toml and journal")
     return folder / "lab.toml", folder / "journal"
@@ -99,10 +106,23 @@ class Record:
     def read(folder: Path) -> Record | None:
         """The record that a folder keeps, where it has one."""
         try:
-            it = json.loads((folder / RECORD).read_text(encoding="utf-8"))
-            return Record(**it | {"run": Process(**it["run"]), "server": Process(**it["server"])})
-        except (OSError, ValueError, KeyError, TypeError):
+            it = json.loads(plain.read(folder / RECORD, plain.MOST_KEPT))
+            made = Record(**it | {"run": Process(**it["run"]), "server": Process(**it["server"])})
+            return made if made.is_sound() else None
+        except (Fault, ValueError, KeyError, TypeError, RecursionError):
             return None
+
+    def is_sound(self) -> bool:
+        """Whether each value is of its kind: the folder may be another's."""
+        texts = [self.lab, self.close, self.run.start, self.server.start, *self.played, *filter(None, (self.until, self.looks))]
+        numbers = [self.port, self.desk, *(each for each in (self.page, self.play) if each is not None)]
+        seconds = 1.0 if self.stand_in is None else self.stand_in
+        return (
+            all(isinstance(text, str) and b"\0" not in os.fsencode(text) for text in texts) and (self.looks or "").isascii()
+            and self.until in (None, "stable") and type(seconds) in (int, float) and 0 < seconds < MOST_SECONDS
+            and all(type(number) is int and 0 <= number <= LAST_PORT for number in numbers)
+            and all(type(each.number) is int for each in (self.run, self.server))
+        )
 
     @staticmethod
     def lacking(folder: Path, port: int) -> Record:

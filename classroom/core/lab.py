@@ -61,6 +61,17 @@ class Lab:
         return replace(self, students=students, nodes=nodes)
 
 
+def is_same(one: Lab, other: Lab) -> bool:
+    """Whether two labs agree in all that a journal names; keys and limits may differ."""
+    return named(one) == named(other)
+
+
+def named(lab: Lab) -> object:
+    """What of a lab a journal names: names in their order, nodes with owners and registers, links."""
+    nodes = {node.id: (frozenset(node.owners), node.p, node.m) for node in lab.nodes}
+    return lab.teacher[0], list(lab.students), nodes, {frozenset(link) for link in lab.links}
+
+
 def ordered(link: tuple[int, int]) -> tuple[int, int]:
     """A link with its lower end first."""
     return min(link), max(link)

@@ -2,12 +2,14 @@
 from __future__ import annotations
 
 import json
+import os
 import re
 from collections.abc import Iterator
 from dataclasses import dataclass
 from pathlib import Path
 from typing import Any
 
+from classroom.core import plain
 from classroom.core.program import Fault
 
 FOLDER = "record"  # of a run's folder
@@ -24,9 +26,9 @@ class Entry:
     reply: bytes = b""
     mark: str = ""
 
-    def told(self) -> dict[str, Any]:
-        """The reply's values."""
-        return json_object(self.reply)
+    def told(self) -> dict[str, str]:
+        """The reply's values that are texts."""
+        return {key: value for key, value in json_object(self.reply).items() if isinstance(value, str)}
 
     def asked_name(self) -> str | None:
         """The name that a line gives, where it is an object with one."""
@@ -62,9 +64,10 @@ class Reader:
         """The entry that ends with a line; None where none does, as with the first of an entry's two lines, which is
         kept."""
         words = line.split(b" ", 3)
-        if len(words) < 3 or not (words[0].isdigit() and words[1].isdigit()):
+        seat, place = (plain.number(word) for word in (words + [b"", b""])[:2])
+        if len(words) < 3 or seat is None or place is None:
             return None
-        seat, place, sign = int(words[0]), int(words[1]), words[2].decode(errors="replace")
+        sign = words[2].decode(errors="replace")
         asked, self.line = self.line, None
         if sign in (ENDED, CUT) and len(words) == 3:
             return Entry(seat, place, mark=sign)
@@ -84,14 +87,14 @@ def seats(folder: Path) -> list[Path]:
 
 def begun(folder: Path) -> int:
     """How many events the journal had before the record began."""
-    text = (folder / "begun").read_bytes().rstrip(b"\n")
-    if not text.isdigit():
+    number = plain.number(plain.read(folder / "begun", plain.MOST_KEPT).rstrip(b"\n"))
+    if number is None:
         raise Fault(f"{folder / 'begun'}: it has no number of events", 4)
-    return int(text)
+    return number
 
 
 def kept(run: Path) -> list[Path]:
     """The records of a run's folder from the oldest on: where the lab was changed in between, there are several."""
     older = [(int(named[1]), path) for path in run.glob(f"{FOLDER}.~*~")
-             if (named := re.fullmatch(rf"{FOLDER}\.~(\d+)~", path.name)) and (path / "begun").is_file()]
-    return [*(path for _, path in sorted(older)), *([run / FOLDER] if (run / FOLDER / "begun").is_file() else [])]
+             if (named := re.fullmatch(rf"{FOLDER}\.~(\d+)~", path.name)) and os.path.lexists(path / "begun")]
+    return [*(path for _, path in sorted(older)), *([run / FOLDER] if os.path.lexists(run / FOLDER / "begun") else [])]

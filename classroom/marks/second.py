@@ -42,7 +42,8 @@ def differences(lab: Path, journal: Path) -> list[str]:
         found.append((journal, difference("tally", lab, copy)))
     if journal.name == "journal" and record.kept(journal.parent):
         with vouched(journal.parent) as parts:
-            found += [(part.record, difference(word, part.lab, part.journal, part.copy)) for part in parts for word in ("verify", "tally")]
+            found += [(part.record, difference(word, part.lab, part.journal, part.copy)) for part in parts if part.is_copied
+                      for word in ("verify", "tally")]
     return [f"{of}: {text}" for of, text in found if text]
 
 

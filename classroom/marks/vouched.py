@@ -8,9 +8,12 @@ from contextlib import contextmanager
 from dataclasses import dataclass
 from pathlib import Path
 
+from classroom.core import lab as labs
+from classroom.core import plain
 from classroom.core.folders import Record
-from classroom.core.program import LISTENING, Answer, host_call
+from classroom.core.program import LISTENING, Answer, Fault, host_call
 from classroom.core.record import CUT, ENDED, begun, json_object, kept, seats
+from classroom.core.statuses import LAB
 
 UNENDED = "the server hasn't ended, or not as it should, so that its last entries may be lacking"
 
@@ -36,6 +39,11 @@ class Vouched:
         """The events up to its end."""
         return self.copy / "journal"
 
+    @property
+    def is_copied(self) -> bool:
+        """Whether each of its files could be read."""
+        return self.journal.is_file()
+
     def told(self) -> str:
         """The verdict as a line."""
         return f"{self.record}: {self.line}"
@@ -46,7 +54,8 @@ def has_ended(run: Path) -> bool:
     output = run / "server.txt"
     if not output.is_file():
         return True
-    return "done: " in LISTENING.split(output.read_text(encoding="utf-8", errors="replace"))[-1]
+    text = plain.tail(output, plain.MOST_LAB).decode("utf-8", errors="replace")
+    return "done: " in LISTENING.split(text)[-1]
 
 
 def front(text: bytes, events: int) -> bytes:
@@ -56,7 +65,8 @@ def front(text: bytes, events: int) -> bytes:
     while end:
         start = text.rfind(b"\n", 0, end - 1) + 1
         _, place, sign, *rest = [*text[start:end - 1].split(b" ", 3), b"", b"", b""]
-        if sign != b">" and int(place if place.isdigit() else 0) <= events and granted(sign, rest[0]) <= events:
+        number = plain.number(place) if place.isdigit() else 0
+        if sign != b">" and number is not None and number <= events and granted(sign, rest[0]) <= events:
             break
         end = start
     return text[:end]
@@ -79,9 +89,9 @@ def copied(record: Path, into: Path, journal: bytes) -> None:
     folder."""
     events = journal.count(b"\n")
     for file in seats(record):
-        (into / file.name).write_bytes(front(file.read_bytes(), events))
-    for name in ("lab", "begun"):
-        (into / name).write_bytes((record / name).read_bytes())
+        (into / file.name).write_bytes(front(plain.read(file, plain.MOST_SEAT), events))
+    (into / "lab").write_bytes(plain.read(record / "lab", plain.MOST_LAB))
+    (into / "begun").write_bytes(plain.read(record / "begun", plain.MOST_KEPT))
     (into / "journal").write_bytes(journal)
 
 
@@ -105,7 +115,7 @@ def mark(into: Path) -> None:
 def vouched(run: Path) -> Iterator[list[Vouched]]:
     """The records of a folder, from the oldest on, in copies that nobody else reads and that go away."""
     is_whole, lives = has_ended(run), goes_on(run)
-    lines = (run / "journal").read_bytes().split(b"\n")[:-1]
+    lines = plain.read(run / "journal", plain.MOST_JOURNAL).split(b"\n")[:-1]
     records = kept(run)
     ends = [*map(begun, records[1:]), len(lines)]
     with tempfile.TemporaryDirectory() as room:
@@ -115,15 +125,31 @@ def vouched(run: Path) -> Iterator[list[Vouched]]:
 
 
 def vouch(record: Path, into: Path, journal: bytes, is_whole: bool, lives: bool) -> Vouched:
-    """A record's copy, verified; where its server hasn't ended and an entry is lacking, as one that isn't whole."""
+    """A record's copy, verified; where its server hasn't ended and an entry is lacking, as one that isn't whole. It is
+    refused where its lab is another than the run's."""
     into.mkdir()
-    copied(record, into, journal)
+    try:
+        copied(record, into, journal)
+        if not has_lab_of(record.parent, into):
+            return Vouched(record, into, LAB, "its lab is another than the run's lab.toml", is_whole)
+    except Fault as fault:
+        return Vouched(record, into, fault.status, str(fault), is_whole)
     answer = verified(into)
     if answer.status and not is_whole:
         mark(into)
         answer = verified(into)
     line = (answer.output or answer.error).strip()
     return Vouched(record, into, answer.status, line if is_whole else f"{line}: {UNENDED}", is_whole, not is_whole and lives)
+
+
+def has_lab_of(run: Path, copy: Path) -> bool:
+    """Whether the lab of a record's copy agrees with the run's in all that a journal names."""
+    if (copy / "lab").read_bytes() == plain.read(run / "lab.toml", plain.MOST_LAB):
+        return True
+    try:
+        return labs.is_same(labs.read(copy / "lab"), labs.read(run / "lab.toml"))
+    except Fault:
+        return False
 
 
 def verified(copy: Path) -> Answer:

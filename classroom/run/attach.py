@@ -10,7 +10,7 @@ from pathlib import Path
 from classroom.core import lab as labs
 from classroom.core.folders import Record, of_folder
 from classroom.core.program import CLASS, Fault
-from classroom.run.closing import closing
+from classroom.run.closing import kept
 from classroom.run.holding import Running, to_the_end
 from classroom.run.run import add_desk_words, may_stand_in
 from classroom.run.server import Server
@@ -51,7 +51,7 @@ def attach(words: argparse.Namespace) -> int:
     lab = labs.read(lab_file)
     may_stand_in(words, lab, lab_file)
     free(folder, record)
-    run = Running(folder, Path(record.lab), lab, words.close or closing(record.close), words.until or record.until,
+    run = Running(folder, Path(record.lab), lab, words.close or kept(folder, record), words.until or record.until,
                   words.page or record.page, words.typed, Teller(folder), words.play or record.play,
                   goes_on=True, stand_in=words.stand_in or record.stand_in, looks=record.looks, played=record.played)
     it = Server(record.server, record.port, record.desk, True, folder / "server.txt")

@@ -1,6 +1,11 @@
 """How the steps of a run are closed: by a daemon's word, at the desk."""
 from __future__ import annotations
 
+from pathlib import Path
+
+from classroom.core.folders import RECORD, Record
+from classroom.core.program import Fault
+from classroom.core.statuses import FAILED
 from classroom.run.daemons import Daemon, daemon
 
 Closing = Daemon
@@ -11,6 +16,14 @@ mode = daemon
 def closing(word: str) -> Closing:
     """The daemon that a word names, with so many SECONDS where it names none."""
     return Daemon.of(word, SECONDS)
+
+
+def kept(folder: Path, record: Record) -> Closing:
+    """The daemon of a run that goes on, as its folder keeps it."""
+    try:
+        return closing(record.close)
+    except ValueError as error:
+        raise Fault(f"{folder / RECORD}: {error}", FAILED) from None
 
 
 def spelled(how: Closing) -> str:

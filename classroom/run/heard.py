@@ -7,8 +7,10 @@ from collections.abc import Iterable
 from dataclasses import dataclass, field
 from pathlib import Path
 
+from classroom.core import plain
 from classroom.core.counts import plural
 from classroom.core.lab import Lab
+from classroom.core.program import Fault
 from classroom.core.record import CUT, ENDED, Entry, Reader, seats
 
 PAUSE = 1.0  # seconds between two looks
@@ -33,10 +35,10 @@ class Seat:
     def grown(self, path: Path) -> bytes:
         """What came to the file since it was read last, at most MOST bytes; nothing where it can't be read."""
         try:
-            with path.open("rb") as it:
+            with plain.opened(path) as it:
                 it.seek(self.at)
-                found = it.read(MOST)
-        except OSError:
+                found = it.read(MOST) or b""
+        except (Fault, OSError):
             return b""
         self.at += len(found)
         return found
@@ -117,7 +119,7 @@ class Heard:
             self.lines[who] += entry.seat != DESK
             told = entry.told()
             self.over = told["refuse"] if told.get("refuse") in OVER else self.over
-            if told.get("ok") == "hello":
+            if told.get("ok") == "hello" and "who" in told:
                 seat.name = told["who"]
                 self.came = self.came or seat.name in self.students
             elif told.get("deny") == "unknown":

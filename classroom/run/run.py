@@ -101,7 +101,7 @@ def resumed(words: argparse.Namespace) -> int:
         raise Fault(f"{folder}: this run was ended; --again opens it again, and makes its audit, page and marks anew")
     lab = labs.read(lab_file)
     may_stand_in(words, lab, lab_file)
-    run = Running(folder, Path(record.lab), lab, words.close or closing.closing(record.close),
+    run = Running(folder, Path(record.lab), lab, words.close or closing.kept(folder, record),
                   words.until or record.until, words.page or record.page, words.typed, Teller(folder),
                   words.play or record.play, goes_on=True, stand_in=words.stand_in or record.stand_in,
                   looks=record.looks, played=record.played)

@@ -234,14 +234,26 @@ fn read_up_to<R: Files<File = File> + AllocGlobal>(
     }
 }
 
-// Opens a file of the record; where that fails it is the record's read fault, or out of memory.
+// Opens a plain file of the record; where that fails, or a folder, a pipe or a device is there, it is the record's read
+// fault, or out of memory.
 fn open_part<R: Files<File = File> + AllocGlobal>(rt: &R, path: &str) -> Result<File, Fault> {
-    match fs::open(rt, path) {
-        Ok(file) => Ok(file),
+    match open_plain(rt, path) {
+        Ok(Some(file)) => Ok(file),
+        Ok(None) => Err(Fault::ReadRecord),
         Err(error) => match memory_or(&error, ProgramFault::ReadJournal) {
             ProgramFault::Memory => Err(Fault::Common(ProgramFault::Memory)),
             _ => Err(Fault::ReadRecord),
         },
+    }
+}
+
+// Opens a plain file; none where another file is there. It is looked at first, since the opening of a pipe waits for
+// one who writes to it.
+fn open_plain<R: Files<File = File>>(rt: &R, path: &str) -> io::Result<Option<File>> {
+    if fs::metadata(rt, path)?.is_file() {
+        Ok(Some(fs::open(rt, path)?))
+    } else {
+        Ok(None)
     }
 }
 

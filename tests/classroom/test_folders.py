@@ -1,0 +1,226 @@
+"""The folder of a run as somebody else may hand it in: pipes, devices and endless or strange files in the place of its own."""
+from __future__ import annotations
+
+import json
+import os
+import re
+import shutil
+import subprocess
+import unittest
+from collections.abc import Callable
+from pathlib import Path
+
+from classroom.core import lab as labs
+from classroom.core import plain
+from classroom.core.folders import RECORD, Record
+from classroom.core.program import Fault, host
+from classroom.core.record import Reader
+from classroom.marks.vouched import front
+from classroom.run.heard import Heard
+from tests.classroom.help import CYCLE, Going, words
+from tests.classroom.test_history import MOVE, Disputed, Raw
+
+DEEP = "[" * 200_000 + "]" * 200_000
+MANY = "7" * 5000
+Spoils = Callable[[Path], object]
+
+
+def pipe(path: Path) -> None:
+    """Puts a pipe, to which nobody writes, in a file's place."""
+    path.unlink(missing_ok=True)
+    os.mkfifo(path)
+
+
+def endless(path: Path) -> None:
+    """Puts a link to a device that has no end in a file's place."""
+    path.unlink(missing_ok=True)
+    path.symlink_to("/dev/zero")
+
+
+def huge(path: Path) -> None:
+    """Makes a file larger than any that is read, of which nothing is written."""
+    with path.open("ab") as it:
+        it.truncate(1 << 34)
+
+
+def nowhere(path: Path) -> None:
+    """Puts a link in a file's place that leads nowhere."""
+    path.unlink(missing_ok=True)
+    path.symlink_to(path.with_name("none"))
+
+
+SPOILS = (pipe, endless, huge, nowhere)
+
+
+@unittest.skipUnless(host(), "not tried: no host is built")
+class Hostile(Disputed):
+    """Copies of one folder, each with something else in it, and what each word says of them in a line."""
+
+    def setUp(self) -> None:
+        super().setUp()
+        going = Going(self, CYCLE, "--close", "by-hand")
+        with Raw(going.port, "gus") as gus:
+            going.until("^connected: gus$")
+            gus.ask(MOVE % 0)
+            gus.ask(MOVE % 7)
+        going.until("^gone: gus$")
+        self.whole_one = self.ended(going)
+
+    def copy(self) -> Path:
+        """Another copy of the folder."""
+        folder = self.room / f"copy-{len(list(self.room.iterdir()))}"
+        shutil.copytree(self.whole_one, folder)
+        return folder
+
+    def says(self, done: subprocess.CompletedProcess[str], status: int, *named: Path | str) -> None:
+        """Wants a status, and one line that names these."""
+        told = done.stderr.strip()
+        self.assertEqual((done.returncode, told.count("\n"), told.startswith("class: ")), (status, 0, True), told or done.stdout)
+        for each in named:
+            self.assertIn(str(each), told)
+
+    def test_a_part_of_the_record_that_is_no_plain_file(self) -> None:
+        seat = self.seat(self.whole_one).name
+        for name in (seat, "lab", "begun"):
+            for spoil in SPOILS:
+                folder = self.copy()
+                spoil(folder / "record" / name)
+                with self.subTest(name=name, spoil=spoil.__name__):
+                    self.says(words("history", folder, "gus"), 4, folder / "record" / name)
+                    done = words("mark", folder, "--json")
+                    self.says(done, 5, folder / "record" / name)
+                    self.assertIsNone(json.loads(done.stdout)["runs"][0]["asked"])
+                    shutil.rmtree(folder)
+
+    def test_a_file_of_the_run_that_is_no_plain_file(self) -> None:
+        for name in ("run.json", "journal", "lab.toml", "server.txt", "run.txt", "run.html", "journal.lab", "marks.txt"):
+            for spoil in (pipe, endless, nowhere):
+                folder = self.copy()
+                spoil(folder / name)
+                calls: list[tuple[str | Path, ...]] = [("mark", folder)]
+                if name == "run.json" and spoil == pipe:
+                    calls += [("history", folder, "gus"), ("play", folder, "-o", self.room / "page.html"), ("attach", folder),
+                              ("run", "--resume", folder, "--again"), ("key", folder, "gus")]
+                for given in calls:
+                    with self.subTest(name=name, spoil=spoil.__name__, word=given[0]):
+                        self.says(words(*given), 4, f"{folder / name}: it is no plain file")
+                shutil.rmtree(folder)
+
+    def test_the_program_waits_for_no_pipe(self) -> None:
+        it = host()
+        assert it is not None
+        for name in (self.seat(self.whole_one).name, "begun"):
+            for spoil in (pipe, endless, nowhere):
+                folder = self.copy()
+                spoil(folder / "record" / name)
+                for word in ("verify", "tally"):
+                    with self.subTest(name=name, spoil=spoil.__name__, word=word):
+                        done = subprocess.run([it, word, folder / "lab.toml", folder / "journal", folder / "record"], capture_output=True,
+                                              stdin=subprocess.DEVNULL, text=True, check=False, timeout=120)
+                        self.assertEqual((done.returncode, done.stdout, done.stderr), (4, "", "read fault: record\n"))
+                shutil.rmtree(folder)
+
+    def test_a_class_goes_on_beside_a_record_that_is_none(self) -> None:
+        """Where the record's lab or its beginning is no plain file, it is kept as it is, and another one is begun."""
+        it = host()
+        assert it is not None
+        for name, spoil in (("lab", pipe), ("lab", endless), ("begun", pipe), ("begun", endless)):
+            folder = self.copy()
+            spoil(folder / "record" / name)
+            with self.subTest(name=name, spoil=spoil.__name__):
+                process = subprocess.Popen([it, "resume", folder / "lab.toml", "0", "0", folder / "journal", folder / "record"],
+                                           stdin=subprocess.DEVNULL, stdout=subprocess.PIPE, stderr=subprocess.STDOUT)
+                self.addCleanup(process.wait)
+                self.addCleanup(process.kill)
+                assert process.stdout is not None
+                self.assertRegex(process.stdout.readline().decode(), "^listening on port ")
+                process.stdout.close()
+                self.assertTrue((folder / "record" / "1.record").is_file())
+                self.assertFalse((folder / "record.~1~" / name).is_file())
+        folder = self.copy()
+        pipe(folder / "journal.lab")
+        done = subprocess.run([it, "resume", folder / "lab.toml", "0", "0", folder / "journal", folder / "record"], capture_output=True,
+                              stdin=subprocess.DEVNULL, text=True, check=False, timeout=120)
+        self.assertEqual((done.returncode, done.stderr), (4, "journal fault\n"))
+
+    def test_texts_that_are_strange(self) -> None:
+        seat = self.seat(self.whole_one).name
+        number = seat.partition(".")[0]
+        for name, text in (
+            (f"record/{seat}", f"{number} 0 > {DEEP}\n{number} 0 < {DEEP}\n"), (f"record/{seat}", f"{number} {MANY} .\n"),
+            (f"record/{seat}", f"{MANY} 0 .\n"), (f"record/{seat}", f'{number} 0 > x\n{number} 0 < {{"place":{MANY}}}\n'),
+            (f"record/{seat}", f'{number} 0 > x\n{number} 0 < {{"ok":"hello","who":["gus"],"deny":{{}},"refuse":[1]}}\n'),
+            ("record/begun", f"{MANY}\n"), ("record/lab", MANY), ("record/lab", DEEP), ("record/lab", ""),
+        ):
+            folder = self.copy()
+            (folder / name).write_text(text, encoding="utf-8")
+            with self.subTest(name=name, text=text[:20]):
+                done = words("history", folder, "gus")
+                self.assertNotIn("Traceback", done.stderr)
+                self.says(done, 4 if name == "record/begun" else 2 if name == "record/lab" else 3)
+                self.says(words("mark", folder), 5)
+                heard = Heard(folder / "record", labs.read(folder / "lab.toml"))
+                heard.catch_up(0)
+
+    def test_what_a_run_keeps_and_is_none(self) -> None:
+        kept = json.loads((self.whole_one / RECORD).read_text(encoding="utf-8"))
+        self.assertIsNotNone(Record.read(self.whole_one))
+        for text in (DEEP, json.dumps(kept).replace(str(kept["port"]), MANY), json.dumps([kept]), "{}", "5", "", "\\xff", "null", MANY, *(
+                json.dumps(kept | change) for change in (
+                    {"lab": 5}, {"lab": None}, {"lab": "\0"}, {"lab": "\ud800"}, {"port": "4711"}, {"port": -1}, {"port": 1 << 40}, {"desk": True},
+                    {"page": "x"}, {"close": 7}, {"until": "never"}, {"until": ["stable"]}, {"run": 5}, {"run": {"number": "1", "start": "2"}},
+                    {"server": {"number": 1, "start": 2}}, {"server": []}, {"stand_in": "x"}, {"stand_in": float("nan")}, {"stand_in": True},
+                    {"looks": 5}, {"looks": "é"}, {"played": 5}, {"played": [5]}, {"another": 1}))):
+            folder = self.copy()
+            (folder / RECORD).write_text(text, encoding="utf-8")
+            with self.subTest(text=text[:60]):
+                self.assertIsNone(Record.read(folder))
+            shutil.rmtree(folder)
+        folder = self.copy()
+        (folder / RECORD).write_text(json.dumps(kept | {"lab": 5}), encoding="utf-8")
+        for done in (words("mark", folder), words("history", folder, "gus")):
+            self.assertEqual(done.returncode, 0, done.stderr)
+        self.says(words("attach", folder), 1, "its server has ended")
+        (folder / RECORD).write_text(json.dumps(kept | {"close": "when-it-likes"}), encoding="utf-8")
+        self.says(words("run", "--resume", folder, "--again"), 4, folder / RECORD, "when-it-likes is none of ")
+        (folder / RECORD).write_text(" " * (plain.MOST_KEPT + 1), encoding="utf-8")
+        self.assertIsNone(Record.read(folder))
+
+    def test_a_record_of_another_lab_is_refused(self) -> None:
+        text = (self.whole_one / "record" / "lab").read_text(encoding="utf-8")
+        key = re.search(r'(?m)^key = "(.*)"$', text)
+        assert key is not None
+        other = {"another owner": text.replace('owner = "hana"', 'owner = "ines"', 1), "another link": text.replace("[1, 2]", "[1, 3]", 1)}
+        for what, changed in other.items():
+            self.assertNotEqual(changed, text, what)
+            folder = self.copy()
+            (folder / "record" / "lab").write_text(changed, encoding="utf-8")
+            with self.subTest(what):
+                self.says(words("mark", folder), 5, "record: its lab is another than the run's lab.toml")
+                self.says(words("history", folder, "gus"), 2, "its lab is another than the run's lab.toml")
+        folder = self.copy()
+        (folder / "lab.toml").write_text(text.replace(key[1], "another-key-1"), encoding="utf-8")
+        self.assertEqual(words("mark", folder).returncode, 0)
+
+
+class Plainly(Disputed):
+    """What is read, by hand."""
+
+    def test_limits(self) -> None:
+        it = self.file("it", "1234")
+        self.assertEqual((plain.read(it, 4), plain.tail(it, 2), plain.tail(it, 9)), (b"1234", b"34", b"1234"))
+        self.assertRaisesRegex(Fault, "it has more than 3 bytes", plain.read, it, 3)
+        self.assertRaisesRegex(Fault, "it is no plain file", plain.read, Path("/dev/zero"), 1 << 40)
+        self.assertRaisesRegex(Fault, "it is no plain file", plain.read, self.room, 10)
+        self.assertRaisesRegex(Fault, "No such file", plain.read, self.room / "none", 10)
+        self.assertEqual([plain.number(text) for text in (b"0", b"007", b"9" * 19, b"9" * 20, b"", b"-1", b" 1", "٣".encode())],
+                         [0, 7, 10 ** 19 - 1, None, None, None, None, None])
+
+    def test_places_of_many_digits(self) -> None:
+        many = MANY.encode()
+        self.assertEqual(list(Reader().take(b"4 %s .\n%s 0 .\n4 1 .\n" % (many, many)))[0].place, 1)
+        self.assertEqual(front(b"4 0 .\n4 %s .\n" % many, 10 ** 6), b"4 0 .\n")
+
+
+if __name__ == "__main__":
+    unittest.main()
