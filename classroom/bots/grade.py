@@ -156,6 +156,17 @@ class Written:
         return faults
 
 
+def tell_each(found: Iterator[Result], written: Written) -> None:
+    """Prints and writes each result as it comes; that a record isn't kept is told once."""
+    full = False
+    for result in found:
+        written.add(result)
+        print(graded.told(result), flush=True)
+        if result.unkept and not full:
+            print(f"class: {printable(result.unkept)}; --into names another folder", flush=True)
+        full = full or bool(result.unkept)
+
+
 def interruptible() -> threading.Event:
     """What an interrupt sets. After a second one all is killed, whatever is waited for; the results are written."""
     stop, first = threading.Event(), threading.Event()
@@ -202,14 +213,8 @@ def grade(words: argparse.Namespace) -> int:
     results = [Result(bot.name, case.lab, case.daemon.spelled(), case.seed, False, bot.fault, started=False)
                for bot in bots for case in cases if bot.fault]
     written = Written(words, bots, cases, results)
-    full = False
     try:
-        for result in results_of(runnable, cases, words, top, stop, seen_by):
-            written.add(result)
-            print(graded.told(result), flush=True)
-            if result.unkept and not full:
-                print(f"class: {printable(result.unkept)}; --into names another folder", flush=True)
-            full = full or bool(result.unkept)
+        tell_each(results_of(runnable, cases, words, top, stop, seen_by), written)
     finally:
         stop.set()
         unwritten = written.write()

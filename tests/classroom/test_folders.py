@@ -178,8 +178,8 @@ class Hostile(Disputed):
             shutil.rmtree(folder)
         folder = self.copy()
         (folder / RECORD).write_text(json.dumps(kept | {"lab": 5}), encoding="utf-8")
-        for given in (("mark", folder), ("history", folder, "gus")):
-            self.assertEqual(words(*given).returncode, 0)
+        for done in (words("mark", folder), words("history", folder, "gus")):
+            self.assertEqual(done.returncode, 0, done.stderr)
         self.says(words("attach", folder), 1, "its server has ended")
         (folder / RECORD).write_text(json.dumps(kept | {"close": "when-it-likes"}), encoding="utf-8")
         self.says(words("run", "--resume", folder, "--again"), 4, folder / RECORD, "when-it-likes is none of ")
