@@ -33,7 +33,8 @@ pub fn tally_recorded<R: Files<File = File> + Print + AllocGlobal>(
     let audited = audited_of(rt.alloc(), &lab, journal.as_slice())?;
     let events = audited.events.as_slice();
     let mut asks = Vec::new(rt.alloc());
-    let findings = read_seats(rt, &lab, events, task.record, &mut asks)?;
+    let mut findings = no_findings();
+    read_seats(rt, &lab, events, task.record, &mut asks, &mut findings)?;
     let mut writer = Retrying::new(io::writer(rt));
     let alloc = rt.alloc();
     match write_recorded(
@@ -57,37 +58,40 @@ fn audited_of(alloc: Global, lab: &Lab, text: &[u8]) -> Result<Audited, ProgramF
     Ok(audit_events(alloc, lab, text)?)
 }
 
-// What the records of all seats in the folder come to together; what their lines asked goes behind `asks`. The error is
-// why one is none, or can't be read, or what is amiss with the places that they grant, or want of memory.
+// Adds to `all` what the records of all seats in the folder come to; what their lines asked goes behind `asks`. The error
+// is why one is none, or can't be read, or what is amiss with the places that they grant, or want of memory.
 fn read_seats<R: Files<File = File> + AllocGlobal>(
     rt: &R,
     lab: &Lab,
     events: &[Event],
     folder: &str,
     asks: &mut Vec<Ask>,
-) -> Result<Findings, Fault>
+    all: &mut Findings,
+) -> Result<(), Fault>
     requires { is_legal_in lab.now events.now ≡ true }
 {
     let begun = read_begun(rt, folder)?;
     let mut granted = Vec::new(rt.alloc());
-    let mut all = no_findings();
     for seat in 0..lab.sessions() {
         let text = read_seat(rt, folder, seat + 1)?;
         let text = text.as_slice();
-        let found = read_lines(rt.alloc(), lab, events, seat + 1, text, &mut granted, asks)?;
-        all = together(&all, &found);
+        read_lines(
+            rt.alloc(),
+            lab,
+            events,
+            seat + 1,
+            text,
+            &mut granted,
+            asks,
+            all,
+        )?;
     }
-    granted_once(
-        rt.alloc(),
-        all,
-        granted.as_slice(),
-        begun,
-        events.len() as u64,
-    )
+    let count = events.len() as u64;
+    granted_once(rt.alloc(), all.whole, granted.as_slice(), begun, count)
 }
 
-// What a text comes to as the record of a seat, or why it is none; the places that a record grants go behind
-// `granted`, what its lines asked behind `asks`.
+// Adds to `all` what a text comes to as the record of a seat, or why it is none; the places that a record grants go
+// behind `granted`, what its lines asked behind `asks`.
 fn read_lines(
     alloc: Global,
     lab: &Lab,
@@ -96,13 +100,16 @@ fn read_lines(
     text: &[u8],
     granted: &mut Vec<u64>,
     asks: &mut Vec<Ask>,
-) -> Result<Findings, Fault>
+    all: &mut Findings,
+) -> Result<(), Fault>
     requires { is_legal_in lab.now events.now ≡ true }
 {
     match read_record(alloc, lab, events, seat, text, granted)? {
         Verdict::Passed(found) => {
             read_asks(alloc, lab, events, seat, text, asks)?;
-            Ok(found)
+            let sum = together(all, &found);
+            *all = sum;
+            Ok(())
         }
         Verdict::Refused(bad) => Err(Fault::Record(RecordRefusal::of(seat, bad))),
     }

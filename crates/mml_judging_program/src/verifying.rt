@@ -42,7 +42,8 @@ pub fn verify<R: Files<File = File> + Print + AllocGlobal>(
     let lab = lab_of(rt, task.lab)?;
     let events = read_events(rt, &lab, task.journal)?;
     let begun = read_begun(rt, task.record)?;
-    let found = verify_seats(rt, &lab, events.as_slice(), begun, task.record)?;
+    let mut found = no_findings();
+    verify_seats(rt, &lab, events.as_slice(), begun, task.record, &mut found)?;
     let mut writer = Retrying::new(io::writer(rt));
     let count = events.len() as u64;
     match write_verified(rt.alloc(), &lab, &found, count, &mut writer) {
@@ -65,32 +66,24 @@ fn read_events<R: Files<File = File> + AllocGlobal>(
     Ok(audited.events)
 }
 
-// What the records of all seats in the folder come to together; the journal had `begun` events before they began. The
-// error is why one is none, or can't be read, or what is amiss with the places that they grant, or want of memory.
+// Adds to `all` what the records of all seats in the folder come to; the journal had `begun` events before they began.
+// The error is why one is none, or can't be read, or what is amiss with the places that they grant, or want of memory.
 fn verify_seats<R: Files<File = File> + AllocGlobal>(
     rt: &R,
     lab: &Lab,
     events: &[Event],
     begun: u64,
     folder: &str,
-) -> Result<Findings, Fault>
+    all: &mut Findings,
+) -> Result<(), Fault>
     requires { is_legal_in lab.now events.now ≡ true }
 {
     let mut granted = Vec::new(rt.alloc());
-    let mut all = no_findings();
     for seat in 0..lab.sessions() {
-        match verify_seat(rt, lab, events, seat + 1, folder, &mut granted)? {
-            Verdict::Passed(found) => all = together(&all, &found),
-            Verdict::Refused(bad) => return Err(Fault::Record(RecordRefusal::of(seat + 1, bad))),
-        }
+        verify_seat(rt, lab, events, seat + 1, folder, &mut granted, all)?;
     }
-    granted_once(
-        rt.alloc(),
-        all,
-        granted.as_slice(),
-        begun,
-        events.len() as u64,
-    )
+    let count = events.len() as u64;
+    granted_once(rt.alloc(), all.whole, granted.as_slice(), begun, count)
 }
 
 // What is found where there are no records: nothing ended, nothing answered, nothing left out.
@@ -107,18 +100,18 @@ pub(crate) fn no_findings() -> Findings
     }
 }
 
-// Gives back `all`, what all records come to, unless something is amiss with the places that they grant, behind the
-// first `begun` and up to `count`: then that is the error.
+// The error is what is amiss with the places that all records grant, behind the first `begun` and up to `count`, which
+// are each of them if the records are `whole`; or want of memory.
 pub(crate) fn granted_once(
     alloc: Global,
-    all: Findings,
+    whole: bool,
     granted: &[u64],
     begun: u64,
     count: u64,
-) -> Result<Findings, Fault> {
-    match find_misgranted(alloc, granted, begun, count, all.whole)? {
+) -> Result<(), Fault> {
+    match find_misgranted(alloc, granted, begun, count, whole)? {
         Some(amiss) => Err(Fault::Record(RecordRefusal::of_places(amiss))),
-        None => Ok(all),
+        None => Ok(()),
     }
 }
 
@@ -208,8 +201,8 @@ pub(crate) fn read_seat<R: Files<File = File> + AllocGlobal>(
     read_up_to(rt, path.as_str(), MAX_RECORD)
 }
 
-// What the file of a seat's record is found to be, read by pieces: a record, or why it is none. The places of the
-// events that it grants go behind `granted`. The error is that it can't be opened or read or is too large, or want of
+// Adds to `all` what the file of a seat's record comes to, read by pieces. The places of the events that it grants go
+// behind `granted`. The error is why it is no record, or that it can't be opened or read or is too large, or want of
 // memory.
 fn verify_seat<R: Files<File = File> + AllocGlobal>(
     rt: &R,
@@ -218,21 +211,20 @@ fn verify_seat<R: Files<File = File> + AllocGlobal>(
     seat: u8,
     folder: &str,
     granted: &mut Vec<u64>,
-) -> Result<Verdict, Fault>
+    all: &mut Findings,
+) -> Result<(), Fault>
     requires { is_legal_in lab.now events.now ≡ true }
 {
-    let path = record_path(rt.alloc(), folder, seat)?;
+    let alloc = rt.alloc();
+    let path = record_path(alloc, folder, seat)?;
     let mut file = open_part(rt, path.as_str())?;
-    match read_record_from(
-        rt.alloc(),
-        lab,
-        events,
-        seat,
-        MAX_RECORD,
-        &mut file,
-        granted,
-    ) {
-        Ok(verdict) => Ok(verdict),
+    match read_record_from(alloc, lab, events, seat, MAX_RECORD, &mut file, granted) {
+        Ok(Verdict::Passed(found)) => {
+            let sum = together(all, &found);
+            *all = sum;
+            Ok(())
+        }
+        Ok(Verdict::Refused(bad)) => Err(Fault::Record(RecordRefusal::of(seat, bad))),
         Err(PieceFault::Memory) => Err(Fault::Common(ProgramFault::Memory)),
         Err(PieceFault::Read | PieceFault::TooLong) => Err(Fault::ReadRecord),
     }

@@ -4,7 +4,7 @@ use Rattle.std.specs.FinSet as sets
 use Rattle.mml_judging_program.proofs.verifying.union.Given as goal
 
 abbrev pub invariant-ranks : goal.invariant-ranks
-invariant-ranks l = (q : ℕ) → (sets.contains l.all q || sets.contains l.left q) ≡ (sets.contains l.a q || sets.contains l.b q)
+invariant-ranks l = (q : ℕ) → (sets.contains l.all q || sets.contains l.left q) ≡ (sets.contains l.fn.a q || sets.contains l.fn.b q)
 
 abbrev pub decreases-ranks : goal.decreases-ranks
 decreases-ranks l = sets.len l.left
