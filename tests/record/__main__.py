@@ -207,28 +207,35 @@ def other_files(files: Files, lab: Lab) -> None:
         fail("words are understood that name no record")
 
 
-def most_held(files: Files, lab: Lab) -> int:
-    """The most kB of memory that the program had where it comes to the last seat, whose file is a pipe."""
-    pipe = files.folder / f"{lab.sessions}.record"
-    pipe.unlink()
-    os.mkfifo(pipe)
+def most_held(files: Files) -> int:
+    """The most kB of memory that the program had where it has come to its line, for which the pipe has no room yet."""
     call: list[str | Path] = [HOST, "verify", files.lab, files.journal, files.folder]
-    with subprocess.Popen(call, stdin=subprocess.DEVNULL, stdout=subprocess.DEVNULL, stderr=subprocess.DEVNULL, env=dict[str, str]()) as process:
-        writer = -1
-        while writer < 0 and process.poll() is None:
-            try:
-                writer = os.open(pipe, os.O_WRONLY | os.O_NONBLOCK)
-            except OSError:
-                sleep(0.02)
+    reader, writer = os.pipe()
+    os.set_blocking(writer, False)
+    held = 0
+    try:
+        while True:
+            held += os.write(writer, bytes(1 << 16))
+    except BlockingIOError:
+        os.set_blocking(writer, True)
+    with subprocess.Popen(call, stdin=subprocess.DEVNULL, stdout=writer, stderr=subprocess.DEVNULL, env=dict[str, str]()) as process:
+        os.close(writer)
+        while process.poll() is None and not waits(process.pid):
+            sleep(0.02)
         status = Path(f"/proc/{process.pid}/status").read_text(encoding="ascii")
-        if writer >= 0:
-            os.close(writer)
-    pipe.unlink()
-    pipe.write_bytes(b"")
+        with open(reader, "rb") as it:
+            told = it.read()[held:]
     found = re.search(r"VmHWM:\s+(\d+) kB", status)
-    if process.returncode or found is None:
-        fail(f"the program ends with {process.returncode} before the last seat's pipe is read")
+    if process.returncode or not told.startswith(b"ok: ") or found is None:
+        fail(f"the program ends with {process.returncode} before it is let tell its line, and tells {told!r}")
     return int(found[1])
+
+
+def waits(process: int) -> bool:
+    """Whether a process waits for room in a pipe, as far as the system says it: it sleeps, with all of its record read."""
+    stat = Path(f"/proc/{process}/stat").read_text(encoding="ascii", errors="replace")
+    files = {os.readlink(it) for it in Path(f"/proc/{process}/fd").iterdir() if it.is_symlink()}
+    return stat.rpartition(") ")[2][:1] == "S" and not any(it.endswith(".record") for it in files)
 
 
 def by_pieces(files: Files, lab: Lab) -> None:
@@ -243,9 +250,9 @@ def by_pieces(files: Files, lab: Lab) -> None:
     files.wants("in pieces", run.journal, {**long, 1: long[1][:-1]}, f"verify: seat 1, line {last + 8001}: torn")
     files.wants("changed in a piece", run.journal, changed, f"verify: seat 1, line {last + 2 * middle + 1}: not the reply of the rules at place 2")
     files.write(run.journal, run.texts)
-    short = most_held(files, lab)
+    short = most_held(files)
     files.wants("long", run.journal, long, told)
-    if most_held(files, lab) > short + 4096:
+    if most_held(files) > short + 4096:
         fail("a record of 5 MB needs 4 MB more than a short one")
 
 
