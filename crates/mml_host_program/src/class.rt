@@ -3,7 +3,7 @@ ghost use Rattle.std.specs.Prelude.{◌≡◌, ◌+◌, length};
 ghost use Rattle.std.specs.Thread.{IsSync, IsSend};
 
 use crate::fault::{Fault, of_record};
-use crate::journal_watch::{JournalWatch, WatchedSink};
+use crate::journal_watch::{JournalEye, JournalWatch, Look, WatchedSink};
 use crate::system::System;
 use mml_ends::Retrying;
 use mml_files::OldJournal;
@@ -74,7 +74,10 @@ pub(crate) fn serve_class<
     R: System + Files<File = File> + Net<Listener = TcpListener, Stream = TcpStream> + Sync,
 >(rt: &R, class: Class<'_>, folder: Option<RecordFolder>) -> Result<(), Fault> {
     match class.journal.watch() {
-        Some(watch) => serve_watched(rt, class, folder, watch),
+        Some(watch) => {
+            let eye = JournalEye { rt, watch };
+            serve_watched(rt, class, folder, watch, &eye)
+        }
         None => serve_recorded(rt, class, folder),
     }
 }
@@ -83,21 +86,26 @@ pub(crate) fn serve_class<
 // end.
 fn serve_watched<
     R: System + Files<File = File> + Net<Listener = TcpListener, Stream = TcpStream> + Sync,
+    L: Look + Sync,
 >(
     rt: &R,
     class: Class<'_>,
     folder: Option<RecordFolder>,
     watch: &JournalWatch<'_>,
+    eye: &L,
 ) -> Result<(), Fault> {
     thread::scope(
         thread::scope_env(),
         rt,
         |scope| -> Result<(), Fault>
-            requires { IsSync R.row }
+            requires { IsSync R.row × IsSync L.row }
         {
-            let is_watched = scope.spawn(move || watch.look_until_over(rt)).is_ok();
+            let is_watched = scope.spawn(move || watch.look_until_over(rt, eye)).is_ok();
             let served = serve_recorded(rt, class, folder);
-            watch.note_over(rt, is_watched);
+            watch.note_over(rt);
+            if !is_watched {
+                let _is_lost = eye.look();
+            }
             served
         },
     )?;

@@ -15,7 +15,7 @@ mod words;
 
 pub use beginning::write_listening;
 pub use fault::Fault;
-pub use journal_watch::{JournalLoss, JournalWatch, WatchedSink};
+pub use journal_watch::{JournalEye, JournalLoss, JournalWatch, Look, WatchedSink};
 pub use old_file::OldFile;
 pub use system::System;
 pub use task::run;
