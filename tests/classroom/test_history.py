@@ -135,7 +135,7 @@ class Told(Disputed):
     def test_a_student_is_answered(self) -> None:
         going = self.disputed()
         now = self.history(going.folder)
-        verdict = host_call("verify", going.folder / "lab.toml", going.folder / "journal", going.folder / "record").output.strip()
+        verdict = host_call("verify", going.folder / "lab.toml", going.folder / "journal", going.folder / "record").output.partition("\n")[0]
         self.assertIn(f"{verdict}: the server hasn't ended", now.splitlines()[0])
         self.assertFalse(json.loads(words("mark", going.folder, "--json").stdout)["runs"][0]["whole"])
         folder = self.ended(going)
