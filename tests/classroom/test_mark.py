@@ -98,7 +98,7 @@ class Mark(InRoom):
         run, = self.marks(self.file("lab.toml", GOOD.replace(*PAIR)), self.file("journal", ""))
         none = {"update": 0, "marriage": 0, "seduction": 0, "abandonment": 0}
         self.assertEqual(run["students"]["jonas"],
-                         {"granted": none, "applied": none, "steps": 0, "first": None, "last": None, "shared": 0, **dict.fromkeys(DENIED)})
+                         {"granted": none, "applied": none, "steps": 0, "first": None, "last": None, "shared": 0, **dict.fromkeys(DENIED), "whole": False})
 
     def test_a_long_run(self) -> None:
         lab = self.file("lab.toml", GOOD.replace(*PAIR).replace("events = 1000", "events = 100000"))
