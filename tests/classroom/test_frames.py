@@ -9,7 +9,7 @@ import unittest
 from pathlib import Path
 from unittest import mock
 
-from classroom.core import program
+from classroom.core import processes
 from classroom.core.program import Fault
 from classroom.pages import replay as module
 from classroom.pages.drawing import Drawing
@@ -75,7 +75,7 @@ class Replayed(unittest.TestCase):
         for lab, journal in (edited_run(self.room), *examples(self.room)):
             whole = states(lab, journal)
             with self.subTest(lab=lab.name), mock.patch.object(module, "SCRIPT_LIMIT", 6000):
-                with mock.patch.object(program, "run", wraps=program.run) as run:
+                with mock.patch("classroom.core.program.run", wraps=processes.run) as run:
                     self.assertEqual(states(lab, journal), whole)
                 if lab.stem in ("grid", "random", "ring"):
                     self.assertGreater(run.call_count, 2)
