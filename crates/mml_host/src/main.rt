@@ -2,7 +2,7 @@
 //! answers a script as its lines come.
 #![tactic(auto)]
 
-use mml_host_program::is_of_class;
+use mml_host_program::{JournalEye, is_of_class};
 use mml_program::begin_program;
 use std::fmt::Display;
 use std::process::ExitCode;
@@ -15,7 +15,8 @@ fn main(rt: HostRuntime) -> ExitCode {
         Err(fault) => return print_error(&rt, &fault, fault.status()),
     };
     if is_of_class(words.as_slice()) {
-        match mml_host_program::run(&rt, words.as_slice()) {
+        let eye = JournalEye { rt: &rt };
+        match mml_host_program::run(&rt, &eye, words.as_slice()) {
             Ok(()) => ExitCode::SUCCESS,
             Err(fault) => print_error(&rt, &fault, fault.status()),
         }

@@ -3,7 +3,7 @@ ghost use Rattle.std.specs.Prelude.{◌≡◌, ◌+◌, length};
 ghost use Rattle.std.specs.Thread.{IsSync, IsSend};
 
 use crate::fault::{Fault, of_record};
-use crate::journal_watch::{JournalEye, JournalWatch, Look, WatchedSink};
+use crate::journal_watch::{JournalWatch, Look, WatchedSink};
 use crate::system::System;
 use mml_ends::Retrying;
 use mml_files::OldJournal;
@@ -72,12 +72,10 @@ pub(crate) struct Ready<C: Drop> {
 /// file. Returns why the class doesn't begin or go on, doesn't end well, isn't wholly recorded, or lost its journal.
 pub(crate) fn serve_class<
     R: System + Files<File = File> + Net<Listener = TcpListener, Stream = TcpStream> + Sync,
->(rt: &R, class: Class<'_>, folder: Option<RecordFolder>) -> Result<(), Fault> {
+    L: Look + Sync,
+>(rt: &R, class: Class<'_>, folder: Option<RecordFolder>, eye: &L) -> Result<(), Fault> {
     match class.journal.watch() {
-        Some(watch) => {
-            let eye = JournalEye { rt, watch };
-            serve_watched(rt, class, folder, watch, &eye)
-        }
+        Some(watch) => serve_watched(rt, class, folder, watch, eye),
         None => serve_recorded(rt, class, folder),
     }
 }
@@ -104,7 +102,7 @@ fn serve_watched<
             let served = serve_recorded(rt, class, folder);
             watch.note_over(rt);
             if !is_watched {
-                let _is_lost = eye.look();
+                let _is_lost = eye.look(watch);
             }
             served
         },
