@@ -63,8 +63,9 @@ def flood(caller: Caller, count: int) -> int:
     """Says so many long lines that are no requests; how many were answered before the connection ended."""
     done = 0
     while done < count:
-        caller.send(LONG * BATCH)
-        for _ in range(BATCH):
+        batch = min(BATCH, count - done)
+        caller.send(LONG * batch)
+        for _ in range(batch):
             if not caller.line():
                 return done
             done += 1
