@@ -44,7 +44,7 @@ class Run(Cycle):
             self.assertEqual((denied.exception.name, denied.exception.at), ("stale", 1))
         bot = self.bot(going, "jonas")
         going.type("fault 1 2 true")
-        going.until("fault 1 2 true; .* 0 of at most 35 moves")
+        going.until("fault at node 1: p 2, m true; .* 0 of at most 35 moves")
         bot.kill()
         going.type("cut 1 2")
         going.until("cut 1 2; .* 0 of at most 33 moves")
