@@ -31,7 +31,7 @@ STILL_HERE = 10.0  # seconds without news after which a page is told that there 
 LAST_WORD = 2.0  # seconds in which pages may learn that the class is over
 MOST_BYTES = 200  # of a line that the page sends
 ACTS = ("close", "shake", "resume", "end")
-LINE = re.compile(r"[^\s:]+: (?:close|resume|end|shake (?:\d{{1,3}}|all))")
+LINE = re.compile(r"[^\s:]+: (?:close|resume|end|shake (?:\d{1,3}|all))")
 
 
 class Hall(Web):

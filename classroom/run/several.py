@@ -120,8 +120,11 @@ class Several:
             self.say(f"{member.name}: no: {'it has ended' if member.status == ENDED else member.alarm or 'it is starting'}")
 
     def act(self, line: str) -> None:
-        """Does a line of the page to act at, which asks once where the terminal asks twice."""
-        indices, rest = addressed.addressed(line, self.names)
+        """Does a line of the page to act at. The page asks before an end, so that one line is enough."""
+        try:
+            indices, rest = addressed.addressed(line, self.names)
+        except ValueError:
+            return  # The page names networks that are there; another program may name others.
         for index in indices:
             if rest == addressed.END and self.members[index].status in (STARTS, RUNS):
                 self.members[index].terminate()

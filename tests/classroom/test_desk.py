@@ -141,13 +141,14 @@ class Words(Cycle):
         with process.stdout:
             for line in process.stdout:
                 told.append(line)
-                if ": page http" in line and sum(": page http" in each for each in told) == 2:
+                if line.startswith("words: "):
                     process.stdin.write("2: fault 1 null true\n9: close\n")
                 if "lab-2: configuration 1: fault at node 1: p null, m true" in line:
                     process.stdin.write("end\nend\n")
         self.assertEqual(process.wait(LIMIT), 0, told)
-        self.assertIn("not understood; runs are 1: lab-1, 2: lab-2\n", told)
+        self.assertIn("not understood: there is no network 9; there are 1 lab-1, 2 lab-2\n", told)
         self.assertFalse(any(line.startswith("lab-1: configuration 1: ") for line in told))
+        self.assertEqual([bool(re.match(r"\d  lab-\d  28\d\d\d +3 +15 +http://127.0.0.1:282\d\d/", line)) for line in told if line[:1].isdigit()], [True, True])
 
 
 class InATerminal(Cycle):
