@@ -173,7 +173,7 @@ def rows(runs: list[Run], rule: Rule | None = None) -> list[list[str]]:
         for name, marks in run.tally.students.items():
             numbers = [marks.granted.total(), marks.applied.total(), *(marks.applied[rule] for rule in RULES), marks.steps,
                        marks.first, marks.last, marks.shared, *run.denied(name)]
-            more = [str(len(run.lab.nodes_of(name))), guarded(run.network), *map(guarded, rule.values(run.values(name)) if rule else [])]
+            more = [str(len(run.lab.nodes_of(name))), guarded(run.network), *(rule.cells(run.values(name)) if rule else [])]
             table.append([guarded(str(run.journal)), name, *("-" if number is None else str(number) for number in numbers), *more])
     return table
 

@@ -13,6 +13,7 @@ from fractions import Fraction
 from pathlib import Path
 
 from classroom.core import plain
+from classroom.core.printable import guarded
 from classroom.core.program import Fault
 
 Value = Fraction | bool | str | None  # None is unknown
@@ -21,6 +22,7 @@ Expression = Callable[[Row], Value]
 MOST_BYTES, MOST_LINES, MOST_DEPTH, MOST_DIGITS = 1 << 16, 100, 50, 12
 TOKEN = re.compile(r"\s*(?:(?P<number>\d+(?:\.\d+)?)|(?P<name>[A-Za-z_]\w*)|(?P<text>\"[^\"\n]*\"|'[^'\n]*')|(?P<sign><=|>=|==|!=|[-+*/()<>,=]))",
                    re.ASCII)
+UNKNOWN = "-"
 KEYWORDS = ("and", "or", "not", "if", "else", "true", "false")
 FUNCTIONS: dict[str, Callable[[list[Fraction]], Fraction]] = {"min": min, "max": max, "round": lambda it: Fraction(round(it[0]))}
 
@@ -61,11 +63,15 @@ class Rule:
             found.append(told(known[line.name]))
         return found
 
+    def cells(self, row: Row) -> list[str]:
+        """Returns the values as a table's cells; no cell is a spreadsheet's formula."""
+        return [value if value == UNKNOWN else guarded(value) for value in self.values(row)]
+
 
 def told(value: Value) -> str:
     """Returns a value as a text: a number with three decimals at most."""
     if value is None:
-        return "-"
+        return UNKNOWN
     if isinstance(value, bool):
         return "yes" if value else "no"
     if isinstance(value, str):

@@ -95,7 +95,7 @@ def summed(runs: Runs) -> dict[str, tuple[Person, Total]]:
 
 def ruled(rule: Rule | None, total: Total, name: str) -> list[str]:
     """Returns what a rule gives for a person."""
-    return [guarded(each) for each in rule.values(total.values(name))] if rule else []
+    return rule.cells(total.values(name)) if rule else []
 
 
 def by_labs(runs: Runs, rule: Rule | None = None) -> list[list[str]]:

@@ -75,7 +75,7 @@ class OneDesk(Classes):
         desk.until(r"^1  maths-1  A 104  \d+ privileged|^1  maths-1  A 104  stable")
         desk.until(r"^2  maths-2  B 7    DOWN ")
         desk.type("1 shake all 3")
-        desk.until("^maths-1: the registers of 4 nodes were set$")
+        desk.until("^maths-1: configuration 4: 4 faults at nodes 1, 2, 3, 4; ")
         desk.type("2 close")
         desk.until("^maths-2: no: the server has ended, by SIGKILL; resume 2")
         before = len(desk.lines)
@@ -158,7 +158,7 @@ class OneDesk(Classes):
 
     def test_the_state_of_each_network(self) -> None:
         desk = self.begin("--close", "by-hand", "--anonymous")
-        self.assertEqual(desk.state("maths-1")["missing"], ["#1", "#2", "#3", "#4"])
+        self.wait_for(lambda: desk.state("maths-1").get("missing") == ["#1", "#2", "#3", "#4"])
         lab = labs.read(self.labs[0])
         with Client(desk.record("maths-1").port, "ana-lima", lab.students["ana-lima"]) as ana:
             self.wait_for(lambda: desk.state("maths-1")["missing"] == ["#1", "#2", "#4"])
