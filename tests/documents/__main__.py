@@ -227,4 +227,5 @@ def main() -> None:
     print(f"documents: {len(pages)} pages, {total} words; each link, file, name and contract is there, and each command is run")
 
 
-main()
+if __name__ == "__main__":
+    main()
