@@ -32,7 +32,7 @@ ELSEWHERE = set(Path(__file__).with_name("elsewhere.txt").read_text(encoding="ut
 
 # The pages that show how the program is used, and by which test their blocks are run: those without a mark
 # by `tests/pages/pages`, but for the commands that another test has in these words.
-USED = ("README.md", "docs/STUDENT.md", "docs/TEACHER.md", "docs/COURSE.md", "docs/TRUST.md", "docs/OPERATE.md")
+USED = ("README.md", "docs/STUDENT.md", "docs/SELF-STABILISATION.md", "docs/TEACHER.md", "docs/COURSE.md", "docs/TRUST.md", "docs/OPERATE.md")
 RUN_BY = {("docs/OPERATE.md", "sh"): "tests/pages/operate", ("docs/STUDENT.md", "python"): "tests/pages/pages"}
 RUN_BEFORE = {
     "tar ": ("tests/release/run", "tar -xzf $release.tar.gz"),
