@@ -151,7 +151,7 @@ def told(page: str, files: list[str], folders: set[str], words: set[str], laws: 
 
 def is_command(line: str) -> bool:
     """Whether a line of a block is a command."""
-    return bool(re.match(r"(\./|\.ci/|python3 |tar |ssh |java |mkdir |sha256sum )", line.strip().removeprefix("$ ")))
+    return bool(re.match(r"(\./|\.ci/|python3 |tar |ssh |java |mkdir |sha256sum |sed |cmp |cat )", line.strip().removeprefix("$ ")))
 
 
 def commands_of(page: str) -> Iterator[str]:
