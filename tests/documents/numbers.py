@@ -64,7 +64,7 @@ def releases() -> Iterator[tuple[str, str]]:
 
 def classes() -> Iterator[tuple[str, str]]:
     """Labs, suites, defaults, and statuses."""
-    yield README, f"`examples/` has {WORDS[len(list((TOP / 'examples').glob('*.toml')))]} labs."
+    yield README, f"`examples/` has {WORDS[len(list((TOP / 'examples').glob('*.toml')))]} labs, "
     small, families = WORDS[len(suites.SMALL)], WORDS[len(suites.FAMILIES)]
     yield STUDENT, f"`grade` tries {small} cases, each in an empty folder"
     yield COURSE, f"`small` has {small} cases, `full` {len(suites.FULL)}, over {families} families of networks"
