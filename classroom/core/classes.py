@@ -43,6 +43,7 @@ class Class:
     page: int | None = None
     looks: str | None = None  # The token of the address of the page for all.
     ends: str | None = None  # When the lesson ends, as a date and a time.
+    door: str | None = None  # The folder of the door that leads to the networks.
 
     @staticmethod
     def read(folder: Path) -> Class | None:
@@ -67,6 +68,7 @@ class Class:
             and isinstance(self.left, bool) and type(self.desk.number) is int and isinstance(self.desk.start, str)
             and (self.page is None or type(self.page) is int and 0 <= self.page <= LAST_PORT)
             and all(text is None or isinstance(text, str) and text.isascii() for text in (self.looks, self.ends))
+            and (self.door is None or isinstance(self.door, str) and "\0" not in self.door)
         )
 
     def write(self, folder: Path) -> None:

@@ -98,6 +98,7 @@ class Record:
     played: list[str] = field(default_factory=list)  # for whom the house plays at once
     ends: str | None = None  # When the lesson ends, as a date and a time.
     anonymous: bool = False  # Whether its pages show numbers in place of names.
+    door: str | None = None  # The folder of the door that leads to the run.
 
     @staticmethod
     def read(folder: Path) -> Record | None:
@@ -111,7 +112,7 @@ class Record:
 
     def is_sound(self) -> bool:
         """Whether each value is of its kind: the folder may be another's."""
-        texts = [self.lab, self.close, self.run.start, self.server.start, *self.played, *filter(None, (self.until, self.looks, self.ends))]
+        texts = [self.lab, self.close, self.run.start, self.server.start, *self.played, *filter(None, (self.until, self.looks, self.ends, self.door))]
         numbers = [self.port, self.desk, *(each for each in (self.page, self.play) if each is not None)]
         seconds = 1.0 if self.stand_in is None else self.stand_in
         return (

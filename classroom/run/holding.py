@@ -23,7 +23,7 @@ from classroom.core.program import CLASS
 from classroom.core.shown_names import ShownNames
 from classroom.core.statuses import FAILED, WARNED
 from classroom.pages import by_hand, projector
-from classroom.run import server
+from classroom.run import letting, server
 from classroom.run.attend import TICK, Room, attend
 from classroom.run.clock import Clock
 from classroom.run.closing import Closing, spelled
@@ -61,6 +61,7 @@ class Running:
     played: list[str] = field(default_factory=list)  # for whom the house plays at once
     ends: datetime | None = None  # when the lesson ends
     anonymous: bool = False  # Whether the pages show numbers in place of names.
+    door: str | None = None  # The folder of the door that leads here.
     typed: Typed = field(default_factory=queue.SimpleQueue)
     pages: projector.Pages | None = None
     hands: by_hand.Hands | None = None
@@ -72,7 +73,8 @@ class Running:
         play = self.hands.server_port if self.hands else self.play
         return Record(str(self.lab_file.resolve()), it.port, it.desk, page, spelled(self.close), self.until,
                       Process.of(os.getpid()), it.process, play, stand_in=self.stand_in, looks=looks, played=self.played,
-                      ends=self.ends.isoformat() if self.ends else None, anonymous=self.anonymous)
+                      ends=self.ends.isoformat() if self.ends else None, anonymous=self.anonymous,
+                      door=self.door)
 
     @cached_property
     def names(self) -> ShownNames:
@@ -189,6 +191,8 @@ def hold(run: Running, it: server.Server) -> int | None:
         if run.hands is not None:
             run.hands.show(it.port, run.tell)
             run.tell(f"page to play {run.hands.address}")
+        for line in letting.told(run.door, run.lab_file, run.pages.looks if run.pages else None):
+            run.tell(line)
     except Left:
         run.tell("another process takes the desk")
         return None

@@ -28,7 +28,8 @@ READY = "words: "
 # What a run prints while it starts, by what the class's table has of it.
 FACTS = {
     "port": re.compile(r"port (\d+), .*"), "page": re.compile(r"page (http\S+)"), "act": re.compile(r"page to act (http\S+)"),
-    "play": re.compile(r"page to play (http\S+)"),
+    "play": re.compile(r"page to play (http\S+)"), "play_from": re.compile(r"page to play from elsewhere (http\S+)"),
+    "look_from": re.compile(r"page to look at from elsewhere (http\S+)"),
 }
 TOLD_IN_TABLE = ("slips: ", "desk ", READY, "page to act")
 DIED = re.compile(r"the server has ended.*|the server: .*|nothing more is granted: .*|class: .*")
@@ -72,7 +73,7 @@ class Member:
         if record is None:
             words = ["run", self.network.lab, "--into", str(self.folder.parent), "--beside", *self.more]
         elif record.server.lives():
-            words = ["attach", str(self.folder), *self.kept()]
+            words = ["attach", str(self.folder), *self.kept("--door-at")]
         else:
             words = ["run", "--resume", str(self.folder), *self.kept(), *(["--again"] if record.ended else [])]
         self.status, self.alarm, self.why, self.begun, self.facts = STARTS, "", "", False, {}
@@ -83,10 +84,10 @@ class Member:
         )
         threading.Thread(target=self.follow, args=[self.child, hear, ended], daemon=True).start()
 
-    def kept(self) -> list[str]:
-        """Returns the words for a run that goes on: but for its port, which it keeps."""
+    def kept(self, *but: str) -> list[str]:
+        """Returns the words for a run that goes on: but for its port, which it keeps, and for others with a value."""
         words = list(self.more)
-        for word in ("--port", "--into"):
+        for word in ("--port", "--into", *but):
             if word in words:
                 at = words.index(word)
                 del words[at:at + 2]
@@ -188,7 +189,7 @@ def fact_in(line: str) -> tuple[str, str]:
 
 def wanted(words: list[str], record: Record | None) -> set[str]:
     """Returns what a run that is started with these words says before it has started."""
-    found = {"port"}
+    found = {"port"} | ({"play_from"} if "--door-at" in words else set())
     found |= {"page", "act"} if "--page" in words or record is not None and record.page is not None else set()
     return found | ({"play"} if "--play" in words or record is not None and record.play is not None else set())
 

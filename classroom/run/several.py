@@ -22,7 +22,7 @@ from classroom.core.printable import printable
 from classroom.core.program import CLASS, Fault
 from classroom.core.statuses import FAILED, WARNED
 from classroom.pages import hall
-from classroom.run import addressed, server
+from classroom.run import addressed, letting, server
 from classroom.run.clock import Clock, end_of
 from classroom.run.closing import spelled
 from classroom.run.member import Member, News
@@ -149,7 +149,8 @@ class Several:
             return
         self.is_told = True
         self.say(f"class of {plural(len(self.members), 'network')}; folder {self.folder}")
-        for line in start_table([member.shown() for member in self.members], [member.facts.get("play", "") for member in self.members]):
+        play = [member.facts.get("play_from", member.facts.get("play", "")) for member in self.members]
+        for line in start_table([member.shown() for member in self.members], play):
             self.say(line)
         if self.hall is not None:
             self.say(f"page for all {self.hall.address}")
@@ -313,14 +314,22 @@ def held(folder: Path, members: list[Member], news: News, words: argparse.Namesp
     if words.page is not None:
         several.hall = hall.opened(words.page, folder.name, lambda line: news.put(lambda: several.act(line)),
                                    several.state(False), kept.looks if kept else None)
-    networks = [member.network for member in members]
-    Class(networks, Process.of(os.getpid()), page=several.hall.server_port if several.hall else None,
-          looks=several.hall.looks if several.hall else None, ends=end.isoformat() if end else None).write(folder)
-    several.obey_signals()
-    first(several)
-    if typed:
-        several.listen()
-    return several.attend()
+    files = [Path(member.network.lab) for member in members]
+    with letting.door(with_door(words), files, several.say, kept.door if kept else None) as door:
+        for member in members:
+            member.more += ["--door-at", door] if door is not None else []
+        Class([member.network for member in members], Process.of(os.getpid()), page=several.hall.server_port if several.hall else None,
+              looks=several.hall.looks if several.hall else None, ends=end.isoformat() if end else None, door=door).write(folder)
+        several.obey_signals()
+        first(several)
+        if typed:
+            several.listen()
+        return several.attend()
+
+
+def with_door(words: argparse.Namespace) -> argparse.Namespace:
+    """Returns the words with those for a door, which `attach` doesn't have: the door of before is opened again."""
+    return argparse.Namespace(**{"door": None, "door_at": None, "certificate": None, **vars(words)})
 
 
 def side_by_side(words: argparse.Namespace) -> int:
