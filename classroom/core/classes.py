@@ -81,6 +81,12 @@ class Class:
             new.unlink(missing_ok=True)
 
 
+def title(folder: Path) -> str:
+    """Returns what a class is called, and its day, as its folder's name has them."""
+    found = re.fullmatch(r"(\d{4}-\d\d-\d\d)T\d{4}-(.+)", folder.absolute().name)
+    return f"{found[2]}, {found[1]}" if found else folder.absolute().name
+
+
 def is_class(folder: Path) -> bool:
     """Whether a folder is that of a class."""
     return (folder / FILE).is_file()

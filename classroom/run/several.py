@@ -15,7 +15,7 @@ from pathlib import Path
 
 from classroom.core import lab as labs
 from classroom.core.class_state import DOWN, ENDED, RUNS, STARTS, ClassState
-from classroom.core.classes import Class, Network, begun
+from classroom.core.classes import Class, Network, begun, title
 from classroom.core.counts import plural
 from classroom.core.folders import Process
 from classroom.core.printable import printable
@@ -191,7 +191,7 @@ class Several:
 
     def state(self, acts: bool, ended: bool = False) -> ClassState:
         """Returns what the page for all shows."""
-        return ClassState(self.folder.name, [member.shown(acts) for member in self.members], self.lines, ended)
+        return ClassState(title(self.folder), [member.shown(acts) for member in self.members], self.lines, ended)
 
     def goes_on(self) -> bool:
         """Whether a network runs, or is down and may be resumed by somebody."""
@@ -312,7 +312,7 @@ def held(folder: Path, members: list[Member], news: News, words: argparse.Namesp
     end = end_of(words.ends, kept.ends if kept else None)
     several = Several(folder, members, news, typed, Clock(end, datetime.now()) if end else None)
     if words.page is not None:
-        several.hall = hall.opened(words.page, folder.name, lambda line: news.put(lambda: several.act(line)),
+        several.hall = hall.opened(words.page, title(folder), lambda line: news.put(lambda: several.act(line)),
                                    several.state(False), kept.looks if kept else None)
     files = [Path(member.network.lab) for member in members]
     with letting.door(with_door(words), files, several.say, kept.door if kept else None) as door:

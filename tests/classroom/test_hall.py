@@ -105,6 +105,7 @@ class OfAClass(Classes):
         looks, acts = (next(found[1] for line in desk.lines if (found := re.fullmatch(f"page for all {kind}(http.*)", line)))
                        for kind in ("", "to act "))
         state = json.loads(ask(f"{looks}state")[1])
+        self.assertRegex(state["title"], r"^maths, \d{4}-\d\d-\d\d$")
         self.assertEqual([(it["number"], it["name"], it["room"], it["status"]) for it in state["networks"]],
                          [(1, "maths-1", "A", "runs"), (2, "maths-2", "B", "runs")])
         for number, it in enumerate(state["networks"], 1):

@@ -68,7 +68,8 @@ class Expressions(unittest.TestCase):
             with self.assertRaises(Fault) as fault:
                 parsed(Path("rule"), ["", text], list(ROW))
             self.assertTrue(str(fault.exception).startswith(f"rule: line 2: {error}: "), (text, str(fault.exception)))
-        for lines in ([], ["# none"], [f"x{number} = 1" for number in range(MOST_LINES + 1)]):
+        several: list[list[str]] = [[], ["# none"], [f"x{number} = 1" for number in range(MOST_LINES + 1)]]
+        for lines in several:
             with self.assertRaisesRegex(Fault, f"^rule: a rule has 1 to {MOST_LINES} lines"):
                 parsed(Path("rule"), lines, [])
 
