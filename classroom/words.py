@@ -62,7 +62,8 @@ TYPED = f"Typed there: {HELP}."
 EXAMPLES = {
     "new": "Example: class new maths.toml --students names.csv --family grid:4x3 --start hurt --stand-in",
     "check": "Example: class check maths.toml",
-    "run": f"Examples: class run maths.toml --until stable --page --stand-in 20s; class run maths-1.toml maths-2.toml --rooms A,B; class run --resume runs/2026-11-24T1015-maths. {TYPED}",
+    "run": "Examples: class run maths.toml --until stable --page --stand-in 20s; class run maths-1.toml maths-2.toml --rooms A,B; "
+           f"class run --resume runs/2026-11-24T1015-maths. {TYPED}",
     "key": "Example: class key runs/2026-11-24T1015-maths zoe-mueller",
     "attach": f"Example: class attach runs/2026-11-24T1015-maths. {TYPED}",
     "mark": "Example: class mark runs/*-maths --roster names.csv --total > marks.csv",

@@ -125,6 +125,9 @@ class OneDesk(Classes):
         desk.until(f"^maths-1: given up; what it left is in {desk.folder / 'maths-1'}$")
         desk.type("end 2\nend 2")
         self.assertEqual(desk.ends(), 4, desk.lines)
+        said = [words("mark", desk.folder / name).stdout for name in ("maths-1", "maths-2")]
+        wanted = "its server is running or was killed, so its last entries may be missing, through no fault of a student\n"
+        self.assertEqual([wanted in text for text in said], [True, False], said)
         again = words("run", "--resume", desk.folder)
         self.assertEqual((again.returncode, again.stderr), (1, f"class: {desk.folder}: each run of this class was ended; run --resume "
                                                                "FOLDER --again opens them again\n"))
