@@ -158,15 +158,16 @@ class New(InRoom):
         self.assertTrue(all(len(set(node["owners"])) == 2 for node in it["node"]))
         keys = [each["key"] for each in [it["teacher"], *it["student"]]]
         self.assertEqual(len(set(keys)), 6)
-        self.assertTrue(all(re.fullmatch("[0-9a-f]{32}", key) for key in keys))
-        slips = (self.room / "lab-slips.txt").read_text(encoding="utf-8")
+        self.assertRegex(keys[0], "^[0-9a-f]{32}$")
+        self.assertTrue(all(re.fullmatch("([a-z]{3,7}-){3}[0-9]{2}", key) for key in keys[1:]))
+        slips = (self.room / "lab-slips.html").read_text(encoding="utf-8")
         for each in it["student"]:
             self.assertIn(each["key"], slips)
         self.assertNotIn(it["teacher"]["key"], slips)
         self.assertEqual((self.room / "lab.toml").stat().st_mode & 0o077, 0)
 
     def test_overwrites_nothing(self) -> None:
-        for name in ("lab.toml", "lab-slips.txt"):
+        for name in ("lab.toml", "lab-slips.html", "lab-teacher.slip", "lab-slips.csv"):
             there = self.file(name, "mine")
             self.assertIn("isn't overwritten", self.new(status=1))
             self.assertEqual(there.read_text(encoding="utf-8"), "mine")
