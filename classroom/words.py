@@ -34,10 +34,9 @@ def version() -> str:
 def add_new(words: argparse.ArgumentParser) -> None:
     """The words of `new`."""
     from classroom.core import lists, networks
-    from classroom.run import run
-    from classroom.setup import new
+    from classroom.setup import handing, new
 
-    words.add_argument("lab", help="the lab's file to make, NAME.toml; the slips are NAME-slips.txt")
+    words.add_argument("lab", help="the lab's file to make, NAME.toml; the slips are NAME-slips.html")
     words.add_argument("--students", required=True, help="a file of names, one a line, or a table (CSV) as a platform exports it")
     lists.add_words(words)
     network = words.add_mutually_exclusive_group()
@@ -51,9 +50,12 @@ def add_new(words: argparse.ArgumentParser) -> None:
     words.add_argument("--events", type=positive, help="the limit of events (100000)")
     words.add_argument("--sessions", type=positive, help="how many seats, one of them the teacher's (16)")
     words.add_argument("--teacher", default="teacher", help="the teacher's name")
-    words.add_argument("--groups", type=positive, default=1, help="so many labs, each for a part of the class")
-    words.add_argument("--port", type=run.port, default=4711,
-                       help="the port that stands on the slips, of groups the first one's (4711)")
+    words.add_argument("--groups", type=positive, help="so many labs, each for a part of the class (1)")
+    words.add_argument("--groups-by", metavar="COL",
+                       help="the column of the table that says who sits in which room: labs of one room each, as many as give all a seat")
+    words.add_argument("--email", metavar="COL", help="the column of e-mail addresses, for the table beside the slips")
+    words.add_argument("--strict", action="store_true", help="refuse more students than nodes")
+    handing.add_way(words)
     words.set_defaults(work=new.new)
 
 
@@ -64,6 +66,7 @@ EXAMPLES = {
     "check": "Example: class check maths.toml",
     "run": "Examples: class run maths.toml --until stable --page --stand-in 20s; class run maths-1.toml maths-2.toml --rooms A,B; "
            f"class run --resume runs/2026-11-24T1015-maths. {TYPED}",
+    "slips": "Example: class slips maths-1.toml maths-2.toml --door class.example:4700",
     "key": "Example: class key runs/2026-11-24T1015-maths zoe-mueller",
     "attach": f"Example: class attach runs/2026-11-24T1015-maths. {TYPED}",
     "mark": "Example: class mark runs/*-maths --roster names.csv --total > marks.csv",
@@ -136,6 +139,7 @@ EACH: dict[str, tuple[str, Callable[[argparse.ArgumentParser], None]]] = {
     "check": ("what mml says of a lab, and what a teacher would want to know", add_check),
     "run": ("run a class over a lab, in a folder of its own, or go on with it", of("run.run")),
     "attach": ("take the desk of a class whose run is gone, or has lost its terminal", of("run.attach")),
+    "slips": ("the slips of labs anew, for another way in", of("setup.handing")),
     "key": ("another key and slip for a student, in mid-course", of("setup.rekey")),
     "mark": ("what journals tell of each student", add_mark),
     "history": ("every line that a student's connections sent, its reply, and the steps between; at one place seat by seat", of("marks.history")),

@@ -33,6 +33,7 @@ class Action(Enum):
     SHAKE = auto()
     BREAK = auto()
     PAGE = auto()
+    KEY = auto()
     HELP = auto()
     END = auto()
 
@@ -94,6 +95,7 @@ WORDS = {
     "by-hand": Word("", "close no step by itself", Action.CLOSE_BY, (Button("by-hand", "Close by hand", "by-hand"),)),
     "daemon": Word("WORD", "close steps as central, synchronous, random:P, adversary, when-idle:SECONDS, every:SECONDS, by-hand", Action.DAEMON),
     "page": Word("", "another address of the page to act at; the one before acts no more", Action.PAGE),
+    "key": Word("NAME", "another key for a student, while the class goes on", Action.KEY),
     "help": Word("", "tell these words", Action.HELP),
     "end": Word("", "end the run", Action.END),
 }

@@ -16,6 +16,8 @@ NAMES = ("name", "student", "full name", "fullname", "student name", "display na
 FIRST = ("first name", "firstname", "given name", "vorname")
 LAST = ("last name", "lastname", "surname", "family name", "nachname")
 IDS = ("sis user id", "id number", "student id", "student number", "matriculation", "matrikelnummer", "id", "username")
+EMAILS = ("email address", "e-mail address", "email", "e-mail", "mail")
+SHEETS = (".xlsx", ".xlsm", ".xls", ".ods", ".numbers")  # a spreadsheet's own files
 MARKS = ((codecs.BOM_UTF8, "utf-8-sig"), (codecs.BOM_UTF16_LE, "utf-16"), (codecs.BOM_UTF16_BE, "utf-16"))
 NOBODY = ("points possible", "student, test")
 
@@ -26,6 +28,8 @@ class Person:
 
     written: str
     id: str = ""
+    email: str = field(default="", compare=False)  # These two aren't kept in a lab.
+    group: str = field(default="", compare=False)
 
 
 @dataclass
@@ -68,13 +72,18 @@ def decoded(content: bytes) -> str:
 def read(path: Path, words: argparse.Namespace) -> People:
     """The people of a file, by the words that name its columns."""
     try:
-        text = decoded(path.read_bytes())
+        content = path.read_bytes()
+        if path.suffix.lower() in SHEETS or content.startswith(b"PK\x03\x04"):
+            raise Fault(f"{path}: this is a spreadsheet's own file, not a table as text: open it there, save it as CSV (UTF-8), "
+                        "and name that file")
+        text = decoded(content)
     except OSError as error:
         raise Fault(f"{path}: {error.strerror}", 4) from None
     except UnicodeDecodeError as error:
         raise Fault(f"{path}: {error.reason}") from None
     first = text.partition("\n")[0]
-    named = any((words.column, words.first_name, words.last_name, words.id))
+    email, group = getattr(words, "email", None), getattr(words, "groups_by", None)
+    named = any((words.column, words.first_name, words.last_name, words.id, email, group))
     if named or path.suffix.lower() in (".csv", ".tsv") or "\t" in first or ";" in first:
         found = table(path, text, words)
     else:
@@ -96,6 +105,13 @@ def table(path: Path, text: str, words: argparse.Namespace) -> People:
     first, last = column(path, heads, words.first_name, FIRST), column(path, heads, words.last_name, LAST)
     whole = column(path, heads, words.column, () if words.first_name or words.last_name else NAMES)
     ids = column(path, heads, words.id, IDS)
+    emails = column(path, heads, getattr(words, "email", None), EMAILS)
+    groups = column(path, heads, getattr(words, "groups_by", None), ())
+
+    def cell(row: list[str], index: int | None) -> str:
+        """A row's cell without spaces around it; empty without a column."""
+        return row[index].strip() if index is not None else ""
+
     parts = [whole] if whole is not None else [index for index in (first, last) if index is not None]
     if not parts:
         there = ", ".join(heads)
@@ -105,7 +121,7 @@ def table(path: Path, text: str, words: argparse.Namespace) -> People:
         row += [""] * (len(heads) - len(row))
         written = " ".join(row[index].strip() for index in parts).strip()
         nobody = not written or written.lower() in NOBODY
-        rows.append((row, None if nobody else Person(written, row[ids].strip() if ids is not None else "")))
+        rows.append((row, None if nobody else Person(written, cell(row, ids), cell(row, emails), cell(row, groups))))
     return People(rows, heads, delimiter)
 
 

@@ -13,6 +13,7 @@ from classroom.core import lab as labs
 from classroom.core.program import TOP
 from classroom.run import server
 from classroom.setup import slips
+from classroom.setup.slips import Way
 
 LAB = TOP / "examples/cycle.toml"
 WORDS = ("--close", "every:0.5", "--until", "stable", "--beside", "--into")
@@ -21,7 +22,7 @@ SIGNALS = (signal.SIGINT, signal.SIGTERM)
 
 def bots_of(lab: labs.Lab, port: int, room: Path) -> list[subprocess.Popen[bytes]]:
     """Writes the slips of a lab, and starts a bot for each student."""
-    slips.write_all(lab, port, room / "slips")
+    slips.write_all(lab, Way(port, "demo"), room / "slips")
     return [
         subprocess.Popen([sys.executable, TOP / "examples/bot.py", room / "slips" / f"{name}.slip"],
                          stdin=subprocess.DEVNULL, stdout=subprocess.DEVNULL, stderr=subprocess.DEVNULL)

@@ -31,6 +31,7 @@ class Desk:
         self.announcer = Announcer(lab, journal.parent, self.known, tell)
         self.watch: Watch | None = None
         self.another_page: Callable[[], None] | None = None
+        self.another_key: Callable[[str], None] | None = None
         self.connected: Connected | None = None
         self.house: House | None = None
         self.heard: Heard | None = None
@@ -51,6 +52,7 @@ class Desk:
             Action.SHAKE: lambda _, rest: self.shake(*rest),
             Action.BREAK: lambda *_: self.set_all(broken(self.nodes(), self.announcer.comeback.links)),
             Action.PAGE: lambda *_: self.renew_page(),
+            Action.KEY: lambda _, rest: self.renew_key(rest[0]),
             Action.HELP: lambda *_: self.tell(helped()),
         }
 
@@ -64,17 +66,21 @@ class Desk:
         if not self.lost:
             return True
         try:
-            self.known.client = Client(self.client.port, *self.lab.teacher, limit=self.client.limit)
+            self.take(Client(self.client.port, *self.lab.teacher, limit=self.client.limit))
         except (Closed, Refused) as error:
             self.lost = str(error)
             return False
-        if self.watch:
-            self.watch.client = self.client
-        if self.connected:
-            self.connected.but = self.client.own_port()
-        self.lost, self.known.is_old = "", True
         self.tell("the desk is held again")
         return True
+
+    def take(self, client: Client) -> None:
+        """Goes on over another connection."""
+        self.known.client = client
+        if self.watch:
+            self.watch.client = client
+        if self.connected:
+            self.connected.but = client.own_port()
+        self.lost, self.known.is_old = "", True
 
     def lose(self, error: Closed) -> None:
         """Gives up a connection that has ended, or on which an answer is late: it is made again while the server
@@ -219,6 +225,12 @@ class Desk:
         if self.another_page is None:
             raise ValueError("there is no page: --page")
         self.another_page()
+
+    def renew_key(self, name: str) -> None:
+        """Gives a student another key."""
+        if self.another_key is None:
+            raise ValueError("another key is for a host: without --serve")
+        self.another_key(name)
 
     def close_by(self, word: str) -> None:
         """Closes steps in another way from now on."""

@@ -86,6 +86,11 @@ class Follower:
                 self.ask_report()
             yield News(event, moved, before)
 
+    def rewind(self) -> None:
+        """Reads the beginning of a line again that isn't whole: whoever goes on with the journal takes it off."""
+        self.journal.seek(-len(self.rest), os.SEEK_CUR)
+        self.rest = b""
+
     def is_halted(self) -> bool:
         """Whether a line couldn't be written, or not synced. A line is written at once, so a part of one that stays
         alone for seconds is all that was written; a line that wasn't synced was taken back, and the file is shorter."""

@@ -23,7 +23,7 @@ from classroom.core.program import CLASS
 from classroom.core.shown_names import ShownNames
 from classroom.core.statuses import FAILED, WARNED
 from classroom.pages import by_hand, projector
-from classroom.run import letting, server
+from classroom.run import letting, renewing, server
 from classroom.run.attend import TICK, Room, attend
 from classroom.run.clock import Clock
 from classroom.run.closing import Closing, spelled
@@ -131,6 +131,18 @@ def open_desk(it: server.Server, run: Running) -> Desk:
     return desk
 
 
+def renew(run: Running, it: server.Server, desk: Desk, name: str) -> None:
+    """Gives a student another key, and the desk over the server that takes it."""
+    renewing.renew(run.folder, run.lab, it, desk, name)
+    if run.hands is not None:
+        run.hands.students = it.port
+    run.keep(server=it.process, port=it.port, desk=it.desk)
+    desk.take(taken(it, run.lab.teacher, run.typed, run.tell, run.hung))
+    run.tell(f"the class goes on at port {it.port}; whoever was connected comes again")
+    if is_private(run.takes_lines):
+        run.tell.alone(f"the key of {name}: {run.lab.students[name]}")
+
+
 def show(pages: projector.Pages, desk: Desk, tell: Teller, typed: bool) -> None:
     """Opens the page, and tells it what is told from now on. Where to act is told to the terminal alone, or to a
     program that types instead."""
@@ -185,6 +197,8 @@ def hold(run: Running, it: server.Server) -> int | None:
     """Holds the desk to the end of the run, and gives the status; None where it is left to another process."""
     try:
         desk = open_desk(it, run)
+        if it.hosted:
+            desk.another_key = lambda name: renew(run, it, desk, name)
         listen(run)
         if run.pages is not None:
             show(run.pages, desk, run.tell, run.takes_lines)

@@ -17,6 +17,7 @@ from classroom.run.daemons import FORMS
 from classroom.run.holding import Running, to_the_end
 from classroom.run.several import side_by_side
 from classroom.run.teller import Teller
+from classroom.setup.slips import page_of
 
 PLAY = 4790  # the port of the page to play by
 CLOSING = closing.closing("when-idle:2")
@@ -139,7 +140,7 @@ def begin(run: Running, port_asked: int, record: Record | None = None) -> server
     letting.lead(run.door, run.lab_file, run.folder)
     by_number = run.lab.sessions if run.by_number else None
     it = server.start(run.folder, run.folder / "lab.toml", port_asked, run.folder / "journal", by_number, record)
-    slips = run.lab_file.with_name(f"{run.lab_file.stem}-slips.txt")
+    slips = page_of(run.lab_file)
     if slips.exists():
         run.tell(f"slips: {slips}")
     if it.port != port_asked:

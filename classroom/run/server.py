@@ -8,7 +8,7 @@ import socket
 import subprocess
 import time
 from collections.abc import Callable
-from dataclasses import dataclass
+from dataclasses import dataclass, fields
 from pathlib import Path
 
 from classroom.core import record
@@ -68,6 +68,11 @@ class Server:
         """What became of the journal's file, if the server has said that: `was changed`, as an example."""
         told = LOST.search(self.printed())
         return told[1] if told else ""
+
+    def become(self, other: Server) -> None:
+        """Is another server from now on, which goes on with the class of this one."""
+        for each in fields(self):
+            setattr(self, each.name, getattr(other, each.name))
 
     def stop(self) -> int:
         """Ends the server by a signal where it hasn't ended, and waits for that; gives the status."""

@@ -4,28 +4,23 @@ from __future__ import annotations
 import argparse
 import contextlib
 import itertools
+import os
 import random
-import secrets
+import shlex
 import shutil
+import tempfile
 from collections.abc import Iterator
+from dataclasses import dataclass
 from pathlib import Path
 
 from classroom.core import lab as labs
 from classroom.core import bounds, lists, networks
 from classroom.core.lists import Person
 from classroom.core.printable import printable
-from classroom.core.program import Fault, call, program
-from classroom.setup import names, shaking, slips
-
-KEY_BYTES = 16
-
-
-def deal(identifiers: list[int], students: list[str], each: int) -> list[labs.Node]:
-    """Deals the nodes out evenly, with so many owners each: nobody is without one while there are nodes."""
-    if len(students) < each:
-        raise Fault(f"{each} owners for each node need {each} students")
-    turns = itertools.cycle(students)
-    return [labs.Node(node, [next(turns) for _ in range(each)]) for node in identifiers]
+from classroom.core.program import CLASS, Fault, call, program
+from classroom.door import certificate
+from classroom.setup import dealing, handing, keys, names, printed, shaking, slips
+from classroom.setup.slips import Way
 
 
 def start(made: labs.Lab, word: str, chance: random.Random) -> None:
@@ -43,13 +38,6 @@ def start(made: labs.Lab, word: str, chance: random.Random) -> None:
         node.m = chance.choice([True, False])
 
 
-def groups(people: list[str], count: int) -> list[list[str]]:
-    """The people in so many groups, whose sizes differ by one at most."""
-    if not 1 <= count <= len(people):
-        raise Fault(f"--groups {count}: 1 to {len(people)}")
-    return [people[index::count] for index in range(count)]
-
-
 def make(words: argparse.Namespace, people: dict[str, Person], chance: random.Random) -> labs.Lab:
     """A lab for these students."""
     students = list(people)
@@ -58,44 +46,63 @@ def make(words: argparse.Namespace, people: dict[str, Person], chance: random.Ra
     else:
         count, links = networks.family(words.family, words.nodes, len(students), chance)
         identifiers = list(range(1, count + 1))
-    nodes = deal(identifiers, students, 2 if words.pairs else 1)
-    keys = {name: secrets.token_hex(KEY_BYTES) for name in students}
+    nodes = dealing.deal(identifiers, students, 2 if words.pairs else 1)
+    known = {name: keys.for_people() for name in students}
     if words.stand_in:
-        keys[labs.HOUSE] = secrets.token_hex(KEY_BYTES)
+        known[labs.HOUSE] = keys.for_programs()
         for node in nodes:
             node.owners.append(labs.HOUSE)
-    teacher = names.one(words.teacher) or "teacher", secrets.token_hex(KEY_BYTES)
-    made = labs.Lab(words.events or labs.MOST_EVENTS, words.sessions or labs.MOST_SESSIONS, teacher, keys, nodes, links, people)
+    teacher = names.one(words.teacher) or "teacher", keys.for_programs()
+    made = labs.Lab(words.events or labs.MOST_EVENTS, words.sessions or labs.MOST_SESSIONS, teacher, known, nodes, links, people)
     start(made, words.start, chance)
     return made
 
 
-def paths(path: Path, count: int) -> list[tuple[Path, Path, Path]]:
-    """The files of each lab and of its slips to print, and the folder of those for programs."""
+@dataclass(frozen=True)
+class Made:
+    """A lab that is to be written, where, and what the program says of its size."""
+
+    lab: labs.Lab
+    file: Path
+    size: str
+
+
+def files(path: Path, count: int) -> list[Path]:
+    """Returns the files of so many labs."""
     name = path.name.removesuffix(".toml")
     if not name.strip("."):
         raise Fault(f"{path} is no file's name: NAME.toml")
-    names_of = [name] if count == 1 else [f"{name}-{number}" for number in range(1, count + 1)]
-    return [
-        (path.with_name(f"{name}.toml"), path.with_name(f"{name}-slips.txt"), path.with_name(f"{name}-slips"))
-        for name in names_of
-    ]
+    numbers = [""] if count == 1 else [f"-{number}" for number in range(1, count + 1)]
+    return [path.with_name(f"{name}{number}.toml") for number in numbers]
 
 
-def write(made: labs.Lab, files: tuple[Path, Path, Path], port: int, done: list[Path]) -> str:
-    """Writes a lab and its slips, notes each file or folder that is written, and returns what the program says of the
-    lab's size."""
-    lab_file, slips_file, slips_folder = files
-    labs.write_new(lab_file, labs.text(made))
-    done.append(lab_file)
-    answer = call("check", lab_file)
+def merge_of(path: Path) -> Path:
+    """Returns the file of the table for a mail merge, which all labs share."""
+    return path.with_name(f"{path.name.removesuffix('.toml')}-slips.csv")
+
+
+def tried(made: labs.Lab, wanted: Path) -> str:
+    """Returns what the program says of a lab's size, or raises its error; the lab is written elsewhere for that."""
+    with tempfile.TemporaryDirectory() as room:
+        file = Path(room, "lab.toml")
+        try:
+            labs.write_new(file, labs.text(made))
+        except Fault as fault:
+            raise Fault(str(fault).replace(str(file), str(wanted)), fault.status) from None
+        answer = call("check", file)
     if answer.status != 0:
         raise Fault(f"this would be no lab: {answer.error}", answer.status)
-    labs.write_new(slips_file, slips.page(made, made.people, port, lab_file))
-    done.append(slips_file)
-    slips.write_all(made, port, slips_folder)
-    done.append(slips_folder)
     return labs.with_house_apart(answer.output.strip().removeprefix("ok: "), made)
+
+
+def write(made: Made, way: Way, page: str, done: list[Path]) -> None:
+    """Writes a lab and its slips, and notes each file or folder that is written."""
+    for file, content in ((made.file, labs.text(made.lab)), (slips.page_of(made.file), page),
+                          (slips.teacher_of(made.file), slips.text(made.lab, made.lab.teacher[0], way))):
+        labs.write_new(file, content)
+        done.append(file)
+    slips.write_all(made.lab, way, slips.folder_of(made.file))
+    done.append(slips.folder_of(made.file))
 
 
 @contextlib.contextmanager
@@ -114,36 +121,73 @@ def all_or_none() -> Iterator[list[Path]]:
 
 
 def new(words: argparse.Namespace) -> int:
-    """Makes the labs and their slips, and tells where they lie and how names were changed."""
+    """Makes the labs and their slips, once all of it is known to work, and tells who is where and what comes next."""
     program()
     people = lists.read(Path(words.students), words).people
     chance = random.Random(words.seed)
     if words.pairs and words.stand_in:
         raise Fault("--stand-in gives each node a second owner, the house, and --pairs another student: a node has at most two")
     everywhere = names.all_of(people, [names.one(words.teacher) or "teacher", labs.HOUSE])
-    parts = groups(list(everywhere), words.groups)
-    files = paths(Path(words.lab), words.groups)
-    for file in itertools.chain(*files):
-        if file.exists() or file.is_symlink():
+    parts = dealing.parts(everywhere, words.groups, words.groups_by)
+    where = files(Path(words.lab), len(parts))
+    merge = merge_of(Path(words.lab))
+    for file in itertools.chain([merge], *((lab, slips.page_of(lab), slips.teacher_of(lab), slips.folder_of(lab)) for lab in where)):
+        if os.path.lexists(file):
             raise Fault(f"{file} is there already, and isn't overwritten")
-    every = [make(words, {name: everywhere[name] for name in part}, chance) for part in parts]
-    with all_or_none() as done:
-        sizes = [write(made, its, words.port + index, done) for index, (made, its) in enumerate(zip(every, files, strict=True))]
-    for made, (lab_file, slips_file, slips_folder), size in zip(every, files, sizes, strict=True):
-        print(f"{lab_file}: {size}; slips: {slips_file} to print, {slips_folder} for programs")
-        tell_seats(made, len(everywhere))
-        tell_few(made)
-        tell_idle(made, words)
-    for name, person in everywhere.items():
-        if name != person.written:
-            print(printable(f"{person.written}{f' ({person.id})' if person.id else ''} is {name}"))
+    every = [make(words, {name: everywhere[name] for name in part.names}, chance) for part in parts]
+    if words.strict:
+        refuse_idle(every, words)
+    made = [Made(lab, file, tried(lab, file)) for lab, file in zip(every, where, strict=True)]
+    ways = written(words, made, [part.room for part in parts], merge)
+    told(words, made, ways, len(everywhere))
+    print(f"\nnext: {next_words(words, made, merge)}")
     return 0
 
 
-def tell_seats(made: labs.Lab, everybody: int) -> None:
+def written(words: argparse.Namespace, made: list[Made], rooms: list[str], merge: Path) -> list[Way]:
+    """Writes all labs and slips, or nothing if one of them can't be written; returns how one gets in."""
+    with all_or_none() as done:
+        file = words.certificate or certificate.beside(made[0].file)
+        is_new = bool(words.door) and not os.path.lexists(file)
+        ways = handing.ways(words, [it.file for it in made], rooms)
+        done += [file] if is_new else []
+        pages = [printed.page(it.lab, way) for it, way in zip(made, ways, strict=True)]
+        for it, way, page in zip(made, ways, pages, strict=True):
+            write(it, way, page, done)
+        labs.write_new(merge, handing.merge([(it.lab, way, it.file) for it, way in zip(made, ways, strict=True)]))
+    return ways
+
+
+def told(words: argparse.Namespace, made: list[Made], ways: list[Way], everybody: int) -> None:
+    """Tells the labs with their slips, who is where, and what a teacher has to know of them."""
+    for it in made:
+        print(f"{it.file}: {it.size}; slips: {slips.page_of(it.file)} to print, {slips.folder_of(it.file)} for programs")
+        print(f"  {dealing.counts(it.lab)}")
+        tell_seats(it.lab, everybody, words)
+        tell_few(it.lab)
+        tell_idle(it.lab, words)
+    if words.door and not printed.has_squares(ways[0]):
+        print(f"note: {printed.NO_SQUARE}")
+    print()
+    for line in dealing.table({way.network: it.lab for it, way in zip(made, ways, strict=True)}, {way.network: way.room for way in ways}):
+        print(printable(line))
+
+
+def next_words(words: argparse.Namespace, made: list[Made], merge: Path) -> str:
+    """Returns what is to be done next, as text."""
+    every = " ".join(shlex.quote(str(it.file)) for it in made)
+    pages = " ".join(str(slips.page_of(it.file)) for it in made)
+    door = f" --door {words.door.rpartition(':')[2]}" if words.door else ""
+    return (f"print {pages}, or send each the file that {merge} names; {slips.teacher_of(made[0].file)} is yours alone. Then\n"
+            f"  {CLASS} check {made[0].file}\n  {CLASS} run {every} --page{door or ' --play'}")
+
+
+def tell_seats(made: labs.Lab, everybody: int, words: argparse.Namespace) -> None:
     """Tells if not all students of the lab can have a seat at once, and how many labs would give each one."""
     students = len(made.without_house().students)
-    if made.sessions < students + 1:
+    if made.sessions < students + 1 and words.groups_by:
+        print(f"note: {made.sessions} sessions for {students} students and a teacher: more --groups give all a seat")
+    elif made.sessions < students + 1:
         print(f"note: {made.sessions} sessions for {students} students and a teacher: "
               f"--groups {-(-everybody // (labs.MOST_SESSIONS - 1))} makes labs in which all have a seat")
 
@@ -158,11 +202,27 @@ def tell_few(made: labs.Lab) -> None:
         print(f"note: {made.events} events may be too few: {least} suffice for grants and closes to rest")
 
 
-def tell_idle(made: labs.Lab, words: argparse.Namespace) -> None:
-    """Tells who has no node, if anybody, and which network has enough."""
-    idle = [name for name in made.students if not made.nodes_of(name)]
+def without_node(made: labs.Lab, words: argparse.Namespace) -> str:
+    """Returns who has no node, and which network has enough; nothing if each student has one."""
+    shown = made.without_house()
+    idle = [name for name in shown.students if not shown.nodes_of(name)]
     if not idle:
-        return
-    need = -(-len(made.without_house().students) // (2 if words.pairs else 1))
+        return ""
+    need = -(-len(shown.students) // (2 if words.pairs else 1))
     more = f"a file with {need} nodes has enough" if words.links else f"{networks.enough(words.family, need)} has enough"
-    print(f"note: no node for {', '.join(idle)}: {more}")
+    return f"no node for {', '.join(idle)}: {more}"
+
+
+def tell_idle(made: labs.Lab, words: argparse.Namespace) -> None:
+    """Warns in a line if there are more students than nodes."""
+    idle = without_node(made, words)
+    if idle:
+        print(f"WARNING: more students than nodes: {idle}")
+
+
+def refuse_idle(made: list[labs.Lab], words: argparse.Namespace) -> None:
+    """Raises a fault if there are more students than nodes."""
+    for lab in made:
+        idle = without_node(lab, words)
+        if idle:
+            raise Fault(f"--strict: more students than nodes: {idle}")

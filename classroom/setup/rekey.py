@@ -2,19 +2,18 @@
 from __future__ import annotations
 
 import argparse
-import os
+import dataclasses
 import re
-import secrets
+from dataclasses import dataclass
 from pathlib import Path
 
-from classroom.client import NoSlip, Slip
 from classroom.core import classes
 from classroom.core import lab as labs
 from classroom.core.folders import Record, of_folder
 from classroom.core.program import CLASS, Fault
-from classroom.setup import new, positions, slips
-
-FIRST_PORT = 4711
+from classroom.door.routes import network
+from classroom.setup import keys, positions, printed, slips
+from classroom.setup.slips import FIRST_PORT, Way
 
 
 def add_words(words: argparse.ArgumentParser) -> None:
@@ -45,13 +44,6 @@ def changed(path: Path, name: str, key: str) -> str:
     return after
 
 
-def write(path: Path, text: str) -> None:
-    """Writes a file anew, which nobody else reads."""
-    other = path.with_name(f".{path.name}.{os.getpid()}")
-    labs.write_new(other, text)
-    other.replace(path)
-
-
 def files_of(word: str) -> tuple[list[Path], Path, Record | None]:
     """The lab's files that have the key, the one beside which slips lie, and what a run's folder keeps."""
     path = Path(word)
@@ -63,35 +55,40 @@ def files_of(word: str) -> tuple[list[Path], Path, Record | None]:
     return [kept, *([own] if own.is_file() and own != kept else [])], own, record
 
 
-def rekey(words: argparse.Namespace) -> int:
-    """Changes the key where it stands: in the lab, in a run's copy of it, and on the slips."""
-    words.lab = str(classes.run_of(Path(words.lab), words.name))
-    files, own, record = files_of(words.lab)
+@dataclass(frozen=True)
+class Changed:
+    """A student's other key: the files that have it, and the slip."""
+
+    key: str
+    files: list[Path]
+    slip: Path
+
+
+def change(word: str, name: str) -> Changed:
+    """Changes a student's key where it stands: in the lab, in a run's copy of it, and on the slips."""
+    files, own, record = files_of(word)
     labs.read(files[0])
-    key, name = secrets.token_hex(new.KEY_BYTES), words.name
-    texts = {file: changed(file, name, key) for file in files}
-    old = labs.read(files[0]).students[name]
-    for file, text in texts.items():
-        write(file, text)
+    key = keys.for_people()
+    for file, text in {file: changed(file, name, key) for file in files}.items():
+        slips.replace(file, text)
     lab = labs.read(files[0])
-    folder = own.with_name(f"{own.stem}-slips")
-    slip = folder / f"{name}.slip"
+    folder = slips.folder_of(own)
+    way = Way.read(own) or Way(FIRST_PORT, network(own))
+    way = dataclasses.replace(way, port=record.port) if record and not way.door else way
     folder.mkdir(mode=0o700, exist_ok=True)
-    write(slip, "\n".join(slips.slip(lab, name, record.port if record else port_of(slip))) + "\n")
-    printed = own.with_name(f"{own.stem}-slips.txt")
-    if printed.is_file():
-        write(printed, printed.read_text(encoding="utf-8").replace(f"key {old}\n", f"key {key}\n"))
-    print(f"{name} has another key in {', '.join(map(str, files))}; slip: {slip}")
-    if record is not None:
-        goes_on = record.goes_on()
-        print(f"{'the run that goes on still takes the old one: end it, then' if goes_on else 'to go on with it:'} "
-              f"{CLASS} run --resume {words.lab}{' --again' if goes_on or record.ended else ''}")
+    slips.replace(folder / f"{name}.slip", slips.text(lab, name, way))
+    if slips.page_of(own).is_file():
+        slips.replace(slips.page_of(own), printed.page(lab, way))
+    return Changed(key, files, folder / f"{name}.slip")
+
+
+def rekey(words: argparse.Namespace) -> int:
+    """Gives a student another key, of a class that doesn't go on."""
+    words.lab = str(classes.run_of(Path(words.lab), words.name))
+    it, record = change(words.lab, words.name), files_of(words.lab)[2]
+    print(f"{words.name} has another key in {', '.join(map(str, it.files))}; slip: {it.slip}")
+    if record is not None and record.goes_on():
+        print("the run that goes on still takes the old one: `key NAME` typed at its desk gives another at once")
+    elif record is not None:
+        print(f"to go on with it: {CLASS} run --resume {words.lab}{' --again' if record.ended else ''}")
     return 0
-
-
-def port_of(slip: Path) -> int:
-    """The port of the slip that is there, or the usual one."""
-    try:
-        return Slip.read(slip).port
-    except NoSlip:
-        return FIRST_PORT

@@ -1,50 +1,96 @@
 """Slips: what each student needs to come in, as a file for programs and as a page to print and cut."""
 from __future__ import annotations
 
+import os
 import shutil
+from dataclasses import dataclass
 from pathlib import Path
 
+from classroom.client import NoSlip, port_of
+from classroom.core import plain
 from classroom.core.lab import Lab, write_new
-from classroom.core.lists import Person
-from classroom.core.printable import printable
 from classroom.core.program import Fault
+from classroom.door.routes import network
+
+FIRST_PORT, FIRST_PAGE = 4711, 4790
+
+
+@dataclass(frozen=True)
+class Way:
+    """How one gets in, which is the same on all slips of a network: its name and room, the ports of its server and of its
+    page to play by, and a door with its certificate's fingerprint, or else an account for ssh."""
+
+    port: int
+    network: str
+    room: str = ""
+    page: int = FIRST_PAGE
+    door: str = ""
+    fingerprint: str = ""
+    ssh: str = ""
+
+    def lines(self) -> list[str]:
+        """Returns the lines of a slip that tell this; those of a door stand last."""
+        told = {"network": self.network, "room": self.room, "page": str(self.page), "ssh": self.ssh, "door": self.door,
+                "fingerprint": self.fingerprint}
+        return [f"{word} {value}" for word, value in told.items() if value]
+
+    @staticmethod
+    def read(lab: Path) -> Way | None:
+        """Returns what a slip beside a lab tells; None if there is none that can be read."""
+        for file in sorted(folder_of(lab).glob("*.slip")):
+            try:
+                pairs = [line.partition(" ") for line in plain.read(file, plain.MOST_KEPT).decode().splitlines()]
+                it = {word: rest.strip() for word, _, rest in pairs}
+                return Way(port_of(it["port"]), it.get("network") or network(lab), it.get("room", ""),
+                           port_of(it.get("page", str(FIRST_PAGE))), it.get("door", ""), it.get("fingerprint", ""), it.get("ssh", ""))
+            except (Fault, NoSlip, KeyError, UnicodeDecodeError):
+                continue
+        return None
+
+
+def folder_of(lab: Path) -> Path:
+    """Returns the folder of a lab's slips for programs."""
+    return lab.with_name(f"{lab.stem}-slips")
+
+
+def page_of(lab: Path) -> Path:
+    """Returns the page of a lab's slips to print."""
+    return lab.with_name(f"{lab.stem}-slips.html")
+
+
+def teacher_of(lab: Path) -> Path:
+    """Returns the file of the teacher's slip, which lies apart from those that are handed out."""
+    return lab.with_name(f"{lab.stem}-teacher.slip")
 
 
 def slip(made: Lab, name: str, port: int) -> list[str]:
-    """The lines of a slip, as the client reads them."""
+    """Returns the lines of a slip, as any client reads them."""
     key = made.students[name] if name in made.students else made.teacher[1]
     nodes = ",".join(map(str, made.nodes_of(name)))
     return [f"port {port}", f"name {name}", f"key {key}", *([f"nodes {nodes}"] if nodes else [])]
 
 
-def page(made: Lab, people: dict[str, Person], port: int, path: Path) -> str:
-    """A page to print and cut: for each student the slip, and how to connect."""
-    pages = [f"Slips of {path.name}: one for each student, to cut out. The teacher is {made.teacher[0]}."]
-    shown = made.without_house()
-    for name in shown.students:
-        shared = [f"{node} (with {other})" for node in shown.nodes_of(name) for other in shown.owners(node) if other != name]
-        lines = [
-            printable(people[name].written), *(f"  {line}" for line in slip(made, name, port)),
-            *([f"  shared {', '.join(shared)}"] if shared else []),
-            *(["  The house may play a node that waits for you."] if made.held() else []),
-            f"  These lines are the file {name}.slip, which programs take:",
-            f"  python3 client.py {name}.slip",
-            f"  python3 bot.py {name}.slip",
-            "  Correct its port where the teacher tells another one; docs/STUDENT.md says the rest.",
-        ]
-        pages.append("\n".join(lines))
-    return f"\n{'- ' * 40}\n".join(pages) + "\n"
+def text(made: Lab, name: str, way: Way) -> str:
+    """Returns the text of a slip's file."""
+    return "".join(f"{line}\n" for line in (*slip(made, name, way.port), *way.lines()))
 
 
-def write_all(made: Lab, port: int, folder: Path) -> None:
-    """A file for each student and the teacher, in a folder that nobody else reads, or no folder if one can't be written."""
+def write_all(made: Lab, way: Way, folder: Path) -> None:
+    """Writes a file for each student, in a folder that nobody else reads, or no folder if one can't be written."""
     try:
         folder.mkdir(mode=0o700)
     except OSError as error:
         raise Fault(f"{folder}: {error.strerror}", 4) from None
     try:
-        for name in [*made.without_house().students, made.teacher[0]]:
-            write_new(folder / f"{name}.slip", "\n".join(slip(made, name, port)) + "\n")
+        for name in made.without_house().students:
+            write_new(folder / f"{name}.slip", text(made, name, way))
     except BaseException:
         shutil.rmtree(folder)
         raise
+
+
+def replace(path: Path, content: str) -> None:
+    """Writes a file anew, which nobody else reads."""
+    other = path.with_name(f".{path.name}.{os.getpid()}")
+    write_new(other, content)
+    other.replace(path)

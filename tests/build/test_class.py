@@ -11,7 +11,7 @@ from tests.build.clone import TOP, InClone
 # A program that takes every lab, but for those whose name has a 2 at the end.
 PROGRAM = '#!/bin/sh\n[ "${2%-2.toml}" = "$2" ] || { echo "lab fault: 3" >&2; exit 2; }\necho "ok: 4 nodes, 4 students"\n'
 WORDS = ("maths.toml", "--students", "names.txt")
-FIRST = ("maths.toml", "maths-slips.txt", "maths-slips")
+FIRST = ("maths.toml", "maths-slips.html", "maths-slips", "maths-slips.csv", "maths-teacher.slip")
 
 
 class SetsUp(InClone):
@@ -40,7 +40,7 @@ class SetsUp(InClone):
         self.assertRegex(done.stderr, r"^mml: building mml_server and mml_host, after proving 5 crates; .*\nmml: from nothing that takes ")
         self.assertIn("\nmml: 5 of 5 crates proved\n", done.stderr)
         self.assertEqual(self.made(), sorted(FIRST))
-        for name in ("maths.toml", "maths-slips.txt"):
+        for name in set(FIRST) - {"maths-slips"}:
             (self.clone / name).unlink()
         shutil.rmtree(self.clone / "maths-slips")
         done = self.new()
@@ -56,7 +56,7 @@ class SetsUp(InClone):
         """Each word builds the programs before it does anything: where that fails, it does nothing."""
         self.set("fails", "low")
         before = sorted(self.clone.rglob("*"))
-        for words in (("new", *WORDS), ("check", "it.toml"), ("run", "it.toml"), ("attach", "it"), ("key", "it.toml", "ana"), ("mark", "it"),
+        for words in (("new", *WORDS), ("check", "it.toml"), ("run", "it.toml"), ("attach", "it"), ("slips", "it.toml"), ("key", "it.toml", "ana"), ("mark", "it"),
                       ("history", "it", "ana"), ("play", "it"), ("practise", "true"), ("grade", "true"), ("experiment",), ("demo",)):
             done = self.call("./class", *words)
             self.assertEqual((done.returncode, done.stdout), (1, ""), words)
@@ -105,7 +105,7 @@ class SetsUp(InClone):
         """If a file can't be written whole, neither it nor the others are left: here under a limit on the size of files."""
         (self.clone / "names.txt").write_text("".join(f"student{number}\n" for number in range(40)), encoding="utf-8")
         self.assertEqual(self.call("./mml", "build").returncode, 0)
-        for most, full in ((1, "maths.toml"), (8, "maths-slips.txt")):
+        for most, full in ((1, "maths.toml"), (8, "maths-slips.html")):
             limited = f'ulimit -f {most} && trap "" XFSZ && exec ./class new "$@"'
             done = self.call("bash", "-c", limited, "bash", *WORDS)
             self.assertEqual((done.returncode, done.stderr, self.made()), (4, f"class: {full}: File too large\n", []))

@@ -123,7 +123,7 @@ class Standing(InRoom):
         self.assertEqual(list(self.lab.students), ["ana-lima", "gus-roy", "house-2", "eva-sol", HOUSE])
         self.assertTrue(all(node.owners[1] == HOUSE and len(node.owners) == 2 for node in self.lab.nodes))
         self.assertFalse(self.slip(HOUSE).exists())
-        printed = (self.room / "maths-slips.txt").read_text(encoding="utf-8")
+        printed = (self.room / "maths-slips.html").read_text(encoding="utf-8")
         self.assertNotIn(self.lab.students[HOUSE], printed)
         self.assertNotIn("shared", printed)
         self.assertEqual(printed.count("The house may play a node that waits for you."), 4)

@@ -139,15 +139,19 @@ class New(InRoom):
             self.clean()
             told = self.new(*more)
             if offered is None:
-                self.assertNotIn("note: no node", told)
+                self.assertNotIn("WARNING", told)
             else:
-                self.assertIn(f"note: no node for student-4: {offered} has enough\n", told)
+                self.assertIn(f"WARNING: more students than nodes: no node for student-4: {offered} has enough\n", told)
+                self.clean()
+                refused = self.new(*more, "--strict", status=1)
+                self.assertEqual(refused, f"class: --strict: more students than nodes: no node for student-4: {offered} has enough\n")
+                self.assertEqual([*self.room.glob("lab*")], [])
 
     def test_the_lab_keeps_written_names_and_ids(self) -> None:
         students = self.file("class.csv", 'Name,ID\n"Zoë ""Z"" Müller",7\n😀 王,8\nBen,\n')
         done = words("new", self.room / "lab.toml", "--students", students, "--family", "path")
         self.assertEqual(done.returncode, 0, done.stderr)
-        self.assertIn('Zoë "Z" Müller (7) is zoe-z-mueller\n😀 王 (8) is s-8\n', done.stdout)
+        self.assertRegex(done.stdout, r'\nZoë "Z" Müller \(7\) +zoe-z-mueller +lab +1\n😀 王 \(8\) +s-8 +lab +2\nBen +ben +lab +3\n')
         people = labs.read(self.room / "lab.toml").people
         self.assertEqual(people, {"zoe-z-mueller": Person('Zoë "Z" Müller', "7"), "s-8": Person("😀 王", "8"), "ben": Person("Ben")})
         self.assertNotIn("is no key of a lab", words("check", self.room / "lab.toml").stdout)
@@ -158,15 +162,16 @@ class New(InRoom):
         self.assertTrue(all(len(set(node["owners"])) == 2 for node in it["node"]))
         keys = [each["key"] for each in [it["teacher"], *it["student"]]]
         self.assertEqual(len(set(keys)), 6)
-        self.assertTrue(all(re.fullmatch("[0-9a-f]{32}", key) for key in keys))
-        slips = (self.room / "lab-slips.txt").read_text(encoding="utf-8")
+        self.assertRegex(keys[0], "^[0-9a-f]{32}$")
+        self.assertTrue(all(re.fullmatch("([a-z]{3,7}-){3}[0-9]{2}", key) for key in keys[1:]))
+        slips = (self.room / "lab-slips.html").read_text(encoding="utf-8")
         for each in it["student"]:
             self.assertIn(each["key"], slips)
         self.assertNotIn(it["teacher"]["key"], slips)
         self.assertEqual((self.room / "lab.toml").stat().st_mode & 0o077, 0)
 
     def test_overwrites_nothing(self) -> None:
-        for name in ("lab.toml", "lab-slips.txt"):
+        for name in ("lab.toml", "lab-slips.html", "lab-teacher.slip", "lab-slips.csv"):
             there = self.file(name, "mine")
             self.assertIn("isn't overwritten", self.new(status=1))
             self.assertEqual(there.read_text(encoding="utf-8"), "mine")
@@ -181,6 +186,7 @@ class New(InRoom):
 
     def test_groups(self) -> None:
         self.assertIn("--groups 2", self.new(students=24))
+        self.clean()
         told = self.new("--groups", "2", students=24)
         self.assertNotIn("note", told)
         for number in (1, 2):
@@ -190,7 +196,7 @@ class New(InRoom):
     def test_a_csv(self) -> None:
         self.file("class.csv", "number;Name\n1;Zoë Müller\n2;Ana\n")
         done = words("new", self.room / "lab.toml", "--students", self.room / "class.csv", "--family", "path")
-        self.assertIn("Zoë Müller is zoe-mueller", done.stdout)
+        self.assertRegex(done.stdout, r"\nZoë Müller +zoe-mueller +lab +1\n")
         done = words("new", self.room / "other.toml", "--students", self.room / "class.csv", "--column", "who")
         self.assertIn("no column who", done.stderr)
 

@@ -59,21 +59,20 @@ class Files(InRoom):
             lab = read(self.room / f"lab-{number}.toml")
             folder = self.room / f"lab-{number}-slips"
             self.assertEqual(folder.stat().st_mode & 0o777, 0o700)
-            self.assertEqual({file.stem for file in folder.iterdir()}, {*lab.students, "teacher"})
-            for file in folder.iterdir():
+            self.assertEqual({file.stem for file in folder.iterdir()}, {*lab.students})
+            for file in [*folder.iterdir(), self.room / f"lab-{number}-teacher.slip"]:
                 self.assertEqual(file.stat().st_mode & 0o777, 0o600)
                 found[file.stem] = Slip.read(file)
-                self.assertEqual(found[file.stem].port, 4999 + number)
+                self.assertEqual((found[file.stem].port, found[file.stem].network), (4999 + number, f"lab-{number}"))
             for name, key in lab.students.items():
                 self.assertEqual((found[name].name, found[name].key), (name, key))
                 self.assertEqual(list(found[name].nodes), lab.nodes_of(name))
-            self.assertEqual(found["teacher"].key, lab.teacher[1])
-            printed = (self.room / f"lab-{number}-slips.txt").read_text(encoding="utf-8")
+            self.assertEqual(found[f"lab-{number}-teacher"].key, lab.teacher[1])
+            printed = (self.room / f"lab-{number}-slips.html").read_text(encoding="utf-8")
             self.assertNotIn(lab.teacher[1], printed)
             for name, key in lab.students.items():
-                self.assertIn(f"  key {key}\n", printed)
-                self.assertIn(f"  python3 bot.py {name}.slip\n", printed)
-                self.assertEqual([line for line in printed.splitlines() if "python3" in line and key in line], [])
+                self.assertIn(f'<code class="key">{key}</code>', printed)
+                self.assertIn(f"<code>python3 bot.py {name}.slip</code>", printed)
 
     def test_what_a_slip_is(self) -> None:
         slip = self.file("ana.slip", "# Ana\nport 4711\nname ana\nkey a b\nnodes 1,4\n")

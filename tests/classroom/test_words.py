@@ -123,15 +123,15 @@ class Rekeyed(InRoom):
         after, slip = document(self.lab), Slip.read(self.folder / "ben-roy.slip")
         old, new = before["student"][1]["key"], after["student"][1]["key"]
         self.assertNotEqual(old, new)
-        self.assertEqual(len(new), len(old))
+        self.assertRegex(new, "^([a-z]{3,7}-){3}[0-9]{2}$")
         self.assertEqual(self.lab.read_text(encoding="utf-8"), text.replace(old, new))
         self.assertEqual((slip.port, slip.name, slip.key, slip.nodes), (4799, "ben-roy", new, (2,)))
         self.assertEqual(others.pop("ben-roy.slip").replace(old.encode(), new.encode()), (self.folder / "ben-roy.slip").read_bytes())
         self.assertEqual(others, {file.name: file.read_bytes() for file in self.folder.iterdir() if file.name != "ben-roy.slip"})
-        printed = (self.room / "maths-slips.txt").read_text(encoding="utf-8")
-        self.assertEqual((printed.count(old), printed.count(new)), (0, 1))
+        printed = (self.room / "maths-slips.html").read_text(encoding="utf-8")
+        self.assertEqual((printed.count(old), printed.count(f">{new}<"), printed.count(f"&amp;key={new}\"")), (0, 1, 1))
         self.assertNotIn(new, done.stdout)
-        for file in (self.lab, self.folder / "ben-roy.slip", self.room / "maths-slips.txt"):
+        for file in (self.lab, self.folder / "ben-roy.slip", self.room / "maths-slips.html"):
             self.assertEqual(file.stat().st_mode & 0o777, 0o600, file)
 
     def test_what_can_not_be_changed(self) -> None:

@@ -1,0 +1,111 @@
+"""The page of slips to print: four a page, with lines to cut along."""
+from __future__ import annotations
+
+import shutil
+from collections.abc import Iterator
+from html import escape
+from urllib.parse import quote
+
+from classroom.core.lab import Lab
+from classroom.core.lists import Person
+from classroom.core.processes import run
+from classroom.core.program import Fault
+from classroom.core.statuses import FAILED
+from classroom.setup.slips import Way
+
+STYLE = """
+@page { size: A4; margin: 8mm; }
+* { box-sizing: border-box; }
+body { margin: 0; font: 10.5pt/1.35 sans-serif; color: #000; background: #fff; }
+.sheet { display: grid; grid-template: repeat(2, 1fr) / repeat(2, 1fr); height: 279mm; break-after: page; }
+.slip { border: 0.4mm dashed #767676; margin: -0.2mm; padding: 6mm; overflow: hidden; position: relative; }
+h2 { font-size: 22pt; line-height: 1.1; margin: 0; overflow-wrap: anywhere; }
+h3 { font-size: 14pt; margin: 2mm 0; overflow-wrap: anywhere; }
+dl { display: grid; grid-template-columns: auto 1fr; gap: 0.5mm 3mm; margin: 0 0 2mm; }
+dt { color: #505050; }
+dd { margin: 0; overflow-wrap: anywhere; }
+code { font: 10.5pt/1.35 monospace; overflow-wrap: anywhere; }
+.key { font-size: 12pt; font-weight: bold; white-space: nowrap; }
+.small, .small code { font-size: 8pt; }
+p { margin: 0 0 1.5mm; }
+.square { float: right; width: 30mm; height: 30mm; margin: 0 0 2mm 3mm; }
+@media screen { .sheet { max-width: 194mm; margin: 8mm auto; } }
+"""
+EACH = 4  # slips a page
+NO_SQUARE = "The slips have no QR codes: qrencode isn't installed (Debian's package qrencode)."
+
+
+def address(way: Way, name: str, key: str) -> str:
+    """Returns the address of the page to play by, which has name and key behind `#`: they aren't sent."""
+    given = f"#name={quote(name)}&key={quote(key, safe='')}"
+    return f"https://{way.door}/{way.network}/{given}" if way.door else f"http://127.0.0.1:{way.page}/{given}"
+
+
+def has_squares(way: Way) -> bool:
+    """Returns whether slips can have QR codes, which only addresses of a door have: another machine opens no other."""
+    return bool(way.door) and shutil.which("qrencode") is not None
+
+
+def square(content: str) -> str:
+    """Returns a QR code as SVG. The program gets its content where others can't read it."""
+    done = run(["qrencode", "-t", "ASCII", "-m", "0", "-l", "M"], given=content.encode())
+    if done.returncode != 0:
+        raise Fault(f"qrencode: {done.stderr.decode(errors='replace').strip()}", FAILED)
+    rows = [line[::2] for line in done.stdout.decode("ascii").splitlines() if line]
+    dark = "".join(f"M{x} {y}h1v1h-1z" for y, row in enumerate(rows) for x, cell in enumerate(row) if cell == "#")
+    size = len(rows) + 4
+    return (f'<svg class="square" viewBox="-2 -2 {size} {size}" role="img" aria-label="the page\'s address as a QR code">'
+            f'<path d="{dark}"/></svg>')
+
+
+def forwards(way: Way) -> str:
+    """Returns the line by which ssh leads to the server and to the page to play by."""
+    return f"ssh -N -L {way.port}:127.0.0.1:{way.port} -L {way.page}:127.0.0.1:{way.page} {way.ssh}"
+
+
+def in_parts(digits: str) -> str:
+    """Returns a fingerprint as browsers show it."""
+    return ":".join(digits[at:at + 2] for at in range(0, len(digits), 2)).upper()
+
+
+def rows(made: Lab, name: str, way: Way) -> Iterator[tuple[str, str]]:
+    """Yields what a slip has in lines, as HTML."""
+    yield "name", f"<code>{escape(name)}</code>"
+    yield "key", f'<code class="key">{escape(made.students[name])}</code>'
+    nodes = made.nodes_of(name)
+    yield ("node" if len(nodes) == 1 else "nodes"), escape(", ".join(map(str, nodes)) or "none")
+    shared = [f"{node} (with {other})" for node in nodes for other in made.owners(node) if other != name]
+    if shared:
+        yield "shared", escape(", ".join(shared))
+
+
+def slip(made: Lab, shown: Lab, name: str, way: Way) -> str:
+    """Returns one slip."""
+    person, link = made.people.get(name, Person(name)), address(way, name, made.students[name])
+    room = f" · {escape(way.room)}" if way.room else ""
+    listed = "".join(f"<dt>{head}</dt><dd>{value}</dd>" for head, value in rows(shown, name, way))
+    house = "<p>The house may play a node that waits for you.</p>" if made.held() else ""
+    anchor = f'<a href="{escape(link)}">{escape(link.partition("#")[0])}</a>'
+    if way.door:
+        how = (f"<p>By hand: {anchor}; the browser warns of a certificate that it doesn't know.</p>"
+               f"<p>A program: <code>python3 bot.py {escape(name)}.slip</code></p>"
+               f"<p>In another language, first: <code>python3 client.py --tunnel {escape(name)}.slip</code>; then it connects to port "
+               f"{way.port} of your own machine.</p>"
+               f'<p class="small">The certificate\'s SHA-256: <code>{in_parts(way.fingerprint)}</code></p>')
+    else:
+        how = (f"<p>From another machine, first: <code>{escape(forwards(way))}</code></p>"
+               f"<p>By hand: {anchor}</p>"
+               f"<p>A program: <code>python3 bot.py {escape(name)}.slip</code>, which connects to port {way.port}.</p>")
+    code = square(link) if has_squares(way) else ""
+    return (f'<section class="slip"><h2>{escape(way.network)}{room}</h2><h3>{escape(person.written)}</h3><dl>{listed}</dl>'
+            f"{code}{house}{how}</section>")
+
+
+def page(made: Lab, way: Way) -> str:
+    """Returns the page of all slips of a lab, without the teacher's."""
+    shown = made.without_house()
+    slips = [slip(made, shown, name, way) for name in shown.students]
+    sheets = ["".join(slips[at:at + EACH]) for at in range(0, len(slips), EACH)]
+    return (f'<!DOCTYPE html>\n<html lang="en">\n<head>\n<meta charset="utf-8">\n<title>Slips of {escape(way.network)}</title>\n'
+            f"<style>{STYLE}</style>\n</head>\n<body>\n"
+            + "\n".join(f'<div class="sheet">{sheet}</div>' for sheet in sheets) + "\n</body>\n</html>\n")

@@ -1,0 +1,63 @@
+"""Plays the nodes of many slips, each over a connection of its own that is made again when it is lost:
+
+    crowd.py FILE SLIP..
+
+FILE gets a line for each hello that was granted, with the name.
+"""
+from __future__ import annotations
+
+import sys
+import threading
+import time
+from pathlib import Path
+
+sys.path.insert(0, str(Path(__file__).resolve().parents[3]))
+
+from classroom.client import Client, Closed, Denied, NoServer, Over, Refused, Slip, again, enter, goes_on
+
+PAUSE = 0.3  # seconds between two looks
+
+
+def play(slip: Slip, told: Path) -> None:
+    """Plays until the class is over, or the key is another one."""
+    me = come(slip)
+    while True:
+        with told.open("a", encoding="utf-8") as it:
+            it.write(f"{slip.name}\n")
+        try:
+            turns(me, slip)
+        except Over:
+            return
+        except (Closed, Refused) as lost:
+            me.hang_up()
+            me = again(slip, lost, 300)
+
+
+def come(slip: Slip) -> Client:
+    """Greets, and again until there is a way in: a class may be about to begin."""
+    while True:
+        try:
+            return enter(slip, 300)
+        except NoServer:
+            time.sleep(1)
+
+
+def turns(me: Client, slip: Slip) -> None:
+    """Asks for what a look shows, again and again."""
+    while True:
+        for node in slip.nodes:
+            try:
+                look = me.look(node)
+                if look.rule and not look.chosen:
+                    me.move(look)
+            except (Denied, Refused) as no:
+                if not goes_on(no):
+                    raise
+        time.sleep(PAUSE)
+
+
+threads = [threading.Thread(target=play, args=[Slip.read(file), Path(sys.argv[1])]) for file in sys.argv[2:]]
+for thread in threads:
+    thread.start()
+for thread in threads:
+    thread.join()

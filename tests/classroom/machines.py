@@ -1,0 +1,58 @@
+"""Two machines that a cable joins: network namespaces, each with a loopback of its own. Only root can make them."""
+from __future__ import annotations
+
+import os
+import shutil
+import subprocess
+from collections.abc import Iterator
+from contextlib import contextmanager
+from dataclasses import dataclass
+
+TEACHERS, STUDENTS = "10.77.0.1", "10.77.0.2"  # the addresses at both ends of the cable
+
+
+@dataclass(frozen=True)
+class Machine:
+    """A machine, and what is put before a command that runs there."""
+
+    process: int
+
+    @property
+    def on(self) -> tuple[str, ...]:
+        """The words before a command."""
+        return "nsenter", f"--net=/proc/{self.process}/ns/net"
+
+    def call(self, *words: str) -> None:
+        """Runs a command there."""
+        subprocess.run([*self.on, *words], check=True, stdin=subprocess.DEVNULL, capture_output=True)
+
+
+def can_be_made() -> bool:
+    """Whether machines can be made here."""
+    if os.geteuid() != 0 or not all(map(shutil.which, ("ip", "unshare", "nsenter"))):
+        return False
+    return subprocess.run(["unshare", "--net", "true"], check=False, capture_output=True).returncode == 0
+
+
+@contextmanager
+def two() -> Iterator[tuple[Machine, Machine]]:
+    """The teacher's machine and the students'."""
+    holders = [subprocess.Popen(["unshare", "--net", "sh", "-c", "echo; exec sleep 100000"], stdout=subprocess.PIPE) for _ in range(2)]
+    try:
+        for it in holders:
+            assert it.stdout is not None
+            it.stdout.readline()  # It is in its namespace.
+        teachers, students = (Machine(it.pid) for it in holders)
+        subprocess.run(["ip", "link", "add", "cable", "netns", str(teachers.process), "type", "veth", "peer", "name", "cable",
+                        "netns", str(students.process)], check=True, capture_output=True)
+        for machine, address in ((teachers, TEACHERS), (students, STUDENTS)):
+            machine.call("ip", "address", "add", f"{address}/24", "dev", "cable")
+            for device in ("lo", "cable"):
+                machine.call("ip", "link", "set", device, "up")
+        yield teachers, students
+    finally:
+        for it in holders:
+            it.kill()
+            it.wait()
+            if it.stdout is not None:
+                it.stdout.close()

@@ -1,0 +1,141 @@
+"""A class whose students sit at another machine: 44 of them in four networks through one door, and another key meanwhile."""
+from __future__ import annotations
+
+import csv
+import json
+import subprocess
+import sys
+import time
+import unittest
+from collections.abc import Callable, Iterator
+from contextlib import contextmanager
+from pathlib import Path
+
+from classroom.client import Slip
+from classroom.core.lab import read
+from classroom.core.program import host
+from tests.classroom.help import EXAMPLES, LIMIT, Going, InRoom, a_port, words
+from tests.classroom.machines import TEACHERS, Machine, can_be_made, two
+
+CROWD = Path(__file__).parent / "bots/crowd.py"
+CLIENT = EXAMPLES.parent / "classroom/client.py"
+REACHES = "import socket, sys; socket.create_connection((sys.argv[1], int(sys.argv[2])), 20)"
+GETS = ("import http.client, ssl, sys; it = http.client.HTTPSConnection(sys.argv[1], int(sys.argv[2]), timeout=60, context=ssl._create_unverified_context()); "
+        "it.request('GET', sys.argv[3]); answer = it.getresponse(); print(answer.status, len(answer.read()))")
+
+
+@unittest.skipUnless(host(), "not tried: no host is built")
+@unittest.skipUnless(can_be_made(), "not tried: no network namespaces can be made here")
+class Far(InRoom):
+    """Classes through a door."""
+
+    def setUp(self) -> None:
+        super().setUp()
+        self.teachers, self.students = self.enterContext(two())
+        self.port, self.told = a_port(), self.room / "told"
+
+    def new(self, count: int, *more: str) -> list[Path]:
+        """Makes labs for so many students in two rooms, and returns their files."""
+        rows = "".join(f"Student {number},s{number}@x.example,{'A 1' if number % 2 else 'B 2'}\n" for number in range(count))
+        students = self.file("list.csv", f"Name,Email address,Room\n{rows}")
+        done = words("new", self.room / "maths.toml", "--students", students, "--door", f"{TEACHERS}:{self.port}", "--start", "hurt", *more)
+        self.assertEqual(done.returncode, 0, done.stdout + done.stderr)
+        return sorted(self.room.glob("maths*.toml"))
+
+    @contextmanager
+    def crowd(self, slips: list[Path]) -> Iterator[subprocess.Popen[bytes]]:
+        """Bots of these slips at the students' machine."""
+        with subprocess.Popen([*self.students.on, sys.executable, CROWD, self.told, *slips], stdin=subprocess.DEVNULL, stderr=subprocess.PIPE) as it:
+            try:
+                yield it
+            finally:
+                it.kill()
+
+    def greeted(self) -> list[str]:
+        """Who was greeted until now, one for each time."""
+        return self.told.read_text(encoding="utf-8").split() if self.told.exists() else []
+
+    def wait(self, until: Callable[[], bool]) -> None:
+        """Waits until something is so."""
+        end = time.monotonic() + LIMIT
+        while not until():
+            self.assertLess(time.monotonic(), end, self.greeted())
+            time.sleep(0.1)
+
+    def reaches(self, machine: Machine, port: int) -> bool:
+        """Whether the teacher's machine takes connections from a machine at a port."""
+        return subprocess.run([*machine.on, sys.executable, "-c", REACHES, TEACHERS, str(port)], check=False, capture_output=True).returncode == 0
+
+    def gets(self, path: str) -> tuple[int, int]:
+        """Status and size of a page that is asked for at the students' machine."""
+        done = subprocess.run([*self.students.on, sys.executable, "-c", GETS, TEACHERS, str(self.port), path], check=False, capture_output=True, text=True)
+        status, size = map(int, done.stdout.split())
+        return status, size
+
+    def test_four_networks_and_forty_four_students(self) -> None:
+        labs = self.new(44, "--groups-by", "Room")
+        self.assertEqual([lab.stem for lab in labs], ["maths-1", "maths-2", "maths-3", "maths-4"])
+        with (self.room / "maths-slips.csv").open(encoding="utf-8", newline="") as it:
+            rows = [*csv.DictReader(it)]
+        self.assertEqual((len(rows), {row["room"] for row in rows}, len({row["e-mail"] for row in rows})), (44, {"A 1", "B 2"}, 44))
+        run = subprocess.Popen([*self.teachers.on, sys.executable, EXAMPLES.parent / "class", "run", *labs, "--door", str(self.port), "--page",
+                                "--into", self.room / "runs", "--close", "every:1", "--typed"], stdin=subprocess.PIPE, stdout=subprocess.PIPE,
+                               stderr=subprocess.STDOUT, text=True)
+        self.addCleanup(run.wait)
+        self.addCleanup(run.kill)
+        with self.crowd([Path(row["file"]) for row in rows]):
+            assert run.stdout is not None and run.stdin is not None
+            self.wait(lambda: len(set(self.greeted())) == 44)
+            records = [json.loads(file.read_text(encoding="utf-8")) for file in sorted((self.room / "runs").glob("*/run.json"))]
+            self.assertTrue(self.reaches(self.students, self.port))
+            for record in records:
+                self.assertTrue(all(not self.reaches(self.students, record[kind]) for kind in ("port", "desk", "page", "play")), record)
+            for record, lab in zip(records, labs, strict=True):
+                self.assertEqual(self.gets(f"/{lab.stem}/")[0], 200)
+                self.assertEqual(self.gets(f"/{lab.stem}/look/{record['looks']}/")[0], 200)
+            self.wait(lambda: all("; stable, " in file.read_text(encoding="utf-8") for file in (self.room / "runs").glob("*/run.txt")))
+            run.stdin.write("end\n")
+            run.stdin.flush()
+            output = run.communicate(timeout=LIMIT)[0]
+        self.assertEqual(run.returncode, 0, output)
+        marks = [json.loads(file.read_text(encoding="utf-8"))["runs"][0] for file in sorted((self.room / "runs").glob("*/marks.json"))]
+        self.assertEqual(sum(len(it["students"]) for it in marks), 44)
+        self.assertTrue(all(it["stable"] for it in marks))
+        self.assertFalse(self.reaches(self.students, self.port))
+
+    def test_another_key_while_the_class_goes_on(self) -> None:
+        lab, = self.new(6)
+        going = Going(self, None, "run", lab, "--door", str(self.port), "--into", self.room / "runs", "--close", "every:1", before=self.teachers.on)
+        folder = self.room / "maths-slips"
+        slips = {file.stem: file for file in sorted(folder.iterdir())}
+        old = Slip.read(slips["student-3"])
+        with self.crowd([*slips.values()]):
+            self.wait(lambda: len(set(self.greeted())) == 6)
+            going.until("; stable, ")
+            before = (going.folder / "journal").read_bytes()
+            going.type("key nobody")
+            going.until("^no student nobody; there are student-0, ")
+            going.type("key student-3")
+            going.until("^the class goes on at port ")
+            others = [name for name in slips if name != "student-3"]
+            self.wait(lambda: all(self.greeted().count(name) == 2 for name in others))
+            new = Slip.read(slips["student-3"])
+            self.assertNotEqual(new.key, old.key)
+            self.assertEqual(read(lab).students["student-3"], new.key)
+            printed = (self.room / "maths-slips.html").read_text(encoding="utf-8")
+            self.assertEqual((printed.count(old.key), new.key in printed), (0, True))
+            past = self.file("old.slip", slips["student-3"].read_text(encoding="utf-8").replace(new.key, old.key))
+            for file, reply in ((past, '"deny":"unknown"'), (slips["student-3"], '{"ok":"hello","who":"student-3"}')):
+                done = subprocess.run([*self.students.on, sys.executable, CLIENT, file], input='{"do":"bye"}\n', capture_output=True, text=True, check=False)
+                self.assertIn(reply, done.stdout, done.stderr)
+            self.assertEqual(going.ended(), 0, going.lines)
+        self.assertTrue((going.folder / "journal").read_bytes().startswith(before))
+        self.assertTrue((going.folder / "record.~1~" / "begun").is_file())
+        run = json.loads((going.folder / "marks.json").read_text(encoding="utf-8"))["runs"][0]
+        journal = (going.folder / "journal").read_text(encoding="ascii")
+        self.assertEqual(sum(it["granted"] for it in run["students"].values()), journal.count(" grant "))
+        self.assertEqual(words("mark", going.folder, "--json").returncode, 0)
+
+
+if __name__ == "__main__":
+    unittest.main()

@@ -1,0 +1,34 @@
+"""Keys that are typed from paper, and the words that they are made of."""
+from __future__ import annotations
+
+import math
+import re
+import unittest
+
+from classroom.setup.keys import for_people, for_programs
+from classroom.setup.word_list import WORDS
+
+
+class Keys(unittest.TestCase):
+    """Keys of three words and two digits."""
+
+    def test_the_words(self) -> None:
+        self.assertEqual((len(WORDS), len(set(WORDS))), (4096, 4096))
+        self.assertEqual([word for word in WORDS if not re.fullmatch("[a-z]{3,7}", word)], [])
+        self.assertEqual(WORDS, sorted(WORDS))
+
+    def test_keys(self) -> None:
+        made = {for_people() for _ in range(2000)}
+        self.assertEqual(len(made), 2000)
+        parts = [key.split("-") for key in made]
+        self.assertTrue(all(len(each) == 4 and set(each[:3]) <= set(WORDS) and re.fullmatch("[0-9]{2}", each[3]) for each in parts))
+        self.assertTrue(all(1 <= len(key) <= 64 for key in made))
+        for place in range(3):  # Each place has many words, and none of them often.
+            self.assertGreater(len({each[place] for each in parts}), 1300)
+        self.assertGreater(len({each[3] for each in parts}), 90)
+        self.assertGreater(3 * math.log2(len(WORDS)) + math.log2(100), 42)
+        self.assertRegex(for_programs(), "^[0-9a-f]{32}$")
+
+
+if __name__ == "__main__":
+    unittest.main()
