@@ -13,7 +13,7 @@ from the registers as they are. Read the modules in this order:
 7. `journal`: the text of the granted events, and the audit (`docs/JOURNAL.md`).
 8. `record`: what was asked and answered, and how it is verified (`docs/RECORD.md`).
 9. `tally`: the numbers that marks are made of.
-10. `words`: the command line; `stored`: the stored outputs of scripts.
+10. `words`: the command line; `stored`: the stored outputs of scripts; `explain`: why a move was denied, for people.
 """
 from model.fault import Fault
 from model.journal import audit

@@ -14,9 +14,11 @@ from contextlib import contextmanager
 from pathlib import Path
 
 from classroom.bots import graded, parts, seen, suites
+from classroom.bots.attempt import Limits, Seen
 from classroom.bots.bots import Bot, no_worlds
+from classroom.bots.playing import OWN_RULE
 from classroom.bots.suites import Case
-from classroom.bots.trial import Limits, Result, Seen, tried
+from classroom.bots.trial import Result, tried
 from classroom.core.answering import answerer
 from classroom.core.counts import positive, seconds
 from classroom.core.folders import new_folder
@@ -45,6 +47,7 @@ def add_words(words: argparse.ArgumentParser) -> None:
     words.add_argument("--memory", type=positive, default=512, metavar="MB",
                        help="what a bot may take, with all that it starts (512)")
     words.add_argument("--at-once", type=positive, help="how many cases run side by side")
+    words.add_argument("--own-rule", action="store_true", help="no look shows a bot the enabled rule, so that it has to decide by itself")
     words.add_argument("--show", action="append", default=[], metavar="FOLDER", help="what bots may read beside their own folders and programs")
     words.add_argument("--not-apart", action="store_true", help="bots run one after another, as you, and see your files")
     words.add_argument("--into", default="grades", help="where the cases' records and pages are kept (grades)")
@@ -80,7 +83,7 @@ def results_of(bots: list[Bot], cases: list[Case], words: argparse.Namespace, to
                seen_by: dict[str, Seen] | None = None) -> Iterator[Result]:
     """The result of each case of each bot as it ends; of a case that was interrupted there is none. Bots run side by side
     where it is said what each sees, and else one after another."""
-    limits = Limits(words.timeout, words.memory)
+    limits = Limits(words.timeout, words.memory, words.own_rule)
     at_once = words.at_once or min(MOST_AT_ONCE, 3 * (os.cpu_count() or 1))
 
     def one(bot: Bot, case: Case) -> Result | None:
@@ -206,6 +209,8 @@ def grade(words: argparse.Namespace) -> int:
         cases = suites.of_suite(words.suite, words.daemon, words.seeds)
     for fault in faults + [bot.fault for bot in bots if bot.fault]:
         print(f"class: {fault}", flush=True)
+    if words.own_rule:
+        print(f"class: {OWN_RULE}", flush=True)
     if words.merge:
         return parts.merged(words, [(bot.name, case.name()) for bot in bots for case in cases])
     cases = parts.of(cases, words.part)

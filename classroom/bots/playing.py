@@ -7,14 +7,16 @@ from __future__ import annotations
 
 import json
 import random
+import re
 import time
-from collections import Counter, deque
+from collections import Counter
 from collections.abc import Callable
 from dataclasses import dataclass, field
 from pathlib import Path
 from types import TracebackType
 from typing import Any
 
+from classroom.bots.conduct import Conduct, number_of
 from classroom.bots.relay import Relay
 from classroom.client import Denied, reply_of, wrong
 from classroom.core import lab as labs
@@ -27,8 +29,9 @@ TEACHER, HOUSE, FIRST = 1, 2, 3  # connections of the script; from the third on 
 PACE = 0.02  # seconds between two looks of the house at its nodes
 SHARED = 0.05  # how often the house asks at such a look for a node that a program plays too
 KEPT_LINES = 20_000  # of a conversation
-FLOOD = 200  # lines over which pauses are counted
-SHOWN = 40  # characters of a word that was asked
+SHOWN, SHOWN_LINE = 40, 120  # characters of a word and of a line that was asked
+OWN_RULE = "no look shows a program the enabled rule (--own-rule): it has to decide by p, m and near, as STUDENT.md tells"
+RULE = re.compile(rb',"rule":"[a-z]+"}$')  # at the end of a look
 PATIENCE = 0.5  # seconds without a grant after which the random daemon tosses
 
 
@@ -44,13 +47,9 @@ class Heard:
     wanted: set[str] = field(default_factory=set)  # the rules that it asked for
     greeted: int = 0
     denied: Counter[str] = field(default_factory=Counter)
-    pauses: deque[bool] = field(default_factory=lambda: deque(maxlen=FLOOD))  # whether one was before the last lines
-    repeats: Counter[tuple[int, int]] = field(default_factory=Counter)  # `chosen` by node and number
-
-    def floods(self, nodes: int) -> bool:
-        """Whether the last lines came almost without pauses: a bot of so many nodes waits when it has looked at all, so
-        one pause in four lines a node and four more is enough."""
-        return len(self.pauses) == FLOOD and sum(self.pauses) * (4 * nodes + 4) < FLOOD
+    conduct: Conduct = field(default_factory=Conduct)
+    last: str = ""  # the last line
+    last_at: float = 0.0  # when it came
 
 
 @dataclass(frozen=True)
@@ -61,6 +60,7 @@ class No:
     word: str
     text: str
     kind: str  # what it has in common with others that want no other words
+    line: bytes = b""  # the line with its connection, as a script has it
 
 
 @dataclass(frozen=True)
@@ -70,11 +70,6 @@ class Step:
     at: int
     moved: list[tuple[int, str, str]]
     report: dict[str, Any]
-
-
-def number_of(value: object) -> int:
-    """A value of a request, if it is an integer; else 0."""
-    return value if isinstance(value, int) and not isinstance(value, bool) else 0
 
 
 def request_of(line: bytes) -> dict[str, Any]:
@@ -96,8 +91,9 @@ def kind_of(asked: dict[str, Any], told: dict[str, Any]) -> str:
 class Playing:
     """A lab that is played."""
 
-    def __init__(self, lab: labs.Lab, programs: list[str], daemon: Daemon, seed: str, port: int = 0) -> None:
-        """`programs` are the students that programs play; the house is all others."""
+    def __init__(self, lab: labs.Lab, programs: list[str], daemon: Daemon, seed: str, port: int = 0, own_rule: bool = False) -> None:
+        """`programs` are the students that programs play; the house is all others. With `own_rule` no look shows them
+        the enabled rule."""
         self.lab, self.programs, self.daemon = lab, programs, daemon
         self.chance, self.pace_chance = random.Random(f"{seed} daemon"), random.Random(f"{seed} house")
         self.adversary = Adversary(seed)
@@ -107,6 +103,11 @@ class Playing:
         self.conversation: list[str] = []
         self.on_no: Callable[[No], None] = lambda no: None
         self.on_step: Callable[[Step], None] = lambda step: None
+        self.own_rule = own_rule
+        self.is_held = False  # whether no step is closed, whatever is chosen
+        self.overtakes = 0  # moves that come next, before each of which a step is closed
+        self.forestalls = False  # whether the house asks for a node at once before another owner of it does
+        self.loses, self.has_lost = False, False  # whether the next granted move's reply is lost, and whether one was
         self.closes = self.moves = self.since_moves = 0
         self.news = self.closed = self.paced = time.monotonic()
         self.program = Answering(lab)
@@ -121,26 +122,53 @@ class Playing:
     # What programs ask.
 
     def answer(self, connection: int, line: bytes, paused: bool) -> bytes:
-        """The program's reply to a line that came, which is counted."""
+        """The reply that a program gets to a line that came, which is counted; nothing if the reply is lost."""
+        asked = request_of(line)
+        if asked.get("do") == "move" and asked.get("at") == self.report["at"]:
+            self.come_before(number_of(asked.get("node")))
         reply = self.program.answers([(connection, line)])[0]
         told = reply_of(reply)
         self.program.keep(connection, line, told)
-        if len(self.conversation) < KEPT_LINES:
-            self.conversation += [f"{connection} > {line.decode(errors='backslashreplace')}", f"{connection} < {reply.decode()}"]
         if told.get("ok") == "hello":
             self.names[connection] = told["who"]
             self.heard.setdefault(told["who"], Heard()).greeted += 1
         who = self.names.get(connection, self.programs[0])
-        self.heard[who].pauses.append(paused)
-        self.count(who, request_of(line), line, told)
+        is_lost = self.loses and told.get("ok") == "move"
+        if is_lost:
+            self.loses, self.has_lost = False, True
+        given = b"" if is_lost else self.without_rule(who, reply, told)
+        self.converse(connection, line, given)
+        self.heard[who].conduct.line(asked, {} if is_lost else told, paused)
+        self.count(who, asked, b"%d %s" % (connection, line), told)
         if told.get("ok") == "bye":
             self.names.pop(connection, None)
-        return reply
+        return given
 
-    def count(self, who: str, asked: dict[str, Any], line: bytes, told: dict[str, Any]) -> None:
-        """Counts a line of a student's program with its reply."""
-        heard = self.heard[who]
+    def come_before(self, node: int) -> None:
+        """Does what is to come before a move of a node, in mid-run."""
+        if self.overtakes:
+            self.overtakes -= 1
+            self.renew()
+        elif self.forestalls and node not in self.chosen and self.house_owner(node):
+            self.house_move(node)
+
+    def without_rule(self, who: str, reply: bytes, told: dict[str, Any]) -> bytes:
+        """A reply as a program gets it: with `own_rule` a look shows no enabled rule."""
+        if not self.own_rule or told.get("ok") != "look" or told["rule"] is None:
+            return reply
+        self.heard[who].conduct.rules_hidden += 1
+        return RULE.sub(b',"rule":null}', reply)
+
+    def converse(self, connection: int, line: bytes, reply: bytes) -> None:
+        """Keeps a line and its reply for the conversation, as far as that has room."""
+        if len(self.conversation) < KEPT_LINES:
+            self.conversation += [f"{connection} > {line.decode(errors='backslashreplace')}", f"{connection} < {reply.decode() or '(lost)'}"]
+
+    def count(self, who: str, asked: dict[str, Any], sent: bytes, told: dict[str, Any]) -> None:
+        """Counts a line of a student's program with its reply; `sent` has the connection before it."""
+        heard, line = self.heard[who], sent.partition(b" ")[2]
         heard.lines += 1
+        heard.last, heard.last_at = line[:SHOWN_LINE].decode(errors="backslashreplace"), time.monotonic()
         if asked.get("do") == "move":
             heard.asked += 1
             heard.wanted.add(str(asked.get("rule")))
@@ -150,14 +178,12 @@ class Playing:
             self.grant(told["node"], who, told["rule"])
         elif "deny" in told:
             heard.denied[told["deny"]] += 1
-            if told["deny"] == "chosen":
-                heard.repeats[number_of(asked.get("node")), number_of(asked.get("at"))] += 1
-            self.on_no(No(who, told["deny"], self.explained(asked, told), kind_of(asked, told)))
+            self.on_no(No(who, told["deny"], self.explained(asked, told), kind_of(asked, told), sent))
         elif "refuse" in told:
             heard.denied[told["refuse"]] += 1
             note = wrong(line.decode(errors="surrogateescape").replace("\r", " ")) if told["refuse"] == "malformed" else None
             kind = f"{told['refuse']}: {note}" if note else told["refuse"]
-            self.on_no(No(who, told["refuse"], f"{kind}: {line[:120].decode(errors='backslashreplace')}", kind))
+            self.on_no(No(who, told["refuse"], f"{kind}: {line[:SHOWN_LINE].decode(errors='backslashreplace')}", kind, sent))
 
     def explained(self, asked: dict[str, Any], told: dict[str, Any]) -> str:
         """A denial with its clause, the node's registers, and what would be granted there."""
@@ -180,9 +206,18 @@ class Playing:
         if self.relay.has_unended():
             return "; a line came that has no newline at its end"
         if self.heard[who].greeted:
-            return ""
+            return self.last_words(who)
         strangers = self.relay.came > sum(heard.greeted for heard in self.heard.values())
         return "; it connected, but no hello was granted" if strangers else f"; it never connected to port {self.relay.port}"
+
+    def last_words(self, who: str) -> str:
+        """When a program's last line came and what it was, and at which of its nodes it never looked."""
+        heard = self.heard[who]
+        ago = time.monotonic() - heard.last_at
+        never = [node for node in self.lab.nodes_of(who) if node not in heard.conduct.seen]
+        text = f"; its last line came {ago:.1f} seconds before: {heard.last}"
+        text += f"; it never looked at {' and '.join(map(str, never))}" * bool(never)
+        return text + "; no look shows it the rule (--own-rule): it has to decide by p, m and near" * bool(heard.conduct.rules_hidden)
 
     def part(self, connection: int) -> None:
         """Says bye for a connection that has ended."""
@@ -208,10 +243,23 @@ class Playing:
         self.changed()
         self.news = time.monotonic()
 
+    def release(self, node: int) -> None:
+        """Takes a chosen move back, without a close."""
+        self.program.ask(TEACHER, do="release", node=node)
+        self.chosen.pop(node)
+
+    def renew(self) -> None:
+        """Makes the next configuration: closes what is chosen, or else sets a node's registers to what they are."""
+        if self.chosen:
+            return self.close(list(self.chosen))
+        node = next((each for each in self.lab.nodes if not set(each.owners) & set(self.programs)), self.lab.nodes[0])
+        it = self.program.ask(TEACHER, do="see", node=node.id)
+        self.fault(node.id, it["p"], it["m"])
+
     def close(self, nodes: list[int]) -> None:
         """Closes a step in which these move; the other chosen moves are released."""
         for node in self.chosen.keys() - set(nodes):
-            self.program.ask(TEACHER, do="release", node=node)
+            self.release(node)
         told = self.program.ask(TEACHER, do="close")
         moved = [(node, *self.chosen[node]) for node in told["moved"]]
         for _, who, _ in moved:
@@ -264,6 +312,8 @@ class Playing:
         if now - self.paced >= PACE:
             self.paced = now
             self.house()
+        if self.is_held:
+            return
         sight = Sight([node for node, _ in self.report["privileged"]], list(self.chosen), now - self.news, now - self.closed)
         nodes = applied(self.daemon, sight, self.chance, PATIENCE, lambda nodes: self.adversary.choose(self.seen(), nodes))
         if nodes:

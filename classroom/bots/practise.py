@@ -12,10 +12,11 @@ from collections.abc import Callable
 from dataclasses import dataclass, field
 from pathlib import Path
 
+from classroom.bots import explaining
 from classroom.bots.bots import Bot, Kept
-from classroom.bots.playing import No, Playing, Step
+from classroom.bots.conduct import FLOODS
+from classroom.bots.playing import OWN_RULE, No, Playing, Step
 from classroom.bots.suites import HOUSE, TEACHER, key
-from classroom.bots.trial import FLOODS
 from classroom.client import RULES
 from classroom.core import lab as labs
 from classroom.core import bounds, networks
@@ -51,6 +52,7 @@ def add_words(words: argparse.ArgumentParser) -> None:
     words.add_argument("--seed", type=int, default=SEED, help=f"for network, start and daemon ({SEED})")
     words.add_argument("--timeout", type=seconds, default=60.0, metavar="SECONDS",
                        help="without news for so long it ends, where a BOT is named (60)")
+    words.add_argument("--own-rule", action="store_true", help="no look shows the enabled rule, so that your program has to decide by itself")
     words.add_argument("--port", type=positive, help="the port, or else the next that is free (4711; with a BOT any)")
     words.add_argument("--into", default="runs", help="where the run's folder is made (runs)")
     words.set_defaults(work=practise)
@@ -92,12 +94,12 @@ def opened(lab: labs.Lab, names: list[str], words: argparse.Namespace) -> Playin
     def at(port: int) -> Playing | None:
         """The class at that port; None where the port is taken."""
         try:
-            return Playing(lab, names, words.daemon, f"practise {words.seed}", port)
+            return Playing(lab, names, words.daemon, f"practise {words.seed}", port, words.own_rule)
         except OSError:
             return None
 
     if words.bots and not words.port:
-        return Playing(lab, names, words.daemon, f"practise {words.seed}")
+        return Playing(lab, names, words.daemon, f"practise {words.seed}", own_rule=words.own_rule)
     return first_free(words.port or 4711, at)
 
 
@@ -126,7 +128,7 @@ class Practice:
         self.times[no.who, no.kind] += 1
         times = self.times[no.who, no.kind]
         if times == 1:
-            self.tell(f"{no.who}: {no.text}")
+            self.tell(f"{no.who}: {no.text}{explaining.of_denial(self.playing, no.line) if no.word == 'guard' else ''}")
         elif str(times).strip("0") == "1":
             self.tell(f"{no.who}: {times} times by now: {no.kind}")
 
@@ -142,7 +144,7 @@ class Practice:
     def turn(self) -> None:
         """Lets the class go on, and sees who floods."""
         self.playing.turn()
-        self.floods |= {name for name in self.playing.programs if self.playing.heard[name].floods(len(self.playing.lab.nodes_of(name)))}
+        self.floods |= {name for name in self.playing.programs if self.playing.heard[name].conduct.floods(len(self.playing.lab.nodes_of(name)))}
 
     def summary(self, name: str) -> str:
         """What a program did in all."""
@@ -155,7 +157,8 @@ class Practice:
         if heard.denied[MALFORMED]:
             text += f", {plural(heard.denied[MALFORMED], 'malformed line')}"
         never = ", ".join(rule for rule in RULES if rule not in heard.wanted)
-        return text + f"; never asked: {never}" * bool(never) + f"; {FLOODS}" * (name in self.floods)
+        text += f"; never asked: {never}" * bool(never) + f"; {FLOODS}" * (name in self.floods)
+        return text + f"; {heard.conduct.wrong}" * bool(heard.conduct.wrong)
 
     def silence(self) -> str:
         """Why nothing comes from programs, where that can be told."""
@@ -177,7 +180,8 @@ class Practice:
             waiting = (playing.waiting() or "a close") + self.silence()
             gone = not self.kept and self.timeout is not None
             if self.timeout is not None and (idle > self.timeout or gone and idle > REST):
-                self.tell(f"it hangs: {'no program is left, and ' if gone else ''}the class waits for {waiting}")
+                adds = "".join(explaining.of_waiting(playing, name) for name in playing.programs)
+                self.tell(f"it hangs: {'no program is left, and ' if gone else ''}the class waits for {waiting}{adds}")
                 return False
             if idle > QUIET and self.told != waiting and time.monotonic() - self.told_at > QUIET:
                 self.tell(f"waiting for {waiting}")
@@ -233,6 +237,8 @@ def played(it: ClassWithPrograms, bots: list[Bot], words: argparse.Namespace, fo
             slip_file.write("".join(f"{line}\n" for line in slips.slip(lab, name, it.playing.relay.port)))
     size = f"{words.family} of {len(lab.nodes)} nodes, {words.start}, daemon {words.daemon.spelled()}"
     tell(f"{size}; " + "; ".join(f"{name}: {', '.join(map(str, lab.nodes_of(name)))}" for name in names))
+    if words.own_rule:
+        tell(OWN_RULE)
     if not bots:
         by_hand = f"python3 {os.path.relpath(TOP / 'classroom/client.py')} SLIP"
         tell(f"port {it.playing.relay.port}; play by hand ({by_hand}), or start your program, with the slip {files[0]}")

@@ -14,7 +14,11 @@ from classroom.setup.new import start
 
 BOT, HOUSE = "bot", "house"
 TEACHER = "teacher"
-FAULT, CUT = "fault", "cut"  # what comes in mid-run: registers are set, and the connection is closed before that
+# What comes in mid-run, each with a fault at a node of the bot's: nothing more, closed connections before it, five seconds
+# of rest before it, a step that stays open, a move that is taken back, a step closed between look and move, a reply that
+# is lost with its server, another owner who is quicker; and many configurations, one after another.
+FAULT, CUT, REST, OPEN, RELEASE, OVERTAKE, LOST, TAKEN, RULES = "fault", "cut", "rest", "open", "release", "overtake", "lost", "taken", "rules"
+BUSY, OVER = "busy", "over"  # no seat is free at first; the class ends, and the bot with it
 USUAL = [Daemon("central"), Daemon("synchronous"), Daemon("random", 0.5)]
 
 
@@ -30,6 +34,9 @@ class Plan:
     shared: int = 0  # how many it shares with the house
     troubles: tuple[str, ...] = ()
     daemon: Daemon = USUAL[0]
+    named: tuple[int, ...] = ()  # the identifiers of its nodes, in rising order; those from 1 on if there are none
+    takes: str = ""  # which nodes are the bot's alone: drawn ones, linked ones, or the one with most neighbours
+    piece: int = 0  # the most bytes of a reply that come at once; 0 is no limit
 
 
 @dataclass(frozen=True)
@@ -42,6 +49,7 @@ class Case:
     daemon: Daemon
     seed: int
     troubles: tuple[str, ...]
+    piece: int = 0
 
     def name(self) -> str:
         """What tells it from others, and what its coins are drawn from."""
@@ -49,32 +57,38 @@ class Case:
 
 
 IDLE = Daemon("when-idle", 0.2)
+LINKED, HUB = "linked", "hub"  # of Plan.takes
+DIGITS = (8, 9, 10, 11)  # as texts they are in another order
 SMALL = [
-    Plan("path-4", "path", 4, "clean", 2, 0, (), Daemon("central")),
-    Plan("cycle-5", "cycle", 5, "hurt", 2, 0, (), Daemon("synchronous")),
-    Plan("star-5", "star", 5, "hurt", 1, 0, (FAULT,), Daemon("random", 0.5)),
-    Plan("complete-4", "complete", 4, "clean", 2, 0, (FAULT,), Daemon("synchronous")),
-    Plan("alone-path-4", "path", 4, "random", 4, 0, (), Daemon("synchronous")),
-    Plan("alone-cycle-4", "cycle", 4, "hurt", 4, 0, (), IDLE),
-    Plan("pairs-path-5", "path", 5, "random", 1, 2, (), Daemon("central")),
-    Plan("pairs-cycle-6", "cycle", 6, "clean", 1, 2, (FAULT,), Daemon("random", 0.5)),
-    Plan("tree-7", "tree", 7, "random", 3, 0, (), Daemon("synchronous")),
-    Plan("grid-6", "grid:3x2", None, "hurt", 2, 0, (FAULT,), IDLE),
-    Plan("random-6", "random:6:9", None, "random", 2, 0, (CUT,), Daemon("synchronous")),
-    Plan("two-faults-5", "path", 5, "clean", 2, 0, (FAULT, CUT), Daemon("random", 0.5)),
+    Plan("path-4", "path", 4, "clean", 2, 0, (RELEASE, OVER), Daemon("central")),
+    Plan("cycle-5", "cycle", 5, "hurt", 2, 0, (OVERTAKE, RULES), Daemon("synchronous")),
+    Plan("hub-70", "star", 70, "clean", 1, 0, (FAULT,), Daemon("synchronous"), takes=HUB, piece=600),
+    Plan("complete-4", "complete", 4, "clean", 2, 0, (RULES,), Daemon("synchronous"), named=DIGITS),
+    Plan("alone-path-4", "path", 4, "random", 4, 0, (OVERTAKE,), Daemon("synchronous"), named=DIGITS),
+    Plan("alone-cycle-4", "cycle", 4, "hurt", 4, 0, (OPEN,), IDLE),
+    Plan("pairs-path-5", "path", 5, "random", 1, 2, (BUSY, RELEASE), Daemon("central")),
+    Plan("pairs-cycle-6", "cycle", 6, "clean", 1, 2, (FAULT, TAKEN), Daemon("random", 0.5)),
+    Plan("tree-7", "tree", 7, "random", 3, 0, (RULES,), Daemon("synchronous")),
+    Plan("grid-6", "grid:3x2", None, "hurt", 2, 0, (REST, OPEN), IDLE, takes=LINKED),
+    Plan("random-6", "random:6:9", None, "random", 2, 0, (CUT, LOST), Daemon("synchronous")),
+    Plan("two-faults-5", "path", 5, "clean", 2, 0, (FAULT, CUT, OVER), Daemon("random", 0.5)),
 ]
 FAMILIES = [("path", 6), ("cycle", 7), ("star", 7), ("complete", 5), ("tree", 9), ("grid:4x3", None), ("random:10:15", None)]
 FULL = SMALL + [
-    Plan(f"{family.partition(':')[0]}-{start}-{kind}", family, nodes, start, own, shared, troubles, daemon)
+    Plan("hub-200", "star", 200, "clean", 1, 0, (FAULT, CUT), Daemon("synchronous"), named=tuple(range(60000, 60200)), takes=HUB, piece=4000),
+] + [
+    Plan(f"{family.partition(':')[0]}-{start}-{kind}", family, nodes, start, own, shared, troubles, daemon, takes=takes)
     for family, nodes in FAMILIES
-    for start, own, shared, troubles, kind, daemon in (
-        ("clean", 2, 0, (FAULT,), "central", Daemon("central")),
-        ("hurt", 3, 0, (CUT,), "synchronous", Daemon("synchronous")),
-        ("random", 2, 1, (FAULT, FAULT), "coin", Daemon("random", 0.3)),
-        ("random", 1, 0, (FAULT, CUT), "idle", IDLE),
-        ("hurt", 1, 2, (), "shared", Daemon("synchronous")),
-        ("random", 4, 0, (FAULT,), "many", Daemon("random", 0.8)),
-        ("clean", 3, 1, (CUT, FAULT), "both", Daemon("central")),
+    for start, own, shared, troubles, kind, daemon, takes in (
+        ("clean", 2, 0, (FAULT,), "central", Daemon("central"), ""),
+        ("hurt", 3, 0, (CUT,), "synchronous", Daemon("synchronous"), ""),
+        ("random", 2, 1, (FAULT, FAULT), "coin", Daemon("random", 0.3), ""),
+        ("random", 1, 0, (FAULT, CUT), "idle", IDLE, ""),
+        ("hurt", 1, 2, (TAKEN,), "shared", Daemon("synchronous"), ""),
+        ("random", 4, 0, (FAULT,), "many", Daemon("random", 0.8), ""),
+        ("clean", 3, 1, (CUT, FAULT), "both", Daemon("central"), ""),
+        ("random", 2, 0, (RULES, RELEASE, OVERTAKE), "open", Daemon("synchronous"), LINKED),
+        ("hurt", 2, 1, (BUSY, REST, LOST, OVER), "gone", Daemon("random", 0.5), ""),
     )
 ]
 SUITES = {"small": SMALL, "full": FULL}
@@ -91,14 +105,36 @@ def dealt(count: int, links: networks.Links, own: list[int], shared: list[int]) 
     return labs.Lab(labs.MOST_EVENTS, labs.MOST_SESSIONS, (TEACHER, key()), {BOT: key(), HOUSE: key()}, nodes, links)
 
 
+def taken(plan: Plan, count: int, links: networks.Links, chance: random.Random) -> list[int]:
+    """The nodes of the bot: first those that are its alone, and then the shared ones."""
+    nodes = list(range(1, count + 1))
+    first: list[int] = []
+    if plan.takes == HUB:
+        near = networks.neighbours(nodes, links)
+        first = [max(nodes, key=lambda node: len(near[node]))]
+    elif plan.takes == LINKED:
+        first = list(chance.choice(links))
+    rest = [node for node in nodes if node not in first]
+    return first + chance.sample(rest, plan.own + plan.shared - len(first))
+
+
+def renamed(made: labs.Lab, named: tuple[int, ...]) -> labs.Lab:
+    """A lab whose nodes, from 1 on, get other identifiers in the same order."""
+    name = dict(zip((node.id for node in made.nodes), named))
+    nodes = [replace(node, id=name[node.id], p=None if node.p is None else name[node.p]) for node in made.nodes]
+    return replace(made, nodes=nodes, links=[(name[a], name[b]) for a, b in made.links])
+
+
 def planned(plan: Plan, seed: int, how: Daemon) -> Case:
     """The case of a plan with a seed."""
     chance = random.Random(f"{plan.name} {seed}")
     count, links = networks.family(plan.family, plan.nodes, 0, chance)
-    nodes = chance.sample(range(1, count + 1), plan.own + plan.shared)
+    nodes = taken(plan, count, links, chance)
     made = dealt(count, links, nodes[:plan.own], nodes[plan.own:])
     start(made, plan.start, chance)
-    return Case(plan.name, made, BOT, how, seed, plan.troubles)
+    if plan.named:
+        made = renamed(made, plan.named)
+    return Case(plan.name, made, BOT, how, seed, plan.troubles, plan.piece)
 
 
 def own_lab(path: Path, seed: int, how: Daemon) -> Case:

@@ -1,0 +1,128 @@
+"""Explains the moves of a script that are denied, and what could be asked for at its end:
+
+    python3 -B -m model.explain LAB SCRIPT
+
+A line each: the number of the script's line, or `now`, then the node, then the explanation. It is for people who look for
+their mistake. Nothing is granted, denied or marked by it.
+"""
+import sys
+from pathlib import Path
+
+from model.fault import Fault, read_file
+from model.lab import Lab, read_lab
+from model.requests import Request, read_request
+from model.run import Run, script_line, text_of
+from model.world import Move, World
+
+MOST = 16 << 20  # bytes of a file
+
+
+def is_(value: int | None) -> str:
+    """Returns the text of a pointer."""
+    return "null" if value is None else str(value)
+
+
+def no_update(world: World, i: int) -> str:
+    """Returns why Update isn't enabled at a node: m says already whether it is married."""
+    return f"m of {i} is {'true and it is' if world.m[i] else 'false and it is not'} married, so there is nothing to update"
+
+
+def no_marriage(world: World, i: int, k: int | None) -> str:
+    """Returns which part of the guard of Marriage with k fails at a node whose m is right."""
+    if world.p[i] is not None:
+        return f"p of {i} isn't null, it is {world.p[i]}"
+    if k not in world.links[i]:
+        return f"{k} is no neighbour of {i}"
+    return f"p of {k} isn't {i}, it is {is_(world.p[k])}"
+
+
+def no_seduction(world: World, i: int) -> str:
+    """Returns which part of the guard of Seduction fails at a node whose m is right."""
+    if world.p[i] is not None:
+        return f"p of {i} isn't null, it is {world.p[i]}"
+    suitors = [k for k in world.near(i) if world.p[k] == i]
+    if suitors:
+        return f"p of {suitors[0]} is {i}, so {i} may marry and not seduce"
+    higher = [j for j in world.near(i) if j > i]
+    if not higher:
+        return f"no neighbour of {i} is greater than {i}"
+    j = higher[-1]
+    return (f"no neighbour greater than {i} has p null and m false: "
+            + (f"p of {j} is {world.p[j]}" if world.p[j] is not None else f"m of {j} is true"))
+
+
+def no_abandonment(world: World, i: int) -> str:
+    """Returns which part of the guard of Abandonment fails at a node whose m is right."""
+    j = world.p[i]
+    if j is None:
+        return f"p of {i} is null, so there is nobody to abandon"
+    if world.p[j] == i:
+        return f"p of {j} is {i}, so they are a pair"
+    return f"m of {j} is false and {j} is not less than {i}, so {i} waits for {j}"
+
+
+def failing(world: World, i: int, move: Move) -> str:
+    """Returns the first part of a rule's guard that fails at a node, or nothing if the guard holds."""
+    if world.guard(i, move):
+        return ""
+    if move.rule == "update":
+        return no_update(world, i)
+    if world.m[i] != world.married(i):
+        return f"m of {i} is {str(world.m[i]).lower()} and {i} is {'' if world.married(i) else 'not '}married, so the update comes first"
+    if move.rule == "marriage":
+        return no_marriage(world, i, move.partner)
+    return (no_seduction if move.rule == "seduction" else no_abandonment)(world, i)
+
+
+def right_line(world: World, i: int) -> str:
+    """Returns what a right bot would send for a node now."""
+    if i in world.chosen:
+        return f"a right bot would send nothing for {i}: its move waits for the step to close"
+    moves = world.moves(i)
+    if not moves:
+        return f"a right bot would send nothing for {i}: no guard holds there"
+    asked = {"do": "move", "node": i, "rule": moves[-1].rule, "at": world.number}
+    more = {} if moves[-1].partner is None else {"with": moves[-1].partner}
+    others = f", or with {' or '.join(str(move.partner) for move in moves[:-1])}" if len(moves) > 1 else ""
+    return f"a right bot would send {text_of(**asked, **more)}{others}"
+
+
+def explained(world: World, asked: Request) -> str:
+    """Returns the explanation of a move, before it is answered; nothing if it isn't one of a node that is there."""
+    if asked.do != "move" or asked.node not in world.links:
+        return ""
+    parts = [failing(world, asked.node, asked.move)] if asked.at == world.number and asked.node not in world.chosen else []
+    return "; ".join(each for each in (*parts, right_line(world, asked.node)) if each)
+
+
+def explanations(lab: Lab, script: bytes) -> list[str]:
+    """Returns a line for each denied move of a script, and one for each node that could move at its end."""
+    run, found = Run(lab), []
+    for number, line in enumerate(script.splitlines(), 1):
+        read = script_line(lab, line)
+        if read is None:
+            break
+        asked = read_request(read[1])
+        text = explained(run.world, asked) if asked is not None else ""
+        if '"deny"' in run.answer(*read) and text and asked is not None:
+            found.append(f"{number} {asked.node} {text}")
+    world = run.world
+    return found + [f"now {i} {right_line(world, i)}" for i in world.nodes() if world.enabled(i) and i not in world.chosen]
+
+
+def main(words: list[str]) -> int:
+    """Explains a script; the exit status is 1 for other words, and else that of the model."""
+    if len(words) != 2:
+        print(__doc__, file=sys.stderr)
+        return 1
+    try:
+        for line in explanations(read_lab(read_file(Path(words[0]), "lab", MOST)), read_file(Path(words[1]), "script", MOST)):
+            print(line)
+    except Fault as fault:
+        print(fault.line, file=sys.stderr)
+        return fault.status
+    return 0
+
+
+if __name__ == "__main__":
+    sys.exit(main(sys.argv[1:]))

@@ -1,0 +1,1 @@
+"""Right bots in five styles, which each suite passes."""

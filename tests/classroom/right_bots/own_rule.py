@@ -1,0 +1,98 @@
+#!/usr/bin/env python3
+"""A right bot without any module of the release: its own lines, its own reading, its own guards."""
+from __future__ import annotations
+
+import json
+import socket
+import sys
+import time
+from typing import Any
+
+
+class Over(Exception):
+    """The class is over."""
+
+
+class Lost(Exception):
+    """The connection has ended."""
+
+
+class Connection:
+    """A connection that has said hello."""
+
+    def __init__(self, slip: dict[str, str]) -> None:
+        try:
+            self.socket = socket.create_connection(("127.0.0.1", int(slip["port"])), timeout=30)
+        except OSError:
+            raise Lost from None
+        self.rest = b""
+        self.ask(do="hello", name=slip["name"], key=slip["key"])
+
+    def ask(self, **request: object) -> dict[str, Any]:
+        """Sends a line, and returns the reply."""
+        try:
+            self.socket.sendall(json.dumps(request).encode() + b"\n")
+        except OSError:
+            pass  # the last line may have come before
+        while b"\n" not in self.rest:
+            try:
+                more = self.socket.recv(1000)
+            except OSError:
+                raise Lost from None
+            if not more:
+                raise Lost
+            self.rest += more
+        line, self.rest = self.rest.split(b"\n", 1)
+        reply: dict[str, Any] = json.loads(line)
+        if reply.get("refuse") == "over":
+            raise Over
+        if reply.get("refuse") in ("busy", "late", "long"):
+            raise Lost
+        return reply
+
+
+def rule_of(look: dict[str, Any]) -> dict[str, object] | None:
+    """Returns the move that is enabled at a node, by its registers and those of its neighbours."""
+    i, p, m, near = look["node"], look["p"], look["m"], {each["node"]: each for each in look["near"]}
+    married = p is not None and near[p]["p"] == i
+    if m != married:
+        return {"rule": "update"}
+    suitors = [j for j, it in near.items() if it["p"] == i]
+    if p is None and suitors:
+        return {"rule": "marriage", "with": suitors[0]}
+    if p is None:
+        free = [j for j, it in near.items() if j > i and it["p"] is None and not it["m"]]
+        return {"rule": "seduction"} if free else None
+    return {"rule": "abandonment"} if near[p]["p"] != i and (near[p]["m"] or p < i) else None
+
+
+def play(it: Connection, nodes: list[int]) -> None:
+    """Looks, decides and asks."""
+    while True:
+        for node in nodes:
+            look = it.ask(do="look", node=node)
+            move = rule_of(look)
+            if move and look["chosen"] is None:
+                reply = it.ask(do="move", node=node, at=look["at"], **move)
+                if reply.get("deny") not in (None, "stale", "chosen"):
+                    sys.exit(f"a mistake: {reply}")
+        time.sleep(0.05)
+
+
+def main() -> None:
+    """Plays until the class is over."""
+    with open(sys.argv[1], encoding="utf-8") as file:
+        slip = dict(line.rstrip("\n").split(" ", 1) for line in file if not line.startswith("#"))
+    nodes = [int(node) for node in slip["nodes"].split(",")]
+    for _ in range(60):
+        try:
+            play(Connection(slip), nodes)
+        except Over:
+            return
+        except Lost:
+            time.sleep(1)
+    sys.exit("the connection was lost")
+
+
+if __name__ == "__main__":
+    main()

@@ -1,0 +1,42 @@
+#!/usr/bin/env python3
+"""A right bot that takes its time: it thinks between look and move, and waits long between two looks."""
+from __future__ import annotations
+
+import sys
+import time
+from pathlib import Path
+
+sys.path.append(str(Path(__file__).resolve().parents[3]))
+from classroom.client import Client, Closed, Denied, Refused, Slip, again, enter, goes_on, run  # noqa: E402
+
+THINKING, WAITING = 0.3, 0.5  # seconds
+
+
+def ask(me: Client, nodes: tuple[int, ...]) -> None:
+    """Looks at one node after another, and thinks."""
+    while True:
+        for node in nodes:
+            look = me.look(node)
+            if look.rule is None or look.chosen is not None:
+                continue
+            time.sleep(THINKING)
+            try:
+                me.move(look)
+            except (Denied, Refused) as no:
+                if not goes_on(no):
+                    raise
+        time.sleep(WAITING)
+
+
+def play(words: list[str]) -> None:
+    """Plays until the class is over."""
+    slip = Slip.read(words[0])
+    me = enter(slip)
+    while True:
+        try:
+            ask(me, slip.nodes)
+        except Closed as lost:
+            me = again(slip, lost)
+
+
+run(play, __doc__ or "")

@@ -1,0 +1,39 @@
+#!/usr/bin/env python3
+"""A right bot that looks at all its nodes in one configuration, and then asks for all moves."""
+from __future__ import annotations
+
+import sys
+import time
+from pathlib import Path
+
+sys.path.append(str(Path(__file__).resolve().parents[3]))
+from classroom.client import Client, Closed, Denied, Moving, Slip, again, enter, run  # noqa: E402
+
+
+def ask(me: Client, nodes: tuple[int, ...]) -> None:
+    """Takes a snapshot, asks, and waits."""
+    while True:
+        try:
+            for look in me.snapshot(nodes).values():
+                if look.rule and not look.chosen:
+                    me.move(look)
+        except Moving:
+            pass
+        except Denied as denied:
+            if denied.name not in ("stale", "chosen"):
+                raise
+        time.sleep(0.1)
+
+
+def play(words: list[str]) -> None:
+    """Plays until the class is over."""
+    slip = Slip.read(words[0])
+    me = enter(slip)
+    while True:
+        try:
+            ask(me, slip.nodes)
+        except Closed as lost:
+            me = again(slip, lost)
+
+
+run(play, __doc__ or "")

@@ -1,0 +1,65 @@
+#!/usr/bin/env python3
+"""A right bot of two threads: one looks, the other asks, over one connection that they share by a lock."""
+from __future__ import annotations
+
+import os
+import queue
+import threading
+import sys
+import time
+from pathlib import Path
+
+sys.path.append(str(Path(__file__).resolve().parents[3]))
+from classroom.client import Client, Closed, Denied, Look, Refused, Slip, again, enter, stop  # noqa: E402
+
+
+class Bot:
+    """What both threads share."""
+
+    def __init__(self, slip: Slip) -> None:
+        self.slip, self.lock = slip, threading.Lock()
+        self.me: Client = enter(slip)
+        self.looks: queue.Queue[Look] = queue.Queue()
+
+    def looking(self) -> None:
+        """Looks at each node, and hands on what there is to ask. While one look waits to be asked for, no other is taken."""
+        while True:
+            for node in self.slip.nodes:
+                with self.lock:
+                    look = self.me.look(node)
+                if look.rule and not look.chosen:
+                    self.looks.put(look)
+            self.looks.join()
+            time.sleep(0.05)
+
+    def asking(self) -> None:
+        """Asks for what comes."""
+        while True:
+            look = self.looks.get()
+            try:
+                with self.lock:
+                    self.me.move(look)
+            except Denied as denied:
+                if denied.name not in ("stale", "chosen"):
+                    raise
+            finally:
+                self.looks.task_done()
+
+    def lasting(self, work: str) -> None:
+        """Does a thread's work; if the connection is lost the first thread that sees it greets again."""
+        while True:
+            me = self.me
+            try:
+                getattr(self, work)()
+            except (Closed, Refused) as lost:
+                with self.lock:
+                    try:
+                        self.me = self.me if self.me is not me else again(self.slip, lost)
+                    except (Closed, Refused) as error:
+                        os._exit(stop(error)[0])
+
+
+if __name__ == "__main__":
+    bot = Bot(Slip.read(sys.argv[1]))
+    for work in ("looking", "asking"):
+        threading.Thread(target=bot.lasting, args=(work,)).start()

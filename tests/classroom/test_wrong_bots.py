@@ -1,0 +1,141 @@
+"""`./class grade` among bots with one mistake each: each fails the case that finds it, and is told what to change; right ones
+in several styles pass."""
+from __future__ import annotations
+
+import concurrent.futures
+import json
+import sys
+import tempfile
+import threading
+import unittest
+from pathlib import Path
+
+from classroom.bots import suites
+from classroom.bots.attempt import Limits
+from classroom.bots.bots import Bot
+from classroom.bots.trial import Result, tried
+from classroom.core.processes import reap_orphans
+from classroom.core.program import TOP
+from tests.classroom.help import InRoom, words
+from tests.classroom.wrong_bots.wrong import BOTS
+
+WRONG = TOP / "tests/classroom/wrong_bots/wrong.py"
+RIGHT = sorted((TOP / "tests/classroom/right_bots").glob("[a-z]*.py"))
+AT_ONCE = 8  # mostly they wait
+SECONDS = 12.0
+GUARD = r"denied as guard, clause 4: .*; the plain model, which decides nothing, adds: {part}; a right bot would send "
+HANGS = r"(isn't stable after|didn't ask for \w+ at \d+, which is privileged,|isn't taken up after).* {rule}"
+# Of each bot the case of `small` that finds its mistake, and what is told.
+FOUND = {
+    "never-updates": ("complete-4", HANGS.format(rule="update") + '.*a right bot would send {"at":\\d+,"do":"move","node":\\d+,"rule":"update"}'),
+    "never-abandons": ("complete-4", HANGS.format(rule="")),
+    "never-seduces": ("complete-4", HANGS.format(rule="seduction")),
+    "updates-only-to-true": ("complete-4", GUARD.format(part=r"m of \d+ is true and \d+ is not married, so the update comes first")),
+    "takes-a-pointer-for-a-pair": ("complete-4", GUARD.format(part=".*")),
+    "takes-a-suitor-for-a-pair": ("complete-4", GUARD.format(part=r"m of \d+ is false and it is not married, so there is nothing to update")),
+    "seduces-the-married": ("complete-4", GUARD.format(part=r"no neighbour greater than \d+ has p null and m false: m of \d+ is true")),
+    "seduces-the-pointing": ("complete-4", GUARD.format(part=r"no neighbour greater than \d+ has p null and m false: p of \d+ is \d+")),
+    "seduces-the-lower": ("complete-4", GUARD.format(part=r"no neighbour .*")),
+    "seduces-before-it-marries": ("complete-4", GUARD.format(part=r"p of \d+ is \d+, so \d+ may marry and not seduce")),
+    "marries-the-first": ("complete-4", GUARD.format(part=r"p of \d+ isn't \d+, it is (null|\d+)")),
+    "marries-while-pointing": ("complete-4", GUARD.format(part=r"p of \d+ isn't null, it is \d+")),
+    "rules-before-update": ("complete-4", GUARD.format(part=r"m of \d+ is (true|false) and \d+ is (not )?married, so the update comes first")),
+    "abandons-only-the-married": ("complete-4", HANGS.format(rule="")),
+    "abandons-only-the-lower": ("complete-4", HANGS.format(rule="")),
+    "abandons-at-once": ("complete-4", GUARD.format(part=r"m of \d+ is false and \d+ is not less than \d+, so \d+ waits for \d+")),
+    "compares-texts": ("complete-4", "(guard|seduction)"),
+    "leaves-out-its-own": ("complete-4", HANGS.format(rule="seduction")),
+    "remembers-the-neighbours": ("complete-4", "."),
+    "asks-whatever-is-shown": ("complete-4", GUARD.format(part=r"m of \d+ is (true|false) and it is (not )?married, so there is nothing to update")),
+    "asks-again-while-chosen": ("complete-4", r"asks again and again for nodes that have a chosen move, as for \d+ under \d+"),
+    "stops-at-stale": ("cycle-5", "it ended by itself, status 1, after a step was closed between its look and its move (.*): the move was denied"),
+    "stops-at-chosen": ("pairs-cycle-6", "it ended by itself, status 1(, after somebody else moved a node that it shares|; a bot goes on)"),
+    "repeats-the-line": ("cycle-5", r"it asks again and again for \d under \d+, which is stale: after `stale` look again"),
+    "takes-the-number-of-a-denial": ("cycle-5", r"it asks for a move of \d under \d+, and never looked at \d under that number"),
+    "takes-the-newest-number": ("complete-4", "."),
+    "waits-for-the-next-number": ("path-4", r"the teacher took its move of \d back under \d+, and it didn't ask again"),
+    "waits-for-the-step": ("complete-4", "isn't stable after"),
+    "takes-a-grant-for-a-step": ("complete-4", "."),
+    "plays-one-node": ("complete-4", r"isn't stable after .*; it never looked at \d+"),
+    "leaves-the-married-alone": ("complete-4", r"it didn't (ask for|look at)"),
+    "takes-the-eldest-number": ("complete-4", r"it asks for a move of \d+ under 0, and never looked at \d+ under that number"),
+    "looks-at-the-neighbours": ("complete-4", r"look \d+ is denied as not-owner, .*; its nodes stand on the slip"),
+    "never-pauses": ("complete-4", "it floods: "),
+    "sends-numbers-as-texts": ("complete-4", "malformed: "),
+    "marries-without-a-name": ("complete-4", "malformed: .*with"),
+    "ends-when-stable": ("complete-4", "it ended by itself, status 1; a bot goes on until the class is over"),
+    "ends-after-three-seconds": ("grid-6", "it ended by itself, status 1, after the class was at rest for some seconds"),
+    "ends-while-a-step-is-open": ("grid-6", "it ended by itself, status 1, while the step stayed open after a grant"),
+    "gives-up-when-busy": ("pairs-path-5", "it ended by itself, status 1, after it was told `busy`"),
+    "hammers-when-busy": ("pairs-path-5", r"it connected more than \d+ times in a minute"),
+    "never-greets-again": ("random-6", "its connection was closed, and in .* seconds it neither came again nor ended"),
+    "forgets-the-hello": ("random-6", "look \\d is denied as not-greeted, .*; each connection begins with a hello"),
+    "goes-on-for-ever": ("path-4", "it was told that the class is over, and goes on after"),
+    "connects-for-each-look": ("complete-4", r"it connected more than \d+ times in a minute: a bot keeps its connection"),
+    "takes-all-seats": ("complete-4", r"it took all \d+ seats"),
+    "greets-twice": ("complete-4", "hello .*is denied as greeted, .*; one hello on each connection is enough"),
+    "reads-once": ("hub-70", "isn't stable after .*; replies are long here and come in pieces"),
+    "reads-a-kilobyte": ("hub-70", "isn't stable after .*; replies are long here and come in pieces"),
+    "forgets-the-newline": ("complete-4", "a line came that has no newline at its end"),
+}
+PLANS = {plan.name: plan for plan in suites.SMALL}
+
+
+class Wrong(InRoom):
+    """Bots with one mistake."""
+
+    def tries(self, name: str, plan: str) -> Result:
+        """Returns how a bot does in a case."""
+        it = PLANS[plan]
+        bot = Bot.of(f"{sys.executable} {WRONG} {name}")
+        with tempfile.TemporaryDirectory() as own:
+            found = tried(bot, suites.planned(it, 1, it.daemon), Limits(SECONDS), Path(own), self.room / name / plan, threading.Event())
+        assert found is not None
+        return found
+
+    def test_each_fails_a_case_of_small_and_is_told_why(self) -> None:
+        self.assertEqual(FOUND.keys(), BOTS.keys())
+        self.assertGreaterEqual(len(BOTS), 30)
+        reap_orphans()
+        with concurrent.futures.ThreadPoolExecutor(AT_ONCE) as pool:
+            going = {name: pool.submit(self.tries, name, plan) for name, (plan, _) in FOUND.items()}
+        for name, (_, why) in FOUND.items():
+            with self.subTest(name):
+                result = going[name].result()
+                self.assertFalse(result.passed, name)
+                self.assertRegex(result.why, why)
+
+    def test_the_bot_that_they_change_passes_the_same_cases(self) -> None:
+        for plan in sorted({plan for plan, _ in FOUND.values()}):
+            result = self.tries("right", plan)
+            self.assertTrue(result.passed, result)
+            self.assertLessEqual(result.denied.keys(), {"stale", "chosen"})
+
+
+class Right(InRoom):
+    """Bots without a mistake."""
+
+    def test_five_styles_pass_small(self) -> None:
+        self.assertEqual(len(RIGHT), 5)
+        table = self.room / "cases.json"
+        done = words("grade", *RIGHT, "--timeout", "120", "--into", self.room / "grades", "--json", table)
+        self.assertEqual(done.returncode, 0, done.stdout + done.stderr)
+        self.assertEqual(len(json.loads(table.read_text(encoding="utf-8"))), 5 * len(suites.SMALL))
+
+    def test_without_a_shown_rule_only_who_decides_by_itself_passes(self) -> None:
+        own, asks = next(file for file in RIGHT if file.stem == "own_rule"), next(file for file in RIGHT if file.stem == "snapshot")
+        labs = self.room / "labs"
+        labs.mkdir()
+        (labs / "path.toml").write_bytes((TOP / "examples/path.toml").read_bytes())
+        done = words("grade", own, asks, "--labs", labs, "--daemon", "synchronous", "--timeout", "15", "--own-rule", "--into", self.room / "grades")
+        self.assertEqual(done.returncode, 5, done.stdout + done.stderr)
+        self.assertIn("class: no look shows a program the enabled rule (--own-rule)", done.stdout)
+        self.assertIn("own_rule.py: 1 of 1 cases passed\nsnapshot.py: 0 of 1 cases passed\n", done.stdout)
+        self.assertRegex(done.stdout, "isn't stable after 15 seconds: .*; no look shows it the rule ")
+        said = next((self.room / "grades").rglob("snapshot.py/*/conversation.txt")).read_text(encoding="utf-8")
+        self.assertIn('"rule":null}', said)
+        self.assertNotRegex(said, r'"ok":"look".*"rule":"')
+
+
+if __name__ == "__main__":
+    unittest.main()

@@ -1,0 +1,156 @@
+"""Mistakes in the guards."""
+from __future__ import annotations
+
+from classroom.client import Look
+from tests.classroom.wrong_bots.base import Bot
+
+
+class NeverUpdates(Bot):
+    """Knows three of the four rules: no update."""
+
+    def rule(self, look: Look) -> str | None:
+        return None if look.m != self.is_married(look) else super().rule(look)
+
+
+class NeverAbandons(Bot):
+    """Waits for ever for whom it points at."""
+
+    def gives_up(self, look: Look) -> bool:
+        return False
+
+
+class NeverSeduces(Bot):
+    """Waits for suitors."""
+
+    def candidates(self, look: Look) -> list[int]:
+        return []
+
+
+class UpdatesOnlyToTrue(Bot):
+    """Notes that it is married, and never that it isn't any longer."""
+
+    def is_married(self, look: Look) -> bool:
+        return look.m or super().is_married(look)
+
+
+class TakesAPointerForAPair(Bot):
+    """Holds itself married as soon as it points at somebody."""
+
+    def is_married(self, look: Look) -> bool:
+        return look.p is not None
+
+
+class TakesASuitorForAPair(Bot):
+    """Holds itself married as soon as somebody points at it."""
+
+    def is_married(self, look: Look) -> bool:
+        return any(near.p == look.node for near in look.near)
+
+
+class SeducesTheMarried(Bot):
+    """Forgets that the m of whom it seduces has to be false."""
+
+    def candidates(self, look: Look) -> list[int]:
+        return [near.node for near in look.near if near.node > look.node and near.p is None]
+
+
+class SeducesThePointing(Bot):
+    """Forgets that the p of whom it seduces has to be null."""
+
+    def candidates(self, look: Look) -> list[int]:
+        return [near.node for near in look.near if near.node > look.node and not near.m]
+
+
+class SeducesTheLower(Bot):
+    """Seduces neighbours of lower identifiers too."""
+
+    def candidates(self, look: Look) -> list[int]:
+        return [near.node for near in look.near if near.p is None and not near.m]
+
+
+class SeducesBeforeItMarries(Bot):
+    """Seduces although a neighbour points at it."""
+
+    def rule(self, look: Look) -> str | None:
+        if look.m == self.is_married(look) and look.p is None and self.candidates(look):
+            return "seduction"
+        return super().rule(look)
+
+
+class MarriesTheFirst(Bot):
+    """Marries its first neighbour, whoever points at it."""
+
+    def partner(self, look: Look) -> int | None:
+        return look.near[0].node
+
+
+class MarriesWhilePointing(Bot):
+    """Marries a suitor although it points at somebody else."""
+
+    def rule(self, look: Look) -> str | None:
+        if look.m == self.is_married(look) and not self.is_married(look) and self.suitors(look):
+            return "marriage"
+        return super().rule(look)
+
+
+class RulesBeforeUpdate(Bot):
+    """Updates last: only if no other rule seems enabled."""
+
+    def rule(self, look: Look) -> str | None:
+        if look.p is None:
+            found = "marriage" if self.suitors(look) else "seduction" if self.candidates(look) else None
+        else:
+            found = "abandonment" if self.gives_up(look) else None
+        return found or super().rule(look)
+
+
+class AbandonsOnlyTheMarried(Bot):
+    """Abandons only whose m is true, and never a lower one that doesn't point back."""
+
+    def gives_up(self, look: Look) -> bool:
+        it = self.pointed(look)
+        return it.p != look.node and it.m
+
+
+class AbandonsOnlyTheLower(Bot):
+    """Abandons only lower ones, and never a higher one that is married to somebody else."""
+
+    def gives_up(self, look: Look) -> bool:
+        it = self.pointed(look)
+        return it.p != look.node and it.node < look.node
+
+
+class AbandonsAtOnce(Bot):
+    """Abandons everybody who doesn't point back at once."""
+
+    def gives_up(self, look: Look) -> bool:
+        return self.pointed(look).p != look.node
+
+
+class ComparesTexts(Bot):
+    """Compares identifiers as texts, by which 10 is less than 9."""
+
+    def candidates(self, look: Look) -> list[int]:
+        return [near.node for near in look.near if str(near.node) > str(look.node) and near.p is None and not near.m]
+
+
+class LeavesOutItsOwn(Bot):
+    """Doesn't seduce nodes of its own."""
+
+    def candidates(self, look: Look) -> list[int]:
+        return [node for node in super().candidates(look) if node not in self.slip.nodes]
+
+
+class RemembersTheNeighbours(Bot):
+    """Believes for ever what its first look at a node told of the neighbours."""
+
+    def at(self, look: Look) -> None:
+        first = self.__dict__.setdefault("first", {}).setdefault(look.node, look)
+        super().at(Look(look.node, look.p, look.m, look.at, look.rule, look.chosen, first.near))
+
+
+GUARDS = (
+    NeverUpdates, NeverAbandons, NeverSeduces, UpdatesOnlyToTrue, TakesAPointerForAPair, TakesASuitorForAPair, SeducesTheMarried,
+    SeducesThePointing, SeducesTheLower, SeducesBeforeItMarries, MarriesTheFirst, MarriesWhilePointing, RulesBeforeUpdate,
+    AbandonsOnlyTheMarried, AbandonsOnlyTheLower, AbandonsAtOnce, ComparesTexts, LeavesOutItsOwn, RemembersTheNeighbours,
+)

@@ -1,0 +1,28 @@
+#!/usr/bin/env python3
+"""Bots with one mistake each: wrong.py NAME SLIP, where `right` is the one without a mistake."""
+from __future__ import annotations
+
+import re
+import sys
+from pathlib import Path
+
+sys.path.append(str(Path(__file__).resolve().parents[3]))
+from classroom.client import Closed, Slip, stop  # noqa: E402
+from tests.classroom.wrong_bots.asking import ASKING  # noqa: E402
+from tests.classroom.wrong_bots.base import Bot  # noqa: E402
+from tests.classroom.wrong_bots.guards import GUARDS  # noqa: E402
+from tests.classroom.wrong_bots.staying import STAYING  # noqa: E402
+
+
+def named(kind: type[Bot]) -> str:
+    """Returns a bot's name: `NeverUpdates` is `never-updates`."""
+    return re.sub("(?!^)([A-Z])", r"-\1", kind.__name__).lower()
+
+
+BOTS = {named(kind): kind for kind in (*GUARDS, *ASKING, *STAYING)}
+
+if __name__ == "__main__":
+    try:
+        (Bot if sys.argv[1] == "right" else BOTS[sys.argv[1]])(Slip.read(sys.argv[2])).play()
+    except Closed as closed:
+        sys.exit(stop(closed)[0])
