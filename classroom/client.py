@@ -14,6 +14,7 @@ on this machine for programs in any language: it leads through the door.
 """
 from __future__ import annotations
 
+import difflib
 import json
 import os
 import re
@@ -24,9 +25,9 @@ from collections.abc import Callable, Iterable
 from dataclasses import dataclass
 from pathlib import Path
 from types import TracebackType
-from typing import Any
+from typing import Any, Literal
 
-
+Rule = Literal["update", "marriage", "seduction", "abandonment"]
 KEY, SLIP = "CENDUWA_KEY", "CENDUWA_SLIP"  # of the environment: others can't read it as they can a process's words
 
 
@@ -45,6 +46,14 @@ class Refused(Exception):
     def __init__(self, word: str) -> None:
         super().__init__("busy: all seats are taken; come again later" if word == "busy" else word)
         self.word = word
+
+
+class Malformed(Refused):
+    """A line that the server would refuse, and that wasn't sent: its text tells why."""
+
+    def __init__(self, why: str) -> None:
+        super().__init__("malformed")
+        self.args, self.why = (f"malformed, and not sent: {why}",), why
 
 
 class Closed(Exception):
@@ -107,8 +116,8 @@ class See(Near):
 class Look(See):
     """What a node may read, its enabled rule, and its chosen move."""
 
-    rule: str | None
-    chosen: str | None
+    rule: Rule | None
+    chosen: Rule | None
     near: tuple[Near, ...]
 
 
@@ -119,7 +128,7 @@ class Move:
     at: int
     place: int
     node: int
-    rule: str
+    rule: Rule
 
     def __str__(self) -> str:
         """Returns the move as a line for people."""
@@ -293,7 +302,7 @@ class Client:
             self._socket = connection or socket.create_connection((host, port), timeout=limit)
         except OSError as error:
             raise NoServer(f"no server at port {port}: {error}") from None
-        self._rest = b""
+        self._rest, self._ended = b"", False
         try:
             self.ask(do="hello", name=name, key=key)
         except BaseException as error:
@@ -317,6 +326,7 @@ class Client:
 
     def hang_up(self) -> None:
         """Ends the connection without a word."""
+        self._ended = True
         self._socket.close()
 
     def __enter__(self) -> Client:
@@ -324,12 +334,12 @@ class Client:
 
     def __exit__(self, kind: type[BaseException] | None, error: BaseException | None, trace: TracebackType | None) -> None:
         try:
-            if kind is None:
+            if kind is None and not self._ended:
                 self.bye()
         except (Closed, Refused):
             pass
         finally:
-            self._socket.close()
+            self.hang_up()
 
     def _line(self) -> bytes:
         """The next line, within the time limit."""
@@ -351,11 +361,14 @@ class Client:
         return line
 
     def ask(self, **request: object) -> dict[str, Any]:
-        """Sends a request, and gives its reply as it came, where it was answered by `ok`; else raises Denied, Refused
-        or Closed."""
+        """Sends a request, and returns its reply as it came, if it was answered by `ok`. Raises Malformed before a line
+        that is no request is sent, and Denied, Refused or Closed after its reply."""
+        if self._ended:
+            raise Closed("this connection has ended: greet again by another Client")
+        line = line_of(request)
         try:
             self._socket.settimeout(self.limit)
-            self._socket.sendall(json.dumps(request).encode() + b"\n")
+            self._socket.sendall(line + b"\n")
         except OSError:
             pass  # What the server wrote before it hung up is read all the same.
         reply = reply_of(self._line())
@@ -387,20 +400,24 @@ class Client:
                 return looks
         raise Moving(f"{tries} times a step was closed between two looks")
 
-    def move(self, look: Look, rule: str | None = None, partner: int | None = None) -> Move:
+    def move(self, look: Look, rule: Rule | None = None, partner: int | None = None) -> Move:
         """Asks for a move at the node and number of a look: its enabled rule, or the one that you name.
         A marriage without a partner is asked with the highest neighbour that points at the node."""
+        if rule is None and look.rule is None:
+            raise Malformed(f"no rule is enabled at {look.node} by this look: there is nothing to ask")
         request: dict[str, object] = {"do": "move", "node": look.node, "at": look.at, "rule": rule or look.rule}
         if request["rule"] == "marriage":
             suitors = [near.node for near in look.near if near.p == look.node]
-            request["with"] = partner if partner is not None else max(suitors, default=look.node)
+            if partner is None and not suitors:
+                raise Malformed(f"nobody whom {look.node} may marry points at it: a marriage names its partner")
+            request["with"] = partner if partner is not None else max(suitors)
         it = self.ask(**request)
         return Move(it["at"], it["place"], it["node"], it["rule"])
 
     def bye(self) -> None:
         """Ends the conversation, and the connection."""
         self.ask(do="bye")
-        self._socket.close()
+        self.hang_up()
 
     def close(self) -> Close:
         """For a teacher: applies all chosen moves at once."""
@@ -444,6 +461,17 @@ def no_server(port: int, error: BaseException) -> NoServer | None:
     return NoServer(f"no server at port {port} answers a hello: {error}") if isinstance(error, Silent) else None
 
 
+def line_of(request: dict[str, object]) -> bytes:
+    """Returns the line of a request; raises Malformed if the server would take it for none."""
+    try:
+        line = json.dumps(request)
+    except (TypeError, ValueError) as error:
+        raise Malformed(str(error)) from None
+    if why := wrong(line):
+        raise Malformed(f"{why}: {line}")
+    return line.encode()
+
+
 def reply_of(line: bytes) -> dict[str, Any]:
     """The reply that a line is; it raises NotReply where it is none."""
     try:
@@ -472,6 +500,8 @@ STOPS = {
 def stop(error: Exception) -> tuple[int, str]:
     """The status and the sentence by which a program ends."""
     word = error.name if isinstance(error, Denied) else error.word if isinstance(error, Refused) else ""
+    if isinstance(error, Malformed):
+        return STOPS["malformed"][0], str(error)
     if word in STOPS:
         return STOPS[word]
     if isinstance(error, NoSlip):
@@ -606,12 +636,75 @@ def wrong(line: str) -> str | None:
     except json.JSONDecodeError as error:
         if error.pos >= len(line.rstrip()) and line.strip():
             return "not JSON: it isn't closed at its end, and a request is one line"
-        return f"not JSON at byte {byte(line, error.pos)}"
+        return f"not JSON at byte {byte(line, error.pos)}{mend(line, error)}"
     except RecursionError:
         return DEEP
     if strange:
         return f"not JSON: {strange[0]} is no number"
     return wrong_value(asked) or wrong_keys(asked) or (f"{doubled[0]} stands twice, and the last counts" if doubled else None)
+
+
+# Words that are often written for those of JSON.
+INSTEAD = {"none": "null", "nil": "null", "null": "null", "undefined": "null", "true": "true", "yes": "true", "false": "false", "no": "false"}
+
+
+def mend(line: str, error: json.JSONDecodeError) -> str:
+    """Returns in parentheses how to mend a line that is no JSON, or nothing if that isn't known."""
+    rest, before = line[error.pos:], line[:error.pos].rstrip()
+    word = (re.match(r"\w*", rest) or [""])[0]
+    rows = (
+        (not before and rest[:1] != "'", 'a request is an object: {"do":"bye"}'),
+        (rest[:1] == "'", "JSON wants double quotes"),
+        (rest[:1] in tuple("\u201c\u201d\u201e\u00ab\u00bb"), "JSON wants straight double quotes"),
+        (rest[:1] in ("#", "/"), "JSON has no comments"),
+        (before.endswith(",") and rest[:1] in ("}", ",", "]"), "there is a comma too many"),
+        (error.msg.startswith("Unterminated"), "this text has no closing double quote"),
+        (error.msg.startswith("Extra"), "nothing may follow the object"),
+        (word.lower() in INSTEAD and before.endswith(":"), f"write {INSTEAD.get(word.lower())}"),
+        (before.endswith("0") and word[:1].isdecimal(), f"write {word.lstrip('0') or '0'}, without a zero before it"),
+        (before.endswith("0") and word[:1] == "x", "write the number in decimal digits"),
+        (rest[:1] == "+", f"write {rest[1:].rstrip('} ')}, without a sign"),
+        (before.endswith('"') and word[:1].isalpha(), "a double quote is missing before this"),
+        (word[:1].isalpha(), f'write "{word}", in double quotes'),
+        (rest[:1] == "=", "write : between key and value"),
+        ("':' delimiter" in error.msg, "a : is missing after the key"),
+        ("',' delimiter" in error.msg, "a comma is missing before this"),
+        ("control character" in error.msg, "a tab in a text is written \\t"),
+    )
+    return next((f" ({text})" for holds, text in rows if holds), "")
+
+
+def meant(word: str, known: Iterable[str]) -> str | None:
+    """Returns the known word that is most like another one, or None if none is."""
+    found = difflib.get_close_matches(word.lower(), list(known), 1, 0.6)
+    return found[0] if found else None
+
+
+def mend_value(kind: str, value: object) -> str:
+    """Returns in parentheses what to write for a value that isn't of its kind, or nothing if that isn't known."""
+    text = value.strip() if isinstance(value, str) else ""
+    if isinstance(value, list) and len(value) == 1 and is_a(kind, value[0]):
+        return f" (write {json.dumps(value[0])}, without brackets)"
+    if kind == "a rule":
+        near = meant(text, RULES)
+        return f" (did you mean {near}?)" if near else ""
+    if "number" in kind and isinstance(value, float) and value.is_integer():
+        return f" (write {int(value)}, without a point)"
+    if "number" in kind and text.isascii() and text.isdecimal() or text in ("null", "true", "false"):
+        return f" (write {text}, without quotes)"
+    if text.lower() in INSTEAD and kind not in (NODE, "a string"):
+        return f" (write {INSTEAD[text.lower()]}, without quotes)"
+    if kind == "true or false" and value in (0, 1):
+        return f" (write {str(value == 1).lower()})"
+    return f' (write "{value}", in double quotes)' if kind == "a string" and is_a(NODE, value) else ""
+
+
+def mend_key(key: str, asked: dict[str, Any]) -> str:
+    """Returns in parentheses what stands there instead of a key, or nothing if nothing is like it."""
+    if key == "do" and (word := next((each for each in asked if each in KEYS), None)):
+        return f' (write {{"do":"{word}"}} for {word})'
+    near = next((each for each in asked if each not in ("do", key) and (each.lower() == key or meant(each, [key]))), None)
+    return f" (you wrote {near})" if near else " (who points at the node)" if key == "with" else ""
 
 
 def sent(line: str) -> bytes:
@@ -649,17 +742,18 @@ def wrong_keys(asked: object) -> str | None:
     if not isinstance(asked, dict):
         return f"{said(asked)}, not an object"
     if "do" not in asked:
-        return 'missing "do"'
+        return f'missing "do"{mend_key("do", asked)}'
     word = asked["do"]
     if not isinstance(word, str) or word not in KEYS:
-        return f"unknown do: {word}"
+        near = meant(word, KEYS) if isinstance(word, str) else None
+        return f"unknown do: {word}" + (f" (did you mean {near}?)" if near else "")
     keys = KEYS[word] | ({"with": NODE} if asked.get("rule") == "marriage" and word == "move" else {})
     for key, kind in keys.items():
         if key not in asked:
-            return f'missing "{key}"'
+            return f'missing "{key}"{mend_key(key, asked)}'
         if not is_a(kind, asked[key]):
             it = f'"{asked[key]}"' if kind == "a rule" and isinstance(asked[key], str) else said(asked[key])
-            return f"{key} is {it}, not {'one of ' + ', '.join(RULES) if kind == 'a rule' else kind}"
+            return f"{key} is {it}, not {'one of ' + ', '.join(RULES) if kind == 'a rule' else kind}{mend_value(kind, asked[key])}"
     return None
 
 

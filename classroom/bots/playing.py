@@ -182,8 +182,9 @@ class Playing:
         elif "refuse" in told:
             heard.denied[told["refuse"]] += 1
             note = wrong(line.decode(errors="surrogateescape").replace("\r", " ")) if told["refuse"] == "malformed" else None
-            kind = f"{told['refuse']}: {note}" if note else told["refuse"]
-            self.on_no(No(who, told["refuse"], f"{kind}: {line[:SHOWN_LINE].decode(errors='backslashreplace')}", kind, sent))
+            text = f"{told['refuse']}: {note}" if note else told["refuse"]
+            kind = text.partition(" (")[0]  # how to mend it may tell a number
+            self.on_no(No(who, told["refuse"], f"{text}: {line[:SHOWN_LINE].decode(errors='backslashreplace')}", kind, sent))
 
     def explained(self, asked: dict[str, Any], told: dict[str, Any]) -> str:
         """A denial with its clause, the node's registers, and what would be granted there."""

@@ -10,7 +10,7 @@ import tempfile
 from pathlib import Path
 
 from classroom.core import lab as labs
-from classroom.core.program import TOP
+from classroom.core.program import TOP, Fault
 from classroom.run import server
 from classroom.setup import slips
 from classroom.setup.slips import Way
@@ -32,6 +32,8 @@ def bots_of(lab: labs.Lab, port: int, room: Path) -> list[subprocess.Popen[bytes
 
 def demo(words: argparse.Namespace) -> int:
     """Calls `run` over the cycle of `examples/`, with a bot for each of its four students, until it is stable."""
+    if not LAB.exists():
+        raise Fault("this is the archive for students: it has no finished bots to show; ./class practise bot.py tries yours")
     server.ready(False)
     lab = labs.read(LAB)
     bots: list[subprocess.Popen[bytes]] = []

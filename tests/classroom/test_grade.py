@@ -31,8 +31,7 @@ SECONDS = 20  # that a case may take: a slow machine starts a bot in a part of i
 # Each fault with the case that is its own, and why that isn't passed.
 OWN = {
     "never-updates": ("path-4", rf"isn't stable after {SECONDS} seconds: waiting for \d \(bot\): update"),
-    "marries-anyone": ("alone-path-4", r"move \d+ marriage \d+ is denied as guard, clause 4: .*; (update|seduction|abandonment) would be granted "
-                                       r"there; the plain model, which decides nothing, adds: .*; a right bot would send {"),
+    "marries-anyone": ("alone-path-4", r"move \d+ marriage \d+ is denied as guard, clause 4: .*; (update|seduction|abandonment) would be"),
     "asks-always": ("alone-cycle-4", r"asks for a move of \d under 1\d\d\d, and never looked at \d under that number"),
     "floods": ("path-4", "it floods: "),
     "hangs": ("path-4", rf"isn't stable after {SECONDS} seconds: waiting for "),
@@ -40,7 +39,7 @@ OWN = {
     "needs-order": ("alone-path-4", rf"isn't stable after {SECONDS} seconds: waiting for "),
     "sulks": ("random-6", rf"its connection was closed, and in {SECONDS} seconds it neither came again nor ended"),
     "binary": ("path-4", r"^malformed: not UTF-8 at byte 1: \\x80"),
-    "quotes-numbers": ("path-4", r'^malformed: node is a string, not a number: {"do": "look", "node": "\d"}$'),
+    "quotes-numbers": ("path-4", r'^malformed: node is a string, not a number \(write \d, without quotes\): {"do": "look", "node": "\d"}$'),
     "never-ends-a-line": ("path-4", rf"no hello in {SECONDS} seconds; a line came that has no newline at its end$"),
     "forks": ("path-4", "it ended by itself, status 0"),
     "bombs": ("path-4", "it was ended: more than 64 processes"),

@@ -48,7 +48,9 @@ class Practise(InRoom):
                               "--start", "clean", "--daemon", "by-hand")
         self.assertEqual(done.returncode, 5, done.stdout + done.stderr)
         self.assertIn("\nyou: move 1 marriage 2 is denied as guard, clause 4: the guard of this rule does not hold; "
-                      "node 1 has p null, m false, its neighbours are 2 (p null, m false); seduction would be granted there\n", done.stdout)
+                      "node 1 has p null, m false, its neighbours are 2 (p null, m false); seduction would be granted there; "
+                      "the plain model, which decides nothing, adds: p of 2 isn't 1, it is null; "
+                      'a right bot would send {"at":0,"do":"move","node":1,"rule":"seduction"}\n', done.stdout)
         self.assertIn("\nyou: the program has ended, status 1\n", done.stdout)
         self.assertRegex(done.stdout, r"(?m)^it hangs: no program is left, and the class waits for 1 \(you\): seduction, ")
 
@@ -73,7 +75,7 @@ class Practise(InRoom):
         self.assertEqual(done.returncode, 0, done.stdout + done.stderr)
         lines = [line for line in done.stdout.splitlines() if "malformed" in line]
         self.assertEqual(len(lines), 3, lines)
-        self.assertRegex(lines[0], r'^you: malformed: node is a string, not a number: {"do": "look", "node": "\d"}$')
+        self.assertRegex(lines[0], r'^you: malformed: node is a string, not a number \(write \d, without quotes\): {"do": "look", "node": "\d"}$')
         self.assertEqual(lines[1], "you: 10 times by now: malformed: node is a string, not a number")
         self.assertIn(", 30 malformed lines", lines[2])
 
@@ -137,7 +139,7 @@ class Practise(InRoom):
         self.assertEqual(going.wait(LIMIT), 0)
         going.stdout.close()
         self.assertTrue(any(line.startswith("you: look 2 is denied as not-owner, clause 1: you do not own this node") for line in rest), rest)
-        self.assertIn('you: malformed: node is a string, not a number: {"do":"look","node":"1"}\\r\n', rest)
+        self.assertIn('you: malformed: node is a string, not a number (write 1, without quotes): {"do":"look","node":"1"}\\r\n', rest)
         self.assertTrue(any(line.startswith("stable: pairs 1-2; ") for line in rest), rest)
 
     def plays(self, me: Client, node: int) -> None:

@@ -2,7 +2,7 @@
 import unittest
 from typing import cast
 
-from classroom.client import Client, Denied, Edit, Look, Report
+from classroom.client import Client, Denied, Edit, Look, Rule, Report
 from classroom.core import lab as labs
 from classroom.core.journal import Event
 from classroom.core.present import Book
@@ -21,7 +21,7 @@ class Late:
 
     def look(self, node: int) -> Look:
         """A look at a node."""
-        chosen = "update" if node == 4 and self.is_granted and self.acts else None
+        chosen: Rule | None = "update" if node == 4 and self.is_granted and self.acts else None
         return Look(node, None, False, 0, "update" if node == 4 else None, chosen, ())
 
     def link(self, a: int, b: int) -> Edit:

@@ -15,7 +15,8 @@ from tools.check.parts import TOP
 
 # Files whose modules have names of their own, and programs that aren't modules of this tree: one call each.
 EXAMPLES_PYTHON = "3.10"  # from which on a student's client and bot run
-CALLS = (("class", "bench", "classroom", "model", "tests", "tools"), ("check",), ("examples",), ("--python-version", EXAMPLES_PYTHON, "examples/bot.py"))
+CALLS = (("class", "bench", "classroom", "model", "tests", "tools"), ("check",), ("examples",), ("--python-version", EXAMPLES_PYTHON, "examples/bot.py"),
+         ("--python-version", EXAMPLES_PYTHON, "student/bot.py"))
 
 
 def python_files() -> list[str]:
@@ -27,7 +28,7 @@ def python_files() -> list[str]:
 
 def faults_of(command: list[str]) -> list[str]:
     """What a tool says, where it isn't content."""
-    environment = {**os.environ, "MYPYPATH": "classroom"} if command[-1].startswith("examples") else None
+    environment = {**os.environ, "MYPYPATH": "classroom"} if command[-1].startswith(("examples", "student")) else None
     done = subprocess.run(command, cwd=TOP, capture_output=True, text=True, check=False, env=environment)
     return [line for line in (done.stdout + done.stderr).splitlines() if line] if done.returncode else []
 

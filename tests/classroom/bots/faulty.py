@@ -75,10 +75,8 @@ def quotes_numbers() -> None:
     """It puts its nodes' numbers into quotes in its first thirty lines."""
     with Client.of(SLIP) as me:
         for _ in range(30):
-            try:
-                me.ask(do="look", node=str(SLIP.nodes[0]))
-            except Refused:
-                pass
+            me._socket.sendall(b'{"do": "look", "node": "%d"}\n' % SLIP.nodes[0])
+            me._line()
     loop(right)
 
 

@@ -3,14 +3,14 @@ from __future__ import annotations
 
 import time
 
-from classroom.client import Denied, Look
+from classroom.client import Denied, Look, Rule
 from tests.classroom.wrong_bots.base import PAUSE, Bot
 
 
 class AsksWhateverIsShown(Bot):
     """Asks for an update where no rule is enabled."""
 
-    def rule(self, look: Look) -> str | None:
+    def rule(self, look: Look) -> Rule | None:
         return super().rule(look) or "update"
 
 
@@ -25,7 +25,7 @@ class AsksAgainWhileChosen(Bot):
 class StopsAtStale(Bot):
     """Takes `stale` for an error."""
 
-    def denied(self, denied: Denied, look: Look, rule: str) -> bool:
+    def denied(self, denied: Denied, look: Look, rule: Rule) -> bool:
         if denied.name == "stale":
             raise SystemExit("the move was denied")
         return super().denied(denied, look, rule)
@@ -39,7 +39,7 @@ class StopsAtChosen(Bot):
             raise SystemExit("somebody else moves this node")
         super().at(look)
 
-    def ask(self, look: Look, rule: str) -> bool:
+    def ask(self, look: Look, rule: Rule) -> bool:
         self.__dict__.setdefault("mine", set()).add((look.node, look.at))
         return super().ask(look, rule)
 
@@ -47,7 +47,7 @@ class StopsAtChosen(Bot):
 class RepeatsTheLine(Bot):
     """Sends a move that was stale again and again, for a while."""
 
-    def denied(self, denied: Denied, look: Look, rule: str) -> bool:
+    def denied(self, denied: Denied, look: Look, rule: Rule) -> bool:
         for _ in range(10):
             try:
                 self.me.move(look, rule, self.partner(look))
@@ -59,7 +59,7 @@ class RepeatsTheLine(Bot):
 class TakesTheNumberOfADenial(Bot):
     """Asks again under the number that `stale` tells, without a look."""
 
-    def denied(self, denied: Denied, look: Look, rule: str) -> bool:
+    def denied(self, denied: Denied, look: Look, rule: Rule) -> bool:
         if denied.name != "stale" or denied.at is None:
             return super().denied(denied, look, rule)
         return self.ask(Look(look.node, look.p, look.m, denied.at, look.rule, look.chosen, look.near), rule)
@@ -88,7 +88,7 @@ class WaitsForTheNextNumber(Bot):
 class WaitsForTheStep(Bot):
     """After a grant it waits for the step to close before it looks at another node."""
 
-    def ask(self, look: Look, rule: str) -> bool:
+    def ask(self, look: Look, rule: Rule) -> bool:
         if not super().ask(look, rule):
             return False
         while self.me.look(look.node).at == look.at:
@@ -99,7 +99,7 @@ class WaitsForTheStep(Bot):
 class TakesAGrantForAStep(Bot):
     """Believes that a granted move has changed its register at once, and asks for what would follow."""
 
-    def ask(self, look: Look, rule: str) -> bool:
+    def ask(self, look: Look, rule: Rule) -> bool:
         granted = super().ask(look, rule)
         if granted and rule == "marriage":
             self.me.move(look, "update")
@@ -164,13 +164,14 @@ class SendsNumbersAsTexts(Bot):
 
     def turn(self) -> None:
         for node in self.slip.nodes:
-            self.me.ask(do="look", node=str(node))
+            self.me._socket.sendall(b'{"do":"look","node":"%d"}\n' % node)
+            self.me._line()
 
 
 class MarriesWithoutAName(Bot):
     """Leaves out with whom it marries."""
 
-    def ask(self, look: Look, rule: str) -> bool:
+    def ask(self, look: Look, rule: Rule) -> bool:
         try:
             self.me.ask(do="move", node=look.node, at=look.at, rule=rule)
         except Denied as denied:

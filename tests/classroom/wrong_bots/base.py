@@ -6,7 +6,7 @@ import time
 from pathlib import Path
 
 sys.path.append(str(Path(__file__).resolve().parents[3]))
-from classroom.client import Client, Closed, Denied, Look, Near, Refused, Slip, again, enter  # noqa: E402
+from classroom.client import Client, Closed, Denied, Look, Near, Refused, Rule, Slip, again, enter  # noqa: E402
 
 PAUSE = 0.05
 
@@ -56,7 +56,7 @@ class Bot:
         if rule and look.chosen is None:
             self.ask(look, rule)
 
-    def ask(self, look: Look, rule: str) -> bool:
+    def ask(self, look: Look, rule: Rule) -> bool:
         """Asks for a move; returns whether it was granted. A step that was closed meanwhile is no error."""
         try:
             self.me.move(look, rule, self.partner(look))
@@ -64,7 +64,7 @@ class Bot:
             return self.denied(denied, look, rule)
         return True
 
-    def denied(self, denied: Denied, look: Look, rule: str) -> bool:
+    def denied(self, denied: Denied, look: Look, rule: Rule) -> bool:
         """Takes a denial, after which it looks again."""
         if denied.name not in ("stale", "chosen"):
             raise denied
@@ -72,7 +72,7 @@ class Bot:
 
     # The rules.
 
-    def rule(self, look: Look) -> str | None:
+    def rule(self, look: Look) -> Rule | None:
         """Returns the rule that is enabled."""
         if look.m != self.is_married(look):
             return "update"

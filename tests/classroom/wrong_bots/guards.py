@@ -1,14 +1,14 @@
 """Mistakes in the guards."""
 from __future__ import annotations
 
-from classroom.client import Look
+from classroom.client import Look, Rule
 from tests.classroom.wrong_bots.base import Bot
 
 
 class NeverUpdates(Bot):
     """Knows three of the four rules: no update."""
 
-    def rule(self, look: Look) -> str | None:
+    def rule(self, look: Look) -> Rule | None:
         return None if look.m != self.is_married(look) else super().rule(look)
 
 
@@ -71,7 +71,7 @@ class SeducesTheLower(Bot):
 class SeducesBeforeItMarries(Bot):
     """Seduces although a neighbour points at it."""
 
-    def rule(self, look: Look) -> str | None:
+    def rule(self, look: Look) -> Rule | None:
         if look.m == self.is_married(look) and look.p is None and self.candidates(look):
             return "seduction"
         return super().rule(look)
@@ -87,7 +87,7 @@ class MarriesTheFirst(Bot):
 class MarriesWhilePointing(Bot):
     """Marries a suitor although it points at somebody else."""
 
-    def rule(self, look: Look) -> str | None:
+    def rule(self, look: Look) -> Rule | None:
         if look.m == self.is_married(look) and not self.is_married(look) and self.suitors(look):
             return "marriage"
         return super().rule(look)
@@ -96,7 +96,8 @@ class MarriesWhilePointing(Bot):
 class RulesBeforeUpdate(Bot):
     """Updates last: only if no other rule seems enabled."""
 
-    def rule(self, look: Look) -> str | None:
+    def rule(self, look: Look) -> Rule | None:
+        found: Rule | None
         if look.p is None:
             found = "marriage" if self.suitors(look) else "seduction" if self.candidates(look) else None
         else:

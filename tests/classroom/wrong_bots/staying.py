@@ -82,7 +82,7 @@ class ForgetsTheHello(Bot):
     def again(self, lost: Closed | Refused) -> Client:
         time.sleep(0.5)
         self.me._socket = socket.create_connection(("127.0.0.1", self.slip.port))
-        self.me.__dict__.update({"_rest": b"", "_closed": False, "closed": False})
+        self.me._rest = b""
         return self.me
 
 

@@ -1,0 +1,52 @@
+#!/usr/bin/env python3
+"""My bot: python3 bot.py SLIP
+
+It connects, looks at each of its nodes again and again, and asks for what `rule_of` returns. Fill that in.
+"""
+from __future__ import annotations
+
+import sys
+import time
+from pathlib import Path
+
+sys.path.append(str(Path(__file__).resolve().parent.parent / "classroom"))  # in a clone; else client.py is beside this file
+from client import Client, Closed, Denied, Look, Rule, Slip, again, enter, run  # noqa: E402
+
+
+def rule_of(look: Look) -> Rule | None:
+    """Returns the rule whose guard holds at my node: "update", "marriage", "seduction", "abandonment", or None.
+
+    `look.node` is my node, `look.p` and `look.m` are its registers, and each of `look.near` has `node`, `p` and `m`.
+    """
+    return None  # Yours to write.
+
+
+def play(me: Client, nodes: tuple[int, ...]) -> None:
+    """Looks at each node, and asks."""
+    while True:
+        for node in nodes:
+            look = me.look(node)
+            rule = rule_of(look)
+            if rule is None or look.chosen is not None:
+                continue  # There is nothing to ask, or a move of this node waits for the step to close.
+            try:
+                print(me.move(look, rule), flush=True)
+            except Denied as denied:  # `stale` and `chosen` happen to a right bot too: look again. Others are mistakes.
+                print(denied, flush=True)
+                if denied.name not in ("stale", "chosen"):
+                    raise
+        time.sleep(0.1)
+
+
+def main(words: list[str]) -> None:
+    """Greets, plays, and greets again if the connection is lost, until the class is over."""
+    slip = Slip.read(words[0])
+    me = enter(slip)
+    while True:
+        try:
+            play(me, slip.nodes)
+        except Closed as lost:
+            me = again(slip, lost)
+
+
+run(main, __doc__ or "")

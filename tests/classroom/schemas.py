@@ -1,0 +1,57 @@
+"""A checker for the JSON Schemas in `docs/`: the keywords that they use, and no others."""
+from __future__ import annotations
+
+import json
+from typing import Any
+
+from classroom.core.program import TOP
+
+Schema = dict[str, Any]
+KINDS: dict[str, tuple[type, ...]] = {
+    "object": (dict,), "array": (list,), "string": (str,), "integer": (int,), "boolean": (bool,), "null": (type(None),),
+}
+KEYWORDS = {
+    "$schema", "$defs", "$ref", "title", "description", "type", "properties", "required", "additionalProperties", "items", "prefixItems",
+    "minItems", "maxItems", "minimum", "maximum", "enum", "const", "oneOf", "anyOf",
+}
+
+
+def read(name: str) -> Schema:
+    """Returns a schema of `docs/`."""
+    found: Schema = json.loads((TOP / "docs" / f"{name}.schema.json").read_text(encoding="utf-8"))
+    return found
+
+
+def fits(value: Any, schema: Schema, top: Schema) -> bool:
+    """Returns whether a value is as a schema says, which is a part of the whole one."""
+    if unknown := schema.keys() - KEYWORDS:
+        raise ValueError(f"keywords that aren't checked: {unknown}")
+    if "$ref" in schema:
+        return fits(value, top["$defs"][schema["$ref"].removeprefix("#/$defs/")], top)
+    if "type" in schema and (not isinstance(value, KINDS[schema["type"]]) or isinstance(value, bool) != (schema["type"] == "boolean")):
+        return False
+    if any(value != schema["const"] for _ in ["const"] if "const" in schema) or "enum" in schema and value not in schema["enum"]:
+        return False
+    if "minimum" in schema and value < schema["minimum"] or "maximum" in schema and value > schema["maximum"]:
+        return False
+    if "anyOf" in schema and not any(fits(value, each, top) for each in schema["anyOf"]):
+        return False
+    if "oneOf" in schema and sum(fits(value, each, top) for each in schema["oneOf"]) != 1:
+        return False
+    return object_fits(value, schema, top) if isinstance(value, dict) else array_fits(value, schema, top) if isinstance(value, list) else True
+
+
+def object_fits(value: dict[str, Any], schema: Schema, top: Schema) -> bool:
+    """Returns whether an object's keys are there, and as a schema says."""
+    known: Schema = schema.get("properties", {})
+    if not value.keys() >= set(schema.get("required", [])) or schema.get("additionalProperties") is False and value.keys() - known.keys():
+        return False
+    return all(fits(value[key], each, top) for key, each in known.items() if key in value)
+
+
+def array_fits(value: list[Any], schema: Schema, top: Schema) -> bool:
+    """Returns whether a list's items are as a schema says."""
+    if not schema.get("minItems", 0) <= len(value) <= schema.get("maxItems", len(value)):
+        return False
+    first: list[Schema] = schema.get("prefixItems", [])
+    return all(fits(it, each, top) for it, each in zip(value, first)) and all(fits(it, schema.get("items", {}), top) for it in value[len(first):])

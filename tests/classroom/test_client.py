@@ -1,0 +1,220 @@
+"""`client.py` as a module: what is told before a line is sent, what comes after bye, and the schemas of lines."""
+from __future__ import annotations
+
+import json
+import socket
+import threading
+import unittest
+from collections.abc import Iterator
+
+from classroom.client import Client, Closed, Look, Malformed, Near, line_of, wrong
+from classroom.core.program import TOP
+from tests.classroom import schemas
+from tests.classroom.help import LIMIT
+
+# Lines as beginners write them, each with what is told.
+HURT = (
+    ("{'do':'look','node':4}",
+     'not JSON at byte 2 (JSON wants double quotes)'),
+    ('{"do":\'look\',"node":4}',
+     'not JSON at byte 7 (JSON wants double quotes)'),
+    ('{“do”:“look”,“node”:4}',
+     'not JSON at byte 2 (JSON wants straight double quotes)'),
+    ('{do:"look","node":4}',
+     'not JSON at byte 2 (write "do", in double quotes)'),
+    ('{"do":look,"node":4}',
+     'not JSON at byte 7 (write "look", in double quotes)'),
+    ('{"do":"look","node":4,}',
+     'not JSON at byte 23 (there is a comma too many)'),
+    ('{"do":"look",,"node":4}',
+     'not JSON at byte 14 (there is a comma too many)'),
+    ('{"do":"look" "node":4}',
+     'not JSON at byte 14 (a comma is missing before this)'),
+    ('{"do":"look","node" 4}',
+     'not JSON at byte 21 (a : is missing after the key)'),
+    ('{"do"="look","node"=4}',
+     'not JSON at byte 6 (write : between key and value)'),
+    ('{"do":"look","node":4',
+     "not JSON: it isn't closed at its end, and a request is one line"),
+    ('{"do":"look,"node":4}',
+     'not JSON at byte 14 (a double quote is missing before this)'),
+    ('{"do":"look","node":4}}',
+     'not JSON at byte 23 (nothing may follow the object)'),
+    ('{"do":"look","node":4} # mine',
+     'not JSON at byte 24 (JSON has no comments)'),
+    ('# a comment',
+     'not JSON at byte 1 (a request is an object: {"do":"bye"})'),
+    ('look 4',
+     'not JSON at byte 1 (a request is an object: {"do":"bye"})'),
+    ('',
+     'not JSON at byte 1 (a request is an object: {"do":"bye"})'),
+    ('{"do":"look","node":04}',
+     'not JSON at byte 22 (write 4, without a zero before it)'),
+    ('{"do":"look","node":+4}',
+     'not JSON at byte 21 (write 4, without a sign)'),
+    ('{"do":"look","node":0x4}',
+     'not JSON at byte 22 (write the number in decimal digits)'),
+    ('{"do":"look","node":4.0}',
+     'node is no whole number, not a number (write 4, without a point)'),
+    ('{"do":"look","node":4.5}',
+     'node is no whole number, not a number'),
+    ('{"do":"look","node":"4"}',
+     'node is a string, not a number (write 4, without quotes)'),
+    ('{"do":"look","node":[4]}',
+     'node is a list, not a number (write 4, without brackets)'),
+    ('{"do":"look","node":None}',
+     'not JSON at byte 21 (write null)'),
+    ('{"do":"look","nodes":4}',
+     'missing "node" (you wrote nodes)'),
+    ('{"do":"look","Node":4}',
+     'missing "node" (you wrote Node)'),
+    ('{"do":"loook","node":4}',
+     'unknown do: loook (did you mean look?)'),
+    ('{"do":"LOOK","node":4}',
+     'unknown do: LOOK (did you mean look?)'),
+    ('{"look":4}',
+     'missing "do" (write {"do":"look"} for look)'),
+    ('{"Do":"look","node":4}',
+     'missing "do" (you wrote Do)'),
+    ('{"do":"move","node":4,"at":0,"rule":"Update"}',
+     'rule is "Update", not one of update, marriage, seduction, abandonment (did you mean update?)'),
+    ('{"do":"move","node":4,"at":0,"rule":"marry","with":3}',
+     'rule is "marry", not one of update, marriage, seduction, abandonment (did you mean marriage?)'),
+    ('{"do":"move","node":4,"at":0,"rule":"seduce"}',
+     'rule is "seduce", not one of update, marriage, seduction, abandonment (did you mean seduction?)'),
+    ('{"do":"move","node":4,"at":0,"rule":"dance"}',
+     'rule is "dance", not one of update, marriage, seduction, abandonment'),
+    ('{"do":"move","node":4,"at":0,"rule":"marriage"}',
+     'missing "with" (who points at the node)'),
+    ('{"do":"move","node":4,"at":0,"rule":"marriage","With":3}',
+     'missing "with" (you wrote With)'),
+    ('{"do":"move","node":4,"at":0,"rule":"marriage","with":"3"}',
+     'with is a string, not a number (write 3, without quotes)'),
+    ('{"do":"fault","node":4,"p":None,"m":true}',
+     'not JSON at byte 28 (write null)'),
+    ('{"do":"fault","node":4,"p":"null","m":true}',
+     'p is a string, not a number or null (write null, without quotes)'),
+    ('{"do":"fault","node":4,"p":null,"m":True}',
+     'not JSON at byte 37 (write true)'),
+    ('{"do":"fault","node":4,"p":null,"m":"false"}',
+     'm is a string, not true or false (write false, without quotes)'),
+    ('{"do":"fault","node":4,"p":null,"m":1}',
+     'm is a number, not true or false (write true)'),
+    ('{"do":"hello","name":4,"key":"k"}',
+     'name is a number, not a string (write "4", in double quotes)'),
+    ('{"do":"hello","name":"gus","keys":"k"}',
+     'missing "key" (you wrote keys)'),
+    ('{"do":"link","from":1,"to":2}',
+     'missing "a"'),
+    ('{"do":"look","node":NaN}',
+     'not JSON: NaN is no number'),
+)
+
+# What a schema can't say of a line.
+BEYOND = ("not UTF-8", "a byte order mark", "half of a surrogate pair", "nested deeper than", "a number past", "out of range")
+
+
+class Server:
+    """A port at which each line is answered by the next of these replies."""
+
+    def __init__(self, test: unittest.TestCase, *replies: bytes) -> None:
+        self.lines: list[bytes] = []
+        self.listener = socket.create_server(("127.0.0.1", 0))
+        self.listener.settimeout(LIMIT)
+        test.addCleanup(self.listener.close)
+        self.port: int = self.listener.getsockname()[1]
+        threading.Thread(target=self.answer, args=(replies,), daemon=True).start()
+
+    def answer(self, replies: tuple[bytes, ...]) -> None:
+        """Answers one connection."""
+        its, _ = self.listener.accept()
+        with its, its.makefile("rb") as lines:
+            for reply in replies:
+                self.lines.append(lines.readline())
+                its.sendall(reply + b"\n")
+
+
+def scripts() -> Iterator[tuple[bytes, dict[str, object]]]:
+    """Returns each line of the scripts with its reply."""
+    for folder in ("tests/scripts", "examples"):
+        for script in sorted((TOP / folder).glob("*.script")):
+            for line, reply in zip(script.read_bytes().split(b"\n"), script.with_suffix(".out").read_bytes().splitlines()):
+                yield line.partition(b" ")[2], json.loads(reply.partition(b" ")[2])
+
+
+class Hurt(unittest.TestCase):
+    """Lines that are no requests."""
+
+    def test_each_line_is_told_how_to_mend_it(self) -> None:
+        self.assertEqual(len(HURT), 47)
+        for line, told in HURT:
+            self.assertEqual(wrong(line), told, line)
+
+
+class Before(unittest.TestCase):
+    """What the client sees before it sends."""
+
+    def test_a_line_that_is_no_request_isnt_sent(self) -> None:
+        server = Server(self, b'{"ok":"hello","who":"gus"}', b'{"ok":"bye"}')
+        me = Client(server.port, "gus", "k")
+        rows: tuple[tuple[dict[str, object], str], ...] = (
+            ({"do": "look", "node": "4"}, "node is a string, not a number (write 4, without quotes)"),
+            ({"do": "loook", "node": 4}, "unknown do: loook (did you mean look?)"), ({"do": "see", "node": {4}}, "Object of type set"),
+        )
+        for request, why in rows:
+            with self.assertRaises(Malformed) as malformed:
+                me.ask(**request)
+            self.assertEqual(malformed.exception.word, "malformed")
+            self.assertIn(f"malformed, and not sent: {why}", str(malformed.exception))
+        look = Look(4, None, False, 0, None, None, (Near(3, None, False),))
+        with self.assertRaisesRegex(Malformed, "no rule is enabled at 4 by this look"):
+            me.move(look)
+        with self.assertRaisesRegex(Malformed, "nobody whom 4 may marry points at it"):
+            me.move(look, "marriage")
+        me.bye()
+        self.assertEqual([json.loads(line)["do"] for line in server.lines], ["hello", "bye"])
+
+    def test_after_bye_the_connection_is_closed(self) -> None:
+        with Client(Server(self, b'{"ok":"hello","who":"gus"}', b'{"ok":"bye"}').port, "gus", "k") as me:
+            me.bye()
+            for _ in range(2):
+                with self.assertRaisesRegex(Closed, "this connection has ended: greet again"):
+                    me.look(4)
+
+    def test_a_right_request_is_its_line(self) -> None:
+        self.assertEqual(line_of({"do": "look", "node": 4}), b'{"do": "look", "node": 4}')
+
+
+class Schemas(unittest.TestCase):
+    """`docs/requests.schema.json` and `docs/replies.schema.json`."""
+
+    def test_each_line_of_the_scripts_is_as_the_server_takes_it(self) -> None:
+        requests, replies, count = schemas.read("requests"), schemas.read("replies"), 0
+        for line, reply in scripts():
+            count += 1
+            self.assertTrue(schemas.fits(reply, replies, replies), reply)
+            try:
+                is_request = schemas.fits(json.loads(line), requests, requests)
+            except ValueError:
+                is_request = False
+            if is_request and reply.get("refuse") == "malformed":
+                why = wrong(line.decode(errors="surrogateescape")) or ""
+                self.assertTrue(any(each in why for each in BEYOND), line[:80])
+            else:
+                self.assertEqual(is_request, reply.get("refuse") != "malformed", line[:80])
+        self.assertGreater(count, 1000)
+
+    def test_a_schema_refuses_other_lines(self) -> None:
+        requests, replies = schemas.read("requests"), schemas.read("replies")
+        for line, _ in HURT:
+            try:
+                self.assertFalse(schemas.fits(json.loads(line), requests, requests), line)
+            except ValueError:
+                continue
+        for reply in ('{"ok":"hello"}', '{"ok":"bye","who":"a"}', '{"at":1,"clause":3,"deny":"stale","text":"t"}', '{"refuse":"late","ok":"bye"}',
+                      '{"at":0,"m":1,"node":2,"ok":"see","p":null}', '{"at":0,"m":true,"node":0,"ok":"see","p":null}'):
+            self.assertFalse(schemas.fits(json.loads(reply), replies, replies), reply)
+
+
+if __name__ == "__main__":
+    unittest.main()
