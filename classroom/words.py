@@ -121,6 +121,7 @@ def add_play(words: argparse.ArgumentParser) -> None:
     words.add_argument("run", nargs="+", metavar="FOLDER or LAB JOURNAL")
     words.add_argument("-o", "--output", help="the file to write (run.html, or PLACE.svg)")
     words.add_argument("--svg", type=play.places, metavar="PLACE,..", help="the configuration after this place, as SVG, or several in one")
+    words.add_argument("--dark", action="store_true", help="the picture in the colours of a dark page")
     words.set_defaults(work=play.play)
 
 

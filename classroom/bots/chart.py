@@ -14,20 +14,20 @@ WIDE, HIGH = 360, 300  # of a panel
 LEFT, RIGHT, ABOVE, BELOW = 48, 14, 30, 38
 KEY = 86
 MEASURES: list[tuple[str, str, Callable[[Row], int]]] = [
-    ("moves", "--arrow", lambda row: row.moves),
-    ("closes", "--open", lambda row: row.closes),
-    ("rounds", "--pair", lambda row: row.rounds),
+    ("moves", "--point", lambda row: row.moves),
+    ("closes", "--can", lambda row: row.closes),
+    ("rounds", "--wed", lambda row: row.rounds),
 ]
 OWN = """
-svg .axis, svg .tick { stroke: var(--line); stroke-width: 1; }
+svg .axis, svg .tick { stroke: var(--quiet); stroke-width: 1; }
 svg .tick { stroke-width: 0.4; }
-svg .bound { stroke: var(--rule); stroke-width: 1.6; stroke-dasharray: 7 4; }
+svg .bound { stroke: var(--hit); stroke-width: 1.6; stroke-dasharray: 7 4; }
 svg .least { stroke-dasharray: 2 3; }
 svg .loose { stroke-width: 1; stroke-dasharray: 12 3 2 3; }
 svg .most { stroke-width: 1.2; }
 svg .median { stroke-width: 2.4; }
 svg circle { opacity: 0.35; }
-svg text { font-size: 12px; }
+svg text { font-size: 12px; text-anchor: middle; }
 svg text.left { text-anchor: start; }
 svg text.end { text-anchor: end; }
 svg text.title { font-weight: bold; font-size: 14px; }

@@ -8,7 +8,7 @@ import random
 import signal
 import time
 from collections import Counter
-from collections.abc import Callable
+from collections.abc import Callable, Iterator
 from dataclasses import dataclass, field
 from pathlib import Path
 
@@ -27,7 +27,7 @@ from classroom.core.processes import reap_orphans
 from classroom.core.program import TOP, Fault, call, first_free, program
 from classroom.core.rounds import Recovery
 from classroom.core.statuses import WARNED
-from classroom.pages import play
+from classroom.pages import by_hand, play
 from classroom.run.daemons import FORMS, Daemon, daemon
 from classroom.run.heard import MALFORMED
 from classroom.run.teller import Teller
@@ -36,6 +36,7 @@ from classroom.setup.new import start
 
 QUIET = 10.0  # seconds without news after which it is told for whom the class waits
 MEGABYTES = 4096  # of a program at home
+PAGE_PORT = 4790  # at which the page to play by is served, or the next that is free
 REST = 0.3  # seconds that a stable class is held, for late lines
 SEED = 5503  # over seven nodes in a cycle, hurt, both nodes that it deals out need all four rules, whoever is quick
 
@@ -54,6 +55,7 @@ def add_words(words: argparse.ArgumentParser) -> None:
                        help="without news for so long it ends, where a BOT is named (60)")
     words.add_argument("--own-rule", action="store_true", help="no look shows the enabled rule, so that your program has to decide by itself")
     words.add_argument("--port", type=positive, help="the port, or else the next that is free (4711; with a BOT any)")
+    words.add_argument("--page", action="store_true", help="play by hand at a page in your browser, without a BOT")
     words.add_argument("--into", default="runs", help="where the run's folder is made (runs)")
     words.set_defaults(work=practise)
 
@@ -205,6 +207,8 @@ def leave(playing: Playing, folder: Path, tell: Callable[[str], None]) -> None:
 def practise(words: argparse.Namespace) -> int:
     """Plays a class of one student to its end."""
     program(), answerer()
+    if words.page and words.bots:
+        raise Fault("--page is for who plays by hand: without a BOT")
     reap_orphans()
     bots = [Bot.of(word) for word in words.bots]
     for bot in bots:
@@ -245,7 +249,8 @@ def played(it: ClassWithPrograms, bots: list[Bot], words: argparse.Namespace, fo
     for name, bot, slip in zip(names, bots, files):
         it.kept.append(Kept(bot, slip.resolve(), Path.cwd(), None, MEGABYTES))
         practice.kept.append((name, it.kept[-1]))
-    stable = practice.run()
+    with served(practice, lab, names[0], words.page):
+        stable = practice.run()
     it.stop_programs()  # From now on nobody answers them.
     if stable:
         pairs = ", ".join(f"{a}-{b}" for a, b in it.playing.report["pairs"])
@@ -254,6 +259,22 @@ def played(it: ClassWithPrograms, bots: list[Bot], words: argparse.Namespace, fo
     for name in names:
         tell(practice.summary(name))
     return 0 if stable else WARNED
+
+
+@contextlib.contextmanager
+def served(practice: Practice, lab: labs.Lab, name: str, is_asked: bool) -> Iterator[None]:
+    """Serves the page to play by as long as the class goes on, if that is asked for. The key stands behind the `#` of its
+    address, which no browser sends on."""
+    if not is_asked:
+        yield
+        return
+    hands = by_hand.open_hands(PAGE_PORT, f"practise, {len(lab.nodes)} nodes", lab)
+    hands.show(practice.playing.relay.port, practice.tell)
+    practice.tell(f"page to play {hands.address}#name={name}&key={lab.students[name]}")
+    try:
+        yield
+    finally:
+        hands.stop()
 
 
 @dataclass

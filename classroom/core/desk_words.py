@@ -74,13 +74,15 @@ class Word:
 
 WORDS = {
     "close": Word("", "close the step: all chosen moves are applied at once", Action.ASK, (Button("close", "Close the step", "close"),)),
-    "fault": Word("NODE NEIGHBOUR|null true|false", "set a node's p and m", Action.ASK, (Button("set", "Fault", "fault #picked #p #m"),), is_edit=True),
+    "fault": Word("NODE NEIGHBOUR|null true|false", "set a node's p and m", Action.ASK, (
+        Button("set", "Set them", "fault #picked #p #m", "a fault: the node has these registers then"),
+    ), is_edit=True),
     "shake": Word("K|all [SEED]", "set so many nodes' registers, drawn with a seed", Action.SHAKE, (
         Button("shake", "Shake", "shake #count", "sets the registers of so many nodes, which are drawn"),
         Button("shake-all", "Shake all", "shake all", "sets all registers, which are drawn"),
     )),
     "break": Word("", "set all registers to a start from which it takes long", Action.BREAK,
-                  (Button("break", "Break", "break", "sets all registers to a start from which it takes long"),)),
+                  (Button("break", "Longest start", "break", "sets all registers to a start from which it takes long"),)),
     "link": Word("NODE NODE", "add a link", Action.ASK, is_edit=True, links=1),
     "cut": Word("NODE NODE", "remove a link", Action.ASK, is_edit=True, links=-1),
     "release": Word("NODE", "take a chosen move back", Action.ASK, (Button("release", "Release its move", "release #picked", kind="button"),)),
@@ -89,15 +91,16 @@ WORDS = {
     "who": Word("", "who is connected, and who hasn't moved yet", Action.WHO),
     "play": Word("NAME", "let the house play a student's nodes", Action.PLAY),
     "stop": Word("NAME", "leave them to the student again", Action.STOP),
-    "every": Word("SECONDS", "close a step every so many seconds", Action.CLOSE_BY, (Button("every", "Close by time", "every #seconds"),)),
+    "every": Word("SECONDS", "close a step every so many seconds", Action.CLOSE_BY,
+                  (Button("every", "by the clock", "every #seconds", "every so many seconds"),)),
     "when-idle": Word("SECONDS", "close a step where nothing came for so long", Action.CLOSE_BY,
-                      (Button("when-idle", "Close when so long idle", "when-idle #seconds"),)),
-    "by-hand": Word("", "close no step by itself", Action.CLOSE_BY, (Button("by-hand", "Close by hand", "by-hand"),)),
+                      (Button("when-idle", "when idle", "when-idle #seconds", "so many seconds after the last move"),)),
+    "by-hand": Word("", "close no step by itself", Action.CLOSE_BY, (Button("by-hand", "by hand", "by-hand"),)),
     "daemon": Word("WORD", "close steps as central, synchronous, random:P, adversary, when-idle:SECONDS, every:SECONDS, by-hand", Action.DAEMON),
     "page": Word("", "another address of the page to act at; the one before acts no more", Action.PAGE),
     "key": Word("NAME", "another key for a student, while the class goes on", Action.KEY),
     "help": Word("", "tell these words", Action.HELP),
-    "end": Word("", "end the run", Action.END),
+    "end": Word("", "end the run", Action.END, (Button("end", "End the run …", "end", "asks before it ends the run", kind="button"),)),
 }
 EDITS = tuple(word for word, it in WORDS.items() if it.is_edit)
 BUTTONS = {button.name: button for it in WORDS.values() for button in it.buttons}

@@ -13,15 +13,26 @@ async function* linesOf(body) {
   }
 }
 
+const VERBS = { update: "update m", marriage: "marry", seduction: "seduce", abandonment: "abandon" };
+const HOLDS = "can be done now";
+// Why a move was denied, in a sentence; a denial that isn't here is told by the server's own text.
+const WHY = {
+  guard: (rule) => `the guard of ${rule} doesn't hold at this node now`,
+  stale: () => "the network has gone on to another step meanwhile: look again",
+  chosen: () => "a move of this node is chosen already, and is applied when the step closes",
+  "not-owner": () => "this node isn't yours",
+};
+
 // The registers and the rules of one node.
 class Card {
   constructor(root, node, ask) {
     this.root = root;
     this.node = node;
+    this.ask = ask;
     this.select = root.querySelector("select");
     this.say(".id", String(node));
     for (const rule of root.querySelectorAll("[data-rule]")) {
-      rule.querySelector("button").addEventListener("click", () => ask(this, rule.dataset.rule));
+      rule.querySelector("button").addEventListener("click", () => ask(this, rule.dataset.rule, Number(this.select.value)));
     }
   }
 
@@ -30,27 +41,46 @@ class Card {
     if (element.textContent !== text) element.textContent = text;
   }
 
-  show(look) {
+  show(look, isQuiz) {
     this.say(".p", look.p === null ? "null" : String(look.p));
     this.say(".m-of", String(look.m));
-    this.say(".chosen", look.chosen === null ? "none" : `${look.chosen}, which waits for the step to close`);
-    this.root.querySelector("tbody").replaceChildren(...look.near.map((near) => this.row([near.node, near.p, near.m])));
+    this.root.querySelector("tbody").replaceChildren(...look.near.map((near) => this.row(near, look.pointing.includes(near.node))));
     const names = look.near.map((near) => String(near.node));
     if (names.join() !== [...this.select.options].map((option) => option.value).join()) {
       const before = this.select.value;
       this.select.replaceChildren(...names.map((name) => new Option(name, name)));
       if (names.includes(before)) this.select.value = before;
     }
+    this.showDoing(look, isQuiz);
     for (const rule of this.root.querySelectorAll("[data-rule]")) {
-      const holds = rule.dataset.rule === look.rule;
+      const holds = rule.dataset.rule === look.rule && !isQuiz;
       rule.dataset.holds = String(holds);
-      rule.querySelector(".guard").textContent = holds ? "its guard holds" : "its guard doesn't hold";
+      rule.querySelector(".guard").textContent = holds ? HOLDS : "";
     }
+    if (isQuiz) this.root.querySelector("details").open = true;
   }
 
-  row(values) {
+  // What the student may do now, as large buttons; or why there is nothing to do.
+  showDoing(look, isQuiz) {
+    const isOpen = look.rule !== null && look.chosen === null, partners = look.rule === "marriage" ? look.pointing : [null];
+    const texts = isOpen && !isQuiz ? partners.map((partner) => [partner, `Node ${this.node}: ${VERBS[look.rule]}${partner === null ? "" : " " + partner}`]) : [];
+    const before = [...this.root.querySelectorAll(".act")].map((button) => button.textContent);
+    if (before.join() !== texts.map(([, text]) => text).join()) this.root.querySelector(".doing").replaceChildren(...texts.map(([partner, text]) => this.button(look.rule, partner, text)));
+    const idle = look.chosen !== null ? `${look.chosen} is chosen: it is applied when the step closes` : look.rule === null ? "nothing to do now: waiting for the step" : "";
+    this.say(".idle", isQuiz && look.chosen === null ? "which rule can be done now? none may be, too" : idle);
+  }
+
+  button(rule, partner, text) {
+    const button = document.createElement("button");
+    Object.assign(button, { type: "button", className: "btn act", textContent: text });
+    button.addEventListener("click", () => this.ask(this, rule, partner));
+    return button;
+  }
+
+  row(near, points) {
     const row = document.createElement("tr");
-    row.append(...values.map((value) => {
+    row.classList.toggle("points", points);
+    row.append(...[near.node, near.p, near.m].map((value) => {
       const cell = document.createElement("td");
       cell.textContent = String(value);
       return cell;
@@ -68,6 +98,10 @@ class Hand {
       this.enter();
     });
     this.find("leave").addEventListener("click", () => this.leaves.abort());
+    this.find("quiz").addEventListener("click", () => {
+      this.find("quiz").setAttribute("aria-pressed", String(document.body.classList.toggle("quiz")));
+      if (this.row) this.show(this.row);
+    });
     const given = new URLSearchParams(location.hash.slice(1));
     if (given.has("name") && given.has("key")) {
       history.replaceState(null, "", location.pathname);
@@ -81,9 +115,8 @@ class Hand {
   // Shows the form, or what is played.
   play(played) {
     this.find("enter").hidden = played;
-    this.find("played").hidden = !played;
+    for (const name of ["played", "stage", "nodes", "tools", "state"]) this.find(name).hidden = !played;
     this.find("come").disabled = false;
-    for (const button of document.querySelectorAll(".rules button")) button.disabled = !played;
     document.body.dataset.played = String(played);
   }
 
@@ -118,32 +151,51 @@ class Hand {
   show(row) {
     this.row = row;
     this.say("number", String(row.at));
+    const isQuiz = document.body.classList.contains("quiz");
     this.find("stage").innerHTML = row.picture;
+    if (isQuiz) this.hideRules();
+    this.showState(row.nodes, isQuiz);
     const nodes = row.nodes.map((look) => look.node);
     if (nodes.join() !== [...this.cards.keys()].join()) {
       this.cards = new Map(nodes.map((node) => [node, this.card(node)]));
       this.find("nodes").replaceChildren(...[...this.cards.values()].map((card) => card.root));
     }
-    for (const look of row.nodes) this.cards.get(look.node).show(look);
+    for (const look of row.nodes) this.cards.get(look.node).show(look, isQuiz);
     if (document.body.dataset.played !== "true") this.play(true);
+  }
+
+  // Says in a line whether there is anything to do.
+  showState(looks, isQuiz) {
+    const open = looks.filter((look) => look.rule !== null && look.chosen === null).length;
+    const text = isQuiz ? "Which rule can be done?" : open > 0 ? `${open} of your ${looks.length === 1 ? "node" : "nodes"} can move` : "Nothing to do now: waiting for the step";
+    if (this.find("told").textContent !== text) this.say("told", text);
+    this.find("state").classList.toggle("wait", open === 0 || isQuiz);
+  }
+
+  // For a quiz: the picture says of no node that it can move.
+  hideRules() {
+    for (const node of this.find("stage").querySelectorAll('.node[data-chosen=""]')) {
+      node.dataset.rule = "";
+      node.setAttribute("aria-label", node.getAttribute("aria-label").replace(/, privileged: [a-z]+/, ""));
+      node.querySelector(".rule").textContent = "";
+    }
   }
 
   card(node) {
     const root = this.find("node").content.firstElementChild.cloneNode(true);
-    return new Card(root, node, (card, rule) => this.ask(card, rule));
+    return new Card(root, node, (card, rule, partner) => this.ask(card, rule, partner));
   }
 
-  async ask(card, rule) {
-    const { at } = this.row;
-    const partner = rule === "marriage" ? { with: Number(card.select.value) } : {};
-    const body = JSON.stringify({ token: this.token, node: card.node, at, rule, ...partner });
+  async ask(card, rule, partner) {
+    const { at } = this.row, more = rule === "marriage" ? { with: partner } : {};
+    const body = JSON.stringify({ token: this.token, node: card.node, at, rule, ...more });
     const answer = await fetch("move", { method: "POST", body }).then((it) => it.json()).catch(() => ({ told: "not sent" }));
-    card.say(".reply", `configuration ${at}, ${rule}: ${this.told(answer)}`);
+    card.say(".reply", `step ${at}, ${rule}: ${this.told(answer, rule)}`);
   }
 
-  told(answer) {
+  told(answer, rule) {
     if (answer.ok) return `granted, at place ${answer.place}; it is applied when the step closes`;
-    if (answer.deny) return `denied by clause ${answer.clause}, ${answer.deny}: ${answer.text}`;
+    if (answer.deny) return `denied, since ${(WHY[answer.deny] || (() => answer.text))(rule)} (clause ${answer.clause}, ${answer.deny})`;
     return answer.refuse ? `refused: ${answer.refuse}` : answer.told;
   }
 }

@@ -18,7 +18,7 @@ from typing import Any, Iterator
 from classroom.client import Client, Closed, Denied, Refused, wrong_keys
 from classroom.core.lab import Lab
 from classroom.pages.page import assembled
-from classroom.pages.seat import Seat, style
+from classroom.pages.seat import Seat
 from classroom.pages.web import Asked, Web, opened
 
 PAUSE = 0.25  # seconds between two looks
@@ -36,7 +36,7 @@ class Hands(Web):
     def __init__(self, port: int, title: str, lab: Lab) -> None:
         super().__init__(port, Hand, title)
         self.lab, self.students = lab, 0
-        self.page = assembled("by_hand", {"TITLE": title}, style(), ("drawing.css", "player.css", "by_hand.css"), ("by_hand.js",))
+        self.page = assembled("by_hand", {"TITLE": title}, "", ("drawing.css", "page.css", "by_hand.css"), ("by_hand.js",))
         self.seats: dict[str, Seat] = {}
         self.names: dict[int, str] = {}  # of who plays by hand, by the port of the connection to the server
         self.turn = threading.Condition()

@@ -2,27 +2,26 @@
 from __future__ import annotations
 
 import math
+from collections.abc import Iterable
 from dataclasses import dataclass
-from functools import cached_property
 from html import escape
+from typing import Any
 
-from classroom.core.desk_words import EDITS
 from classroom.core.journal import RULES, Event
-from classroom.core.lab import Lab, ordered
+from classroom.core.lab import Lab
 from classroom.pages import colours, labels
 from classroom.pages.frames import OpenLink, State
-from classroom.pages.labels import FORMS, Form, Witnesses
-from classroom.pages.layout import HEIGHT, SMALL_BELOW, WIDTH, Layout
+from classroom.pages.labels import FULL, View, view_of
+from classroom.pages.layout import RING, WIDE, Field
 from classroom.pages.springs import Point
 
 WITNESSES_MOST = 60  # open links up to which each names its witness
 OPEN_MOST = 2000  # open links above which they are told as a number alone
 FAINT_ABOVE = 8  # links for each node above which their lines are the fainter the more they are
-SIGNS = "letters below a node: whose it is"
-LETTERS = f"letter beside it: {', '.join(f'{rule[:1].upper()} {rule}' for rule in RULES)}"
-LISTED_WIDE, LISTED_HIGH = 220, 18  # of a student's cell in the list below a small drawing
-M_LARGE = '<rect x="-6" y="-6" width="12" height="12"/><text y="4">m</text>'
-M_SMALL = '<rect x="-3" y="-3" width="6" height="6"/>'
+TINY_BELOW = 11.0  # a radius under which rules have no room
+LETTERS = f"letters: {', '.join(f'{rule[:1].upper()} {rule}' for rule in RULES)}"
+KEY_HIGH, KEY_SIZE = 26.0, 14.0  # of the line below a drawing that says what letters are
+ANCHORS = ("start", "middle", "end")
 
 
 @dataclass(frozen=True)
@@ -30,143 +29,92 @@ class Drawing:
     """What of a drawing stays from place to place."""
 
     lab: Lab
-    layout: Layout
+    view: View
 
     @property
-    def small(self) -> bool:
-        """Whether nodes are small, and lines thin."""
-        return self.layout.radius < SMALL_BELOW
-
-    @cached_property
-    def form(self) -> Form:
-        """How owners and rules are told: as fully as there is room around each node."""
-        if self.small or len(self.lab.nodes) > labels.MOST_NODES:
-            return FORMS[-1]
-        return next((form for form in FORMS if labels.are_apart(self.boxes(form))), FORMS[-1])
-
-    def boxes(self, form: Form) -> dict[int, list[labels.Box]]:
-        """What each node and its texts take in that form."""
-        return labels.of_nodes(self.layout, form, {node.id: self.lines(node.owners, form) for node in self.lab.nodes})
-
-    @cached_property
-    def witnesses(self) -> Witnesses | None:
-        """Where witnesses stand, with words where these have room and else with letters; None: in the middle of
-        links."""
-        if self.small or len(self.lab.nodes) > labels.MOST_NODES or len(self.lab.links) > labels.MOST_LINKS:
-            return None
-        boxes = [box for of_node in self.boxes(self.form).values() for box in of_node]
-        digits = max(len(str(node.id)) for node in self.lab.nodes)
-        for letters in (labels.LONGEST, 1):
-            found = Witnesses(self.layout, boxes, digits + 2 + letters)
-            for a, b in sorted(map(ordered, self.lab.links)):
-                found.spot(a, b)
-            if found.are_free:
-                break
-        return found
-
-    @cached_property
-    def brief(self) -> bool:
-        """Whether witnesses tell their rule by a letter."""
-        return self.small if self.witnesses is None else self.witnesses.letters < labels.LONGEST
+    def points(self) -> dict[int, Point]:
+        """Where each node is."""
+        return self.view.layout.points
 
     @property
-    def letters(self) -> str:
-        """What the letters at a node stand for."""
-        return "; ".join([SIGNS] * self.form.signed + [LETTERS] * (self.form.short or self.brief))
-
-    @cached_property
-    def signs(self) -> dict[str, str]:
-        """Few letters for each student: the initial, and a number where others have the same."""
-        alike: dict[str, list[str]] = {}
-        for name in self.lab.students:
-            alike.setdefault(name[0], []).append(name)
-        return {
-            name: f"{initial}{number if len(names) > 1 else ''}"
-            for initial, names in alike.items() for number, name in enumerate(names, 1)
+    def measures(self) -> dict[str, float]:
+        """How large and how thick everything is, by the radius of a node."""
+        radius, form = self.view.layout.radius, self.view.form
+        plain = {
+            "radius": radius, "ring": 1.28 * radius, "ringLine": max(1.5, 0.14 * radius), "discLine": max(1.2, 0.1 * radius),
+            "identifier": self.view.identifier_size, "link": max(1.0, 0.07 * radius), "pair": max(3.0, 0.42 * radius),
+            "arrow": max(1.6, 0.15 * radius), "head": max(5.0, 0.6 * radius), "pill": form.pill,
+            "pillHigh": labels.PILL_HIGH * form.pill, "name": form.size, "mark": max(form.size, 0.6 * radius), "markUp": 1.7 * radius,
         }
-
-    def hue(self, student: str) -> int:
-        """The hue of a student's colour, in degrees; neighbours in the list are far apart."""
-        return round(list(self.lab.students).index(student) * 137.508) % 360
+        return {name: round(value, 2) for name, value in plain.items()}
 
     @property
-    def hues(self) -> list[int]:
-        """The hues of all students."""
-        return sorted({self.hue(student) for student in self.lab.students})
-
-    def style(self) -> str:
-        """The colours of the students, for a page."""
-        return "".join(f".h{hue}{{--hue:{hue}}}" for hue in self.hues)
+    def tiny(self) -> bool:
+        """Whether nodes have no room for a rule."""
+        return self.view.layout.radius < TINY_BELOW
 
     def svg(self, state: State, event: Event | None) -> str:
         """The whole element of a state; `event` is the one that led to it."""
         open_links = state.open if len(state.open) <= OPEN_MOST else []
+        sizes, field = self.measures, self.view.layout.field
         return "\n".join([
-            f'<svg xmlns="http://www.w3.org/2000/svg" id="drawing" viewBox="0 0 {WIDTH:g} {HEIGHT:g}" role="group"'
+            f'<svg xmlns="http://www.w3.org/2000/svg" id="drawing" viewBox="0 0 {field.width:g} {field.height:g}" role="group"'
             f' aria-label="the network" data-place="{state.place}" data-number="{state.number}"'
-            f' data-privileged="{len(state.privileged)}" data-pairs="{len(state.pairs)}"'
-            f' class="{"small" if self.small else "large"}{" short" if self.form.short else ""}" font-size="{self.size:g}">',
-            '<defs><marker id="arrow" viewBox="0 0 10 10" refX="9" refY="5" markerWidth="6" markerHeight="6"'
-            ' orient="auto"><path d="M0 0L10 5L0 10z"/></marker></defs>',
-            *self.rows("links", [(a, self.line(a, b)) for a, b in sorted(state.links)], self.faint(len(state.links))),
-            *self.rows("open", [(a, self.line(a, b)) for a, b, _, _ in open_links]),
-            *self.rows("witness", [(a, self.half(witness, b if witness == a else a))
-                                   for a, b, witness, _ in open_links if witness in (a, b)]),
-            path("removed", self.line(*event.nodes) if event is not None and event.links < 0 else ""),
-            path("pairs", "".join(self.line(a, b) for a, b in state.pairs)),
-            '<g class="pointers">',
+            f' data-privileged="{len(state.privileged)}" data-pairs="{len(state.pairs)}" class="{self.kind}">',
+            f'<defs><marker id="arrow" viewBox="0 0 10 10" refX="9.5" refY="5" markerUnits="userSpaceOnUse" markerWidth="{sizes["head"]:g}"'
+            f' markerHeight="{sizes["head"]:g}" orient="auto"><path d="M0 0L10 5L0 10z"/></marker></defs>',
+            *self.rows("links", sizes["link"], [(a, self.line(a, b)) for a, b in sorted(state.links)], self.faint(len(state.links))),
+            *self.rows("open", 1.5 * sizes["link"], [(a, self.line(a, b)) for a, b, _, _ in open_links]),
+            *self.rows("witness", 3 * sizes["link"], [(a, self.half(witness, b if witness == a else a))
+                                                      for a, b, witness, _ in open_links if witness in (a, b)]),
+            path("removed", self.line(*event.nodes) if event is not None and event.links < 0 else "", 2 * sizes["link"]),
+            path("pairs", "".join(self.line(a, b) for a, b in state.pairs), sizes["pair"]),
+            f'<g class="pointers" stroke-width="{sizes["arrow"]:g}">',
             *(self.pointer(node.id, state) for node in self.lab.nodes),
             "</g>",
             '<g class="witnesses">',
             *(self.witness(link) for link in open_links if len(open_links) <= WITNESSES_MOST),
             "</g>",
             '<g class="nodes">',
-            *(self.node(node.id, node.owners, state) for node in self.lab.nodes),
+            *(self.node(node.id, node.owners, state, event) for node in self.lab.nodes),
             "</g>",
             self.mark(event),
             "</svg>",
         ])
 
     @property
-    def size(self) -> float:
-        """How large letters are."""
-        return max(6.0, 0.8 * self.layout.radius) if self.small else 15.0
+    def kind(self) -> str:
+        """The classes of a drawing: whether it has names, and room for rules."""
+        return " ".join(["named" if self.view.labels else "bare", *["tiny"] * self.tiny])
 
     def faint(self, links: int) -> float:
         """How opaque the line of each of so many links is: where there are many, fainter, so that what lies over them
         can be read."""
         return min(1.0, FAINT_ABOVE * len(self.lab.nodes) / max(links, 1))
 
-    def rows(self, name: str, drawn: list[tuple[int, str]], opacity: float = 1.0) -> list[str]:
+    def rows(self, name: str, thick: float, drawn: list[tuple[int, str]], opacity: float = 1.0) -> list[str]:
         """A path for each node, of the lines whose lower end it is: so that few change at a time."""
         lines: dict[int, list[str]] = {node.id: [] for node in self.lab.nodes}
         for node, line in drawn:
             lines[node].append(line)
         paths = (f'<path d="{"".join(row)}"/>' for row in lines.values())
-        return [f'<g class="{name}" stroke-opacity="{opacity:.2g}">', *paths, "</g>"]
+        return [f'<g class="{name}" stroke-width="{thick:g}" stroke-opacity="{opacity:.2g}">', *paths, "</g>"]
 
     def line(self, a: int, b: int) -> str:
         """The line of a link, as a path has it."""
-        (x, y), (u, v) = self.layout.points[a], self.layout.points[b]
+        (x, y), (u, v) = self.points[a], self.points[b]
         return f"M{x:g} {y:g}L{u:g} {v:g}"
 
     def half(self, a: int, b: int) -> str:
         """The half of a link on the side of a."""
-        (x, y), (u, v) = self.layout.points[a], self.layout.points[b]
+        (x, y), (u, v) = self.points[a], self.points[b]
         return f"M{x:g} {y:g}L{(x + u) / 2:g} {(y + v) / 2:g}"
 
     def witness(self, link: OpenLink) -> str:
-        """The witness of an open link and its rule, beside the link."""
+        """The witness of an open link and its rule, in the middle of the link."""
         a, b, witness, rule = link
-        x, y = self.spot(a, b)
-        return f'<text x="{x:g}" y="{y:g}">{witness}: {rule[:1].upper() if self.brief else rule}</text>'
-
-    def spot(self, a: int, b: int) -> Point:
-        """Where the witness of a link stands."""
-        if self.witnesses is not None:
-            return self.witnesses.spot(a, b)
-        (x, y), (u, v) = self.layout.points[a], self.layout.points[b]
-        return (x + u) / 2, (y + v) / 2
+        (x, y), (u, v) = self.points[a], self.points[b]
+        return f'<text x="{(x + u) / 2:g}" y="{(y + v) / 2:g}">{witness}: {self.view.form.word(rule)}</text>'
 
     def pointer(self, node: int, state: State) -> str:
         """An arrow where the node points at another that it isn't married to."""
@@ -175,91 +123,86 @@ class Drawing:
         return f'<path class="pointer" data-of="{node}" d="{drawn}" marker-end="url(#arrow)"/>'
 
     def arrow(self, a: int, b: int) -> str:
-        """A line from the rim of one node to that of another."""
-        start, end = self.layout.points[a], self.layout.points[b]
+        """A line from the rim of one node to the ring of another."""
+        start, end = self.points[a], self.points[b]
         length = math.dist(start, end) or 1.0
         along = ((end[0] - start[0]) / length, (end[1] - start[1]) / length)
-        near, far = self.layout.radius, length - self.layout.radius - 2
+        near, far = self.view.layout.radius, length - RING * self.view.layout.radius
         return f"M{at(start, along, near)}L{at(start, along, far)}"
 
-    def node(self, node: int, owners: list[str], state: State) -> str:
-        """A node's element: its values, its owners' colours, and the texts around it."""
-        x, y = self.layout.points[node]
-        radius = self.layout.radius
+    def node(self, node: int, owners: list[str], state: State, event: Event | None) -> str:
+        """A node's element: its values, its disc, and the label beside it."""
+        (x, y), sizes = self.points[node], self.measures
         pointer, rule = state.pointers[node], state.privileged.get(node, "")
         chosen, m = state.chosen.get(node, ""), told(state.ms[node])
-        corner, lines = 0.8 * radius, self.lines(owners, self.form)
+        hit = " hit" if event is not None and event.is_edit and node in event.nodes else ""
         return "".join([
-            f'<g class="node" data-node="{node}" data-p="{"" if pointer is None else pointer}" data-m="{m}"'
+            f'<g class="node{hit}" data-node="{node}" data-p="{"" if pointer is None else pointer}" data-m="{m}"'
             f' data-married="{told(married(node, state))}" data-rule="{rule}" data-chosen="{chosen}"'
             f' transform="translate({x:g} {y:g})" role="img" aria-label="{escape(self.said(node, owners, state))}">',
             f"<title>node {node}, {escape(' and '.join(owners))}</title>",
-            f'<circle class="halo" r="{radius + (2 if self.small else 5):g}"/>',
-            *(sector(index, len(owners), radius, self.hue(owner)) for index, owner in enumerate(owners)),
-            f'<circle class="rim" r="{radius:g}"/>',
-            f'<text class="identifier" y="{0.36 * self.size:.3g}">{node}</text>',
-            f'<g class="m" transform="translate({corner:g} {-corner:g})">{M_SMALL if self.small else M_LARGE}</g>',
-            *(f'<text class="owner" y="{self.below(at):g}">{escape(line)}</text>' for at, line in enumerate(lines)),
-            f'<text class="rule" {self.rule_at(len(lines))}>{self.word(rule)}</text>',
-            f'<text class="chosen" {self.chosen_at()}>{"◆ " + self.word(chosen) if chosen else ""}</text>',
+            f'<circle class="ring" r="{sizes["ring"]:g}" stroke-width="{sizes["ringLine"]:g}"/>',
+            f'<circle class="disc" r="{sizes["radius"]:g}" stroke-width="{sizes["discLine"]:g}"/>',
+            f'<text class="identifier" y="{0.36 * sizes["identifier"]:.3g}" font-size="{sizes["identifier"]:g}">{node}</text>',
+            *self.label(node), self.pill(node, rule, chosen),
             "</g>",
         ])
+
+    def label(self, node: int) -> list[str]:
+        """The name beside a node, if there is room for names."""
+        label = self.view.labels.get(node)
+        if label is None:
+            return []
+        return [f'<text class="owner" x="{label.x:g}" y="{label.name_y:g}" text-anchor="{label.anchor}"'
+                f' font-size="{self.view.form.size:g}">{escape(label.text)}</text>']
+
+    def pill(self, node: int, rule: str, chosen: str) -> str:
+        """The rule by which a node can move, in a frame; the frame is full if the move is chosen."""
+        form, word = self.view.form, chosen or rule
+        width, high = form.pill_width(word, bool(chosen)), self.measures["pillHigh"]
+        x, y = self.view.pill_at(node, width)
+        text = FULL * bool(chosen) + form.word(word) if word else ""
+        return (f'<g class="pill" transform="translate({x:g} {y:g})"><rect x="{-width / 2:g}" y="{-high / 2:g}" width="{width:g}"'
+                f' height="{high:g}" rx="{high / 2:g}"/><text class="rule" y="{0.35 * form.pill:.3g}" font-size="{form.pill:g}">{text}</text></g>')
 
     def said(self, node: int, owners: list[str], state: State) -> str:
         """A node in words."""
         pointer, partner = state.pointers[node], next((sum(pair) - node for pair in state.pairs if node in pair), None)
         return told_node(node, owners, pointer, state.ms[node], partner, state.privileged.get(node, ""), state.chosen.get(node, ""))
 
-    def lines(self, owners: list[str], form: Form) -> list[str]:
-        """What stands below a node: its owners' signs, or a name a line."""
-        return [" ".join(self.signs[owner] for owner in owners)] if form.signed else owners
-
-    def below(self, line: int) -> float:
-        """How far below a node's middle the line of that number, from 0, stands."""
-        return self.layout.radius + (1 + 0.9 * self.size if self.small else 16 + labels.LINE * line)
-
-    def rule_at(self, line: int) -> str:
-        """Where a node's rule stands: beside the node where it is a letter, else below so many lines."""
-        radius = self.layout.radius
-        x, y = (radius + 0.6 * self.size, 0.4 * radius) if self.small else self.form.rule_at(radius, self.below(line))
-        return f'x="{x:g}" y="{y:g}"' if x else f'y="{y:g}"'
-
-    def chosen_at(self) -> str:
-        """Where the rule of a node's chosen move stands: above the node, and at its upper left where nodes are
-        small."""
-        radius = self.layout.radius
-        return f'x="{-radius:g}" y="{-0.6 * radius:g}"' if self.small else f'y="{self.form.chosen_at(radius)[1]:g}"'
-
-    def word(self, rule: str) -> str:
-        """How a rule is written: by its first letter where words have no room."""
-        return rule[:1].upper() if self.form.short else rule
-
-    def key(self) -> tuple[str, float]:
-        """What the letters of a drawing stand for, below it, and how high that is."""
-        if not self.form.signed:
-            return "", 0
-        columns, names = int(WIDTH // LISTED_WIDE), list(self.lab.students)
-        rows = [f'<text class="listed" x="8" y="{HEIGHT + 4:g}">{self.letters}</text>']
-        for index, name in enumerate(names):
-            row, column = divmod(index, columns)
-            rows.append(
-                f'<g transform="translate({14 + column * LISTED_WIDE:g} {HEIGHT + (row + 1) * LISTED_HIGH:g})">'
-                f'{sector(0, 1, 6, self.hue(name))}<text class="listed" x="12" y="4">{self.signs[name]}: {escape(name)}</text></g>'
-            )
-        return "".join(rows), (1 - -len(names) // columns) * LISTED_HIGH
-
-    @property
-    def marks(self) -> dict[str, float]:
-        """How far above the middle of its nodes the word of a fault, link or cut stands."""
-        return {kind: self.layout.radius + 24 if kind == "fault" else 6 for kind in EDITS}
-
     def mark(self, event: Event | None) -> str:
         """The word of a fault, link or cut, where it happened."""
+        size = self.measures["mark"]
         if event is None or not event.is_edit:
-            return '<text class="mark"></text>'
-        points = [self.layout.points[node] for node in event.nodes]
+            return f'<text class="mark" font-size="{size:g}"></text>'
+        points = [self.points[node] for node in event.nodes]
         x, y = sum(x for x, _ in points) / len(points), sum(y for _, y in points) / len(points)
-        return f'<text class="mark" x="{x:g}" y="{y - self.marks[event.kind]:g}">⚡ {event.kind}</text>'
+        up = self.measures["markUp"] if event.kind == "fault" else 0.5 * size
+        return f'<text class="mark" x="{x:g}" y="{max(size, y - up):g}" font-size="{size:g}">⚡ {event.kind}</text>'
+
+    def key(self) -> str:
+        """What letters stand for, below a drawing; empty if it has none."""
+        if self.view.form.words or self.tiny:
+            return ""
+        return f'<text class="key" x="8" y="{self.view.layout.field.height + 17:g}" font-size="{KEY_SIZE:g}">{LETTERS}</text>'
+
+    def data(self) -> dict[str, Any]:
+        """What a page's program has to know of the view."""
+        form, layout = self.view.form, self.view.layout
+        rules = ("", *RULES)
+        return {
+            "width": layout.field.width, "height": layout.field.height, "kind": self.kind, "words": form.words, "tiny": self.tiny,
+            "measures": self.measures, "widths": [[form.pill_width(rule, it) for it in (False, True)] for rule in rules],
+            "points": [layout.points[node.id] for node in self.lab.nodes],
+            "labels": [[label.text, ANCHORS.index(label.anchor), label.x, label.name_y, label.pill_y]
+                       for node in self.lab.nodes if (label := self.view.labels.get(node.id)) is not None],
+        }
+
+
+def drawing_of(lab: Lab, links: Iterable[tuple[int, int]] | None = None, field: Field = WIDE) -> Drawing:
+    """The drawing of a lab's network in a field, as it is with these links."""
+    owners = {node.id: node.owners for node in lab.nodes}
+    return Drawing(lab, view_of(owners, sorted(lab.links if links is None else links), field))
 
 
 def married(node: int, state: State) -> bool:
@@ -286,24 +229,17 @@ def at(start: Point, along: Point, far: float) -> str:
     return f"{start[0] + along[0] * far:.1f} {start[1] + along[1] * far:.1f}"
 
 
-def path(name: str, drawn: str) -> str:
+def path(name: str, drawn: str, thick: float) -> str:
     """A path's element, with its class."""
-    return f'<path class="{name}" d="{drawn}"/>'
+    return f'<path class="{name}" stroke-width="{thick:g}" d="{drawn}"/>'
 
 
-def sector(index: int, count: int, radius: float, hue: int) -> str:
-    """A circle in an owner's colour, or the half of one, the first owner's on the left."""
-    if count == 1:
-        return f'<circle class="owned h{hue}" r="{radius:g}"/>'
-    return f'<path class="owned h{hue}" d="M0 {-radius:g}A{radius:g} {radius:g} 0 0 {index} 0 {radius:g}z"/>'
-
-
-def standalone(drawing: Drawing, state: State, event: Event | None) -> str:
-    """The element as a file of its own: with its style inside, and the list of signs where it has them."""
-    style = colours.style(hues=drawing.hues)
-    key, high = drawing.key()
+def standalone(drawing: Drawing, state: State, event: Event | None, theme: str = "light") -> str:
+    """The element as a file of its own, with its style inside."""
+    key, field = drawing.key(), drawing.view.layout.field
     head, tail = drawing.svg(state, event).split("<defs>", 1)
-    head = head.replace(f'{WIDTH:g} {HEIGHT:g}"', f'{WIDTH:g} {HEIGHT + high:g}"', 1)
+    if key:
+        head = head.replace(f'{field.width:g} {field.height:g}"', f'{field.width:g} {field.height + KEY_HIGH:g}"', 1)
     tail = tail.removesuffix("</svg>")
-    return (f'<?xml version="1.0" encoding="UTF-8"?>\n{head}{style}<rect class="ground" width="100%" height="100%"/>'
+    return (f'<?xml version="1.0" encoding="UTF-8"?>\n{head}{colours.style(theme=theme)}<rect class="ground" width="100%" height="100%"/>'
             f"<defs>{tail}{key}</svg>\n")

@@ -1,24 +1,92 @@
-"""Which texts of a drawing have room, and where the witness of each open link stands: by boxes, before anything is
-drawn."""
+"""Where the name and the rule of each node stand: beside its disc, away from other discs, links and labels.
+
+Widths of texts are guessed from their letters, at most as wide as in the usual fonts. So a drawing has its place for each
+text before anything is drawn.
+"""
 from __future__ import annotations
 
 import math
-from collections.abc import Iterable, Iterator
+import unicodedata
+from collections.abc import Iterator
 from dataclasses import dataclass
-from itertools import combinations
 
 from classroom.core.journal import RULES
-from classroom.pages.layout import Layout
+from classroom.core.networks import neighbours
+from classroom.pages.layout import RING, Field, Layout, Pads, fitted, shape_for
+from classroom.pages.shapes import Near
 from classroom.pages.springs import Point
 
-WIDE, HIGH = 0.68, 1.3  # of a letter and of a line, at most, where letters have a size of 1
-LINE = 19.0  # from one line below a node to the next
-GAP = 2.0  # between two boxes
-ALONG = (0.5, 0.44, 0.56, 0.38, 0.62, 0.32, 0.68, 0.26, 0.74)  # parts of a link at which its witness may stand
-ASIDE = (0.0, 11.0, -11.0, 20.0, -20.0)  # how far beside it
-MOST_NODES, MOST_LINKS = 40, 120  # of more no boxes are compared
-WITNESS_SIZE, OWNER_SIZE, RULE_SIZE, SHORT_SIZE = 12.0, 14.0, 15.0, 12.0
-LONGEST = max(map(len, RULES))
+MOST_NAMED, MOST_LINKS = 30, 450  # of more nodes or links no names are drawn
+BOLD = 1.13  # how much wider bold letters are
+PILL_HIGH, PILL_PAD = 1.45, 0.9  # of a rule's frame, where its letters have a size of 1
+PILL = 0.92  # of a name's size: the size of a rule
+LINE = 1.25  # of a name's size: the height of its line
+REACH = 1.42  # of a radius: how far from a node's middle its label begins
+SIDEWAYS = 0.3  # the cosine or sine from which a label stands beside a node, or above or below it
+ANGLES = (1, -1, 3, -3, 0, 4, 2, -2, 0.5, -0.5, 3.5, -3.5, 1.5, 2.5, -1.5, -2.5)  # eighths of a turn, in order
+GAP = 2.0  # between a label and anything else
+LEAST = 13.0  # the size of the smallest letters
+FULL = "✓ "  # before the rule of a move that is chosen
+
+
+def wide(text: str, size: float, bold: bool = False) -> float:
+    """Returns how wide a text is at most."""
+    return size * sum(map(letter_width, text)) * (BOLD if bold else 1.0)
+
+
+def letter_width(letter: str) -> float:
+    """Returns the width of a letter of size 1."""
+    if unicodedata.combining(letter):
+        return 0.0
+    if unicodedata.east_asian_width(letter) in "WF":
+        return 1.0
+    if letter in "ijlI.,:;'|!() -":
+        return 0.36
+    if letter in "frt":
+        return 0.45
+    return 0.95 if letter in "mwMW@✓" else 0.72 if letter.isupper() else 0.63
+
+
+@dataclass(frozen=True)
+class Form:
+    """How a drawing has names and rules: how many letters of a name at most, how large, and whether rules are words."""
+
+    letters: int
+    size: float
+    words: bool
+
+    @property
+    def pill(self) -> float:
+        """The size of a rule's letters."""
+        return max(LEAST, PILL * self.size)
+
+    @property
+    def high(self) -> float:
+        """The height of a label of two lines."""
+        return LINE * self.size + PILL_HIGH * self.pill + GAP
+
+    def name(self, owners: list[str]) -> str:
+        """Returns the owners' names, cut if they are too long."""
+        whole = ", ".join(owners)
+        return whole if len(whole) <= self.letters else whole[:self.letters - 1] + "…" if self.letters else ""
+
+    def word(self, rule: str) -> str:
+        """Returns how a rule is written."""
+        return rule if self.words else rule[:1].upper()
+
+    def pill_width(self, rule: str, is_chosen: bool) -> float:
+        """Returns the width of a rule's frame."""
+        text = FULL * is_chosen + self.word(rule)
+        return round(wide(text, self.pill) + PILL_PAD * self.pill, 1)
+
+    @property
+    def widest_pill(self) -> float:
+        """The width of the widest frame of a rule."""
+        return max(self.pill_width(rule, True) for rule in RULES)
+
+
+FORMS = (Form(18, 15, True), Form(18, 13.6, True), Form(12, 13, True), Form(12, 13, False))
+BARE = Form(0, 13, False)
 
 
 @dataclass(frozen=True)
@@ -31,98 +99,159 @@ class Box:
     bottom: float
 
     def shared(self, other: Box) -> float:
-        """The area of what both have, with GAP added to its width and height; 0 where they are at least that far
-        apart."""
-        wide = min(self.right, other.right) - max(self.left, other.left) + GAP
-        high = min(self.bottom, other.bottom) - max(self.top, other.top) + GAP
-        return wide * high if wide > 0 and high > 0 else 0.0
+        """Returns the area of what both have, with GAP added to its width and height."""
+        across = min(self.right, other.right) - max(self.left, other.left) + GAP
+        down = min(self.bottom, other.bottom) - max(self.top, other.top) + GAP
+        return across * down if across > 0 and down > 0 else 0.0
 
+    def outside(self, field: Field) -> float:
+        """Returns how far it leaves a field."""
+        return sum(max(0.0, far) for far in (GAP - self.left, self.right - field.width + GAP, GAP - self.top, self.bottom - field.height + GAP))
 
-def written(letters: int, size: float, middle: float, baseline: float) -> Box:
-    """The box of a text of so many letters, from the middle of its baseline."""
-    half = WIDE * size * letters / 2
-    return Box(middle - half, baseline - 0.95 * size, middle + half, baseline + (HIGH - 0.95) * size)
+    def in_disc(self, middle: Point, radius: float) -> float:
+        """Returns how far it reaches into a disc."""
+        x, y = min(max(middle[0], self.left), self.right), min(max(middle[1], self.top), self.bottom)
+        return max(0.0, radius + GAP - math.dist((x, y), middle))
+
+    def on_line(self, a: Point, b: Point) -> float:
+        """Returns the length of what it has of the line from a to b."""
+        begin, end = 0.0, 1.0
+        for start, step, low, high in ((a[0], b[0] - a[0], self.left - GAP, self.right + GAP), (a[1], b[1] - a[1], self.top - GAP, self.bottom + GAP)):
+            if not step:
+                if not low < start < high:
+                    return 0.0
+                continue
+            first, last = sorted(((low - start) / step, (high - start) / step))
+            begin, end = max(begin, first), min(end, last)
+            if begin >= end:
+                return 0.0
+        return math.dist(a, b) * (end - begin)
 
 
 @dataclass(frozen=True)
-class Form:
-    """How a drawing tells owners and rules: by signs or names, by letters or words."""
+class Label:
+    """The label of a node: from the node's middle, where its name and the middle of its rule's frame stand. `anchor` says
+    which end of the name and the frame stands at `x`: start, middle or end."""
 
-    signed: bool
-    short: bool
+    text: str
+    anchor: str
+    x: float
+    name_y: float
+    pill_y: float
+    box: Box
 
-    def rule_at(self, radius: float, below: float) -> Point:
-        """Where a node's rule stands, from its middle: beside it where it is a letter, else below its owners."""
-        return (radius + 7 + 0.5 * SHORT_SIZE, 0.4 * radius) if self.short else (0.0, below)
-
-    def chosen_at(self, radius: float) -> Point:
-        """Where the chosen move stands: above the node."""
-        return 0.0, -radius - 8
-
-
-FORMS = (Form(False, False), Form(False, True), Form(True, True))
+    def pill_x(self, width: float) -> float:
+        """Returns the middle of a frame of that width."""
+        return self.x + {"start": width / 2, "end": -width / 2, "middle": 0.0}[self.anchor]
 
 
-def around(point: Point, radius: float, form: Form, owners: list[str]) -> Iterator[Box]:
-    """The boxes of a node and of all that may stand around it, of which each is as wide as it can be."""
-    x, y = point
-    halo = radius + 5
-    yield Box(x - halo, y - halo, x + halo, y + halo)
-    below = radius + 16
-    for owner in owners:
-        yield written(len(owner), SHORT_SIZE if form.short else OWNER_SIZE, x, y + below)
-        below += LINE
-    letters, size = (1, SHORT_SIZE) if form.short else (LONGEST, RULE_SIZE)
-    across, down = form.rule_at(radius, below)
-    yield written(letters, size, x + across, y + down)
-    across, down = form.chosen_at(radius)
-    yield written(letters + 2, size, x + across, y + down)
+@dataclass(frozen=True)
+class View:
+    """A layout with its labels; a node without a label has the letter of its rule at its upper right."""
+
+    layout: Layout
+    form: Form
+    labels: dict[int, Label]
+
+    @property
+    def identifier_size(self) -> float:
+        """How large identifiers are: as large as there is room in a disc."""
+        radius, digits = self.layout.radius, max(len(str(node)) for node in self.layout.points)
+        plain = BARE.size if wide("8" * digits, BARE.size, True) <= 1.95 * radius else 0.0
+        return round(max(plain, 0.92 * radius), 1)
+
+    def pill_at(self, node: int, width: float) -> Point:
+        """Returns the middle of the frame of a node's rule, from the node's middle."""
+        label, radius = self.labels.get(node), self.layout.radius
+        return (radius, -radius) if label is None else (label.pill_x(width), label.pill_y)
 
 
-def of_nodes(layout: Layout, form: Form, owners: dict[int, list[str]]) -> dict[int, list[Box]]:
-    """The boxes of each node."""
-    return {node: list(around(point, layout.radius, form, owners[node])) for node, point in layout.points.items()}
+def view_of(owners: dict[int, list[str]], links: list[tuple[int, int]], field: Field) -> View:
+    """Returns the layout of a network with the fullest labels for which there is room; a phone has none."""
+    shape = shape_for(owners, links, field)
+    near = neighbours(owners, links)
+    if field.width >= 500 and len(owners) <= MOST_NAMED and len(links) <= MOST_LINKS:
+        for form in FORMS:
+            layout = fitted(shape, field, pads(shape.kind, field, form, owners))
+            labels, hard, soft = placed(layout, form, owners, near)
+            if not hard and (not soft or shape.kind in ("general", "ellipse")):
+                return View(layout, form, labels)
+    return View(fitted(shape, field, pads(shape.kind, field, BARE, owners)), BARE, {})
 
 
-def are_apart(boxes: dict[int, list[Box]]) -> bool:
-    """Whether no box of a node meets one of another."""
-    return not any(one.shared(other) for a, b in combinations(boxes.values(), 2) for one in a for other in b)
+def pads(kind: str, field: Field, form: Form, owners: dict[int, list[str]]) -> Pads:
+    """Returns what stays free at the edges of a field."""
+    most = field.most_radius
+    if not form.letters:
+        return Pads(1.7 * most, 1.9 * most, 1.7 * most, 1.5 * most)
+    longest = max(form.widest_pill, *(wide(form.name(each), form.size) for each in owners.values()))
+    side = min(0.2 * field.width, 1.2 * most + 0.7 * form.size + longest)
+    narrow = max(2.2 * most, longest / 2 + 2 * GAP)
+    left, right = {"grid": (1.7 * most, side), "path": (narrow, narrow), "tree": (narrow, narrow)}.get(kind, (side, side))
+    top = form.high + 1.5 * most if kind in ("cycle", "complete", "star", "tree", "path") else 1.5 * most
+    return Pads(left, right, top, form.high + 1.5 * most)
 
 
-class Witnesses:
-    """Where the witness of each link stands, if the link is open: away from nodes, their texts and other witnesses."""
-
-    def __init__(self, layout: Layout, boxes: Iterable[Box], letters: int) -> None:
-        """`letters` is how many a witness has at most."""
-        self.layout, self.taken, self.letters = layout, list(boxes), letters
-        self.spots: dict[tuple[int, int], Point] = {}
-        self.are_free = True
-
-    def spot(self, a: int, b: int) -> Point:
-        """Where the witness of a link stands, from the first time on."""
-        if (a, b) not in self.spots:
-            self.spots[a, b] = self.found(a, b)
-        return self.spots[a, b]
-
-    def found(self, a: int, b: int) -> Point:
-        """The first spot where nothing stands, or else the one where the least does; it is taken from then on."""
-        best, least = (0.0, 0.0), math.inf
-        for x, y in self.candidates(a, b):
-            box = written(self.letters, WITNESS_SIZE, x, y)
-            shared = sum(map(box.shared, self.taken))
-            if shared < least:
-                best, least = (x, y), shared
-            if not shared:
+def placed(layout: Layout, form: Form, owners: dict[int, list[str]], near: Near) -> tuple[dict[int, Label], float, float]:
+    """Returns a label for each node, those with the most links first; and how much labels lie upon discs, other labels and
+    the edges in all, and how much upon links."""
+    labels: dict[int, Label] = {}
+    lines = [(layout.points[a], layout.points[b]) for a, others in near.items() for b in others if a < b]
+    hard = soft = 0.0
+    for node in sorted(near, key=lambda node: -len(near[node])):
+        best, least = None, (math.inf, math.inf, 0.0)
+        discs = [point for other, point in layout.points.items() if other != node]
+        for order, label in enumerate(candidates(node, layout, form, form.name(owners[node]), near[node])):
+            upon = lies_upon(label.box, layout, discs, labels)
+            if upon <= least[0]:
+                along = sum(label.box.on_line(*line) for line in lines)
+                best, least = min((best, least), (label, (upon, along + 0.1 * order, along)), key=lambda it: it[1][:2])
+            if least[0] == 0 and least[2] == 0:
                 break
-        self.are_free = self.are_free and not least
-        self.taken.append(written(self.letters, WITNESS_SIZE, *best))
-        return best
+        assert best is not None
+        labels[node] = best
+        hard, soft = hard + least[0], soft + least[2]
+    return labels, hard, soft
 
-    def candidates(self, a: int, b: int) -> Iterator[Point]:
-        """Where the witness of a link may stand, the best spot first."""
-        (x, y), (u, v) = self.layout.points[a], self.layout.points[b]
-        length = math.dist((x, y), (u, v)) or 1.0
-        for aside in ASIDE:
-            for along in ALONG:
-                across, down = x + (u - x) * along, y + (v - y) * along
-                yield round(across - aside * (v - y) / length, 1), round(down + aside * (u - x) / length + 4, 1)
+
+def lies_upon(box: Box, layout: Layout, discs: list[Point], labels: dict[int, Label]) -> float:
+    """Returns how much a label would lie upon discs, other labels, and the edges of the field."""
+    upon = 20 * box.outside(layout.field) + sum(box.shared(other.box) for other in labels.values())
+    return upon + 20 * sum(box.in_disc(point, RING * layout.radius) for point in discs)
+
+
+def candidates(node: int, layout: Layout, form: Form, text: str, others: list[int]) -> Iterator[Label]:
+    """Yields where a label may stand, the best places first: in the widest gap between links, and all around."""
+    first = math.pi / 4 if layout.kind == "grid" else widest_gap(layout, node, others)
+    width = max(wide(text, form.size), form.widest_pill)
+    for angle in (first, *(eighths * math.pi / 4 for eighths in ANGLES)):
+        yield label_at(layout.points[node], layout.radius, angle, form, text, width)
+
+
+def widest_gap(layout: Layout, node: int, others: list[int]) -> float:
+    """Returns the middle of the widest angle between a node's links; level ones count a little more, since texts are
+    wide."""
+    x, y = layout.points[node]
+    angles = sorted(math.atan2(layout.points[other][1] - y, layout.points[other][0] - x) for other in others)
+    gaps = []
+    for index, angle in enumerate(angles):
+        following = angles[index + 1] if index + 1 < len(angles) else angles[0] + math.tau
+        middle = (angle + following) / 2
+        gaps.append(((following - angle) * (1 + 0.18 * abs(math.cos(middle))) + 0.02 * math.sin(middle), middle))
+    return max(gaps, default=(0.0, math.pi / 2))[1]
+
+
+def label_at(middle: Point, radius: float, angle: float, form: Form, text: str, width: float) -> Label:
+    """Returns the label at an angle from its node."""
+    level, upright = math.cos(angle), math.sin(angle)
+    x, y = level * REACH * radius, upright * REACH * radius
+    anchor = "start" if level > SIDEWAYS else "end" if level < -SIDEWAYS else "middle"
+    left = {"start": x, "end": x - width, "middle": x - width / 2}[anchor]
+    tucked = 0.0 if anchor == "middle" else SIDEWAYS * form.size
+    is_above = upright < -SIDEWAYS
+    top = y - tucked if upright > SIDEWAYS else y - form.high + tucked if is_above else y - form.high / 2
+    pill_high = PILL_HIGH * form.pill
+    name_y = top + form.high - 0.35 * form.size if is_above else top + 0.95 * form.size
+    pill_y = top + pill_high / 2 if is_above else top + form.high - pill_high / 2
+    box = Box(middle[0] + left, middle[1] + top, middle[0] + left + width, middle[1] + top + form.high)
+    return Label(text, anchor, round(x, 1), round(name_y, 1), round(pill_y, 1), box)

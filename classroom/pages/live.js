@@ -1,7 +1,8 @@
 // Shows a run that is going on, and sends what the teacher does. What it shows comes as changes, the first of
 // them to a state in which nothing is known.
-const LISTED = 25;
 const LINES = 6;
+const WAITED = 12; // nodes of which it is said by name that they are waited for
+const ENDS = "end"; // the button that asks before it sends its line, twice
 
 class Live {
   constructor(data, drawing, document) {
@@ -13,6 +14,8 @@ class Live {
     this.count = 0;
     this.frozen = false;
     this.picked = null;
+    this.bars = [];
+    this.chart = new Chart(this.find("chart"), this.bars, data.edits, null);
     document.body.classList.toggle("looks", !data.acts);
     this.listen();
     this.source = new EventSource("events");
@@ -22,7 +25,6 @@ class Live {
 
   take(row) {
     if (row.begin) this.begin();
-    this.drawing.learn(row.arrows);
     if (row.new.length > 0) {
       this.data.links.push(...row.new);
       this.state = this.state.copy(this.data.links.length);
@@ -30,10 +32,15 @@ class Live {
     }
     this.count += 1;
     this.state.apply(row, this.count);
-    this.events = [...this.events, ...row.events].slice(-LISTED);
+    for (const [number, can, moved, kind, calm] of row.bars) {
+      const bar = { number, can, moved, kind, calm }, last = this.bars[this.bars.length - 1];
+      if (last && last.number === number) this.bars[this.bars.length - 1] = bar;
+      else this.bars.push(bar);
+    }
+    this.event = row.events[row.events.length - 1] || this.event;
     this.lines = [...this.lines, ...row.lines].slice(-LINES);
     this.row = row;
-    if (!this.frozen) this.show();
+    if (!this.frozen) this.show(!row.begin);
     this.document.body.dataset.ready = "true";
     if (row.ended) this.end();
   }
@@ -42,8 +49,9 @@ class Live {
     this.data.links.length = 0;
     this.drawing.empty();
     this.state = new State(this.data.nodes.length, 0);
-    this.events = [];
+    this.event = "";
     this.lines = [];
+    this.bars.length = 0;
     this.aside.say("connection", "");
   }
 
@@ -53,14 +61,43 @@ class Live {
     for (const name of Object.keys(this.data.buttons)) this.find(name).disabled = true;
   }
 
-  show() {
+  show(moves = false) {
     const { row } = this;
-    this.drawing.show(this.state, row);
+    this.drawing.show(this.state, row, moves);
     this.aside.tell(this.state, row);
-    this.aside.say("event", this.events[this.events.length - 1] || "the beginning");
-    this.aside.say("closing", row.closing);
-    this.list("events", [...this.events].reverse());
+    this.aside.say("event", this.event || "the beginning");
+    this.showClosing(row.closing);
+    this.showWaits();
     this.list("lines", this.lines);
+    this.chart.now = this.bars.length - 1;
+    this.chart.draw();
+  }
+
+  // How steps are closed, in words, and at the buttons.
+  showClosing(closing) {
+    const [name, seconds] = closing.split(":");
+    const words = { "by-hand": "steps are closed by hand", "when-idle": `steps are closed ${seconds} s after the last move`, every: `steps are closed every ${seconds} s` };
+    this.aside.say("closes", words[name] || `steps are closed by the daemon ${closing}`);
+    this.find("closes").dataset.closing = closing;
+    for (const each of Object.keys(words)) this.find(each).setAttribute("aria-pressed", String(each === name));
+  }
+
+  // Who is waited for: the nodes that can move, as the report says, and for which no move is chosen.
+  showWaits() {
+    const { state, data } = this, nodes = [...data.nodes.keys()].filter((node) => state.rule[node] > 0 && state.chosen[node] === 0);
+    const chosen = state.chosen.reduce((sum, rule) => sum + (rule > 0), 0);
+    this.aside.say("waiting", nodes.length > 0 ? `Waiting for ${nodes.length}` : chosen > 0 ? "All are chosen" : "Nobody is waited for");
+    this.aside.say("close", `Close the step · ${chosen} of ${nodes.length + chosen}`);
+    const rows = nodes.slice(0, WAITED).map((node) => this.waited(node));
+    if (nodes.length > WAITED) rows.push(Object.assign(this.document.createElement("li"), { textContent: `and ${nodes.length - WAITED} more` }));
+    this.find("waits").replaceChildren(...rows);
+  }
+
+  waited(node) {
+    const row = this.document.createElement("li"), { id, owners } = this.data.nodes[node];
+    const texts = [["b", String(id)], ["span", owners.join(", ") || "the house"], ["i", this.data.rules[this.state.rule[node]]]];
+    row.append(...texts.map(([name, text]) => Object.assign(this.document.createElement(name), { textContent: text })));
+    return row;
   }
 
   list(name, texts) {
@@ -80,29 +117,24 @@ class Live {
     const { find } = this;
     for (const [name, line] of Object.entries(this.data.buttons)) {
       const button = find(name), submits = button.form !== null && button.type === "submit";
+      button.classList.add("btn");
       (submits ? button.form : button).addEventListener(submits ? "submit" : "click", (event) => {
         event.preventDefault();
-        this.send(line);
+        if (name === ENDS) find("ask").showModal();
+        else this.send(line);
       });
     }
+    find("close").classList.add("main");
+    find("ask").addEventListener("close", async () => {
+      if (find("ask").returnValue !== ENDS) return;
+      for (let times = 0; times < 2; times += 1) await this.act(this.data.buttons[ENDS]);
+    });
     find("freeze").addEventListener("click", () => this.freeze());
     find("cancel").addEventListener("click", () => this.pick(null));
     find("tools").addEventListener("change", () => this.pick(null));
-    if (this.data.acts) this.listenToNodes();
+    if (this.data.acts) nodeButtons(this.drawing, (node) => this.click(node));
     this.document.addEventListener("keydown", (event) => { if (event.key === "Escape") this.pick(null); });
-  }
-
-  listenToNodes() {
-    this.drawing.nodes.forEach(({ group }, node) => {
-      group.setAttribute("tabindex", "0");
-      group.setAttribute("role", "button");
-      group.addEventListener("click", () => this.click(node));
-      group.addEventListener("keydown", (event) => {
-        if (event.key !== "Enter" && event.key !== " ") return;
-        event.preventDefault();
-        this.click(node);
-      });
-    });
+    new ResizeObserver(() => this.placePanel()).observe(find("panel").parentNode);
   }
 
   // Sends a button's line, in which #NAME stands for a field's value, or for the node that is picked: that one is left then.
@@ -146,12 +178,26 @@ class Live {
     this.find("setting").hidden = !setting;
     this.find("second").hidden = setting;
     this.aside.say("picked", String(this.idOf(node)));
+    this.aside.say("owners", this.data.nodes[node].owners.join(", ") || "the house");
     const words = ["null", ...this.neighbours(node).map((near) => String(this.idOf(near)))];
     this.find("p").replaceChildren(...words.map((word) => new Option(word, word)));
     this.find("p").value = this.state.pointer[node] < 0 ? "null" : String(this.idOf(this.state.pointer[node]));
     this.find("m").value = String(this.state.m[node] > 0);
     this.find("release").disabled = this.state.chosen[node] === 0;
-    if (setting) this.find("p").focus();
+    this.placePanel();
+    if (setting) this.find("p").focus({ preventScroll: true });
+  }
+
+  // Puts the panel beside the node that is picked, on the side where there is room.
+  placePanel() {
+    if (this.picked === null) return;
+    const panel = this.find("panel"), stage = panel.parentNode.getBoundingClientRect();
+    const disc = this.drawing.nodes[this.picked].disc.getBoundingClientRect(), gap = disc.width / 4 + 6;
+    const right = disc.right - stage.left + gap, left = disc.left - stage.left - gap - panel.offsetWidth;
+    const x = right + panel.offsetWidth <= stage.width ? right : Math.max(0, left);
+    const y = (disc.top + disc.bottom) / 2 - stage.top - panel.offsetHeight / 2;
+    panel.style.left = x + "px";
+    panel.style.top = Math.max(0, Math.min(stage.height - panel.offsetHeight, y)) + "px";
   }
 }
 
@@ -159,6 +205,7 @@ async function begin() {
   const data = await dataOf(document), root = document.getElementById("drawing");
   splitLinks(root);
   wholeScreen(document);
+  witnessButton(document);
   window.live = new Live(data, new Drawing(root, data), document);
 }
 

@@ -7,17 +7,18 @@ import json
 import zlib
 from collections.abc import Iterable
 from html import escape
-from itertools import chain, islice
+from itertools import chain
 from pathlib import Path
 from typing import Any
 
 from classroom.core import bounds
-from classroom.core.desk_words import BUTTONS, BY_LINKS, Button
+from classroom.core.counts import plural
+from classroom.core.desk_words import BUTTONS, BY_LINKS, EDITS, Button
 from classroom.core.journal import RULES as NAMED
 from classroom.core.lab import Lab
-from classroom.pages.drawing import OPEN_MOST, WITNESSES_MOST, Drawing
+from classroom.pages.drawing import LETTERS, OPEN_MOST, WITNESSES_MOST, Drawing, drawing_of
 from classroom.pages.frames import Frame, OpenLink, State
-from classroom.pages.layout import lay_out
+from classroom.pages.layout import TALL
 
 FOLDER = Path(__file__).parent
 PLAIN_LIMIT = 400_000  # bytes of data above which they are packed
@@ -32,7 +33,6 @@ class Frames:
         self.drawing = drawing
         self.order = {node.id: index for index, node in enumerate(drawing.lab.nodes)}
         self.links: list[Link] = []
-        self.arrows: dict[tuple[int, int], str] = {}  # of each pointer that was seen
         self.index: dict[Link, int] = {}
         self.rows: list[dict[str, Any]] = []
         self.before: State | None = None
@@ -61,19 +61,14 @@ class Frames:
         self.before = state.copy()
 
     def registers(self, before: State, state: State) -> list[list[int]]:
-        """The nodes whose registers changed: each with the node that it points at, or -1, and with m as 0 or 1. The
-        arrow of a pointer that wasn't seen before is kept."""
-        rows: list[list[int]] = []
+        """The nodes whose registers changed: each with the node that it points at, or -1, and with m as 0 or 1."""
         if (before.pointers, before.ms) == (state.pointers, state.ms):
-            return rows
-        for node, pointer in state.pointers.items():
-            if node in before.ms and (before.pointers[node], before.ms[node]) == (pointer, state.ms[node]):
-                continue
-            at = -1 if pointer is None else self.order[pointer]
-            rows.append([self.order[node], at, int(state.ms[node])])
-            if pointer is not None and (self.order[node], at) not in self.arrows:
-                self.arrows[self.order[node], at] = self.drawing.arrow(node, pointer)
-        return rows
+            return []
+        return [
+            [self.order[node], -1 if pointer is None else self.order[pointer], int(state.ms[node])]
+            for node, pointer in state.pointers.items()
+            if node not in before.ms or (before.pointers[node], before.ms[node]) != (pointer, state.ms[node])
+        ]
 
     def rules(self, before: dict[int, str], now: dict[int, str]) -> list[list[int]]:
         """The nodes whose rule changed, each with the rule's index in RULES, 0 where it has none."""
@@ -114,35 +109,28 @@ class Frames:
         self.open = now
         return runs
 
-    def drawn_arrows(self, known: int = 0) -> list[list[Any]]:
-        """The arrows but for so many that are known."""
-        return [[node, pointer, drawn] for (node, pointer), drawn in islice(self.arrows.items(), known, None)]
-
-    def drawn_links(self, known: int = 0) -> list[list[float]]:
-        """The links but for so many that are known, each with where its witness stands, if not in its middle."""
-        return [
-            [self.order[a], self.order[b], *(self.drawing.spot(a, b) if self.drawing.witnesses is not None else ())]
-            for a, b in self.links[known:]
-        ]
+    def drawn_links(self, known: int = 0) -> list[list[int]]:
+        """The links but for so many that are known."""
+        return [[self.order[a], self.order[b]] for a, b in self.links[known:]]
 
 
 def page_of(title: str, lab: Lab, frames: Iterable[Frame], history: str = "") -> str:
     """The file's text, with a part more below the player."""
     each = iter(frames)
     first = next(each)
-    drawing = Drawing(lab.without_house(), lay_out((node.id for node in lab.nodes), first.state.links))
+    drawing = drawing_of(lab.without_house(), first.state.links)
     picture, rows = drawing.svg(first.state, None), Frames(drawing)
     for frame in chain([first], each):
         rows.add(frame, len(frame.state.links))
-    data = what_stays(drawing) | {"links": rows.drawn_links(), "arrows": rows.drawn_arrows(), "frames": rows.rows}
+    data = what_stays(drawing, first.state) | {"links": rows.drawn_links(), "frames": rows.rows}
     return filled("player", title, drawing, picture, data, {"MORE": history})[0]
 
 
 def live_page(title: str, drawing: Drawing, state: State, acts: bool) -> tuple[str, str]:
     """The page of a run that is going on, whose program asks for what to draw; and the policy that it is sent with."""
-    own = {"links": [], "arrows": [], "acts": acts, "buttons": {name: it.line for name, it in BUTTONS.items()}, "byLinks": BY_LINKS}
+    own = {"links": [], "acts": acts, "buttons": {name: it.line for name, it in BUTTONS.items()}, "byLinks": BY_LINKS}
     parts = {name: button(it) for name, it in BUTTONS.items()}
-    return filled("live", title, drawing, drawing.svg(state, None), what_stays(drawing) | own, parts)
+    return filled("live", title, drawing, drawing.svg(state, None), what_stays(drawing, state) | own, parts)
 
 
 def button(it: Button) -> str:
@@ -151,31 +139,37 @@ def button(it: Button) -> str:
     return f'<button id="{it.name}"{more}>{escape(it.text)}</button>'
 
 
-def what_stays(drawing: Drawing) -> dict[str, Any]:
-    """What of a page's data stays from place to place."""
+def what_stays(drawing: Drawing, state: State) -> dict[str, Any]:
+    """What of a page's data stays from place to place: with the view of a screen, and with that of a phone."""
+    phone = drawing_of(drawing.lab, state.links, TALL)
     return {
         "nodes": [{"id": node.id, "owners": node.owners} for node in drawing.lab.nodes],
-        "points": drawing.layout.points,
-        "rules": RULES, "marks": drawing.marks, "witnessesMost": WITNESSES_MOST, "openMost": OPEN_MOST,
-        "short": drawing.form.short, "brief": drawing.brief,
+        "rules": RULES, "edits": EDITS, "witnessesMost": WITNESSES_MOST, "openMost": OPEN_MOST, "views": [drawing.data(), phone.data()],
     }
+
+
+def size_of(drawing: Drawing) -> str:
+    """What network it is, in words."""
+    kind = drawing.view.layout.kind
+    kind = {"general": "network", "ellipse": "network", "complete": "complete graph"}.get(kind, kind)
+    return f"{kind} of {plural(len(drawing.lab.nodes), 'node')}, {plural(len(drawing.lab.students), 'student')}"
 
 
 def filled(name: str, title: str, drawing: Drawing, picture: str, data: dict[str, Any], more: dict[str, str]) -> tuple[str, str]:
     """A page of a drawing by its form, which has more parts of its own, and the policy that it is sent with."""
-    closing = '<dt>steps are closed</dt><dd id="closing"></dd>\n' if name == "live" else ""
-    told = form("told", {"CLOSING": closing, "STUDENTS": legend(drawing), "MOST": f"{OPEN_MOST:,}"})
+    header = form("header", {"TITLE": escape(title), "SIZE": escape(size_of(drawing))})
     parts = more | {
-        "TITLE": title, "DRAWING": picture, "TOLD": told, "DATA": data_element(json.dumps(data, separators=(",", ":"))),
+        "TITLE": title, "DRAWING": picture, "HEADER": header,
+        "DATA": data_element(json.dumps(data, separators=(",", ":"))),
     }
-    return assembled(name, parts, drawing.style(), ("drawing.css", "player.css"), ("picture.js", f"{name}.js"))
+    return assembled(name, parts, "", ("drawing.css", "page.css"), ("picture.js", "chart.js", f"{name}.js"))
 
 
 def assembled(name: str, parts: dict[str, str], more: str, styles: tuple[str, ...], programs: tuple[str, ...]) -> tuple[str, str]:
     """A page by its form, with its style and its program inside, and the policy that lets these two alone be used."""
     style = "".join((FOLDER / file).read_text("utf-8") for file in styles) + more
     program = "".join((FOLDER / file).read_text("utf-8") for file in programs)
-    page = form(name, parts | {"TITLE": escape(parts["TITLE"]), "STYLE": style, "PROGRAM": program})
+    page = form(name, parts | {"TITLE": escape(parts["TITLE"]), "STYLE": style, "PROGRAM": program, "LEGEND": legend()})
     return page, f"style-src {hashed(style)}; script-src {hashed(program)}"
 
 
@@ -190,18 +184,9 @@ def hashed(text: str) -> str:
     return f"'sha256-{base64.b64encode(hashlib.sha256(text.encode()).digest()).decode()}'"
 
 
-def legend(drawing: Drawing) -> str:
-    """A row for each student, and what letters at the nodes stand for."""
-    rows = "".join(legend_row(drawing, student) for student in drawing.lab.students)
-    return rows + (f"<li>{drawing.letters}</li>" if drawing.letters else "")
-
-
-def legend_row(drawing: Drawing, student: str) -> str:
-    """A student's colour, sign where signs are drawn, name and nodes."""
-    nodes = [str(node) for node in drawing.lab.nodes_of(student)]
-    swatch = f'<svg width="14" height="14"><circle class="owned h{drawing.hue(student)}" cx="7" cy="7" r="6"/></svg>'
-    sign = f"<strong>{drawing.signs[student]}</strong> " if drawing.form.signed else ""
-    return f"<li>{swatch} {sign}{escape(student)}: {', '.join(nodes) or 'no node'}</li>"
+def legend() -> str:
+    """What the signs of a drawing stand for, each as it is drawn; the letters of rules are shown where they stand."""
+    return (FOLDER / "legend.html").read_text("utf-8").replace("{{LETTERS}}", LETTERS)
 
 
 def data_element(text: str) -> str:

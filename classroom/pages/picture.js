@@ -52,26 +52,97 @@ class State {
   }
 }
 
+const NS = "http://www.w3.org/2000/svg";
+const SMALLEST = 12, SMALLEST_ON_PHONE = 11; // pixels of a text that can be read
+const PHONE = 500; // pixels of a stage's width under which it is a phone's
+const GROWING = 450; // milliseconds in which new arrows grow
+const ANCHORS = ["start", "middle", "end"], SIDES = [0.5, 0, -0.5];
+
+function element(name, attributes, text) {
+  const made = document.createElementNS(NS, name);
+  for (const [key, value] of Object.entries(attributes)) made.setAttribute(key, value);
+  if (text !== undefined) made.textContent = text;
+  return made;
+}
+
+const isStill = () => matchMedia("(prefers-reduced-motion: reduce)").matches;
+
 class Drawing {
   constructor(root, data) {
     this.root = root;
     this.data = data;
-    this.pointers = new Map();
-    this.learn(data.arrows);
-    this.points = data.nodes.map((node) => data.points[node.id]);
     const all = new Map([...root.querySelectorAll(".node")].map((group) => [Number(group.dataset.node), group]));
     this.nodes = data.nodes.map((node) => this.parts(all.get(node.id)));
     const arrows = new Map([...root.querySelectorAll(".pointer")].map((path) => [Number(path.dataset.of), path]));
     this.arrows = data.nodes.map((node) => arrows.get(node.id));
     this.layers = Object.fromEntries(["removed", "pairs"].map((name) => [name, root.querySelector("path." + name)]));
-    this.rows = Object.fromEntries(["links", "open", "witness"]
-      .map((name) => [name, [...root.parentNode.querySelectorAll("g." + name + " path")]]));
+    this.groups = Object.fromEntries(["links", "open", "witness"].map((name) => [name, root.parentNode.querySelector("g." + name)]));
+    this.rows = Object.fromEntries(Object.entries(this.groups).map(([name, group]) => [name, [...group.querySelectorAll("path")]]));
     this.witnesses = root.querySelector(".witnesses");
     this.mark = root.querySelector("text.mark");
+    this.marker = root.querySelector("#arrow");
     this.segments = [];
     this.lower = data.nodes.map(() => []); // the links whose lower end a node is: their lines stand in one path
+    this.growing = null;
+    this.place(data.views[0]);
+    this.fit();
+    new ResizeObserver(() => this.fit()).observe(root.parentNode);
+  }
+
+  parts(group) {
+    const part = (name) => group.querySelector(name);
+    return { group, ring: part(".ring"), disc: part(".disc"), identifier: part(".identifier"), owner: part(".owner"), pill: part(".pill"), frame: part(".pill rect"), rule: part("text.rule") };
+  }
+
+  // Draws everything where a view has it.
+  place(view) {
+    this.view = view;
+    this.points = view.points;
+    const { measures } = view, box = `0 0 ${view.width} ${view.height}`;
+    for (const svg of this.root.parentNode.querySelectorAll("svg")) svg.setAttribute("viewBox", box);
+    for (const [name, times] of [["links", 1], ["open", 1.5], ["witness", 3]]) this.groups[name].setAttribute("stroke-width", measures.link * times);
+    this.layers.removed.setAttribute("stroke-width", 2 * measures.link);
+    this.layers.pairs.setAttribute("stroke-width", measures.pair);
+    this.root.querySelector(".pointers").setAttribute("stroke-width", measures.arrow);
+    for (const side of ["markerWidth", "markerHeight"]) this.marker.setAttribute(side, measures.head);
+    this.mark.setAttribute("font-size", measures.mark);
+    this.nodes.forEach((parts, node) => this.placeNode(parts, node));
+    this.segments = this.data.links.map(([a, b]) => this.segment(this.points[a], this.points[b]));
+    if (this.lower.every((row) => row.length === 0)) this.data.links.forEach(([a], link) => this.lower[a].push(link));
+    for (const rows of Object.values(this.rows)) for (const row of rows) row.setAttribute("d", "");
     this.forget();
-    this.grow();
+  }
+
+  placeNode(parts, node) {
+    const { measures } = this.view, [x, y] = this.points[node], label = this.view.labels[node];
+    parts.group.setAttribute("transform", `translate(${x} ${y})`);
+    parts.ring.setAttribute("r", measures.ring);
+    parts.ring.setAttribute("stroke-width", measures.ringLine);
+    parts.disc.setAttribute("r", measures.radius);
+    parts.disc.setAttribute("stroke-width", measures.discLine);
+    parts.identifier.setAttribute("font-size", measures.identifier);
+    parts.identifier.setAttribute("y", 0.36 * measures.identifier);
+    parts.rule.setAttribute("font-size", measures.pill);
+    parts.rule.setAttribute("y", 0.35 * measures.pill);
+    for (const [name, value] of [["y", -measures.pillHigh / 2], ["height", measures.pillHigh], ["rx", measures.pillHigh / 2]]) parts.frame.setAttribute(name, value);
+    if (parts.owner) parts.owner.textContent = label ? label[0] : "";
+  }
+
+  // Chooses the view of the stage's width, and hides texts that would be too small to be read.
+  fit() {
+    const stage = this.root.parentNode, wide = stage.clientWidth, high = stage.clientHeight;
+    if (!wide || !high) return;
+    const view = this.data.views[wide < PHONE ? this.data.views.length - 1 : 0];
+    if (view !== this.view) this.place(view);
+    const scale = Math.min(wide / view.width, high / view.height), least = innerWidth <= 700 ? SMALLEST_ON_PHONE : SMALLEST;
+    this.root.setAttribute("class", view.kind);
+    this.root.classList.toggle("nolabels", view.measures.identifier * scale < least);
+    this.root.classList.toggle("nopills", view.measures.pill * scale < least);
+    const size = Math.max(view.measures.mark, least / scale);
+    this.mark.setAttribute("font-size", size);
+    this.witnesses.setAttribute("font-size", Math.max(13, least / scale));
+    document.body.classList.toggle("short", !view.words && !view.tiny);
+    if (this.last) this.show(...this.last);
   }
 
   // Nothing is known of what is shown: the next time everything is drawn anew.
@@ -82,6 +153,7 @@ class Drawing {
     for (const value of Object.values(this.shown)) if (ArrayBuffer.isView(value)) value.fill(NEVER);
     this.shown.linksAt = this.shown.openAt = NEVER;
     this.drawn = new Int32Array(links).fill(NEVER);
+    this.none = new Int32Array(links).fill(-1);
   }
 
   // Forgets all links, to be told of them anew.
@@ -89,6 +161,7 @@ class Drawing {
     for (const rows of Object.values(this.rows)) for (const row of rows) row.setAttribute("d", "");
     this.segments = [];
     this.lower = this.data.nodes.map(() => []);
+    this.last = null;
     this.forget();
   }
 
@@ -109,18 +182,20 @@ class Drawing {
     this.none = new Int32Array(links.length).fill(-1);
   }
 
-  parts(group) {
-    return { group, rule: group.querySelector("text.rule"), chosen: group.querySelector("text.chosen") };
-  }
-
   segment(a, b) { return `M${a[0]} ${a[1]}L${b[0]} ${b[1]}`; }
 
   half(a, b) { return this.segment(a, [(a[0] + b[0]) / 2, (a[1] + b[1]) / 2]); }
 
-  // Takes in how pointers are drawn.
-  learn(arrows) { for (const [node, pointer, drawn] of arrows) this.pointers.set(node + " " + pointer, drawn); }
+  // An arrow from the rim of one node to the ring of another, or the part of it that has grown.
+  arrow(a, b, grown) {
+    const [x, y] = this.points[a], [u, v] = this.points[b], length = Math.hypot(u - x, v - y) || 1;
+    const { radius, head } = this.view.measures, along = [(u - x) / length, (v - y) / length];
+    const end = radius + head + (length - 2.36 * radius - head) * grown;
+    const at = (far) => `${(x + along[0] * far).toFixed(1)} ${(y + along[1] * far).toFixed(1)}`;
+    return `M${at(radius)}L${at(end)}`;
+  }
 
-  word(rule) { return this.data.short ? rule.slice(0, 1).toUpperCase() : rule; }
+  word(rule) { return this.view.words ? rule : rule.slice(0, 1).toUpperCase(); }
 
   // Sets an attribute of an element that has few, where it is another than the last time.
   set(element, name, value) {
@@ -130,7 +205,13 @@ class Drawing {
     this.said.set(element, { ...values, [name]: value });
   }
 
-  show(state, row) {
+  // Shows a state; new arrows grow if the reader goes on by a step.
+  show(state, row, moves = false) {
+    this.last = [state, row];
+    cancelAnimationFrame(this.growing);
+    this.finish();
+    this.grown = [];
+    this.root.classList.toggle("moves", moves);
     let paired = false;
     for (let node = 0; node < this.nodes.length; node += 1) paired = this.showNode(node, state) || paired;
     if (paired) this.showPairs(state);
@@ -140,6 +221,23 @@ class Drawing {
     this.set(this.root, "data-number", String(row.number));
     this.set(this.root, "data-privileged", String(state.privileged));
     this.set(this.root, "data-pairs", String(state.paired / 2));
+    if (moves && this.grown.length > 0 && !isStill()) this.animate();
+  }
+
+  animate() {
+    const arrows = this.grown, start = performance.now();
+    const turn = (now) => {
+      const part = Math.min(1, (now - start) / GROWING);
+      for (const [node, pointer] of arrows) this.arrows[node].setAttribute("d", this.arrow(node, pointer, part));
+      if (part < 1) this.growing = requestAnimationFrame(turn);
+      else this.grown = [];
+    };
+    turn(start);
+  }
+
+  // Draws arrows whole that were still growing.
+  finish() {
+    for (const [node, pointer] of this.grown || []) if (this.shown.pointer[node] === pointer && this.shown.married[node] < 0) this.arrows[node].setAttribute("d", this.arrow(node, pointer, 1));
   }
 
   // Answers whether the node has another partner than before.
@@ -150,12 +248,15 @@ class Drawing {
     if (turned) parts.group.setAttribute("data-p", pointer < 0 ? "" : String(this.data.nodes[pointer].id));
     if (paired) parts.group.setAttribute("data-married", String(partner >= 0));
     if (turned || paired) {
-      const drawn = pointer < 0 || partner >= 0 ? "" : this.pointers.get(node + " " + pointer);
-      this.arrows[node].setAttribute("d", drawn);
+      const isDrawn = pointer >= 0 && partner < 0;
+      this.arrows[node].setAttribute("d", isDrawn ? this.arrow(node, pointer, 1) : "");
+      if (isDrawn && shown.pointer[node] !== NEVER) this.grown.push([node, pointer]);
     }
     if (state.m[node] !== shown.m[node]) parts.group.setAttribute("data-m", String(state.m[node] > 0));
-    if (state.rule[node] !== shown.rule[node]) this.showRule(parts, "rule", this.data.rules[state.rule[node]], "");
-    if (state.chosen[node] !== shown.chosen[node]) this.showRule(parts, "chosen", this.data.rules[state.chosen[node]], "◆ ");
+    const ruled = state.rule[node] !== shown.rule[node], chosen = state.chosen[node] !== shown.chosen[node];
+    if (ruled) parts.group.setAttribute("data-rule", this.data.rules[state.rule[node]]);
+    if (chosen) parts.group.setAttribute("data-chosen", this.data.rules[state.chosen[node]]);
+    if (ruled || chosen) this.showPill(parts, node, state.chosen[node] || state.rule[node], state.chosen[node] > 0);
     const before = REGISTERS.filter((name) => shown[name][node] !== state[name][node]);
     if (before.length > 0) parts.group.setAttribute("aria-label", this.describe(node, state));
     for (const name of before) shown[name][node] = state[name][node];
@@ -172,9 +273,15 @@ class Drawing {
     return words.join(", ");
   }
 
-  showRule(parts, name, rule, before) {
-    parts.group.setAttribute("data-" + name, rule);
-    parts[name].textContent = rule ? before + this.word(rule) : "";
+  // The rule by which a node can move, in a frame; the frame is full if the move is chosen.
+  showPill(parts, node, rule, isChosen) {
+    const width = this.view.widths[rule][Number(isChosen)], label = this.view.labels[node], { radius } = this.view.measures;
+    const at = label ? [label[2] + SIDES[label[1]] * width, label[4]] : [radius, -radius];
+    parts.pill.setAttribute("transform", `translate(${at[0]} ${at[1]})`);
+    parts.frame.setAttribute("x", -width / 2);
+    parts.frame.setAttribute("width", width);
+    const word = this.data.rules[rule];
+    parts.rule.textContent = word ? (isChosen ? "✓ " : "") + this.word(word) : "";
   }
 
   showPairs(state) {
@@ -230,30 +337,31 @@ class Drawing {
   }
 
   witnessOf(link, state) {
-    const [a, b, x, y] = this.data.links[link], [from, to] = [this.points[a], this.points[b]];
-    const text = document.createElementNS("http://www.w3.org/2000/svg", "text");
-    text.setAttribute("x", String(x ?? (from[0] + to[0]) / 2));
-    text.setAttribute("y", String(y ?? (from[1] + to[1]) / 2));
+    const [a, b] = this.data.links[link], [from, to] = [this.points[a], this.points[b]];
     const rule = this.data.rules[state.reason[link]];
-    text.textContent = this.data.nodes[state.witness[link]].id + ": " + (this.data.brief ? rule.slice(0, 1).toUpperCase() : rule);
-    return text;
+    return element("text", { x: (from[0] + to[0]) / 2, y: (from[1] + to[1]) / 2 }, this.data.nodes[state.witness[link]].id + ": " + this.word(rule));
   }
 
+  // Marks the nodes of a fault, link or cut, and says what it was.
   showMark(row) {
-    const places = (row.nodes || []).map((node) => this.points[node]);
-    const shown = row.kind in this.data.marks;
+    const isEdit = this.data.edits.includes(row.kind), nodes = isEdit ? row.nodes : [];
+    const places = nodes.map((node) => this.points[node]), text = isEdit ? "⚡ " + row.kind : "";
     this.set(this.layers.removed, "d", row.kind === "cut" ? this.segment(places[0], places[1]) : "");
-    const text = shown ? "⚡ " + row.kind : "";
+    const hit = nodes.join();
+    if (this.said.get("hit") !== hit) this.nodes.forEach(({ group }, node) => group.classList.toggle("hit", nodes.includes(node)));
+    this.said.set("hit", hit);
     if (this.said.get("mark") !== text) this.mark.textContent = text;
     this.said.set("mark", text);
-    if (!shown) return;
-    const middle = (axis) => places.reduce((sum, point) => sum + point[axis], 0) / places.length;
+    if (!isEdit) return;
+    const middle = (axis) => places.reduce((sum, point) => sum + point[axis], 0) / places.length, { markUp, mark } = this.view.measures;
     this.set(this.mark, "x", String(middle(0)));
-    this.set(this.mark, "y", String(middle(1) - this.data.marks[row.kind]));
+    this.set(this.mark, "y", String(Math.max(mark, middle(1) - (row.kind === "fault" ? markUp : mark / 2))));
   }
 }
 
-// What stands beside the drawing, each text set where it is another than the last time.
+const counted = (count, word) => `${count} ${word}${count === 1 ? "" : "s"}`;
+
+// What stands above the drawing, each text set where it is another than the last time.
 class Aside {
   constructor(document) {
     this.find = (name) => document.getElementById(name);
@@ -266,26 +374,70 @@ class Aside {
   }
 
   tell(state, row) {
-    this.say("place", String(row.place));
+    const told = row.stable ? "At rest" : `${counted(state.privileged, "node")} can move`, pairs = counted(state.paired / 2, "pair");
+    this.say("told", told);
+    this.find("state").classList.toggle("rest", row.stable);
+    this.find("state").title = `${row.stable ? "stable" : "not stable"}: ${state.privileged} privileged`;
+    this.say("pairs", pairs);
     this.say("number", String(row.number));
-    this.say("privileged", String(state.privileged));
-    this.say("pairs", String(state.paired / 2));
-    this.say("open", String(state.open));
-    this.say("moves", String(row.moves));
-    this.say("since", row.since + (row.bound === null ? "" : " of at most " + row.bound));
-    this.say("stable", row.stable ? "stable" : "not stable");
+    this.say("since", String(row.since));
+    this.say("moved", row.since === 1 ? "move" : "moves");
+    this.find("most").hidden = row.bound === null;
+    this.say("bound", String(row.bound));
+    this.find("fill").style.width = row.bound === null ? "0" : 100 * row.since / row.bound + "%";
+    this.find("counts").title = `event ${row.place}: ${counted(row.moves, "move")} in all, ${counted(state.open, "open link")}`;
+    this.announce(`step ${row.number}: ${told}, ${pairs}`);
+  }
+
+  // Says a new state once, when it has been there for a moment: who listens isn't told each step of a run that is played.
+  announce(text) {
+    clearTimeout(this.waiting);
+    this.waiting = setTimeout(() => this.say("said", text), 300);
   }
 }
 
-// The picture as large as the screen, and back: by a button, or by the key f.
+// The page as large as the screen, and back: by a button, or by the key f.
 function wholeScreen(document) {
-  const stage = document.querySelector(".stage");
-  const turn = () => (document.fullscreenElement ? document.exitFullscreen() : stage.requestFullscreen());
+  const turn = () => (document.fullscreenElement ? document.exitFullscreen() : document.documentElement.requestFullscreen());
   document.getElementById("whole").addEventListener("click", turn);
   document.addEventListener("keydown", (event) => {
     const types = ["INPUT", "SELECT"].includes(event.target.tagName);
     if (event.key === "f" && !types && !event.ctrlKey && !event.altKey && !event.metaKey) turn();
   });
+}
+
+// A button that shows open links and their witnesses, which are left out at first.
+function witnessButton(document) {
+  const button = document.getElementById("witnesses");
+  button.addEventListener("click", () => {
+    button.setAttribute("aria-pressed", String(document.body.classList.toggle("witnessed")));
+  });
+}
+
+// Makes each node a button.
+function nodeButtons(drawing, act) {
+  drawing.nodes.forEach(({ group }, node) => {
+    group.setAttribute("tabindex", "0");
+    group.setAttribute("role", "button");
+    group.addEventListener("click", () => act(node));
+    group.addEventListener("keydown", (event) => {
+      if (event.key !== "Enter" && event.key !== " ") return;
+      event.preventDefault();
+      event.stopPropagation();
+      act(node);
+    });
+  });
+}
+
+// An event as a reader wants it.
+function toldEvent(data, row) {
+  if (!row.kind) return "the beginning";
+  const words = row.text.split(" ");
+  if (row.kind === "grant") return `${words[2]} ${words[1]}: ${words.slice(3).join(" with ")}`;
+  if (row.kind === "close") return "the step is applied";
+  if (row.kind === "fault") return `⚡ fault at ${words[1]}: p ${words[2]}, m ${words[3]}`;
+  if (data.edits.includes(row.kind)) return `⚡ ${row.kind} ${words[1]}–${words[2]}`;
+  return row.text;
 }
 
 async function dataOf(document) {

@@ -8,9 +8,10 @@ from pathlib import Path
 
 from classroom.core import classes, folders
 from classroom.core.program import Fault
-from classroom.pages.drawing import Drawing, standalone
+from classroom.pages.colours import DARK, LIGHT
+from classroom.pages.drawing import drawing_of, standalone
 from classroom.pages.frames import Frame, frames_of
-from classroom.pages.layout import lay_out
+from classroom.pages.layout import CELL, WIDE
 from classroom.pages.page import page_of
 from classroom.pages.sheet import sheet
 
@@ -28,11 +29,11 @@ def places(word: str) -> list[int]:
     return [int(place) for place in word.split(",")]
 
 
-def picture(lab_file: Path, journal: Path, asked: list[int]) -> str:
+def picture(lab_file: Path, journal: Path, asked: list[int], theme: str = LIGHT) -> str:
     """The configurations after these places as SVG: one that fills it, or several."""
     lab, frames = frames_of(lab_file, journal)
     first = next(frames)
-    drawing = Drawing(lab.without_house(), lay_out((node.id for node in lab.nodes), first.state.links))
+    drawing = drawing_of(lab.without_house(), first.state.links, CELL if len(asked) > 1 else WIDE)
     found: dict[int, Frame] = {}
     for frame in chain([first], takewhile(lambda frame: frame.state.place <= max(asked), frames)):
         if frame.state.place in asked:
@@ -41,8 +42,8 @@ def picture(lab_file: Path, journal: Path, asked: list[int]) -> str:
         if place not in found:
             raise Fault(f"{journal}: there is no place {place}", 3)
     if len(asked) > 1:
-        return sheet(drawing, [found[place] for place in asked])
-    return standalone(drawing, found[asked[0]].state, found[asked[0]].event)
+        return sheet(drawing, [found[place] for place in asked], theme)
+    return standalone(drawing, found[asked[0]].state, found[asked[0]].event, theme)
 
 
 def play(words: argparse.Namespace) -> int:
@@ -52,7 +53,7 @@ def play(words: argparse.Namespace) -> int:
         raise Fault("play: the folder of a run, or a lab and a journal")
     lab_file, journal = runs[0]
     output = Path(words.output or ("run.html" if words.svg is None else f"{'-'.join(map(str, words.svg))}.svg"))
-    text = page(lab_file, journal) if words.svg is None else picture(lab_file, journal, words.svg)
+    text = page(lab_file, journal) if words.svg is None else picture(lab_file, journal, words.svg, DARK if words.dark else LIGHT)
     output.write_text(text, encoding="utf-8")
     print(f"{output}: {len(text.encode())} bytes")
     return 0

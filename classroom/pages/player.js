@@ -1,7 +1,9 @@
 // Plays a run: the frames of the page's data, each as what changed since the one before.
 const SNAPSHOT_EVERY = 50;
-const AROUND = 12; // events before and after the one at hand that are listed
-const REST = 200; // milliseconds without a step after which the address tells the place
+const LISTED = 60; // events before and after the one at hand that are listed
+const NEAR_END = 20; // of the list: nearer to it another part of the events is listed
+const REST = 200; // milliseconds without a step after which the address says the place
+const TURN = 900; // milliseconds between two steps of a run that is played
 
 class Run {
   constructor(data) {
@@ -29,86 +31,99 @@ class Run {
   }
 }
 
+// The configurations of a run: of each the first frame and the last, and what the chart shows of it.
+function configurationsOf(data) {
+  const rules = new Int8Array(data.nodes.length), chosen = new Int8Array(data.nodes.length), found = [];
+  let can = 0, moved = 0;
+  data.frames.forEach((frame, at) => {
+    for (const [node, rule] of frame.privileged || []) { can += (rule > 0) - (rules[node] > 0); rules[node] = rule; }
+    const before = moved;
+    for (const [node, rule] of frame.chosen || []) { moved += (rule > 0) - (chosen[node] > 0); chosen[node] = rule; }
+    const last = found[found.length - 1];
+    if (last && last.number === frame.number) Object.assign(last, { end: at, moved });
+    else {
+      if (last && frame.kind === "close") last.moved = before;
+      found.push({ number: frame.number, first: at, end: at, can, moved, kind: frame.kind, calm: frame.stable });
+    }
+  });
+  return found;
+}
+
 class Player {
-  constructor(run, drawing, document) {
+  constructor(run, drawing, data, document) {
     this.run = run;
     this.drawing = drawing;
+    this.data = data;
+    this.document = document;
     this.aside = new Aside(document);
     this.find = this.aside.find;
     this.at = -1;
     this.timer = null;
     this.resting = null;
+    this.picked = null;
     this.address = location.hash;
-    this.configurations = []; // the first frame of each
-    this.configurationOf = run.frames.map((frame, at) => {
-      if (at === 0 || frame.number !== run.frames[at - 1].number) this.configurations.push(at);
-      return this.configurations.length - 1;
-    });
+    this.configurations = configurationsOf(data);
+    this.configurationOf = [];
+    this.configurations.forEach((it, index) => { for (let at = it.first; at <= it.end; at += 1) this.configurationOf.push(index); });
     this.last = run.frames.length - 1;
-    this.rows = this.emptyRows(document);
+    this.chart = new Chart(this.find("chart"), this.configurations, data.edits, (bar) => this.goTo(this.configurations[bar].first));
     this.listen(document);
-  }
-
-  emptyRows(document) {
-    const rows = Array.from({ length: 2 * AROUND + 1 }, (_, index) => {
-      const row = document.createElement("li"), link = document.createElement("a");
-      if (index === AROUND) link.setAttribute("aria-current", "step");
-      link.addEventListener("click", (event) => { event.preventDefault(); this.goTo(this.at + index - AROUND); });
-      row.append(link);
-      return { row, link };
-    });
-    this.find("events").replaceChildren(...rows.map(({ row }) => row));
-    return rows;
   }
 
   listen(document) {
     const { find } = this;
-    find("places").max = String(this.last);
-    find("configurations").max = String(this.configurations.length - 1);
-    find("places").addEventListener("input", () => this.goTo(Number(find("places").value)));
-    find("configurations").addEventListener("input", () => this.goTo(this.configurations[Number(find("configurations").value)]));
     const buttons = {
-      first: () => this.goTo(0), back: () => this.goTo(this.at - 1), play: () => this.toggle(),
-      forward: () => this.goTo(this.at + 1), last: () => this.goTo(this.last),
-      earlier: () => this.goTo(this.earlier()), later: () => this.goTo(this.later()),
+      first: () => this.goTo(0), play: () => this.toggle(), forward: () => this.goTo(this.at + 1, true), last: () => this.goTo(this.last),
+      earlier: () => this.goTo(this.earlier()), later: () => this.goTo(this.later(), true), back: () => this.goTo(this.at - 1),
+      "story-close": () => this.pick(null),
     };
-    for (const [name, act] of Object.entries(buttons)) find(name).addEventListener("click", act);
+    for (const [name, act] of Object.entries(buttons)) if (find(name)) find(name).addEventListener("click", act);
     const keys = {
       ArrowLeft: buttons.back, ArrowRight: buttons.forward, ArrowUp: buttons.earlier, ArrowDown: buttons.later,
-      PageUp: buttons.earlier, PageDown: buttons.later, Home: buttons.first, End: buttons.last, " ": buttons.play,
+      PageUp: buttons.earlier, PageDown: buttons.later, Home: buttons.first, End: buttons.last, " ": buttons.play, Escape: buttons["story-close"],
     };
     document.addEventListener("keydown", (event) => {
       const act = keys[event.key];
       if (!act || event.ctrlKey || event.altKey || event.metaKey || event.target.tagName === "SELECT") return;
-      if (event.key === " " && event.target.tagName === "BUTTON") return;
+      if (event.key === " " && ["BUTTON", "SUMMARY", "A"].includes(event.target.tagName)) return;
       event.preventDefault();
       act();
     });
     window.addEventListener("hashchange", () => this.follow());
+    nodeButtons(this.drawing, (node) => this.pick(this.picked === node ? null : node));
+    new ResizeObserver(() => this.centre()).observe(find("events"));
   }
 
-  current() { return this.configurationOf[this.at]; }
+  configuration() { return this.configurationOf[this.at]; }
 
   earlier() {
-    const current = this.current();
-    return this.configurations[this.configurations[current] < this.at ? current : Math.max(0, current - 1)];
+    const current = this.configuration(), { first } = this.configurations[current];
+    return first < this.at ? first : this.configurations[Math.max(0, current - 1)].first;
   }
 
-  later() { return this.configurations[this.current() + 1] ?? this.last; }
+  later() { return this.configurations[this.configuration() + 1]?.first ?? this.last; }
 
+  // Where a run that is played goes on: to all that is chosen for a step, and then to what the step makes.
+  following() {
+    const { end } = this.configurations[this.configuration()];
+    return this.at < end ? end : this.later();
+  }
+
+  // Goes where the address says: to a place of the journal, or to the beginning of a step.
   follow() {
     this.address = location.hash;
-    const asked = /^#p=(\d+)$/.exec(location.hash);
-    this.goTo(asked ? Number(asked[1]) : Math.max(this.at, 0));
+    const place = /^#p=(\d+)$/.exec(location.hash), step = /^#step=(\d+)$/.exec(location.hash);
+    const found = step && this.configurations.find((it) => it.number >= Number(step[1]));
+    this.goTo(place ? Number(place[1]) : step ? (found ? found.first : this.last) : Math.max(this.at, 0));
   }
 
-  goTo(target) {
+  goTo(target, moves = false) {
     const at = Math.min(Math.max(target, 0), this.last);
     if (at === this.at) return;
     this.at = at;
     this.run.goTo(at);
     const frame = this.run.frames[at];
-    this.drawing.show(this.run.state, frame);
+    this.drawing.show(this.run.state, frame, moves);
     this.tell(frame);
     clearTimeout(this.resting);
     this.resting = setTimeout(() => this.writeAddress(), REST);
@@ -122,50 +137,97 @@ class Player {
   }
 
   tell(frame) {
-    this.find("places").value = String(this.at);
-    this.find("configurations").value = String(this.current());
     this.aside.tell(this.run.state, frame);
     this.aside.say("event", this.line(frame));
+    this.find("moment").href = "#step=" + frame.number;
+    this.chart.show(this.configuration());
     this.list();
+    if (this.picked !== null) this.tellStory();
   }
 
   line(frame) { return frame.kind ? frame.place + ": " + frame.text : "the beginning"; }
 
-  // The events around the one that is shown.
+  // Lists the events around the one at hand, which stands in the middle, and marks those of its step.
   list() {
-    this.rows.forEach(({ row, link }, index) => {
-      const at = this.at + index - AROUND, frame = this.run.frames[at];
-      row.hidden = frame === undefined;
-      if (frame === undefined) return;
-      link.href = "#p=" + at;
-      link.textContent = this.line(frame);
+    const isNear = this.rows && (this.at - this.from >= NEAR_END || this.from === 0) && (this.from + this.rows.length - this.at > NEAR_END || this.from + this.rows.length > this.last);
+    if (!isNear) {
+      this.from = Math.max(0, this.at - LISTED);
+      this.rows = this.run.frames.slice(this.from, this.at + LISTED + 1).map((frame, index) => this.row(this.from + index));
+      this.find("events").replaceChildren(...this.rows);
+    }
+    const current = this.configuration();
+    this.rows.forEach((row, index) => {
+      const at = this.from + index;
+      row.classList.toggle("on", this.configurationOf[at] === current);
+      row.classList.toggle("later", at > this.at);
+      if (at === this.at) row.firstChild.setAttribute("aria-current", "step");
+      else row.firstChild.removeAttribute("aria-current");
     });
+    this.centre();
   }
+
+  centre() {
+    const row = this.rows && this.rows[this.at - this.from], list = this.find("events");
+    if (row) list.scrollTop = row.offsetTop - (list.clientHeight - row.offsetHeight) / 2;
+  }
+
+  row(at) {
+    const frame = this.run.frames[at], row = this.document.createElement("li"), link = this.document.createElement("a");
+    const number = this.document.createElement("b"), text = this.document.createElement("span");
+    const isFirst = this.configurations[this.configurationOf[at]].first === at;
+    number.textContent = isFirst ? frame.number : "";
+    text.textContent = toldEvent(this.data, frame);
+    link.href = "#p=" + at;
+    link.title = this.line(frame);
+    link.append(number, text);
+    link.addEventListener("click", (event) => { event.preventDefault(); this.goTo(at); });
+    row.classList.toggle("fault", this.data.edits.includes(frame.kind));
+    row.append(link);
+    return row;
+  }
+
+  // Shows a node's own story: what it is now, and all events that name it.
+  pick(node) {
+    if (this.picked !== null) this.drawing.nodes[this.picked].group.classList.remove("picked");
+    this.picked = node;
+    this.find("story").hidden = node === null;
+    if (node !== null) {
+      this.drawing.nodes[node].group.classList.add("picked");
+      this.aside.say("story-name", `Node ${this.data.nodes[node].id} · ${this.data.nodes[node].owners.join(", ") || "the house"}`);
+      const own = this.run.frames.map((frame, at) => at).filter((at) => (this.run.frames[at].nodes || []).includes(node));
+      this.find("story-events").replaceChildren(...own.map((at) => this.row(at)));
+      this.tellStory();
+    }
+    this.centre();
+  }
+
+  tellStory() { this.aside.say("story-now", this.drawing.describe(this.picked, this.run.state).split(", ").slice(1).join(", ")); }
 
   toggle() {
     if (this.timer !== null) return this.stop();
-    this.find("play").textContent = "Pause";
+    this.find("play").textContent = "❚❚ Pause";
     const turn = () => {
       if (this.at >= this.last) return this.stop();
-      this.goTo(this.at + 1);
-      this.timer = setTimeout(turn, 1000 / Number(this.find("speed").value));
+      this.goTo(this.following(), true);
+      this.timer = setTimeout(turn, TURN / Number(this.find("speed").value));
     };
     if (this.at >= this.last) this.goTo(0);
-    this.timer = setTimeout(turn, 1000 / Number(this.find("speed").value));
+    this.timer = setTimeout(turn, TURN / Number(this.find("speed").value));
   }
 
   stop() {
     clearTimeout(this.timer);
     this.timer = null;
-    this.find("play").textContent = "Play";
+    this.find("play").textContent = "▶ Play";
   }
 }
 
 async function begin() {
   const data = await dataOf(document), root = document.getElementById("drawing");
   splitLinks(root);
-  const player = new Player(new Run(data), new Drawing(root, data), document);
+  const player = new Player(new Run(data), new Drawing(root, data), data, document);
   wholeScreen(document);
+  witnessButton(document);
   player.follow();
   window.player = player;
   document.body.dataset.ready = "true";

@@ -14,9 +14,8 @@ from typing import Any
 
 from classroom.core.desk_words import WORDS
 from classroom.core.lab import Lab
-from classroom.pages.drawing import Drawing
+from classroom.pages.drawing import drawing_of
 from classroom.pages.frames import Frame
-from classroom.pages.layout import lay_out
 from classroom.pages.page import Frames, live_page
 from classroom.pages.watch import Now, Present
 from classroom.pages.web import Asked, Web, opened
@@ -35,7 +34,7 @@ class Pages(Web):
         super().__init__(port, Page, title)
         self.lab, self.typed = lab, typed
         self.looks, self.acts = looks or secrets.token_urlsafe(16), secrets.token_urlsafe(16)
-        self.drawing = Drawing(lab.without_house(), lay_out((node.id for node in lab.nodes), lab.links))
+        self.drawing = drawing_of(lab.without_house(), lab.links)
         self.present: Present | None = None
         self.told = 0  # how many pages are told the news
 
@@ -130,13 +129,13 @@ class Page(Asked):
 
 def message(rows: Frames, present: Present, before: Now | None, now: Now) -> dict[str, Any]:
     """What a page that has shown `before` has to know."""
-    links, arrows = len(rows.links), len(rows.arrows)
+    links = len(rows.links)
     rows.add(Frame(present.events[now.events - 1] if now.events else None, now.state), len(now.state.links))
     events = present.events[max(before.events if before else 0, now.events - LISTED):now.events]
     lines = present.lines[max(before.lines if before else 0, now.lines - LISTED):now.lines]
     return rows.rows.pop() | {
         "begin": before is None, "closing": now.closing, "ended": now.ended,
-        "new": rows.drawn_links(links), "arrows": rows.drawn_arrows(arrows),
+        "new": rows.drawn_links(links), "bars": present.bars.rows[max(before.bars - 1, 0) if before else 0:now.bars],
         "events": [f"{each.place}: {' '.join(each.words)}" for each in events], "lines": lines,
     }
 

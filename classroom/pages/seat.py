@@ -3,7 +3,7 @@ from __future__ import annotations
 
 import threading
 from collections.abc import Callable
-from dataclasses import asdict, dataclass, replace
+from dataclasses import asdict, dataclass
 from typing import Any, TypeVar
 
 from classroom.client import Client, Closed, Denied, Look, Moving, Refused
@@ -11,7 +11,8 @@ from classroom.core.journal import Event
 from classroom.core.lab import Lab, Node, ordered
 from classroom.pages.drawing import Drawing
 from classroom.pages.frames import State
-from classroom.pages.layout import HEIGHT, ROOMY, WIDTH, Layout, halved, lay_out
+from classroom.pages.labels import view_of
+from classroom.pages.layout import CELL
 
 NEIGHBOUR = "a neighbour"  # instead of its owners, whom no reply tells; no student has such a name
 Told = TypeVar("Told")
@@ -24,24 +25,19 @@ class Seen(Drawing):
     it."""
 
     beyond: frozenset[int] = frozenset()
-    times: int = 1  # how much larger it is drawn
 
     def pointer(self, node: int, state: State) -> str:
         """No arrow from beyond."""
         return "" if node in self.beyond else super().pointer(node, state)
 
-    def node(self, node: int, owners: list[str], state: State) -> str:
-        """A node beyond is its number."""
+    def node(self, node: int, owners: list[str], state: State, event: Event | None) -> str:
+        """A node beyond is its number; a neighbour has a thin rim."""
         if node not in self.beyond:
-            return super().node(node, owners, state)
-        x, y = self.layout.points[node]
+            kind = "node near" if owners == [NEIGHBOUR] else "node"
+            return super().node(node, owners, state, event).replace('class="node"', f'class="{kind}"', 1)
+        (x, y), size = self.points[node], self.measures["identifier"]
         return (f'<g class="beyond" transform="translate({x:g} {y:g})"><title>node {node}, which is not shown to you</title>'
-                f'<circle class="rim" r="{self.layout.radius:g}"/><text y="{0.36 * self.size:.3g}">{node}</text></g>')
-
-    def svg(self, state: State, event: Event | None) -> str:
-        """The element, with a smaller field where it is drawn larger."""
-        whole, part = (f'viewBox="0 0 {WIDTH / times:g} {HEIGHT / times:g}"' for times in (1, self.times))
-        return super().svg(state, event).replace(whole, part, 1)
+                f'<circle class="disc" r="{self.measures["radius"]:g}"/><text y="{0.36 * size:.3g}" font-size="{size:g}">{node}</text></g>')
 
 
 def shown_part(name: str, looks: Looks) -> Lab:
@@ -58,8 +54,8 @@ def drawn(part: Lab, looks: Looks) -> Seen:
     """How that part is drawn, with each node beyond near the one that points at it."""
     beyond = frozenset(node.id for node in part.nodes if not node.owners)
     points_at = [(each.node, each.p) for look in looks.values() for each in look.near if each.p in beyond and each.p is not None]
-    layout = lay_out((node.id for node in part.nodes), {*part.links, *map(ordered, points_at)})
-    return Seen(part, layout, beyond) if layout.nearest < ROOMY else Seen(part, halved(layout), beyond, 2)
+    links = sorted({*part.links, *map(ordered, points_at)})
+    return Seen(part, view_of({node.id: node.owners for node in part.nodes}, links, CELL), beyond)
 
 
 def state_of(part: Lab, looks: Looks) -> State:
@@ -124,10 +120,6 @@ class Seat:
 
 
 def told(look: Look) -> dict[str, Any]:
-    """A look as the server told it, but for the number that all have in common."""
-    return {name: value for name, value in asdict(look).items() if name != "at"}
-
-
-def style() -> str:
-    """The colours that every student's picture has: the student's own and the neighbours'."""
-    return Drawing(replace(shown_part("", {}), students={"": "", NEIGHBOUR: ""}), Layout({}, 1.0)).style()
+    """A look as the server told it, but for the number that all have in common; and which neighbours point at the node."""
+    values = {name: value for name, value in asdict(look).items() if name != "at"}
+    return values | {"pointing": [near.node for near in look.near if near.p == look.node]}

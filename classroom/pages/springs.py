@@ -1,41 +1,123 @@
 """Where nodes are drawn as far apart as the shortest path between them is long.
 
 By stress majorization (Gansner, Koren and North, 'Graph drawing by stress majorization', 2004), from the best plane
-through the distances (classical scaling). Nothing is drawn by lot: the same network has the same drawing.
+through the distances (classical scaling). In a large network a node is pulled by its neighbours and by some pivots,
+which stand for the nodes around them (Ortmann, Klimenta and Brandes, 'A sparse stress model', 2016). Nothing is drawn by
+lot: the same network has the same drawing.
 """
 from __future__ import annotations
 
 import math
 from collections import deque
-from itertools import combinations
+from collections.abc import Iterable, Iterator, Sequence
+from functools import lru_cache
+from itertools import combinations, product
 from operator import mul
 
 from classroom.core.networks import Links, neighbours
 
-FEW_NODES = 100  # more take seconds
+FEW_NODES = 80  # up to which each node is pulled by each other one
+PIVOTS = 40  # by which each node is pulled in a larger network
 TURNS = 60  # of the power method, and of the majorization
 APART = 0.05  # by which nodes are parted that the plane has at one point
+LEAST = 0.62  # between two nodes, where a link is 1 long
+PUSHES = 80  # by which nodes that are closer are pushed apart
+MOST_STRETCHED = 1.45  # how many times wider a drawing is made, so that it fills its field
 Point = tuple[float, float]
 Rows = list[list[float]]
+Pull = tuple[int, float, float]  # by which node, at which distance, with which weight
 
 
-def by_springs(nodes: list[int], links: Links) -> dict[int, Point] | None:
-    """A point for each node, where they and their links are few enough."""
-    if not 2 < len(nodes) <= FEW_NODES or len(links) > 4 * len(nodes):
-        return None
+@lru_cache(maxsize=16)
+def by_springs(nodes: tuple[int, ...], links: tuple[tuple[int, int], ...]) -> dict[int, Point]:
+    """Returns a point for each of two nodes or more, which is computed once for a network."""
     far = distances(nodes, links)
     ring = [math.tau * index / len(nodes) for index in range(len(nodes))]
     first, second = plane(far, [list(map(math.cos, ring)), list(map(math.sin, ring))])
     points = [(x + APART * math.cos(turn), y + APART * math.sin(turn)) for x, y, turn in zip(first, second, ring)]
+    pulls = [[*pulls_of(index, far)] for index in range(len(nodes))] if len(nodes) <= FEW_NODES else sparse_pulls(far)
     for _ in range(TURNS):
         for index in range(len(points)):
-            points[index] = pulled(points, far[index], index)
+            points[index] = pulled(points, pulls[index], index)
+    points = pushed_apart(turned(points))
     # The lowest identifier stands above on the left.
     across, down = (-1.0 if coordinate > 0 else 1.0 for coordinate in points[0])
     return {node: (across * x, down * y) for node, (x, y) in zip(nodes, points)}
 
 
-def distances(nodes: list[int], links: Links) -> Rows:
+def pulls_of(index: int, far: Rows) -> Iterable[Pull]:
+    """Yields how each other node pulls a node: the near ones more than the far ones."""
+    return ((other, apart, 1 / (apart * apart)) for other, apart in enumerate(far[index]) if apart)
+
+
+def sparse_pulls(far: Rows) -> list[list[Pull]]:
+    """Returns how each node is pulled by its neighbours, and by pivots with the weight of those around them."""
+    pivots = pivots_of(far)
+    regions: dict[int, list[float]] = {pivot: [] for pivot in pivots}
+    for row in far:
+        nearest = min(pivots, key=lambda pivot: row[pivot])
+        regions[nearest].append(row[nearest])
+    found = []
+    for index, row in enumerate(far):
+        near = [(other, 1.0, 1.0) for other, apart in enumerate(row) if apart == 1]
+        around = ((pivot, row[pivot], sum(apart <= row[pivot] / 2 for apart in regions[pivot])) for pivot in pivots if row[pivot] > 1)
+        found.append(near + [(pivot, apart, max(1, count) / (apart * apart)) for pivot, apart, count in around])
+    return found
+
+
+def pivots_of(far: Rows) -> list[int]:
+    """Returns nodes that are as far from each other as can be, the first node first."""
+    pivots, nearest = [0], [*far[0]]
+    while len(pivots) < min(PIVOTS, len(far)):
+        pivots.append(max(range(len(far)), key=lambda index: nearest[index]))
+        nearest = [min(pair) for pair in zip(nearest, far[pivots[-1]])]
+    return pivots
+
+
+def turned(points: list[Point]) -> list[Point]:
+    """Returns the points around their middle, turned so that their longer axis lies level."""
+    middle_x, middle_y = (sum(values) / len(points) for values in zip(*points))
+    moved = [(x - middle_x, y - middle_y) for x, y in points]
+    across, down = sum(x * x for x, _ in moved), sum(y * y for _, y in moved)
+    angle = math.atan2(2 * sum(x * y for x, y in moved), across - down) / 2
+    return [(x * math.cos(angle) + y * math.sin(angle), y * math.cos(angle) - x * math.sin(angle)) for x, y in moved]
+
+
+def pushed_apart(points: list[Point]) -> list[Point]:
+    """Returns the points, of which those that are too close were pushed apart."""
+    now = [*points]
+    for _ in range(PUSHES):
+        close = [pair for pair in near_pairs(now) if math.dist(now[pair[0]], now[pair[1]]) < LEAST - 1e-6]
+        if not close:
+            break
+        for a, b in close:
+            (x, y), (u, v) = now[a], now[b]
+            length = math.hypot(u - x, v - y)
+            across, down = ((u - x) / length, (v - y) / length) if length > 1e-9 else (1.0, 0.0)
+            push = max(0.0, LEAST - length) / 2
+            now[a], now[b] = (x - across * push, y - down * push), (u + across * push, v + down * push)
+    return now
+
+
+def near_pairs(points: list[Point]) -> Iterator[tuple[int, int]]:
+    """Yields each two points that may be too close: those in one square of that size, or in two beside each other."""
+    squares: dict[tuple[int, int], list[int]] = {}
+    for index, (x, y) in enumerate(points):
+        squares.setdefault((math.floor(x / LEAST), math.floor(y / LEAST)), []).append(index)
+    for (column, row), own in squares.items():
+        yield from combinations(own, 2)
+        for across, down in ((1, 0), (-1, 1), (0, 1), (1, 1)):
+            yield from product(own, squares.get((column + across, row + down), ()))
+
+
+def stretched(points: dict[int, Point], aspect: float) -> dict[int, Point]:
+    """Returns the points, made a little wider if the field is, which is so many times wider than high."""
+    wide, high = (max(values) - min(values) for values in zip(*points.values()))
+    times = min(MOST_STRETCHED, max(1.0, aspect * high / wide)) if wide > 1e-9 else 1.0
+    return {node: (x * times, y) for node, (x, y) in points.items()}
+
+
+def distances(nodes: Sequence[int], links: Iterable[tuple[int, int]]) -> Rows:
     """How many links part each two nodes; where no path joins them, one more than the longest path has."""
     near = neighbours(nodes, links)
     found = []
@@ -76,18 +158,16 @@ def plane(far: Rows, axes: Rows) -> Rows:
     return coordinates
 
 
-def pulled(points: list[Point], far: list[float], index: int) -> Point:
-    """Where a node comes to lie: in the middle of where each other one wants it, the near ones more than the far
-    ones."""
+def pulled(points: list[Point], pulls: list[Pull], index: int) -> Point:
+    """Returns where a node comes to lie: in the middle of where each that pulls it wants it."""
     x, y = points[index]
     sum_x = sum_y = weights = 0.0
-    for (other_x, other_y), apart in zip(points, far):
-        if apart:
-            weight = 1 / (apart * apart)
-            drawn = math.hypot(x - other_x, y - other_y) or 1.0
-            sum_x += weight * (other_x + apart * (x - other_x) / drawn)
-            sum_y += weight * (other_y + apart * (y - other_y) / drawn)
-            weights += weight
+    for other, apart, weight in pulls:
+        other_x, other_y = points[other]
+        drawn = math.hypot(x - other_x, y - other_y) or 1.0
+        sum_x += weight * (other_x + apart * (x - other_x) / drawn)
+        sum_y += weight * (other_y + apart * (y - other_y) / drawn)
+        weights += weight
     return sum_x / weights, sum_y / weights
 
 

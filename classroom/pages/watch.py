@@ -12,6 +12,37 @@ from classroom.core.present import Book
 from classroom.pages.frames import State
 
 
+# Of a configuration: its number, how many nodes can move (None if that wasn't seen), how many moves are chosen, the kind of
+# event that led to it, and whether it is stable.
+Bar = tuple[int, int | None, int, str, bool]
+
+
+class Bars:
+    """The configurations of a run for its chart, of which the last one goes on."""
+
+    def __init__(self) -> None:
+        self.rows: list[Bar] = [(0, None, 0, "", False)]
+        self.chosen: set[int] = set()
+
+    def add(self, event: Event) -> None:
+        """Takes an event in."""
+        if event.makes_configuration:
+            self.chosen.clear()
+            self.rows.append((event.at + 1, None, 0, event.kind, False))
+        elif event.kind == "grant":
+            self.chosen.update(event.nodes)
+        else:
+            self.chosen.difference_update(event.nodes)
+        number, can, _, kind, is_stable = self.rows[-1]
+        self.rows[-1] = (number, can, len(self.chosen), kind, is_stable)
+
+    def see(self, state: State) -> None:
+        """Takes in what a report says of the configuration that goes on."""
+        number, _, moved, kind, _ = self.rows[-1]
+        if number == state.number:
+            self.rows[-1] = (number, len(state.privileged), moved, kind, state.stable)
+
+
 @dataclass(frozen=True)
 class Now:
     """The present, which doesn't change any more: the state, how many events and lines there are, and how steps are
@@ -21,6 +52,7 @@ class Now:
     state: State
     events: int
     lines: int
+    bars: int
     closing: str
     ended: bool
 
@@ -33,17 +65,23 @@ class Present:
         self.turn = threading.Condition()
         self.events: list[Event] = []
         self.lines: list[str] = []
-        self.now = Now(1, state, 0, 0, closing, False)
+        self.bars = Bars()
+        self.bars.see(state)
+        self.now = Now(1, state, 0, 0, 1, closing, False)
 
     def put(self, state: State | None = None, events: Iterable[Event] = (), line: str | None = None,
             closing: str | None = None, ended: bool = False) -> None:
         """Publishes what is new."""
         with self.turn:
             now = self.now
-            self.events.extend(events)
+            for event in events:
+                self.events.append(event)
+                self.bars.add(event)
+            if state is not None:
+                self.bars.see(state)
             self.lines.extend([line] if line else [])
             self.now = Now(
-                now.version + 1, state or now.state, len(self.events), len(self.lines), closing or now.closing,
+                now.version + 1, state or now.state, len(self.events), len(self.lines), len(self.bars.rows), closing or now.closing,
                 now.ended or ended,
             )
             self.turn.notify_all()

@@ -99,7 +99,7 @@ def told(state: State, frame: Frame) -> Shown:
 
 
 # Each text that is seen, in its colour over what lies behind it. On paper no background of HTML is printed. Behind
-# a text of the drawing is the ground that surrounds its letters, but for those that stand in a form of their own.
+# a text of the drawing is the ground that surrounds its letters, but for those that stand in a disc or a frame.
 TEXTS = """
 const onPaper = arguments[0];
 const colour = (text) => (text.match(/[\\d.]+/g) || []).map(Number);
@@ -112,12 +112,10 @@ const paper = (element) => {
   return [255, 255, 255];
 };
 const behind = (element) => {
-  const group = element.closest('svg') && element.closest('.m, .node');
-  if (group && element.closest('.m')) return [colour(getComputedStyle(group.querySelector('rect')).fill)];
-  if (element.matches('.identifier')) {
-    return [...group.querySelectorAll('.owned')].map((form) => colour(getComputedStyle(form).fill));
-  }
-  return [paper(element.closest('svg') ? element.closest('.stage') : element)];
+  const name = element.matches('.identifier') ? '.disc' : element.matches('.rule') ? 'rect' : null;
+  const form = name && element.parentNode.querySelector(name);
+  if (form && element.closest('svg')) return [colour(getComputedStyle(form).fill)];
+  return [paper(element.closest('svg') ? element.closest('.stage, .chart') : element)];
 };
 const found = [];
 for (const element of document.querySelectorAll('body *')) {

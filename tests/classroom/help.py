@@ -2,6 +2,7 @@
 from __future__ import annotations
 
 import fcntl
+import http.client
 import json
 import os
 import pty
@@ -21,6 +22,8 @@ import unittest
 from collections.abc import Iterator
 from contextlib import contextmanager
 from pathlib import Path
+from typing import Any
+from urllib.parse import urlsplit
 
 from classroom.core.lab import read
 from classroom.core.program import TOP, call
@@ -168,6 +171,39 @@ class Going:
                     pipe.close()
                 except OSError:
                     pass
+
+
+class Rows:
+    """The lines that come to a page, and all bytes of them."""
+
+    def __init__(self, address: str, name: str, key: str) -> None:
+        parts = urlsplit(address)
+        self.connection = http.client.HTTPConnection("127.0.0.1", parts.port or 0, timeout=LIMIT)
+        self.connection.request("POST", "/enter", json.dumps({"name": name, "key": key}), {"Host": parts.netloc})
+        self.answer = self.connection.getresponse()
+        assert self.answer.status == 200
+        self.bytes = bytes(str(self.answer.headers), "utf-8")
+
+    def next(self) -> dict[str, Any]:
+        """The next line that tells something."""
+        while True:
+            line = self.answer.readline()
+            self.bytes += line
+            row: dict[str, Any] = json.loads(line)
+            if row:
+                return row
+
+    def at(self, number: int) -> dict[str, Any]:
+        """The line of that configuration."""
+        while (row := self.next())["at"] != number:
+            pass
+        return row
+
+    def rest(self) -> list[dict[str, Any]]:
+        """All lines to the end."""
+        text = self.answer.read()
+        self.bytes += text
+        return [json.loads(line) for line in text.splitlines()]
 
 
 class InTerminal:

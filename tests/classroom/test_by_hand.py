@@ -22,15 +22,15 @@ from classroom.client import Client
 from classroom.core.lab import read
 from classroom.pages.by_hand import Hands, open_hands
 from tests.classroom.browser import browser, pale, show_as, until
-from tests.classroom.help import CYCLE, KEYS, LIMIT, Going, InRoom, a_port
+from tests.classroom.help import CYCLE, KEYS, LIMIT, Going, InRoom, Rows, a_port
 from tests.classroom.test_page import hashed
-from tests.classroom.test_shown import PHONE, resize
+from tests.classroom.test_shown import LETTERS, PHONE, SMALLEST_ON_PHONE, resize
 
 CARD = """
 const card = [...document.querySelectorAll('#nodes section')].find((it) => it.querySelector('.id').textContent === arguments[0]);
 const texts = (selector) => [...card.querySelectorAll(selector)].map((it) => it.textContent);
 const holding = [...card.querySelectorAll('[data-holds="true"]')].map((it) => it.dataset.rule);
-return {p: texts('.p')[0], m: texts('.m-of')[0], chosen: texts('.chosen')[0], near: texts('td'), holding, guards: texts('.guard'),
+return {p: texts('.p')[0], m: texts('.m-of')[0], near: texts('td'), holding, guards: texts('.guard'), acts: texts('.act'), idle: texts('.idle')[0],
         reply: texts('.reply')[0]};
 """
 DRAWN = """
@@ -42,6 +42,8 @@ return [document.documentElement.scrollWidth, ...[...document.querySelectorAll('
     .map((it) => it.getBoundingClientRect().right)].reduce((a, b) => Math.max(a, b));
 """
 RULES = ["update", "marriage", "seduction", "abandonment"]
+VERBS = {"update": "update m", "marriage": "marry", "seduction": "seduce", "abandonment": "abandon"}
+NOTHING = "nothing to do now: waiting for the step"
 
 
 class Playing(InRoom):
@@ -89,7 +91,19 @@ class Playing(InRoom):
         self.driver.execute_script("for (const it of document.querySelectorAll('.reply')) it.textContent = ''")
         for card in self.driver.find_elements("css selector", "#nodes section"):
             if card.find_element("class name", "id").text == str(node):
+                if card.find_element("tag name", "details").get_attribute("open") is None:
+                    card.find_element("tag name", "summary").click()
                 card.find_element("css selector", f"[data-rule={rule}] button").click()
+        until(self.driver, lambda _: self.card(node)["reply"] != "")
+        reply: str = self.card(node)["reply"]
+        return reply
+
+    def act(self, node: int) -> str:
+        """Presses the large button of a node; gives what is replied."""
+        self.driver.execute_script("for (const it of document.querySelectorAll('.reply')) it.textContent = ''")
+        for button in self.driver.find_elements("css selector", ".btn.act"):
+            if button.text.startswith(f"Node {node}: "):
+                button.click()
         until(self.driver, lambda _: self.card(node)["reply"] != "")
         reply: str = self.card(node)["reply"]
         return reply
@@ -127,7 +141,12 @@ class Playing(InRoom):
             self.assertEqual(card["near"], [word for near in look.near for word in
                                             (str(near.node), "null" if near.p is None else str(near.p), str(near.m).lower())])
             self.assertEqual(card["holding"], [look.rule] if look.rule else [])
-            self.assertEqual(card["guards"], ["its guard holds" if rule == look.rule else "its guard doesn't hold" for rule in RULES])
+            self.assertEqual(card["guards"], ["can be done now" if rule == look.rule else "" for rule in RULES])
+            partners = [f" {near.node}" for near in look.near if near.p == node] if look.rule == "marriage" else [""]
+            acts = [f"Node {node}: {VERBS[look.rule]}{partner}" for partner in partners] if look.rule and not look.chosen else []
+            self.assertEqual(card["acts"], acts)
+            idle = f"{look.chosen} is chosen: it is applied when the step closes" if look.chosen else "" if look.rule else NOTHING
+            self.assertEqual(card["idle"], idle)
             self.assertEqual((drawn[node]["rule"], drawn[node]["chosen"]), (look.rule or "", look.chosen or ""))
             for each in (look, *look.near):
                 self.assertEqual((drawn[each.node]["p"], drawn[each.node]["m"]),
@@ -141,22 +160,23 @@ class Playing(InRoom):
         gus = self.enter_beside("gus")
         self.compare(gus, [1, 4])
         self.assertEqual(self.driver.execute_script("return [...document.querySelectorAll('.beyond text')].map((it) => it.textContent)"), ["6"])
-        self.assertEqual(self.press(1, "seduction"), "configuration 0, seduction: denied by clause 4, guard: the guard of this rule does not hold")
-        self.assertEqual(self.press(4, "update"), "configuration 0, update: granted, at place 1; it is applied when the step closes")
-        until(self.driver, lambda _: self.card(4)["chosen"].startswith("update, "))
+        self.assertEqual(self.press(1, "seduction"), "step 0, seduction: denied, since the guard of seduction doesn't hold at this node now (clause 4, guard)")
+        self.assertEqual(self.act(4), "step 0, update: granted, at place 1; it is applied when the step closes")
+        until(self.driver, lambda _: self.card(4)["idle"].startswith("update is chosen"))
         self.compare(gus, [1, 4])
-        self.assertEqual(self.press(4, "update"), "configuration 0, update: denied by clause 3, chosen: this node is already chosen")
+        self.assertEqual(self.press(4, "update"), "step 0, update: denied, since a move of this node is chosen already, and is applied when the step closes "
+                         "(clause 3, chosen)")
         self.close(1)
-        self.assertEqual((self.card(4)["m"], self.card(4)["chosen"]), ("false", "none"))
+        self.assertEqual((self.card(4)["m"], self.card(4)["idle"].partition(" is chosen")[1]), ("false", ""))
         self.compare(gus, [1, 4])
         # A neighbour points at node 1, whose p becomes null: a marriage is asked with whom the page names.
         self.going.type("fault 1 null false")
         self.shows(2)
         self.compare(gus, [1, 4])
-        for partner, told in (("2", "denied by clause 4, guard: "), ("7", "granted, at place 4; ")):
+        for partner, told in (("2", "denied, since the guard of marriage "), ("7", "granted, at place 4; ")):
             choice: Any = Select(self.driver.find_element("css selector", "#nodes section:first-child select"))
             choice.select_by_value(partner)
-            self.assertIn(f"configuration 2, marriage: {told}", self.press(1, "marriage"))
+            self.assertIn(f"step 2, marriage: {told}", self.press(1, "marriage"))
         self.close(3)
         self.compare(gus, [1, 4])
         self.going.type("link 1 4")
@@ -183,6 +203,22 @@ class Playing(InRoom):
             if file.is_file() and file.name not in ("lab.toml", "journal.lab"):
                 for key in (*KEYS.values(), read(CYCLE).teacher[1]):
                     self.assertNotIn(key.encode(), file.read_bytes(), file)
+
+    def test_a_quiz_marks_no_rule(self) -> None:
+        self.begin()
+        self.open()
+        self.come()
+        self.is_in()
+        self.assertEqual((self.card(4)["holding"], self.card(4)["acts"]), (["update"], ["Node 4: update m"]))
+        self.assertEqual(self.driver.find_element("id", "told").text, "1 of your nodes can move")
+        self.driver.find_element("id", "quiz").click()
+        for node in (1, 4):
+            self.assertEqual((self.card(node)["holding"], self.card(node)["acts"], set(self.card(node)["guards"])), ([], [], {""}))
+        page = self.driver.execute_script("return document.getElementById('stage').innerHTML")
+        self.assertEqual(re.findall('privileged: |data-rule="[a-z]|>U</text>', page), [])
+        self.assertIn("step 0, update: granted", self.press(4, "update"))
+        self.driver.find_element("id", "quiz").click()
+        until(self.driver, lambda _: self.card(4)["holding"] == ["update"])
 
     def test_a_key_that_is_wrong_and_one_behind_the_address(self) -> None:
         self.begin()
@@ -220,7 +256,7 @@ class Playing(InRoom):
         self.seats("0 of 1 seats: nobody")
         self.come()
         self.is_in()
-        self.assertEqual(self.press(4, "update"), "configuration 0, update: granted, at place 1; it is applied when the step closes")
+        self.assertEqual(self.press(4, "update"), "step 0, update: granted, at place 1; it is applied when the step closes")
 
     def test_on_a_phone_in_both_themes(self) -> None:
         self.begin()
@@ -239,8 +275,8 @@ class Playing(InRoom):
                 high = self.driver.execute_script("return [...document.querySelectorAll('button')].filter((it) => it.offsetWidth)"
                                                   ".map((it) => it.getBoundingClientRect().height)")
                 self.assertGreaterEqual(min(high), 36)
-                letters = self.driver.execute_script("return document.getElementById('drawing').getScreenCTM().a")
-                self.assertGreater(15 * letters, 10)
+                small = [text for text in self.driver.execute_script(LETTERS) if text[0] < SMALLEST_ON_PHONE]
+                self.assertEqual(small, [])
             for theme in ("light", "dark"):
                 show_as(self.driver, theme)
                 count, faint = pale(self.driver)
@@ -387,39 +423,6 @@ class Wire(InRoom):
             self.assertEqual((rows.next()["who"], rows.next()["at"]), ("gus", 0))
             hands.stop()
             self.assertIn("come again", rows.rest()[-1]["ended"])
-
-
-class Rows:
-    """The lines that come to a page, and all bytes of them."""
-
-    def __init__(self, address: str, name: str, key: str) -> None:
-        parts = urlsplit(address)
-        self.connection = http.client.HTTPConnection("127.0.0.1", parts.port or 0, timeout=LIMIT)
-        self.connection.request("POST", "/enter", json.dumps({"name": name, "key": key}), {"Host": parts.netloc})
-        self.answer = self.connection.getresponse()
-        assert self.answer.status == 200
-        self.bytes = bytes(str(self.answer.headers), "utf-8")
-
-    def next(self) -> dict[str, Any]:
-        """The next line that tells something."""
-        while True:
-            line = self.answer.readline()
-            self.bytes += line
-            row: dict[str, Any] = json.loads(line)
-            if row:
-                return row
-
-    def at(self, number: int) -> dict[str, Any]:
-        """The line of that configuration."""
-        while (row := self.next())["at"] != number:
-            pass
-        return row
-
-    def rest(self) -> list[dict[str, Any]]:
-        """All lines to the end."""
-        text = self.answer.read()
-        self.bytes += text
-        return [json.loads(line) for line in text.splitlines()]
 
 
 class Host:

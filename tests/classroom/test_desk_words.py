@@ -12,9 +12,8 @@ from classroom.core import lab as labs
 from classroom.core.desk_words import BUTTONS, WORDS, Action
 from classroom.core.journal import Event
 from classroom.core.program import TOP
-from classroom.pages.drawing import Drawing
+from classroom.pages.drawing import drawing_of
 from classroom.pages.frames import State
-from classroom.pages.layout import lay_out
 from classroom.pages.page import live_page
 from classroom.pages.replay import request
 from classroom.run.daemons import Daemon
@@ -54,6 +53,7 @@ TOLD = {
 SENT = {
     "close": "close", "every": "every 5", "when-idle": "when-idle 5", "by-hand": "by-hand", "shake": "shake 3", "shake-all": "shake all",
     "break": "break", "set": "fault 4 null true", "release": "release 4",
+    "end": "end",
 }
 FIELDS = {"seconds": "5", "count": "3", "picked": "4", "p": "null", "m": "true"}
 # An event's line, the request that does it again, the nodes that it names, the links that it adds, and whether it is an edit.
@@ -121,9 +121,9 @@ class OnPage(unittest.TestCase):
     def test_each_button_sends_a_line_that_can_be_typed(self) -> None:
         lab = labs.read(TOP / "examples/cycle.toml")
         state = State(0, 0, frozenset(map(labs.ordered, lab.links)), {node.id: None for node in lab.nodes}, {node.id: False for node in lab.nodes})
-        page, _ = live_page("cycle", Drawing(lab, lay_out((node.id for node in lab.nodes), lab.links)), state, True)
+        page, _ = live_page("cycle", drawing_of(lab), state, True)
         buttons = Buttons(page)
-        self.assertEqual({*buttons.names} - {"freeze", "whole", "cancel"}, {*SENT})
+        self.assertEqual({*buttons.names} - {"freeze", "whole", "witnesses", "cancel", "go-on", "do-end"}, {*SENT})
         self.assertEqual({name: self.filled(line) for name, line in buttons.data["buttons"].items()}, SENT)
         for line in (*SENT.values(), *(f"{word} 1 3" for word in buttons.data["byLinks"].values())):
             self.assertEqual(understood(line), line.split())

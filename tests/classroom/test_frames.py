@@ -12,9 +12,8 @@ from unittest import mock
 from classroom.core import processes
 from classroom.core.program import Fault
 from classroom.pages import replay as module
-from classroom.pages.drawing import Drawing
+from classroom.pages.drawing import drawing_of
 from classroom.pages.frames import Frame, State, frames_of
-from classroom.pages.layout import lay_out
 from tests.classroom.runs import BUILT_IN, PROGRAM, TOP, edited_run, examples
 
 
@@ -48,7 +47,7 @@ class Replayed(unittest.TestCase):
 
     def test_a_picture_says_each_node_in_words(self) -> None:
         lab, frames = frames_of(BUILT_IN, TOP / "examples" / "whole-run.journal")
-        drawing = Drawing(lab, lay_out((node.id for node in lab.nodes), lab.links))
+        drawing = drawing_of(lab)
         said = [re.findall(r'role="img" aria-label="([^"]*)"', drawing.svg(frame.state, None)) for frame in frames]
         of = ("node 1 of ana, p ", "node 2 of ben, p ", "node 3 of cyd, p ")
         for place, words in (

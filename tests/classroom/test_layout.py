@@ -1,17 +1,24 @@
-"""Nodes are drawn where their links can be followed, Graphviz or not."""
+"""Nodes are drawn so that the family of their network is seen, and with labels that lie upon nothing."""
 from __future__ import annotations
 
 import math
 import random
+import time
 import unittest
 from itertools import combinations, pairwise
-from unittest.mock import patch
 
+from classroom.core.journal import RULES
 from classroom.core.networks import Links, family
-from classroom.pages.layout import HEIGHT, MARGIN, TIGHT_BELOW, WIDTH, Layout, lay_out, on_rings
-from classroom.pages.springs import FEW_NODES, away, by_springs, distances, tangles
+from classroom.pages.labels import Box, View, view_of, wide
+from classroom.pages.layout import CELL, RING, TALL, WIDE, Layout, lay_out
+from classroom.pages.shapes import shape_of
+from classroom.pages.springs import FEW_NODES, LEAST, away, by_springs, distances, tangles
 
-FAMILIES = ("path", "cycle", "star", "tree", "complete", "grid:4x3", "grid:10x10", "random:12:16", "random:30:40", "random:64:90")
+FAMILIES = ("path", "cycle", "star", "tree", "complete", "grid:4x3", "grid:3x7", "grid:10x10", "random:12:16", "random:30:40", "random:64:90",
+            "random:15:60", "crowd")
+NAMES = ("zoe-mueller", "jonas-ek", "ana", "gus-roy", "ida-bergstroem", "tim", "eva-sol", "bo-dahl", "kim-vo", "pia-rot", "leo-wolf", "uma-das",
+         "kai-ness", "nora-lind", "jean-baptiste-lamarck")
+SECONDS = 5  # of a processor for a network of 256 nodes, where this machine takes one and a half
 
 
 def network(word: str, size: int = 15) -> tuple[list[int], Links]:
@@ -20,48 +27,134 @@ def network(word: str, size: int = 15) -> tuple[list[int], Links]:
     return list(range(1, count + 1)), sorted(links)
 
 
-class Laid(unittest.TestCase):
-    """What is drawn where there is no Graphviz."""
+def renamed(nodes: list[int], links: Links, seed: int) -> tuple[list[int], Links]:
+    """The same network under other identifiers."""
+    drawn = random.Random(seed).sample(range(1, 60000), len(nodes))
+    names = dict(zip(nodes, drawn))
+    return drawn, [(names[a], names[b]) for a, b in links]
 
-    def setUp(self) -> None:
-        hidden = patch("shutil.which", return_value=None)
-        hidden.start()
-        self.addCleanup(hidden.stop)
 
-    def tangled(self, layout: Layout, links: Links) -> int:
-        """How often links cross, or run through nodes."""
-        return tangles(layout.points, links, layout.radius)
+def viewed(word: str, size: int = 15) -> tuple[View, Links]:
+    """A drawing of a family's network for a screen, with names."""
+    nodes, links = network(word, size)
+    return view_of({node: [NAMES[node % len(NAMES)]] for node in nodes}, links, WIDE), links
 
-    def test_grids_and_trees_have_no_link_that_crosses_another(self) -> None:
-        for word in ("path", "cycle", "star", "tree", "grid:4x3", "grid:8x8", "grid:10x10"):
-            with self.subTest(word):
-                nodes, links = network(word)
-                self.assertEqual(self.tangled(lay_out(nodes, links), links), 0)
-        self.assertGreater(self.tangled(on_rings(network("grid:4x3")[0]), network("grid:4x3")[1]), 10)
 
-    def test_each_family_is_drawn_apart_in_the_field_and_always_alike(self) -> None:
+class Shapes(unittest.TestCase):
+    """What a network is, is recognised from its links alone, and is seen."""
+
+    def shape(self, word: str, size: int = 15, seed: int = 0) -> tuple[str, Layout, list[int]]:
+        """The kind of a network, its layout, and its nodes as the family numbers them."""
+        nodes, links = network(word, size)
+        if seed:
+            nodes, links = renamed(nodes, links, seed)
+        layout = lay_out(nodes, links)
+        return layout.kind, layout, nodes
+
+    def test_families_are_recognised_whatever_the_nodes_are_called(self) -> None:
+        for word, kind in (("path", "path"), ("cycle", "cycle"), ("star", "star"), ("tree", "tree"), ("complete", "complete"), ("grid:4x3", "grid"),
+                           ("grid:8x8", "grid"), ("grid:2x9", "grid"), ("random:12:16", "general"), ("random:15:80", "ellipse")):
+            for seed in range(4):
+                self.assertEqual(self.shape(word, seed=seed)[0], kind, (word, seed))
+        nearly = [link for link in network("grid:4x3")[1] if link != (6, 7)]
+        self.assertEqual(shape_of(list(range(1, 13)), nearly, 1.7).kind, "general")
+        self.assertEqual(shape_of([1, 2, 3, 4, 5, 6], [(1, 2), (2, 3), (1, 3), (4, 5), (5, 6), (4, 6)], 1.7).kind, "general")
+        self.assertEqual(len(lay_out([7], []).points), 1)
+
+    def test_a_grid_s_rows_are_lines_in_order(self) -> None:
+        for word in ("grid:4x3", "grid:8x8", "grid:3x5"):
+            width = int(word[5])
+            for seed in (0, 5):
+                _, layout, nodes = self.shape(word, seed=seed)
+                rows = [[layout.points[node] for node in nodes[start:start + width]] for start in range(0, len(nodes), width)]
+                if seed:  # It may be mirrored or lie on its side, since no name says which corner is the first.
+                    self.assertEqual(len({y for _, y in layout.points.values()}) * len({x for x, _ in layout.points.values()}), len(nodes))
+                    continue
+                for row in rows:
+                    self.assertEqual(row, sorted(row))
+                    self.assertEqual(len({y for _, y in row}), 1)
+                for above, below in pairwise(rows):
+                    self.assertEqual([x for x, _ in above], [x for x, _ in below])
+                    self.assertLess(above[0][1], below[0][1])
+
+    def test_a_path_is_a_line_that_turns_back(self) -> None:
+        for size in (2, 5, 9, 15, 40):
+            for seed in (0, 3):
+                _, layout, nodes = self.shape("path", size, seed)
+                lengths = [math.dist(layout.points[a], layout.points[b]) for a, b in pairwise(nodes)]
+                level = [layout.points[a][1] == layout.points[b][1] for a, b in pairwise(nodes)]
+                rows = len({y for _, y in layout.points.values()})
+                self.assertEqual(level.count(False), rows - 1)
+                self.assertTrue(all(length > 2.9 * layout.radius for length in lengths), size)
+        self.assertEqual(len({y for _, y in self.shape("path", 7)[1].points.values()}), 1)
+
+    def test_a_star_s_hub_is_in_the_middle(self) -> None:
+        for size in (4, 7, 15, 30):
+            _, layout, nodes = self.shape("star", size)
+            hub, rim = layout.points[1], [layout.points[node] for node in nodes[1:]]
+            middle = [(max(values) + min(values)) / 2 for values in zip(*rim)]
+            self.assertLess(math.dist(hub, middle), 0.35 * max(math.dist(hub, point) for point in rim), size)
+            self.assertTrue(all(math.dist(hub, point) > 4 * layout.radius for point in rim))
+
+    def test_cycles_and_complete_graphs_stand_on_an_ellipse_in_order(self) -> None:
+        for word in ("cycle", "complete"):
+            _, layout, nodes = self.shape(word)
+            wide_by, high_by = ((max(values) - min(values)) / 2 for values in zip(*layout.points.values()))
+            middle = [(max(values) + min(values)) / 2 for values in zip(*layout.points.values())]
+            for x, y in layout.points.values():
+                self.assertAlmostEqual(math.hypot((x - middle[0]) / wide_by, (y - middle[1]) / high_by), 1, delta=0.05)
+            sides = [math.dist(layout.points[a], layout.points[b]) for a, b in pairwise([*nodes, nodes[0]])]
+            self.assertLess(max(sides), 1.2 * min(sides))
+
+    def test_a_tree_has_layers(self) -> None:
+        for word, size in (("tree", 15), ("tree", 31), ("random:20:19", 20)):
+            nodes, links = network(word, size)
+            layout, depth = lay_out(nodes, links), {1: 0}
+            for a, b in links * len(nodes):
+                for near, far in ((a, b), (b, a)):
+                    if near in depth:
+                        depth.setdefault(far, depth[near] + 1)
+            self.assertEqual(len({(depth[node], layout.points[node][1]) for node in nodes}), max(depth.values()) + 1)
+            for node in nodes:
+                children = [layout.points[other][0] for link in links if node in link for other in link if depth[other] > depth[node]]
+                if children:
+                    self.assertAlmostEqual(layout.points[node][0], (min(children) + max(children)) / 2, delta=0.2)
+
+    def test_each_family_is_drawn_apart_in_each_field_and_always_alike(self) -> None:
         for word in FAMILIES:
+            nodes, links = network(word)
+            for field in (WIDE, TALL, CELL):
+                with self.subTest(word, field=field):
+                    layout = lay_out(nodes, links, field)
+                    self.assertEqual(layout, lay_out(reversed(nodes), reversed(links), field))
+                    self.assertEqual(set(layout.points), set(nodes))
+                    self.assertGreater(layout.nearest, 2 * layout.radius)
+                    for x, y in layout.points.values():
+                        self.assertTrue(RING * layout.radius <= x <= field.width - RING * layout.radius)
+                        self.assertTrue(RING * layout.radius <= y <= field.height - RING * layout.radius)
+
+    def test_grids_trees_and_rings_have_no_link_that_crosses_another(self) -> None:
+        for word in ("path", "cycle", "star", "tree", "grid:4x3", "grid:8x8", "grid:10x10", "random:20:19"):
             with self.subTest(word):
                 nodes, links = network(word)
-                layout = lay_out(reversed(nodes), links)
-                self.assertEqual(layout, lay_out(nodes, reversed(links)))
-                self.assertEqual(set(layout.points), set(nodes))
-                self.assertGreaterEqual(layout.radius, TIGHT_BELOW)
-                self.assertGreaterEqual(min(math.dist(a, b) for a, b in combinations(layout.points.values(), 2)), 3 * layout.radius)
-                for x, y in layout.points.values():
-                    self.assertTrue(MARGIN - 0.1 <= x <= WIDTH - MARGIN + 0.1 and MARGIN - 0.1 <= y <= HEIGHT - MARGIN + 0.1)
-                self.assertLessEqual(self.tangled(layout, links), self.tangled(on_rings(nodes), links))
+                layout = lay_out(nodes, links)
+                self.assertEqual(tangles(layout.points, links, layout.radius), 0)
 
-    def test_a_grid_reads_in_rows_of_links_alike_in_length(self) -> None:
-        nodes, links = network("grid:4x3")
-        points = lay_out(nodes, links).points
-        lengths = [math.dist(points[a], points[b]) for a, b in links]
-        self.assertLess(max(lengths), 1.2 * min(lengths))
-        rows = [[points[node] for node in nodes[start : start + 4]] for start in (0, 4, 8)]
-        for row in rows:
-            self.assertEqual(row, sorted(row))
-        for above, below in pairwise(rows):
-            self.assertLess(max(y for _, y in above), min(y for _, y in below))
+    def test_large_networks_in_time(self) -> None:
+        for word in ("random:256:300", "random:256:1000", "grid:16x16", "tree", "path", "cycle"):
+            nodes, links = network(word, 256)
+            start = time.process_time()
+            layout = lay_out(nodes, links)
+            self.assertLess(time.process_time() - start, SECONDS, word)
+            self.assertGreater(layout.nearest, 2 * layout.radius, word)
+        start = time.process_time()
+        lay_out(nodes, links, TALL)
+        lay_out(*network("random:256:300"), TALL)
+        self.assertLess(time.process_time() - start, SECONDS / 10)
+
+
+class Springs(unittest.TestCase):
+    """Any other network: as far apart as the paths between nodes are long."""
 
     def test_parts_that_no_path_joins_are_drawn_apart(self) -> None:
         links = [(1, 2), (2, 3), (1, 3), (3, 4), (5, 6), (6, 7), (5, 7), (7, 8)]
@@ -69,17 +162,17 @@ class Laid(unittest.TestCase):
         far = distances(nodes, links)
         self.assertEqual((far[0][3], far[0][4], far[8][0], far[8][8]), (2.0, 3.0, 3.0, 0.0))
         layout = lay_out(nodes, links)
-        self.assertEqual((len(layout.points), self.tangled(layout, links)), (9, 0))
+        self.assertEqual((len(layout.points), tangles(layout.points, links, layout.radius)), (9, 0))
 
-    def test_where_springs_are_not_asked(self) -> None:
-        for nodes, links in ([1, 2], [(1, 2)]), network("complete"), network(f"grid:{FEW_NODES // 2 + 1}x2"):
-            self.assertIsNone(by_springs(nodes, links))
-            self.assertEqual(lay_out(nodes, links), on_rings(nodes))
-        self.assertEqual(len(lay_out([7], []).points), 1)
-
-
-class Tangled(unittest.TestCase):
-    """What counts as a tangle."""
+    def test_a_few_pivots_draw_as_all_nodes_do(self) -> None:
+        """A grid that lacks one link is no grid, and both ways unfold it."""
+        for word in ("grid:9x8", "grid:10x9"):
+            nodes, links = network(word)
+            links.remove((11, 12))
+            points = by_springs(tuple(nodes), tuple(links))
+            self.assertEqual(len(nodes) > FEW_NODES, word == "grid:10x9")
+            self.assertLess(tangles(points, links, 0.1), 3, word)
+            self.assertGreaterEqual(min(math.dist(a, b) for a, b in combinations(points.values(), 2)), LEAST - 0.01)
 
     def test_how_far_a_node_is_from_a_link(self) -> None:
         for point, far in (((5.0, 3.0), 3.0), ((-3.0, 4.0), 5.0), ((13.0, -4.0), 5.0), ((10.0, 0.0), 0.0)):
@@ -90,6 +183,64 @@ class Tangled(unittest.TestCase):
         square = {1: (0.0, 0.0), 2: (10.0, 0.0), 3: (10.0, 10.0), 4: (0.0, 10.0), 5: (5.0, 0.5)}
         for links, count in (([(1, 3), (2, 4)], 1), ([(1, 2), (3, 4)], 1), ([(1, 3), (1, 2)], 1), ([(3, 4), (2, 3)], 0)):
             self.assertEqual(tangles(square, links, 1.0), count, links)
+
+
+class Labels(unittest.TestCase):
+    """Names and rules lie upon no disc, no link and no other label."""
+
+    def boxes(self, view: View) -> dict[int, Box]:
+        """What each label takes at most: the name, and the widest rule."""
+        form, found = view.form, {}
+        for node, label in view.labels.items():
+            x, y = view.layout.points[node]
+            width = max(form.widest_pill, wide(label.text, form.size))
+            left = {"start": 0.0, "middle": -width / 2, "end": -width}[label.anchor] + x + label.x
+            lines = sorted((label.name_y - form.size, label.name_y + 0.25 * form.size, label.pill_y - 0.7 * form.pill, label.pill_y + 0.7 * form.pill))
+            found[node] = Box(left, y + lines[0], left + width, y + lines[-1])
+        return found
+
+    def test_small_networks_have_names_upon_nothing(self) -> None:
+        words = [(word, size) for word in ("path", "cycle", "star", "tree") for size in (3, 7, 12, 15)]
+        for word, size in [*words, ("grid:4x3", 12), ("grid:5x3", 15), ("grid:3x5", 15), ("grid:2x7", 14)]:
+            with self.subTest(word, size=size):
+                view, links = viewed(word, size)
+                boxes, radius = self.boxes(view), view.layout.radius
+                self.assertEqual(set(boxes), set(view.layout.points))
+                for a, b in combinations(boxes.values(), 2):
+                    self.assertFalse(min(a.right, b.right) > max(a.left, b.left) and min(a.bottom, b.bottom) > max(a.top, b.top))
+                for box in boxes.values():
+                    self.assertTrue(box.left >= 0 and box.top >= 0 and box.right <= WIDE.width and box.bottom <= WIDE.height)
+                    self.assertEqual([node for node, point in view.layout.points.items() if near(box, point) < radius], [])
+                    self.assertEqual([link for link in links if box.on_line(*(view.layout.points[node] for node in link)) > 0], [])
+
+    def test_a_box_on_a_line(self) -> None:
+        box = Box(10, 10, 20, 20)
+        for a, b, length in (((0, 15), (30, 15), 14), ((15, 0), (15, 9), 1), ((0, 0), (5, 30), 0), ((0, 30), (30, 0), 14 * math.sqrt(2))):
+            self.assertAlmostEqual(box.on_line(a, b), length)
+
+    def test_names_are_cut_and_letters_are_no_names(self) -> None:
+        view, _ = viewed("grid:4x3", 12)
+        self.assertIn("jean-baptiste-lam…", [label.text for label in viewed("cycle")[0].labels.values()])
+        self.assertTrue(all(len(label.text) <= view.form.letters for label in view.labels.values()))
+        for word, field in (("grid:8x8", WIDE), ("cycle", TALL)):
+            nodes, links = network(word)
+            self.assertEqual(view_of({node: ["ana"] for node in nodes}, links, field).labels, {})
+
+    def test_texts_are_large_enough_for_a_laptop_and_a_phone(self) -> None:
+        """A screen of 1280 pixels shows a field for screens nearly as large as it is, a phone's one too."""
+        for word in (*FAMILIES, "grid:8x8"):
+            for field in (WIDE, TALL):
+                nodes, links = network(word)
+                view = view_of({node: [NAMES[node % len(NAMES)]] for node in nodes}, links, field)
+                self.assertGreaterEqual(min(view.form.size, view.form.pill), 12.7)
+                if view.layout.radius > 13:
+                    self.assertGreaterEqual(view.identifier_size, 12.7, word)
+                self.assertGreater(view.form.widest_pill, max(wide(view.form.word(rule), view.form.pill) for rule in RULES))
+
+
+def near(box: Box, point: tuple[float, float]) -> float:
+    """How far a point is from a box."""
+    return math.dist(point, (min(max(point[0], box.left), box.right), min(max(point[1], box.top), box.bottom)))
 
 
 if __name__ == "__main__":

@@ -65,7 +65,7 @@ class Live(InRoom):
             self.fill_seconds(seconds)
         self.find(button)
         wanted = f"{button}:{seconds}" if seconds else button
-        until(self.driver, lambda driver: driver.find_element("id", "closing").text == wanted)
+        until(self.driver, lambda driver: driver.find_element("id", "closes").get_attribute("data-closing") == wanted)
 
     def sees(self, event: str) -> Shown:
         """Waits until the page's newest event is this one, after its place."""
@@ -161,6 +161,38 @@ class Live(InRoom):
         self.assertEqual(shown(self.driver), before)
         self.find("freeze")
         self.assertEqual(shown(self.driver)[1][0]["p"], "7")
+        self.end()
+
+    def test_the_end_is_asked_about(self) -> None:
+        """One click ends nothing; the question is answered by a key or a click, and the run ends where it isn't stable too."""
+        self.begin()
+        menu = self.driver.find_element("css selector", ".acts summary")
+        for answer in ("go-on", "do-end"):
+            if self.driver.find_element("css selector", ".acts details").get_attribute("open") is None:
+                menu.click()
+            self.find("end")
+            until(self.driver, lambda driver: driver.find_element("id", "ask").is_displayed())
+            self.find(answer)
+            until(self.driver, lambda driver: not driver.find_element("id", "ask").is_displayed())
+            if answer == "go-on":
+                self.going.type("fault 1 2 true")
+                self.sees("fault 1 2 true")
+        self.assertEqual(self.going.ends(), 0, self.going.lines)
+
+    def test_the_chart_has_a_bar_for_each_step(self) -> None:
+        """Also for a page that is opened later: how many could move, as the report said, and how many were chosen."""
+        self.begin()
+        gus = self.student("gus")
+        gus.move(gus.look(4))
+        self.sees("grant gus 4 update")
+        self.going.type("close\nfault 1 2 true")
+        self.sees("fault 1 2 true")
+        bars = self.driver.execute_script("return live.bars.map(({number, moved, kind}) => [number, moved, kind])")
+        self.assertEqual(bars, [[0, 1, ""], [1, 0, "close"], [2, 0, "fault"]])
+        last = self.driver.execute_script("return [live.bars[2].can, live.state.privileged, live.bars[0].can]")
+        self.assertEqual((last[0], last[2]), (last[1], 3))
+        self.open()
+        self.assertEqual(self.driver.execute_script("return live.bars.map(({number, moved, kind}) => [number, moved, kind])"), bars)
         self.end()
 
     def test_no_is_told(self) -> None:
@@ -305,7 +337,7 @@ class Live(InRoom):
         self.begin()
         self.address = self.looks
         self.open()
-        for name in ("close", "every", "when-idle", "by-hand", "tools", "set"):
+        for name in ("close", "every", "when-idle", "by-hand", "tools", "set", "end"):
             self.assertFalse(self.driver.find_element("id", name).is_displayed(), name)
         for name in ("freeze", "whole"):
             self.assertTrue(self.driver.find_element("id", name).is_displayed(), name)

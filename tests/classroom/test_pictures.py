@@ -11,10 +11,7 @@ import zlib
 from collections import Counter
 from pathlib import Path
 
-from classroom.core.lab import read
 from classroom.pages import colours
-from classroom.pages.drawing import Drawing
-from classroom.pages.layout import Layout
 from tests.classroom.help import EXAMPLES, LIMIT, InRoom, words
 from tests.classroom.runs import edited_run, journal_of, many_owners
 from tests.classroom.test_experiment import TINY
@@ -79,54 +76,51 @@ def alike(found: Counter[str], colour: str) -> int:
 class Pictures(InRoom):
     """What `--svg` and `--plot` write."""
 
-    def has(self, picture: Path, *wanted: str) -> None:
-        """Wants these colours in a picture, whose ground is as bright as in a page."""
+    def has(self, picture: Path, *names: str, theme: str = colours.LIGHT) -> None:
+        """Wants these colours in a picture, whose ground is that of a page in this theme."""
         self.assertNotIn("var(", picture.read_text(encoding="utf-8"))
         found = rendered(picture)
-        self.assertEqual(found.most_common(1)[0][0], colours.value("--ground"), picture)
+        self.assertEqual(found.most_common(1)[0][0], colours.value("--ground", theme), picture)
+        wanted = [colours.value(name, theme) for name in names]
         self.assertEqual([colour for colour in wanted if alike(found, colour) < 3], [], picture)
         self.assertLess(found["#000000"], found.total() / 100, picture)
 
-    def drawn(self, lab: Path, journal: Path, places: str) -> Path:
+    def drawn(self, lab: Path, journal: Path, places: str, *more: str) -> Path:
         """A picture of these places."""
         output = self.room / f"{lab.stem}-{places.replace(',', '-')}.svg"
-        done = words("play", lab, journal, "--svg", places, "-o", output)
+        done = words("play", lab, journal, "--svg", places, "-o", output, *more)
         self.assertEqual(done.returncode, 0, done.stderr)
         return output
-
-    def owners(self, lab: Path) -> list[str]:
-        """The colours of all owners of a lab."""
-        it = read(lab)
-        drawing = Drawing(it, Layout({}, 1.0))
-        return [colours.owned(drawing.hue(name)) for name in it.students if it.nodes_of(name)]
 
     def test_a_configuration(self) -> None:
         lab = EXAMPLES / "cycle.toml"
         journal = journal_of(lab, EXAMPLES / "cycle-run.script", self.room / "journal")
-        self.has(self.drawn(lab, journal, "9"), *self.owners(lab),
-                 *map(colours.value, ("--line", "--rim", "--pair", "--arrow", "--rule", "--chosen", "--text")))
+        for theme, more in ((colours.LIGHT, []), (colours.DARK, ["--dark"])):
+            self.has(self.drawn(lab, journal, "9", *more), "--hair", "--quiet", "--wed", "--wedtint", "--point", "--can", "--oncan", "--ink", theme=theme)
 
     def test_several_configurations(self) -> None:
         lab, journal = edited_run(self.room)
-        self.has(self.drawn(lab, journal, "0,7,9,10"), *self.owners(lab), *map(colours.value, ("--open", "--rule", "--text")))
+        self.has(self.drawn(lab, journal, "0,7,9,10"), "--hit", "--can", "--point", "--ink")
 
     def test_many_small_nodes(self) -> None:
         lab = many_owners(self.room, 60)
         journal = self.file("none.journal", "")
-        self.has(self.drawn(lab, journal, "0"), *self.owners(lab), colours.value("--rule"))
+        self.has(self.drawn(lab, journal, "0"), "--can", "--hair", "--quiet")
 
     def test_a_chart(self) -> None:
         plot = self.room / "runs.svg"
         done = words("experiment", *TINY, "--csv", self.room / "runs.csv", "--plot", plot)
         self.assertEqual(done.returncode, 0, done.stdout + done.stderr)
-        self.has(plot, *map(colours.value, ("--open", "--pair", "--rule", "--line")))
+        self.has(plot, "--can", "--wed", "--point", "--hit", "--quiet")
 
     def test_colours_are_those_of_a_page(self) -> None:
         """What a style sets and a picture has is the same, whichever rule is looked at."""
-        page, picture = colours.STYLE.read_text(encoding="utf-8"), colours.style()
-        used = {name for name in re.findall(r"var\((--[a-z]+)\)", page)} - {"--hue", "--strength", "--tint"}
-        self.assertEqual({name for name in used if colours.value(name) not in picture}, set())
-        self.assertEqual((colours.owned(0), colours.owned(120)), ("#f3c4c4", "#c4f3c4"))
+        page = colours.STYLE.read_text(encoding="utf-8")
+        used = set(re.findall(r"var\((--[a-z]+)\)", page))
+        for theme in colours.THEMES:
+            picture = colours.style(theme=theme)
+            self.assertEqual({name for name in used if colours.value(name, theme) not in picture}, set())
+        self.assertEqual((colours.value("--can"), colours.value("--can", colours.DARK)), ("#b93a06", "#ff9a5c"))
 
 
 if __name__ == "__main__":

@@ -7,7 +7,6 @@ import xml.etree.ElementTree as ElementTree
 from datetime import datetime
 from pathlib import Path
 from typing import Any
-from unittest.mock import patch
 
 from selenium.webdriver.common.keys import Keys
 
@@ -55,8 +54,11 @@ class Play(Played):
         self.press(Keys.HOME)
         self.press(Keys.ARROW_RIGHT)
         until(self.driver, lambda driver: driver.execute_script("return location.hash") == "#p=1")
-        self.driver.find_element("css selector", "#events li:not([hidden]) + li + li + li a").click()
+        self.driver.find_element("css selector", "#events li:nth-child(4) a").click()
         self.assertEqual(shown(self.driver)[0]["place"], "3")
+        self.driver.execute_script("location.hash = '#step=3'")
+        until(self.driver, lambda driver: shown(driver)[0]["number"] == "3")
+        self.assertEqual(self.driver.find_element("id", "moment").get_attribute("href").rpartition("#")[2], "step=3")
 
     def test_it_plays_to_the_end_by_itself(self) -> None:
         lab, journal = edited_run(self.room)
@@ -65,14 +67,14 @@ class Play(Played):
         self.press(" ")
         last = str(len(journal.read_text().splitlines()))
         until(self.driver, lambda driver: shown(driver)[0]["place"] == last)
-        until(self.driver, lambda driver: driver.find_element("id", "play").text == "Play")
+        until(self.driver, lambda driver: driver.find_element("id", "play").text == "▶ Play")
 
     def test_names_of_files_end_nothing(self) -> None:
         odd = "<img src=x onerror=window.broken=1>'\"&\n{{DATA}}<b>"
         lab, journal = (file.rename(file.with_stem(odd)) for file in edited_run(self.room))
         self.open(self.page(lab, journal))
         self.assertIsNone(self.driver.execute_script("return window.broken || null"))
-        self.assertEqual(self.driver.find_elements("css selector", "h1 *, title *"), [])
+        self.assertEqual(self.driver.find_elements("css selector", "h1 :not(small, #connection), title *"), [])
         day = f"{datetime.fromtimestamp(journal.stat().st_mtime):%Y-%m-%d}"
         self.assertEqual(self.driver.title, " ".join(f"{lab.stem}, {day}".split()))
 
@@ -111,13 +113,12 @@ class Play(Played):
             self.assertEqual((done.returncode, (self.room / "none.svg").exists()), (status, False), word)
 
     def test_the_pictures_of_the_documents(self) -> None:
-        for name in ("cycle", "crowd"):
-            kept, output = TOP / "docs" / f"{name}.svg", self.room / f"{name}.svg"
+        for name, theme in (("cycle", "light"), ("cycle", "dark"), ("crowd", "light")):
+            kept, output = TOP / "docs" / f"{name}{'-dark' * (theme == 'dark')}.svg", self.room / f"{name}.svg"
             lab = EXAMPLES / f"{name}.toml"
             journal = journal_of(lab, EXAMPLES / f"{name}-run.script", self.room / "journal")
             places = [int(place) for place in re.findall(r'data-place="(\d+)"', kept.read_text())]
-            with patch("shutil.which", return_value=None):
-                output.write_text(picture(lab, journal, places))
+            output.write_text(picture(lab, journal, places, theme))
             self.assertEqual(output.read_text(), kept.read_text())
 
     def test_words_that_are_wrong(self) -> None:
@@ -134,7 +135,7 @@ def attributes(picture: Path) -> tuple[dict[str, str], list[dict[str, str]]]:
 
 def attributes_of(root: ElementTree.Element) -> tuple[dict[str, str], list[dict[str, str]]]:
     """What stands in a drawing as data."""
-    groups: list[Any] = [group for group in root.iter() if group.get("class") == "node"]
+    groups: list[Any] = [group for group in root.iter() if (group.get("class") or "").split(" ")[0] == "node"]
     nodes = [{name[5:]: value for name, value in group.items() if name.startswith("data-")} for group in groups]
     data = {name[5:]: value for name, value in root.items() if name.startswith("data-")}
     return data, sorted(nodes, key=lambda node: int(node["node"]))

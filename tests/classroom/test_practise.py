@@ -1,16 +1,20 @@
 """`./class practise`: a student alone, whose denials are explained."""
 from __future__ import annotations
 
+import contextlib
+import http.client
+import json
 import re
 import subprocess
 import sys
 import time
 import unittest
 from pathlib import Path
+from urllib.parse import urlsplit
 
 from classroom.client import Client, Closed, Denied, Slip
 from classroom.core.program import TOP, call
-from tests.classroom.help import EXAMPLES, LIMIT, InRoom, words
+from tests.classroom.help import EXAMPLES, LIMIT, InRoom, Rows, words
 
 FAULTY = TOP / "tests/classroom/bots/faulty.py"
 
@@ -58,6 +62,38 @@ class Practise(InRoom):
         done = self.practises(EXAMPLES / "bot.py")
         self.assertEqual(done.returncode, 0, done.stdout + done.stderr)
         self.assertRegex(done.stdout, r"\nyou: \d+ moves \(update, marriage, seduction, abandonment\), \d+ denials?( \(.*\))?\n$")
+
+    def test_a_page_to_play_by(self) -> None:
+        """What the page's server is told and asks is what a program would; the class ends where the page played it to its end."""
+        self.assertIn("--page is for who plays by hand", self.practises(EXAMPLES / "bot.py", "--page").stderr)
+        going = subprocess.Popen(
+            [sys.executable, TOP / "class", "practise", "--page", "--family", "path", "--nodes", "2", "--node", "1,2", "--start", "clean",
+             "--into", self.room / "runs"], stdout=subprocess.PIPE, text=True)
+        self.addCleanup(going.wait)
+        self.addCleanup(going.kill)
+        assert going.stdout is not None
+        self.addCleanup(going.stdout.close)
+        address = next(line for line in going.stdout if line.startswith("page to play ")).split()[-1]
+        name, key = re.findall("=([^&]+)", address)
+        rows = Rows(address.partition("#")[0], name, key)
+        self.addCleanup(rows.connection.close)
+        token, rules = rows.next()["token"], []
+        while "ended" not in (row := rows.next()):
+            for look in row.get("nodes", []):
+                if look["rule"] and not look["chosen"]:
+                    rules.append(self.move(address, {"token": token, "node": look["node"], "at": row["at"], "rule": look["rule"]}
+                                           | ({"with": look["pointing"][0]} if look["rule"] == "marriage" else {})))
+        self.assertIn("move", rules)
+        self.assertEqual(going.wait(LIMIT), 0)
+
+    def move(self, address: str, asked: dict[str, object]) -> str:
+        """Asks the page's server for a move; gives what is replied."""
+        parts = urlsplit(address)
+        connection = http.client.HTTPConnection("127.0.0.1", parts.port or 0, timeout=LIMIT)
+        with contextlib.closing(connection):
+            connection.request("POST", "/move", json.dumps(asked), {"Host": parts.netloc})
+            told = json.loads(connection.getresponse().read())
+        return str(told.get("ok") or told.get("deny"))
 
     def test_what_a_program_did_is_told_last(self) -> None:
         done = self.practises(f"python3 {FAULTY} floods", "--family", "path", "--nodes", "2", "--node", "1", "--start", "clean")

@@ -5,30 +5,39 @@ import base64
 import re
 import unittest
 import zlib
-from itertools import combinations
 
-from classroom.core.lab import Lab, read
+from classroom.core.lab import read
 from tests.classroom.browser import Played, pale, show_as
 from tests.classroom.runs import edited_run, examples, many_owners
 
-# What is seen below each node, the box of it, and the rows of the list of students.
+# The name that is seen beside each node, if any.
 OWNERS = """
-const isSeen = (it) => it.getClientRects().length > 0 && getComputedStyle(it).visibility === 'visible';
-const box = (it) => { const {left, top, right, bottom} = it.getBoundingClientRect(); return [left, top, right, bottom]; };
-return [
-  [...document.querySelectorAll('.node')].map((node) => [Number(node.dataset.node),
-    [...node.querySelectorAll('.owner')].filter(isSeen).map((it) => [it.textContent, box(it)])]),
-  [...document.querySelectorAll('.legend li, text.listed')].filter(isSeen).map((it) => it.textContent.trim()),
-];
+const isSeen = (it) => it !== null && it.getClientRects().length > 0;
+return [...document.querySelectorAll('.node')].map((node) => {
+  const name = node.querySelector('.owner');
+  return [Number(node.dataset.node), isSeen(name) ? name.textContent : ''];
+});
+"""
+# Each state of a node, with what is drawn of it, without colours: how thick the ring and the rim are, whether they are there
+# and full, and what stands in the frame of its rule.
+STATES = """
+const group = document.querySelector('#drawing .node'), part = (name) => group.querySelector(name);
+const drawn = (it) => { const style = getComputedStyle(it); return [style.fill === 'none', style.stroke === 'none', style.display]; };
+const found = [];
+for (const [rule, chosen, married] of [['', '', 'false'], ['update', '', 'false'], ['update', 'update', 'false'], ['', '', 'true']]) {
+  Object.assign(group.dataset, {rule, chosen, married});
+  found.push([...drawn(part('.ring')), drawn(part('.pill'))[2]].join());
+}
+return found;
 """
 # How each kind of line is drawn, without its colour.
 LINES = """
+document.body.classList.add('witnessed');
 return ['.links path', '.open path', 'path.pairs', 'path.pointer', 'path.removed'].map((kind) => {
   const style = getComputedStyle(document.querySelector(kind));
   return [style.strokeWidth, style.strokeDasharray];
 });
 """
-Box = tuple[float, float, float, float]
 
 
 class Readable(Played):
@@ -52,47 +61,35 @@ class Readable(Played):
                 grounds.append(self.driver.execute_script("return getComputedStyle(document.body).backgroundColor"))
             self.assertEqual(len(set(grounds)), 2)
 
-    def test_each_student_s_colour_is_readable(self) -> None:
-        self.open(self.page(*edited_run(self.room)))
-        for theme in ("light", "dark"):
-            show_as(self.driver, theme)
-            for hue in range(0, 360, 15):
-                self.driver.execute_script(
-                    "for (const form of document.querySelectorAll('.owned')) form.style.setProperty('--hue', arguments[0])", hue
-                )
-                self.assertEqual(pale(self.driver)[1], [], (theme, hue))
-
-    def test_owners_are_told_without_colour(self) -> None:
-        for nodes in (8, 60, 256):
+    def test_owners_are_told_as_text(self) -> None:
+        """By a name beside the node, which may be cut; and whole in the node's own story, however many nodes there are."""
+        for nodes in (8, 60):
             lab_file = many_owners(self.room, nodes)
-            journal, picture = self.room / "none.journal", self.room / "0.svg"
+            journal = self.room / "none.journal"
             journal.write_text("")
-            self.assertEqual(self.call("play", lab_file, journal, "--svg", "0", "-o", picture).returncode, 0)
-            for page in (self.page(lab_file, journal), picture):
-                self.driver.get(page.as_uri())
-                with self.subTest(nodes=nodes, page=page.name):
-                    self.tells_owners(read(lab_file))
+            self.open(self.page(lab_file, journal))
+            lab = read(lab_file)
+            with self.subTest(nodes=nodes):
+                drawn = dict(self.driver.execute_script(OWNERS))
+                self.assertEqual(len([name for name in drawn.values() if name]), nodes if nodes < 30 else 0)
+                for node in lab.nodes:
+                    whole = ", ".join(node.owners)
+                    if name := drawn[node.id]:
+                        self.assertTrue(whole.startswith(name.removesuffix("…")), (name, whole))
+                for index in (0, 2, nodes - 1):
+                    node = lab.nodes[index]
+                    self.driver.execute_script("player.pick(arguments[0])", index)
+                    self.assertEqual(self.driver.find_element("id", "story-name").text, f"Node {node.id} · {', '.join(node.owners)}")
 
-    def tells_owners(self, lab: Lab) -> None:
-        """Whether each node's owners are seen as text: their names, or signs that stand beside names in a list."""
-        drawn, listed = self.driver.execute_script(OWNERS)
-        rows = [re.match(r"(?:([a-z][0-9]*):? )?([a-z][a-z0-9-]*)(?::|$)", row) for row in listed]
-        names = {row[1]: row[2] for row in rows if row and row[1]} | {name: name for name in lab.students}
-        boxes: list[Box] = []
-        told = {}
-        for node, texts in drawn:
-            told[node] = [names.get(word) for text, _ in texts for word in re.split("[ ,]+", text)]
-            boxes += [(box[0], box[1], box[2], box[3]) for _, box in texts]
-        self.assertEqual(told, {node.id: node.owners for node in lab.nodes})
-        self.assertEqual([(a, b) for a, b in combinations(boxes, 2) if overlap(a, b)], [])
-
-    def test_lines_are_told_without_colour(self) -> None:
-        for nodes in (8, 256):
+    def test_lines_and_states_are_told_without_colour(self) -> None:
+        for nodes in (8, 60):
             journal = self.room / "none.journal"
             journal.write_text("")
             self.open(self.page(many_owners(self.room, nodes), journal))
             forms = [tuple(form) for form in self.driver.execute_script(LINES)]
             self.assertEqual(len(set(forms)), len(forms), (nodes, forms))
+            states = self.driver.execute_script(STATES)
+            self.assertEqual((len(set(states[:3])), states[3] == states[0]), (3, True), states)
 
     def test_it_prints_alike_in_both_themes(self) -> None:
         lab, journal = edited_run(self.room)
@@ -122,11 +119,6 @@ class Readable(Played):
                 found.append(content)
         self.assertGreater(len(found), 0)
         return found
-
-
-def overlap(a: Box, b: Box) -> bool:
-    """Whether two texts run into each other by more than a hair."""
-    return min(a[2], b[2]) - max(a[0], b[0]) > 1 and min(a[3], b[3]) - max(a[1], b[1]) > 1
 
 
 if __name__ == "__main__":

@@ -82,6 +82,7 @@ class ByThePage(Cycle):
         looks = going.until("^page http").removeprefix("page ")
         driver.get(going.until("^page to act http").removeprefix("page to act "))
         until(driver, is_ready)
+        driver.find_element("css selector", ".acts summary").click()
         count = driver.find_element("id", "count")
         count.clear()
         count.send_keys("2")

@@ -10,11 +10,27 @@ from selenium.webdriver.common.keys import Keys
 
 from classroom.client import Client, Denied
 from classroom.core.lab import read
-from tests.classroom.browser import Played, browser, is_ready, press, until
+from tests.classroom.browser import Played, browser, is_ready, pale, press, show_as, until
 from tests.classroom.help import CYCLE, Going, InRoom, a_port, words
+from tests.classroom.runs import edited_run
 
-PHONE, LAPTOP, PROJECTOR = (390, 844), (1280, 720), (1920, 1080)
-TEXTS = ("place", "number", "privileged", "pairs", "open", "moves", "since", "stable", "closing", "event")
+PHONE, LAPTOP, WIDER, PROJECTOR = WINDOWS = (390, 844), (1280, 720), (1366, 768), (1920, 1080)
+SMALLEST, SMALLEST_ON_PHONE = 12, 11  # pixels of a text
+TEXTS = ("told", "pairs", "number", "since", "bound", "event")
+# The pixels of the letters of each text that is seen, and what it says.
+LETTERS = """
+const isSeen = (it) => it.getClientRects().length > 0 && getComputedStyle(it).visibility === 'visible' && !it.closest('.unseen, title, script, style');
+const own = (it) => [...it.childNodes].some((node) => node.nodeType === 3 && node.data.trim());
+return [...document.querySelectorAll('body *')].filter((it) => own(it) && isSeen(it)).map((it) => {
+  const svg = it.closest('svg'), scale = svg ? svg.getScreenCTM().a : 1;
+  return [parseFloat(getComputedStyle(it).fontSize) * scale, it.textContent.trim().slice(0, 30)];
+});
+"""
+# Where the events of the step that is shown are, and the list that they are in.
+CURRENT = """
+const list = document.getElementById('events').getBoundingClientRect(), row = document.querySelector('#events [aria-current]').getBoundingClientRect();
+return [row.top, row.bottom, list.top, list.bottom, innerHeight];
+"""
 NAMES = ("Zoë Müller", "Jonas Ek", "Ana Lima", "Gus Roy", "Ida Berg", "Tim Ode", "Eva Sol", "Bo Dahl", "Kim Vo", "Pia Rot", "Leo Wolf",
          "Uma Das", "Kai Ness", "Nora Lind")
 NODES = """
@@ -22,32 +38,24 @@ return [...document.querySelectorAll('#drawing .node')].map((it) => [Number(it.d
 """
 WITNESSES = "return [...document.querySelectorAll('.witnesses text')].map((it) => it.textContent).sort()"
 DRAWN_OPEN = "return [...document.querySelectorAll('g.open path')].map((it) => (it.getAttribute('d').match(/M/g) || []).length)"
-# The most that a picture can have to tell: at each node the longest rule, enabled and chosen, and a witness on each link.
+# The most that a picture can have to tell: at each node the longest rule, chosen.
 FULLEST = """
-const { drawing, run } = player;
-const longest = drawing.data.rules.reduce((a, b) => (b.length > a.length ? b : a));
-for (const { rule, chosen } of drawing.nodes) {
-  rule.textContent = drawing.word(longest);
-  chosen.textContent = '◆ ' + drawing.word(longest);
-}
+const { drawing, run } = player, longest = drawing.data.rules.reduce((best, rule, at, all) => (rule.length > all[best].length ? at : best), 0);
 const state = run.state.copy();
-drawing.data.links.forEach(([a, b], link) => { state.witness[link] = b; state.reason[link] = drawing.data.rules.indexOf(longest); });
-state.open = drawing.data.links.length;
-drawing.nameWitnesses(state);
-for (const square of document.querySelectorAll('.m')) square.style.visibility = 'visible';
-return drawing.data.links.length;
+state.rule.fill(longest);
+state.chosen.fill(longest);
+drawing.show(state, run.frames[player.at]);
 """
 # The boxes of what stands in a picture: of which node it is, or none, what it is, and where.
 BOXES = """
 const box = (it) => { const {left, top, right, bottom} = it.getBoundingClientRect(); return [left, top, right, bottom]; };
 const found = [];
 for (const node of document.querySelectorAll('#drawing .node')) {
-  found.push([Number(node.dataset.node), 'node', box(node.querySelector('.rim'))]);
-  for (const text of node.querySelectorAll('.owner, .rule, .chosen')) {
-    if (text.textContent) found.push([Number(node.dataset.node), text.textContent, box(text)]);
+  found.push([Number(node.dataset.node), 'node', box(node.querySelector('.disc'))]);
+  for (const part of node.querySelectorAll('.owner, .pill')) {
+    if (part.textContent && part.getClientRects().length) found.push([Number(node.dataset.node), part.textContent, box(part)]);
   }
 }
-for (const text of document.querySelectorAll('.witnesses text')) found.push([0, text.textContent, box(text)]);
 return found;
 """
 SIZES = """
@@ -55,7 +63,7 @@ const box = (it) => { const {left, top, right, bottom} = it.getBoundingClientRec
 const root = document.documentElement, legend = document.querySelector('.legend'), drawing = document.getElementById('drawing');
 return {
   wide: root.scrollWidth, high: root.scrollHeight, legend: box(legend), hidden: legend.scrollHeight - legend.clientHeight,
-  controls: box(document.querySelector('.controls')), picture: box(drawing), scale: drawing.getScreenCTM().a,
+  controls: box(document.querySelector('.bar')), picture: box(drawing), chart: box(document.querySelector('.chart')), scale: drawing.getScreenCTM().a,
 };
 """
 
@@ -67,6 +75,11 @@ def resize(driver: Any, size: tuple[int, int] | None) -> None:
     else:
         metrics = {"width": size[0], "height": size[1], "deviceScaleFactor": 1, "mobile": False}
         driver.execute_cdp_cmd("Emulation.setDeviceMetricsOverride", metrics)
+
+
+def counted(count: int, word: str) -> str:
+    """A count with its word."""
+    return f"{count} {word}{'' if count == 1 else 's'}"
 
 
 def meet(a: list[float], b: list[float]) -> bool:
@@ -113,10 +126,10 @@ class Told(InRoom):
         nodes = len(self.lab.nodes)
         bound = 3 * nodes + 2 * min(links, nodes * nodes // 4)
         return {
-            "place": str(len(lines)), "number": str(report.at), "privileged": str(len(report.privileged)), "pairs": str(len(report.pairs)),
-            "open": str(len(report.open)), "moves": str(moves), "since": f"{since} of at most {bound}",
-            "stable": "stable" if report.stable else "not stable", "closing": "by-hand",
+            "told": "At rest" if report.stable else counted(len(report.privileged), "node") + " can move", "pairs": counted(len(report.pairs), "pair"),
+            "number": str(report.at), "since": str(since), "bound": str(bound),
             "event": f"{lines[-1][0]}: {' '.join(lines[-1][2:])}" if lines else "the beginning",
+            "counts": f"event {len(lines)}: {counted(moves, 'move')} in all, {counted(len(report.open), 'open link')}",
         }
 
     def said(self) -> dict[int, str]:
@@ -137,10 +150,16 @@ class Told(InRoom):
         """Compares all that the page tells with all that it has to."""
         wanted = self.wanted()
         until(self.driver, lambda driver: driver.find_element("id", "event").text == wanted["event"])
-        self.assertEqual({name: self.driver.find_element("id", name).text for name in TEXTS}, wanted)
+        seen = {name: self.driver.find_element("id", name).text for name in TEXTS}
+        self.assertEqual(seen | {"counts": self.driver.find_element("id", "counts").get_attribute("title")}, wanted)
+        self.assertEqual(self.driver.find_element("id", "closes").text, "steps are closed by hand")
         self.assertEqual(dict(self.driver.execute_script(NODES)), self.said())
         report = self.teacher.report()
-        self.assertEqual(self.driver.execute_script(WITNESSES), sorted(f"{witness}: {rule}" for _, _, witness, rule in report.open))
+        short = self.driver.execute_script("return !live.drawing.view.words")
+        self.assertEqual(self.driver.execute_script(WITNESSES),
+                         sorted(f"{witness}: {rule[:1].upper() if short else rule}" for _, _, witness, rule in report.open))
+        waited = [str(node) for node, _ in report.privileged if self.teacher.look(node).chosen is None]
+        self.assertEqual([row.text.split()[0] for row in self.driver.find_elements("css selector", "#waits li")], waited)
         self.assertEqual(sum(self.driver.execute_script(DRAWN_OPEN)), len(report.open))
 
     def ask_all(self) -> None:
@@ -165,7 +184,7 @@ class Told(InRoom):
             self.compare()
             if self.teacher.report().stable:
                 break
-        self.assertEqual(self.driver.find_element("id", "stable").text, "stable")
+        self.assertEqual(self.driver.find_element("id", "told").text, "At rest")
         for line in ("fault 1 2 true", "link 1 3", "cut 4 5", "fault 6 null false"):
             self.going.type(line)
             self.going.until("^configuration ")
@@ -204,16 +223,44 @@ class Sizes(Played):
     def test_nothing_stands_upon_another(self) -> None:
         journal = self.room / "none.journal"
         journal.write_text("")
-        families = [("--family", "random:14:22")] * 4 + [("--family", "cycle"), ("--family", "grid:7x2"), ("--family", "tree")]
+        families = [("--family", "random:14:22"), ("--family", "cycle"), ("--family", "grid:7x2"), ("--family", "tree"), ("--family", "star")]
         for seed, family in enumerate(families, 1):
             self.open(self.page(self.lab(seed, *family), journal))
-            with self.subTest(seed=seed, family=family):
-                links = self.driver.execute_script(FULLEST)
-                found = self.driver.execute_script(BOXES)
-                self.assertEqual(sum(node == 0 for node, _, _ in found), links)
-                self.assertGreaterEqual(len(found), 14 * 4 + links)
-                upon = [(a[:2], b[:2]) for a, b in combinations(found, 2) if meet(a[2], b[2])]
-                self.assertEqual(upon, [])
+            for size in (LAPTOP, PHONE):
+                with self.subTest(seed=seed, family=family, size=size):
+                    resize(self.driver, size)
+                    until(self.driver, lambda driver: driver.execute_script("return player.drawing.view === player.data.views[innerWidth < 500 ? 1 : 0]"))
+                    self.driver.execute_script(FULLEST)
+                    found = self.driver.execute_script(BOXES)
+                    self.assertEqual(len(found), 14 * (3 if size == LAPTOP else 2))
+                    upon = [(a[:2], b[:2]) for a, b in combinations(found, 2) if a[0] != b[0] and meet(a[2], b[2])]
+                    self.assertEqual(upon, [])
+
+    def test_every_text_can_be_read_and_the_step_is_on_the_screen(self) -> None:
+        """In four windows, light and dark: no small or faint text, nothing to scroll to the side."""
+        lab, journal = edited_run(self.room)
+        self.addCleanup(show_as, self.driver)
+        self.open(self.page(lab, journal))
+        last = len(journal.read_text().splitlines())
+        for size in WINDOWS:
+            resize(self.driver, size)
+            for theme in ("light", "dark"):
+                show_as(self.driver, theme)
+                for place in (0, last // 2, last):
+                    self.driver.execute_script("player.goTo(arguments[0])", place)
+                    with self.subTest(size=size, theme=theme, place=place):
+                        self.can_be_read(size)
+                        top, bottom, above, below, high = self.driver.execute_script(CURRENT)
+                        self.assertTrue(0 <= above <= top < bottom <= below <= high)
+
+    def can_be_read(self, size: tuple[int, int]) -> None:
+        """Whether no text is too small or too faint, and the page is no wider than its window."""
+        least = SMALLEST_ON_PHONE if size == PHONE else SMALLEST
+        texts = self.driver.execute_script(LETTERS)
+        self.assertGreater(len(texts), 25)
+        self.assertEqual([text for text in texts if text[0] < least - 0.01], [])
+        self.assertEqual(pale(self.driver)[1], [])
+        self.assertLessEqual(self.driver.execute_script("return document.documentElement.scrollWidth"), size[0])
 
     def test_on_phone_laptop_and_projector(self) -> None:
         lab = self.lab(1, "--family", "random:14:22")
@@ -240,19 +287,19 @@ class Sizes(Played):
         """Whether the page that is open fits in each window."""
         resize(self.driver, PHONE)
         found = self.driver.execute_script(SIZES)
-        self.assertLessEqual(found["wide"], PHONE[0])
-        self.assertGreater(found["scale"], 0.3)
-        for size in (LAPTOP, PROJECTOR):
+        self.assertLessEqual((found["wide"], found["high"]), PHONE)
+        self.assertGreater(found["scale"], 0.8)
+        self.can_be_read(PHONE)
+        for size in (LAPTOP, WIDER, PROJECTOR):
             resize(self.driver, size)
             found = self.driver.execute_script(SIZES)
             self.assertLessEqual((found["wide"], found["high"]), size)
-            for name in ("legend", "picture", "controls"):
+            self.can_be_read(size)
+            for name in ("legend", "picture", "controls", "chart"):
                 left, top, right, bottom = found[name]
                 self.assertTrue(0 <= left < right <= size[0] and 0 <= top < bottom <= size[1], (size, name, found))
             self.assertLessEqual(found["hidden"], 1, (size, found))
-        # As large as its height lets it, below a title and above the controls; or its width beside what stands there.
-        high = PROJECTOR[1] - (found["controls"][3] - found["controls"][1]) - 90
-        self.assertGreaterEqual(found["scale"], min(high / 700, (PROJECTOR[0] - 440) / 1000))
+        self.assertGreaterEqual(found["scale"], 1.3)
         self.assertLess(found["controls"][3] - found["controls"][1], 130 if has_controls else 60)
 
     def whole_screen(self) -> None:
@@ -260,8 +307,8 @@ class Sizes(Played):
         before = self.driver.execute_script(SIZES)["scale"]
         press(self.driver, "f")
         until(self.driver, lambda driver: driver.execute_script("return document.fullscreenElement !== null"))
-        until(self.driver, lambda driver: driver.execute_script(SIZES)["picture"] == [0, 0, *driver.execute_script("return [innerWidth, innerHeight]")])
-        self.assertGreater(self.driver.execute_script(SIZES)["scale"], before)
+        self.assertTrue(self.driver.find_element("id", "told").is_displayed())
+        self.assertGreaterEqual(self.driver.execute_script(SIZES)["scale"], before)
         press(self.driver, "f")
         until(self.driver, lambda driver: driver.execute_script("return document.fullscreenElement === null"))
         press(self.driver, Keys.ESCAPE)

@@ -1,0 +1,180 @@
+"""The shape of a network, recognised from its links alone: a path, cycle, star, tree, grid, complete graph, or any other.
+
+A shape has a point for each node in units of its own; `layout` fits it into a field.
+"""
+from __future__ import annotations
+
+import math
+from bisect import bisect_left
+from collections import deque
+from collections.abc import Iterator
+from dataclasses import dataclass
+from functools import lru_cache
+from itertools import accumulate, pairwise
+
+from classroom.core.networks import Links, neighbours
+from classroom.pages.springs import Point, by_springs, stretched
+
+TURNS = 1200  # parts of an ellipse by which it is measured
+MOST_WIDE = 1.7  # how many times wider than high an ellipse is
+ROW_APART = 1.6  # between two rows of a path, where two of its nodes are 1 apart
+LAYER_APART = 0.6  # between two layers of a tree, at least
+HUB_ROOM = 0.24  # of an ellipse around a hub: what is free on its right, for the hub's label
+DENSE = 4  # links for each node above which a network that is no other shape stands on an ellipse
+Near = dict[int, list[int]]
+Points = dict[int, Point]
+
+
+@dataclass(frozen=True)
+class Shape:
+    """What kind of network it is, and a point for each node."""
+
+    kind: str
+    points: Points
+
+
+def shape_of(nodes: list[int], links: Links, aspect: float) -> Shape:
+    """Returns the shape of a network, for a field that is so many times wider than high."""
+    return kept_shape(tuple(sorted(nodes)), tuple(sorted(links)), round(aspect, 2))
+
+
+@lru_cache(maxsize=64)
+def kept_shape(nodes: tuple[int, ...], links: tuple[tuple[int, int], ...], aspect: float) -> Shape:
+    """Returns the shape of a network, which is computed once."""
+    near = {node: sorted(set(others)) for node, others in neighbours(nodes, links).items()}
+    found = plain_shape(near, aspect) or grid_shape(near)
+    if found is None and is_tree(near):
+        found = Shape("tree", layers(near, aspect))
+    if found is None and len(links) <= DENSE * len(nodes):
+        found = Shape("general", stretched(by_springs(nodes, links), aspect))
+    return found or Shape("ellipse", ellipse([*nodes], aspect))
+
+
+def plain_shape(near: Near, aspect: float) -> Shape | None:
+    """Returns the shape of a single node, a complete graph, path, cycle or star; None for any other network."""
+    nodes, degrees = [*near], [len(others) for others in near.values()]
+    count, links = len(nodes), sum(degrees) // 2
+    if count == 1:
+        return Shape("path", {nodes[0]: (0.0, 0.0)})
+    if count > 2 and links == count * (count - 1) // 2:
+        return Shape("complete", ellipse(nodes, aspect))
+    if not is_joined(near):
+        return None
+    if links == count - 1 and max(degrees) <= 2:
+        return Shape("path", snake(walk(near, next(node for node in nodes if len(near[node]) == 1)), aspect))
+    if links == count and max(degrees) == 2:
+        return Shape("cycle", ellipse(walk(near, nodes[0]), aspect))
+    if links == count - 1 == max(degrees):
+        hub = nodes[degrees.index(count - 1)]
+        return Shape("star", ellipse([node for node in nodes if node != hub], aspect, HUB_ROOM) | {hub: (0.0, 0.0)})
+    return None
+
+
+def steps_from(start: int, near: Near) -> dict[int, int]:
+    """Returns how many links lead from a node to each that can be reached."""
+    steps, queue = {start: 0}, deque([start])
+    while queue:
+        here = queue.popleft()
+        for other in near[here]:
+            if other not in steps:
+                steps[other] = steps[here] + 1
+                queue.append(other)
+    return steps
+
+
+def is_joined(near: Near) -> bool:
+    """Returns whether a path leads from each node to each other one."""
+    return len(steps_from(next(iter(near)), near)) == len(near)
+
+
+def is_tree(near: Near) -> bool:
+    """Returns whether the network has no cycle and is in one part."""
+    return sum(map(len, near.values())) == 2 * (len(near) - 1) and is_joined(near)
+
+
+def walk(near: Near, start: int) -> list[int]:
+    """Returns the nodes of a path or cycle in their order, from one of them towards its lowest neighbour."""
+    order, seen = [start], {start}
+    while True:
+        others = [node for node in near[order[-1]] if node not in seen]
+        if not others:
+            return order
+        order.append(others[0])
+        seen.add(others[0])
+
+
+def snake(order: list[int], aspect: float) -> Points:
+    """Returns a path as a line; a long one turns back at the end of each row."""
+    rows = max(1, round(math.sqrt(len(order) / aspect / 3)))
+    across = -(-len(order) // rows)
+    points = {}
+    for index, node in enumerate(order):
+        row, column = divmod(index, across)
+        points[node] = (float(across - 1 - column if row % 2 else column), row * ROW_APART)
+    return points
+
+
+def ellipse(order: list[int], aspect: float, room: float = 0.0) -> Points:
+    """Returns the nodes on an ellipse from its top, equally far apart along it; or, if a part of it is to be free, from
+    there on its right on."""
+    wide = min(MOST_WIDE, max(1.0, aspect))
+    angles = [math.tau * turn / TURNS - (0 if room else math.pi / 2) for turn in range(TURNS + 1)]
+    fine = [(wide * math.cos(angle), math.sin(angle)) for angle in angles]
+    along = list(accumulate((math.dist(a, b) for a, b in pairwise(fine)), initial=0.0))
+    room = max(room, 1 / len(order))
+    start, share = (room / 2, (1 - room) / max(1, len(order) - 1)) if angles[0] == 0 else (0.0, 1 / len(order))
+    return {node: fine[bisect_left(along, along[-1] * (start + share * index))] for index, node in enumerate(order)}
+
+
+def layers(near: Near, aspect: float) -> Points:
+    """Returns a tree from its lowest identifier down: a node stands over the middle of its children."""
+    root = min(near)
+    depths = steps_from(root, near)
+    children = {node: [other for other in others if depths[other] > depths[node]] for node, others in near.items()}
+    columns: dict[int, float] = {}
+    for leaf, node in enumerate(node for node in down(root, children) if not children[node]):
+        columns[node] = float(leaf)
+    for node in sorted(near, key=lambda node: -depths[node]):
+        if children[node]:
+            columns[node] = (columns[children[node][0]] + columns[children[node][-1]]) / 2
+    leaves = sum(not own for own in children.values())
+    apart = max(LAYER_APART, 0.9 * leaves / aspect / max(depths.values()))
+    return {node: (columns[node], depths[node] * apart) for node in near}
+
+
+def down(root: int, children: Near) -> Iterator[int]:
+    """Yields the nodes of a tree, each before its children, from left to right."""
+    stack = [root]
+    while stack:
+        node = stack.pop()
+        yield node
+        stack += reversed(children[node])
+
+
+def grid_shape(near: Near) -> Shape | None:
+    """Returns a grid row by row, whatever its nodes are called; None for another network. The lowest corner is at the
+    upper left, and its lower neighbour beside it."""
+    corners = [node for node, others in near.items() if len(others) == 2]
+    if len(near) < 4 or len(corners) != 4 or any(not 2 <= len(others) <= 4 for others in near.values()):
+        return None
+    first = steps_from(corners[0], near)
+    found = [points for corner in corners[1:] if (points := lattice(near, first, steps_from(corner, near))) is not None]
+    right = {min(near[corners[0]], key=lambda node: points[node][1]): points for points in found}
+    return Shape("grid", right[min(right)]) if right else None
+
+
+def lattice(near: Near, first: dict[int, int], second: dict[int, int]) -> Points | None:
+    """Returns the nodes as a lattice, by how far each is from the two ends of the first row; None if the network is
+    none."""
+    if len(first) != len(near):
+        return None
+    last = min(first[node] for node in second if not second[node])
+    width, rest = last + 1, len(near) % (last + 1)
+    cells = {node: ((first[node] - second[node] + last) / 2, (first[node] + second[node] - last) / 2) for node in near}
+    wanted = {(float(column), float(row)) for column in range(width) for row in range(len(near) // width)}
+    if rest or {*cells.values()} != wanted:
+        return None
+    steps = [math.dist(cells[node], cells[other]) for node, others in near.items() for other in others]
+    height = len(near) // width
+    lines = height * (width - 1) + width * (height - 1)
+    return cells if len(steps) == 2 * lines and all(step == 1 for step in steps) else None
