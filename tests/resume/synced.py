@@ -82,6 +82,18 @@ def all_is_synced(room: Path) -> None:
         changes.none_left(f"at its end {when}")
 
 
+def last_words_are_synced(room: Path) -> None:
+    """What is said last is synced at the end, though the time of the next sync hasn't come: the host's clock goes slower."""
+    changes, slow, lab, folder = Changes(room), built("outsiders/slow.c", room), lab_of(room, 4), room / "class"
+    folder.mkdir()
+    journal = folder / "journal"
+    variables = changes.variables() | {"LD_PRELOAD": f"{changes.library} {slow}", "SLOW": "1000"}
+    with Host(lab, 0, 0, journal, folder / "record", variables=variables) as host:
+        if (ended := leaves(host, *plays(host, changes, journal))) != DONE:
+            fail(f"resume: with a slow clock a recorded class ends with {ended}")
+    changes.none_left("at its end, with a slow clock,")
+
+
 def resumes_are_synced(room: Path) -> None:
     """So where a class goes on, of whose journal and record what is torn is taken off."""
     changes, lab, folder = Changes(room), lab_of(room, 4), room / "class"
@@ -124,4 +136,4 @@ def synced_without_threads(room: Path) -> None:
         changes.none_left(f"at the end, without thread {at},")
 
 
-TESTS = [all_is_synced, resumes_are_synced, synced_without_threads]
+TESTS = [all_is_synced, last_words_are_synced, resumes_are_synced, synced_without_threads]
