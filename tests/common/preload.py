@@ -65,15 +65,15 @@ class Preloaded:
         return made, failed
 
 
-def run(words: list[str], given: bytes, variables: Mapping[str, str]) -> Ended:
+def run(words: list[str], given: bytes, variables: Mapping[str, str], program: Path = PROGRAM) -> Ended:
     """A run of the program with these words and this standard input."""
-    done = subprocess.run([PROGRAM, *words], input=given, capture_output=True, env=variables, timeout=LIMIT, check=False)
+    done = subprocess.run([program, *words], input=given, capture_output=True, env=variables, timeout=LIMIT, check=False)
     return Ended(done.returncode, done.stdout, done.stderr)
 
 
-def good(words: list[str], given: bytes = b"") -> bytes:
+def good(words: list[str], given: bytes = b"", program: Path = PROGRAM) -> bytes:
     """What a plain run writes, which has to end well."""
-    ended = run(words, given, {})
+    ended = run(words, given, {}, program)
     if ended.status != 0 or ended.error:
         fail(f"a plain run ended with {ended.status}: {words}")
     return ended.out

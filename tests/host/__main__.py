@@ -425,6 +425,49 @@ def ports(room: Path) -> None:
     audit(lab, journal, 1)
 
 
+def listeners(port: int) -> set[str]:
+    """The addresses at which somebody listens on a port, as the system spells them."""
+    rows = [line.split() for name in ("tcp", "tcp6") for line in Path(f"/proc/net/{name}").read_text(encoding="ascii").splitlines()[1:]]
+    return {address for row in rows for address, _, number in [row[1].partition(":")] if row[3] == "0A" and int(number, 16) == port}
+
+
+def own_address() -> str:
+    """The address by which this machine would reach others; one of its own, if it would reach none."""
+    with socket.socket(socket.AF_INET, socket.SOCK_DGRAM) as it:
+        try:
+            it.connect(("192.0.2.1", 9))  # Nothing is sent.
+        except OSError:
+            return "127.0.0.2"
+        address: str = it.getsockname()[0]
+        return address
+
+
+def on_this_machine(room: Path) -> None:
+    """A host listens at the loopback address alone, as the system says, and is reached by no other one."""
+    with Host(lab_of(room, 4), 0, 0) as host:
+        for port in (host.port, host.desk):
+            if (found := listeners(port)) != {"0100007F"}:
+                fail(f"host: it listens at {found}")
+            for address in ("127.0.0.2", own_address()):
+                try:
+                    socket.create_connection((address, port), 10).close()
+                except OSError:
+                    continue
+                fail(f"host: it is reached by {address}")
+        if host.dismissed(let_in(host.desk, hello("tess"))[0]) != NONE:
+            fail("host: another end of a host that others wanted to reach")
+
+
+def one_device(room: Path) -> None:
+    """A device may be journal and output at once."""
+    lab = lab_of(room, 4)
+    with Host(lab, 0, 0, "/dev/null", before=["bash", "-c", 'exec "$@" 2> /dev/null', "bash"]) as host:
+        if not host.listens:
+            fail(f"host: with journal and errors in one device it ends with {host.end()}")
+        if host.dismissed(let_in(host.desk, hello("tess"))[0]) != NONE:
+            fail("host: another end with journal and errors in one device")
+
+
 def few_descriptors(room: Path) -> None:
     """Where a host may have 24 files open, or twelve, thirty clients at once are all served in the end."""
     for descriptors in (24, 12):
@@ -483,6 +526,7 @@ def words(room: Path) -> None:
 TESTS: list[Test] = [
     connect_and_close, deadlines, one_after_another, ended_while_asked, few_descriptors, through_one_seat,
     killed_in_a_line, says_busy, two_of_one_name, raced, byes_that_end_nothing, ports, words,
+    on_this_machine, one_device,
 ]
 
 

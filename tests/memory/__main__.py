@@ -2,6 +2,7 @@
 
     python3 -m tests.memory           all of it
     python3 -m tests.memory uses      the program alone
+    python3 -m tests.memory hosts     the host's program alone
     python3 -m tests.memory tests     the tests inside the crates alone
 
 Of each use, runs are made with the first, the second, .. request refused, until a run meets no refusal.
@@ -13,42 +14,11 @@ twice in the script, so one that was refused is asked again, and answered plainl
 import subprocess
 import sys
 from collections.abc import Callable
-from dataclasses import dataclass
 from pathlib import Path
 
-from tests.common.preload import LIMIT, TOP, Ended, Preloaded, Server, Story, built_in, fail, good, in_room, play, run
-
-OUT_OF_MEMORY = Ended(5, b"", b"out of memory\n")
-MOST = 5000
-
-
-@dataclass(frozen=True)
-class Tried:
-    """How a run under refusals ended, and what is wrong with it, if anything."""
-
-    ended: Ended
-    fault: str
-    memories: int
-
-
-Use = Callable[[dict[str, str]], Tried]
-
-
-def memories(replies: list[bytes]) -> int:
-    """How many of these replies tell out of memory."""
-    return sum(reply.endswith(b'{"refuse":"memory"}\n') for reply in replies)
-
-
-def whole(words: list[str], given: bytes = b"") -> Use:
-    """A use that writes what a plain run writes, or nothing."""
-    wanted = good(words, given)
-
-    def use(variables: dict[str, str]) -> Tried:
-        ended = run(words, given, variables)
-        fault = "" if ended in (OUT_OF_MEMORY, Ended(0, wanted, b"")) else "another end than a plain run's"
-        return Tried(ended, fault, 0)
-
-    return use
+from tests.common.preload import LIMIT, TOP, Ended, Preloaded, Server, Story, built_in, fail, in_room, play, run
+from tests.memory.hosts import host_uses
+from tests.memory.refusing import OUT_OF_MEMORY, Tried, Use, memories, refuse_all, whole
 
 
 def told_of(story: Story, ended: Ended) -> tuple[str, list[bytes]]:
@@ -127,27 +97,6 @@ def served(story: Story, room: Path) -> Use:
     return use
 
 
-def refuse_all(name: str, use: Use, library: Preloaded) -> str:
-    """Makes all runs of a use, and tells how many refusals they met."""
-    met, told = 0, 0
-    for variable, at_most in (("REFUSE", 1), ("REFUSE_FROM", MOST)):
-        for nth in range(1, MOST):
-            tried = use(library.variables({variable: str(nth)}))
-            refused = library.counts()[1]
-            fault = tried.fault or ("more than one reply tells it" if tried.memories > at_most else "")
-            if fault:
-                fail(f"{name}, {variable}={nth}: {fault}: {tried.ended}")
-            if refused == 0:
-                break
-            met += refused
-            told += tried.memories
-        else:
-            fail(f"{name}: {MOST} requests for memory, and no end")
-    if met == 0:
-        fail(f"{name}: no refusal was met")
-    return f"{name} {met} ({told} replies)"
-
-
 def refused_tests(library: Preloaded) -> str:
     """Runs the tests of refusals once more, with the library: each asserts that it met refusals then."""
     count = 0
@@ -186,15 +135,18 @@ def refused_uses(library: Preloaded, room: Path) -> str:
     return "refusals met: " + ", ".join(refuse_all(name, use, library) for name, use in uses.items())
 
 
+def refused_hosts(library: Preloaded, room: Path) -> str:
+    """Refuses memory to all uses of the host's program."""
+    return "by a host: " + ", ".join(refuse_all(name, use, library) for name, use in host_uses(room).items())
+
+
 def work(room: Path) -> str:
     """What the words ask for."""
     library = Preloaded("memory/refuse.c", room, "REFUSE_COUNTS")
-    told = []
-    if sys.argv[1:] != ["tests"]:
-        told.append(refused_uses(library, room))
-    if sys.argv[1:] != ["uses"]:
-        told.append(refused_tests(library))
-    return "; ".join(told)
+    parts: dict[str, Callable[[Preloaded, Path], str]] = {
+        "uses": refused_uses, "hosts": refused_hosts, "tests": lambda library, _: refused_tests(library),
+    }
+    return "; ".join(part(library, room) for name, part in parts.items() if sys.argv[1:] in ([], [name]))
 
 
 if __name__ == "__main__":

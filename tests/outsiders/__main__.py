@@ -19,7 +19,7 @@ from tests.common.lines import (
 )
 from tests.common.preload import LIMIT, PROGRAM, TOP, Ended, Preloaded, Server, fail
 from tests.common.side_by_side import Test, try_all
-from tests.outsiders import byes, crowded, strangers
+from tests.outsiders import byes, crowded, edges, parting, strangers
 
 NONE = Ended(0, b"done: 0 events, configuration 0\n", b"")
 FAULT = Ended(4, b"", b"journal fault\n")
@@ -472,8 +472,9 @@ def journals(room: Path) -> None:
 def limits_of_files(room: Path) -> None:
     """Where the journal may not grow further, events are refused, and the host goes on; started by `./mml` too."""
     lab = lab_of(room, 4)
-    for name, start in (("program", 'exec "$@"'), ("mml", 'shift && exec "$0" "$@"')):
-        words = ["bash", "-c", f"ulimit -f 1 && {start}", str(TOP / "mml")]
+    # Where a soft limit and a hard one differ, the soft one is what counts.
+    for name, limit, start in (("program", "-f", 'exec "$@"'), ("soft", "-S -f", 'exec "$@"'), ("mml", "-f", 'shift && exec "$0" "$@"')):
+        words = ["bash", "-c", f"ulimit {limit} 1 && {start}", str(TOP / "mml")]
         with Host(lab, 0, 0, room / f"{name}.journal", before=words) as host:
             teacher, student = let_in(host.desk, hello("tess"))[0], let_in(host.port, hello("ana"))[0]
             for turn in range(100):
@@ -498,9 +499,9 @@ def limits_of_files(room: Path) -> None:
         fail(f"outsiders: a script whose journal can't grow ends with {done.status}, {done.error!r}")
 
 
-def limited(kilobytes: int) -> list[str]:
+def limited(kilobytes: int, limit: str = "-s") -> list[str]:
     """What calls a program so that each stack may have so many kilobytes, and all together 64 MB of addresses."""
-    return ["bash", "-c", f'ulimit -s {kilobytes} && ulimit -v 65536 && exec "$@"', "bash"]
+    return ["bash", "-c", f'ulimit {limit} {kilobytes} && ulimit -v 65536 && exec "$@"', "bash"]
 
 
 def deepest(port: int, count: int) -> None:
@@ -535,8 +536,8 @@ def small_stacks(room: Path) -> None:
     script = room / "script"
     script.write_bytes(b"1 " + BYE)
     calls: list[list[str | Path]] = [[HOST, "host", lab, "0", "0"], [PROGRAM, "script", lab, script]]
-    for call in calls:
-        if (said := ended_soon([*limited(255), *call])) != Ended(5, b"", b"out of memory\n"):
+    for call, limit in [(call, limit) for call in calls for limit in ("-s", "-S -s")]:
+        if (said := ended_soon([*limited(255, limit), *call])) != Ended(5, b"", b"out of memory\n"):
             fail(f"outsiders: over stacks that are too small a program ends with {said}")
 
 
@@ -544,7 +545,7 @@ TESTS: list[Test] = [
     never_reads, ten_minutes, silent_ones, guessed_keys, refused_threads, comes_again, one_of_many, a_third, nobody_behind, journals,
     limits_of_files, few, small_stacks,
     three_hellos, a_web_form, words_at_the_end, asks_after_the_bye,
-    *byes.TESTS, *crowded.TESTS, *strangers.TESTS,
+    *byes.TESTS, *crowded.TESTS, *strangers.TESTS, *parting.TESTS, *edges.TESTS,
 ]
 
 

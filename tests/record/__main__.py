@@ -1,11 +1,12 @@
 """Verifies records by the program and by the plain model, and wants the same line of both.
 
-    python3 -B -m tests.record [SEED]
+    python3 -B -m tests.record [SEED | WORD..]
 
 Records that are written by hand, each reason to refuse one, one byte hurt at each position of a short record,
 and the records of drawn runs of many clients: as they came, hurt, cut, and beside another journal. Then a
 host records classes, one of which is killed, and one meets a full disk. With a number, only that seed's run
-is verified, and its files are left in the working folder.
+is verified, and its files are left in the working folder; with words, only the classes whose tests' names have one of
+them are recorded.
 """
 import os
 import re
@@ -345,7 +346,7 @@ def work(room: Path) -> str:
 
 
 if __name__ == "__main__":
-    if len(sys.argv) > 1:
+    if sys.argv[1:] and sys.argv[1].isdecimal():
         compare(Path.cwd(), int(sys.argv[1]))
         sys.exit(0)
-    in_room(work)
+    in_room(lambda room: f"{hosted(room, sys.argv[1:])} classes of a host" if sys.argv[1:] else work(room))

@@ -1,6 +1,7 @@
 """Classes that a host records, as their user runs it: what their files hold, after a kill too, and where a put fails."""
 import resource
 import subprocess
+from collections.abc import Sequence
 from pathlib import Path
 
 from model import read_lab
@@ -123,6 +124,31 @@ def killed_and_resumed(room: Path) -> None:
     verified(lab, journal, record, b"ok: 5 sessions, 8 lines, 2 events, not whole\n")
 
 
+def torn_entries(room: Path) -> None:
+    """An entry at the end of a seat's file that isn't whole is taken off where the class goes on, which is told: a line
+    without its reply, a part of either, and no more than that."""
+    lab, journal, record = lab_of(room, SEATS), room / "torn.journal", room / "torn"
+    with Host(lab, 0, 0, journal, record) as host:
+        callers = begin(host)
+        host.killed()
+    for caller in callers:
+        caller.close()
+    whole = {1: b"".join(TESS.splitlines(True)[:2]), STUDENT: b"".join(ANA.splitlines(True)[:8])}
+    torn = {1: b'1 1 > {"do":"close"}\n', 2: b'2 0 > {"do"', STUDENT: b'4 1 > {"do":"bye"}\n4 1 < {"ok":"b'}
+    for seat, content in torn.items():
+        with (record / f"{seat}.record").open("ab") as it:
+            it.write(content)
+    with Host(lab, 0, 0, journal, record, word="resume") as host:
+        ended = host.dismissed(let_in(host.desk, hello("tess"))[0]) if host.listens else host.end()
+    wanted = b"".join(b"resume: a torn entry of %d bytes is taken off %d.record\n" % (len(content), seat) for seat, content in torn.items())
+    if ended.status != 0 or ended.error != wanted:
+        fail(f"record: with torn entries a class that goes on ends with {ended}")
+    after = {seat: whole.get(seat, b"") + b"%d 1 !\n%d 1 .\n" % (seat, seat) for seat in range(1, SEATS + 1)}
+    after[1] += b"".join(line for line in TESS.replace(b"1 0 ", b"1 1 ").replace(b"1 2 ", b"1 1 ").splitlines(True) if b"close" not in line)
+    wants(record, lab, after)
+    verified(lab, journal, record, b"ok: 5 sessions, 7 lines, 1 events, not whole\n")
+
+
 def full_disk(room: Path) -> None:
     """Where a seat's file takes no more the class goes on, and the host says so at its end: where the limit was there
     before, though nobody ignores the signal of it, and where it comes later, as a disk that is full in an entry."""
@@ -184,9 +210,10 @@ def kept_and_held(room: Path) -> None:
     verified(other, journal, record, b"ok: 1 sessions, 2 lines, 2 events\n")
 
 
-def hosted(room: Path) -> int:
-    """All tests of classes; how many there were."""
-    tests = [kept_and_held, killed_and_resumed, full_disk, flooded, outsiders_first, *PLACES]
-    for test in tests:
+def hosted(room: Path, words: Sequence[str] = ()) -> int:
+    """All tests of classes, or those whose names have one of these words; how many there were."""
+    tests = [kept_and_held, killed_and_resumed, torn_entries, full_disk, flooded, outsiders_first, *PLACES]
+    chosen = [test for test in tests if not words or any(word in test.__name__ for word in words)]
+    for test in chosen:
         test(room)
-    return len(tests)
+    return len(chosen)

@@ -15,7 +15,7 @@ from tests.common.hosting import Caller, Host, audit, called, lab_of, let_in
 from tests.common.lines import CLOSE, closed, denial_of, fault_at, greeted, hello, refusal_of, seduction
 from tests.common.preload import Ended, Preloaded, fail
 from tests.common.side_by_side import Test, try_all
-from tests.resume import away
+from tests.resume import away, synced
 from tests.resume.players import Players
 
 NO_COPY = b"resume: no copy of the lab beside the journal, the audit alone vouches for it\n"
@@ -155,6 +155,24 @@ def failed_sync(room: Path) -> None:
     goes_on(lab, journal, b"resumed at place 1, configuration 0, 1 chosen\n", b"", "after a sync that failed")
 
 
+def failed_sync_after_a_resume(room: Path) -> None:
+    """So where a class goes on, whether or not a torn line was taken off: the file is cut to its whole lines."""
+    library = Preloaded("resume/power.c", room, "POWER_COUNTS")
+    lab, journal = lab_of(room, 4), room / "journal"
+    for torn in (b"", b"3 1 gr"):
+        journal.write_bytes(FIRST + torn)
+        # The first sync is of the journal as it was found.
+        with Host(lab, 0, 0, journal, word="resume", variables=library.variables({"POWER_FAIL_AT": "2"})) as host:
+            line, tess = resumed(host), let_in(host.desk, hello("tess"))[0]
+            said = tess.ask(BREAK), tess.ask(BREAK)
+            ended = host.dismissed(tess)
+        if place_of(line) != 2 or said != (refusal_of("journal"),) * 2 or library.counts()[1] != 2:
+            fail(f"resume: where the first sync after a resume fails: {line!r}, {said}, {library.counts()[1]} syncs")
+        if (ended.status, ended.out) != (4, b"") or not ended.error.endswith(FAULT.error) or journal.read_bytes() != FIRST:
+            fail(f"resume: where the first sync after a resume fails it ends with {ended}, and leaves {journal.read_bytes()!r}")
+    goes_on(lab, journal, b"resumed at place 2, configuration 1, 0 chosen\n", NO_COPY, "after a sync that failed after a resume")
+
+
 def told_until_halted(ana: Caller, tess: Caller) -> int:
     """How many events they are told of until the journal halts: a move, its step and a fault again and again."""
     told = 0
@@ -285,6 +303,39 @@ def other_labs(room: Path) -> None:
     refused(lab_of(room, 4, 1), journal, Ended(3, b"", NO_COPY + b"audit: line 2: over the limit of events\n"), "a limit that is passed")
 
 
+def copies_through_links(room: Path) -> None:
+    """The copy of a lab is looked for beside the journal's file, also where a link leads to that."""
+    lab, folder = lab_of(room, 4), room / "class"
+    folder.mkdir()
+    with Host(lab, 0, 0, folder / "journal") as host:
+        let_in(host.port, hello("ana"))[0].ask(SEDUCES)
+        host.killed()
+    link, other = room / "link", room / "other.toml"
+    link.symlink_to(folder / "journal")
+    other.write_text(lab.read_text(encoding="utf-8").replace('owner = "cyd"', 'owner = "ben"'), encoding="utf-8")
+    shutil.copy(other, room / "link.lab")
+    refused(other, link, OTHER, "another lab, where a link leads to the journal")
+    goes_on(lab, link, b"resumed at place 1, configuration 0, 1 chosen\n", b"", "a link, and a copy beside the journal")
+
+
+def numbers_of_both(room: Path) -> None:
+    """An older journal and its copy of the lab are kept under a number that neither name has."""
+    lab, journal = lab_of(room, 4), room / "journal"
+    with Host(lab, 0, 0, journal) as host:
+        let_in(host.port, hello("ana"))[0].ask(SEDUCES)
+        host.killed()
+    others = {"journal.~1~": b"a journal's name", "journal.~2~.lab": b"a copy's name"}
+    for name, content in others.items():
+        (room / name).write_bytes(content)
+    with Host(lab, 0, 0, journal) as host:
+        ended = host.dismissed(let_in(host.desk, hello("tess"))[0]) if host.listens else host.end()
+    copy = lab.read_bytes()
+    if ended.status != 0 or kept(journal) != {
+        "journal": b"", "journal.lab": copy, "journal.~3~": FIRST[:26], "journal.~3~.lab": copy, **others,
+    }:
+        fail(f"resume: beside names that are taken a host ends with {ended}, and there are {sorted(kept(journal))}")
+
+
 def copies_are_kept(room: Path) -> None:
     """A host keeps an older journal with the copy of its lab, and doesn't take the lab's own file for a copy."""
     lab, journal = lab_of(room, 4), room / "journal"
@@ -372,7 +423,7 @@ def files(room: Path) -> None:
 
 TESTS: list[Test] = [
     kills, power_cuts, torn_tails, other_labs, full_disk, in_mid_line, failed_sync, copies_are_kept, asks_again, held, files,
-    *away.TESTS,
+    failed_sync_after_a_resume, copies_through_links, numbers_of_both, *away.TESTS, *synced.TESTS,
 ]
 
 

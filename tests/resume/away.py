@@ -1,5 +1,6 @@
 """A journal's file is removed, moved, replaced or changed while its class goes on."""
 import os
+import select
 import shutil
 import time
 from collections.abc import Callable
@@ -118,6 +119,8 @@ def taken_away_in_silence(room: Path) -> None:
             ana.ask(MOVE)
             way(journal)
             assert host.process.stderr is not None
+            if not select.select([host.process.stderr], [], [], NOTICED)[0]:
+                fail(f"resume: in silence, with {name_of(way)}, a host says nothing")
             said = host.process.stderr.readline()
             replies = ana.ask(MOVE), tess.ask(CLOSE), tess.ask(fault_at(1))
             ended = host.dismissed(tess)

@@ -91,18 +91,13 @@ def round_of(name: str, text: str) -> int:
     return int(text)
 
 
-def parse_edit(name: str, text: str) -> Edit:
-    """The edit that a file's text spells."""
-    wanted: list[Refusal] = []
+def parse_pairs(name: str, text: str) -> tuple[Pair, ...]:
+    """The pairs that a file's text spells."""
     pairs: list[Pair] = []
-    first, file, old = 1, "", ""
+    file, old = "", ""
     for line in text.split("\n"):
         word, _, rest = line.partition(":")
-        if word == MARK.rstrip(":"):
-            wanted.append(refusal_of(name, rest))
-        elif word == ROUND.rstrip(":"):
-            first = round_of(name, rest)
-        elif word == "file":
+        if word == "file":
             file = rest.strip()
         elif word == "old":
             old = rest.removeprefix(" ")
@@ -111,11 +106,25 @@ def parse_edit(name: str, text: str) -> Edit:
             old = ""
         elif line.strip():
             raise EditFault(f"{name}: a line that isn't read: {line[:80]}")
-    if not wanted:
-        raise EditFault(f"{name}: no line '{MARK} FUNCTION GOAL'; with any goal there, this test says the right one")
     if not any(it.file.startswith("src/") for it in pairs) or old:
         raise EditFault(f"{name}: no whole pair of an 'old:' and a 'new:' line in a file of src/")
-    return Edit(name, tuple(wanted), tuple(pairs), first)
+    return tuple(pairs)
+
+
+def parse_edit(name: str, text: str) -> Edit:
+    """The edit that a file's text spells."""
+    wanted: list[Refusal] = []
+    first, rest = 1, list[str]()
+    for line in text.split("\n"):
+        if line.startswith(MARK):
+            wanted.append(refusal_of(name, line.removeprefix(MARK)))
+        elif line.startswith(ROUND):
+            first = round_of(name, line.removeprefix(ROUND))
+        else:
+            rest.append(line)
+    if not wanted:
+        raise EditFault(f"{name}: no line '{MARK} FUNCTION GOAL'; with any goal there, this test says the right one")
+    return Edit(name, tuple(wanted), parse_pairs(name, "\n".join(rest)), first)
 
 
 def apply_edit(edit: Edit, texts: Mapping[str, str], folder: Path) -> dict[str, str]:

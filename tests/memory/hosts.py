@@ -1,0 +1,57 @@
+"""Uses of the host's program that are refused memory: what it says of a journal and a record, and a script that it answers."""
+from pathlib import Path
+
+from tests.common.hosting import HOST, Caller, Host, lab_of, let_in
+from tests.common.lines import CLOSE, REPORT, fault_at, hello, look, seduction
+from tests.common.preload import Story, fail, run
+from tests.memory.refusing import OUT_OF_MEMORY, Tried, Use, memories, whole
+
+# What the teacher says over the first connection, and a student over the second.
+SAID = [
+    (b"1 ", hello("tess")), (b"2 ", hello("ana")), (b"2 ", look("ana")), (b"1 ", fault_at(1)), (b"2 ", seduction(2)), (b"1 ", CLOSE),
+    (b"2 ", look("ana")), (b"1 ", fault_at(1)), (b"1 ", REPORT),
+]
+
+
+def play(story: Story, host: Host) -> None:
+    """Asks a story's lines, each number's over a connection, the first at the desk."""
+    callers = dict[bytes, Caller]()
+    for line in story.lines:
+        number, asked = line.split(b" ", 1)
+        if number not in callers:
+            callers[number] = Caller(host.desk if number == b"1" else host.port)
+        if not callers[number].ask(asked):
+            fail(f"memory: a host that isn't refused any has no reply to {line!r}")
+    for caller in callers.values():
+        caller.close()
+
+
+def host_uses(room: Path) -> dict[str, Use]:
+    """The uses of the host's program."""
+    lab = lab_of(room, 4)
+    story = Story(lab, b"".join((number + line) * 2 for number, line in SAID), room)
+    journal, record = room / "kept.journal", room / "kept record"
+    with Host(lab, 0, 0, journal, record) as host:
+        play(story, host)
+        if host.dismissed(let_in(host.desk, hello("tess"))[0]).status != 0:
+            fail("memory: a class that isn't refused any ends otherwise")
+    words = [str(lab), str(journal)]
+    return {
+        "verify": whole(["verify", *words, str(record)], program=HOST),
+        "tally": whole(["tally", *words], program=HOST),
+        "tally with a record": whole(["tally", *words, str(record)], program=HOST),
+        "answer": answered(story),
+    }
+
+
+def answered(story: Story) -> Use:
+    """A script that is answered as its lines come; they are all there, and each is answered before the next is read."""
+    def use(variables: dict[str, str]) -> Tried:
+        ended = run(["answer", str(story.lab)], story.script(), variables, HOST)
+        replies = ended.out.splitlines(keepends=True)
+        if ended == OUT_OF_MEMORY:
+            return Tried(ended, "", 0)
+        fault = "another end" if ended.status or ended.error or len(replies) != len(story.lines) else story.expects(replies, frozenset())
+        return Tried(ended, fault, memories(replies))
+
+    return use

@@ -1,0 +1,59 @@
+"""Runs of a use in which each request for memory is refused in turn, and each one from there on."""
+from collections.abc import Callable
+from dataclasses import dataclass
+from pathlib import Path
+
+from tests.common.preload import PROGRAM, Ended, Preloaded, fail, good, run
+
+OUT_OF_MEMORY = Ended(5, b"", b"out of memory\n")
+MOST = 5000
+
+
+@dataclass(frozen=True)
+class Tried:
+    """How a run under refusals ended, and what is wrong with it, if anything."""
+
+    ended: Ended
+    fault: str
+    memories: int
+
+
+Use = Callable[[dict[str, str]], Tried]
+
+
+def memories(replies: list[bytes]) -> int:
+    """How many of these replies tell out of memory."""
+    return sum(reply.endswith(b'{"refuse":"memory"}\n') for reply in replies)
+
+
+def whole(words: list[str], given: bytes = b"", program: Path = PROGRAM) -> Use:
+    """A use that writes what a plain run writes, or nothing."""
+    wanted = good(words, given, program)
+
+    def use(variables: dict[str, str]) -> Tried:
+        ended = run(words, given, variables, program)
+        fault = "" if ended in (OUT_OF_MEMORY, Ended(0, wanted, b"")) else "another end than a plain run's"
+        return Tried(ended, fault, 0)
+
+    return use
+
+
+def refuse_all(name: str, use: Use, library: Preloaded) -> str:
+    """Makes all runs of a use, and tells how many refusals they met."""
+    met, told = 0, 0
+    for variable, at_most in (("REFUSE", 1), ("REFUSE_FROM", MOST)):
+        for nth in range(1, MOST):
+            tried = use(library.variables({variable: str(nth)}))
+            refused = library.counts()[1]
+            fault = tried.fault or ("more than one reply tells it" if tried.memories > at_most else "")
+            if fault:
+                fail(f"{name}, {variable}={nth}: {fault}: {tried.ended}")
+            if refused == 0:
+                break
+            met += refused
+            told += tried.memories
+        else:
+            fail(f"{name}: {MOST} requests for memory, and no end")
+    if met == 0:
+        fail(f"{name}: no refusal was met")
+    return f"{name} {met} ({told} replies)"

@@ -1,0 +1,110 @@
+"""Numbers at which a host does something else: the bytes of a line, guessed keys, and how often it tries what fails."""
+import resource
+import select
+import time
+from pathlib import Path
+
+from tests.common.hosting import Caller, Host, called, lab_of, let_in
+from tests.common.lines import BUSY, LONG, OVER, UNKNOWN, WRONG, hello, look
+from tests.common.preload import Ended, Preloaded, fail
+from tests.common.side_by_side import Test
+
+MOST = 4096  # bytes of a line, its newline left out
+NONE = b"done: 0 events, configuration 0\n"
+TOLD = (30, 300)  # guesses at which the host says how many they were
+TELLING = 20.0  # seconds in which it has said so, on a slow machine
+SECONDS = 3.0
+SHORT, PAUSE = 0.005, 0.1  # seconds from one accept that fails to the next, while somebody waits for a seat and else
+
+
+def padded(line: bytes, size: int) -> bytes:
+    """A request with so many bytes before its newline, of which those that were added are spaces."""
+    return line[:-2] + b" " * (size + 1 - len(line)) + line[-2:]
+
+
+def longest_lines(room: Path) -> None:
+    """A line of 4,096 bytes is answered, first or later, in one piece or two, and isn't told as too long when the
+    connection ends later; one of a byte more is too long."""
+    with Host(lab_of(room, 4), 0, 0) as host:
+        longest, longer = padded(look("ana"), MOST), padded(look("ana"), MOST + 1)
+        ana, reply = let_in(host.port, padded(hello("ana"), MOST))
+        said = [reply, ana.ask(longest)]
+        ana.send(longest[:2000])
+        time.sleep(0.1)
+        said += [ana.ask(longest[2000:]), ana.ask(longest + longest), ana.line(), ana.ask(look("ana"))]
+        if [b'"ok"' in line for line in said] != [True] * 6:
+            fail(f"outsiders: lines of {MOST} bytes are told {said}")
+        for first in (b"", hello("ben")):
+            caller = called(host.port)
+            if first:
+                caller.ask(first)
+            caller.send(longer)
+            if (found := (caller.line(), caller.line())) != (LONG, b""):
+                fail(f"outsiders: a line of {MOST + 1} bytes is told {found}")
+            caller.close()
+        ended = host.dismissed(let_in(host.desk, hello("tess"))[0])
+        if ended != Ended(0, NONE, b"") or (found := (ana.line(), ana.line())) != (OVER, b""):
+            fail(f"outsiders: who sent lines of {MOST} bytes is told {found} at the end, which is {ended}")
+
+
+def guess(host: Host, count: int) -> None:
+    """Guesses a key so many times, three times over a connection."""
+    while count > 0:
+        caller, reply = let_in(host.port, WRONG)
+        said = [reply] + [caller.ask(WRONG) for _ in range(min(count, 3) - 1)]
+        if said != [UNKNOWN] * len(said):
+            fail(f"outsiders: who guesses is told {said}")
+        count -= len(said)
+        caller.close()
+
+
+def told_guesses(room: Path) -> None:
+    """A host tells of guesses when there are thirty, and then at ten times as many."""
+    with Host(lab_of(room, 4), 0, 0) as host:
+        assert host.process.stderr is not None
+        made = 0
+        for count in TOLD:
+            guess(host, count - 1 - made)
+            if select.select([host.process.stderr], [], [], 0)[0]:
+                fail(f"outsiders: before {count} guesses a host says {host.process.stderr.readline()!r}")
+            guess(host, 1)
+            made, is_told = count, select.select([host.process.stderr], [], [], TELLING)[0]
+            said = host.process.stderr.readline() if is_told else b""
+            if said != b"host: %d hellos had no right key: somebody may be guessing\n" % count:
+                fail(f"outsiders: after {count} guesses a host says {said!r}")
+        if (ended := host.dismissed(let_in(host.desk, hello("tess"))[0])) != Ended(0, NONE, b""):
+            fail(f"outsiders: after {made} guesses a host ends with {ended}")
+
+
+def waits_between(host: Host, library: Preloaded, pause: float, when: str) -> None:
+    """Wants that a host's accepts that fail are few: it waits between two of them."""
+    begun, before = time.monotonic(), library.counts()[0]
+    time.sleep(SECONDS)
+    tries, seconds = library.counts()[0] - before, time.monotonic() - begun
+    if not 0 < tries < 2 * seconds / pause + 20:
+        fail(f"outsiders: {when} a host accepts {tries} times in {seconds:.1f} seconds")
+
+
+def no_busy_loop(room: Path) -> None:
+    """If no connection can be accepted a host tries again only after a while; so while somebody waits for a seat."""
+    library = Preloaded("faults/fail.c", room, "FAIL_COUNTS")
+    with Host(lab_of(room, 2), 0, 0, variables=library.variables({"FAIL": "accept"})) as host:
+        teacher, ana = let_in(host.desk, hello("tess"))[0], let_in(host.port, hello("ana"))[0]
+        resource.prlimit(host.process.pid, resource.RLIMIT_NOFILE, (host.files(), 4096))
+        kept = [called(host.port) for _ in range(3)]
+        waits_between(host, library, PAUSE, "with no descriptor left")
+        resource.prlimit(host.process.pid, resource.RLIMIT_NOFILE, (4096, 4096))
+        if any(caller.line() != BUSY for caller in kept):
+            fail("outsiders: who came while there was no descriptor isn't told that there is no seat")
+        begun, before = time.monotonic(), library.counts()[0]
+        for _ in range(3):
+            if (said := Caller(host.port).line()) != BUSY:
+                fail(f"outsiders: who comes to a full port is told {said!r}")
+        tries, seconds = library.counts()[0] - before, time.monotonic() - begun
+        if not 0 < tries < 2 * seconds / SHORT + 20:
+            fail(f"outsiders: while somebody waits for a seat a host accepts {tries} times in {seconds:.1f} seconds")
+        if b'"ok":"look"' not in ana.ask(look("ana")) or host.dismissed(teacher) != Ended(0, NONE, b""):
+            fail("outsiders: another end after accepts that failed")
+
+
+TESTS: list[Test] = [longest_lines, told_guesses, no_busy_loop]

@@ -1,0 +1,105 @@
+"""What those are told who wait for a seat, or have left one, and who of them comes first. The hosts' clock goes slower, so
+that what lasts for some milliseconds is seen on a slow machine too."""
+import select
+import time
+from pathlib import Path
+
+from tests.common.hosting import Caller, Host, lab_of, let_in
+from tests.common.lines import BUSY, BYE, OVER, UNKNOWN, WRONG, hello, look
+from tests.common.preload import LIMIT, Ended, built, fail
+from tests.common.side_by_side import Test
+
+NONE = Ended(0, b"done: 0 events, configuration 0\n", b"")
+SLOW = 100  # times: 1.2 seconds lie between two denials
+GUESSES = 8  # by as many connections, of whom each sends the one before it away
+
+
+def slowed(room: Path) -> dict[str, str]:
+    """The variables of a host whose clock goes slower."""
+    return {"LD_PRELOAD": str(built("outsiders/slow.c", room)), "SLOW": str(SLOW)}
+
+
+def taken(host: Host, files: int, more: int) -> None:
+    """Waits until a host has taken so many connections more than when it had so many files open."""
+    end = time.monotonic() + LIMIT
+    while host.files() < files + more:
+        if time.monotonic() > end:
+            fail(f"outsiders: a host takes {host.files() - files} of {more} connections")
+        time.sleep(0.02)
+
+
+def ended(host: Host, teacher: Caller) -> None:
+    """Wants that the teacher's bye ends a host well."""
+    if (found := host.dismissed(teacher)) != NONE:
+        fail(f"outsiders: with a slow clock a host ends with {found}")
+
+
+def guessing(host: Host) -> list[Caller]:
+    """Connections that guess a key at once, all of which the host has taken: but for the first and the last each was sent
+    away before the turn of its denial."""
+    files = host.files()
+    callers = [Caller(host.port) for _ in range(GUESSES)]
+    for caller in callers:
+        caller.send(WRONG)
+    taken(host, files, GUESSES - 1)  # The first may have left already.
+    return callers
+
+
+def denied_in_turn(room: Path) -> None:
+    """Who leaves before the turn of its denial is told the denial later, and then that there is no seat."""
+    with Host(lab_of(room, 3), 0, 0, variables=slowed(room)) as host:
+        teacher = let_in(host.desk, hello("tess"))[0]
+        callers = guessing(host)
+        said = [(caller.line(), caller.line()) for caller in callers[:-1]]
+        if said != [(UNKNOWN, BUSY)] * (GUESSES - 1) or callers[-1].line() != UNKNOWN:
+            fail(f"outsiders: who guesses and leaves for another is told {said}")
+        ended(host, teacher)
+
+
+def over_for_all(room: Path) -> None:
+    """At the class's end who is still owed a denial is told that it is over, and so is who waits for a seat."""
+    variables = slowed(room)
+    with Host(lab_of(room, 3), 0, 0, variables=variables) as host:
+        teacher = let_in(host.desk, hello("tess"))[0]
+        callers = guessing(host)
+        told = [(caller.line(), caller.line()) for caller in callers[:2]]  # By then the others wait for their turns.
+        ended(host, teacher)
+        said = [(caller.line(), caller.line()) for caller in callers[2:]]
+        if told != [(UNKNOWN, BUSY)] * 2 or said[-4:] != [(OVER, b"")] * 4:
+            fail(f"outsiders: of those who guess before the class's end the host tells {told}, and at its end {said}")
+    with Host(lab_of(room, 3), 0, 0, variables=variables) as host:
+        teacher = let_in(host.desk, hello("tess"))[0]
+        held = [let_in(host.port, hello(name))[0] for name in ("ana", "ben")]
+        files = host.files()
+        waiting = [Caller(host.port) for _ in range(5)]
+        for caller in waiting[:2]:
+            caller.send(hello("cyd"))
+        taken(host, files, len(waiting))
+        ended(host, teacher)
+        said = [(caller.line(), caller.line()) for caller in [*held, *waiting]]
+        if said != [(OVER, b"")] * 7:
+            fail(f"outsiders: at the class's end those who wait for a seat are told {said[2:]}")
+
+
+def first_to_speak(room: Path) -> None:
+    """The first of those who wait that has sent a line has the seat that becomes free; who is silent waits on."""
+    with Host(lab_of(room, 3), 0, 0, variables=slowed(room)) as host:
+        teacher = let_in(host.desk, hello("tess"))[0]
+        ana, ben = (let_in(host.port, hello(name))[0] for name in ("ana", "ben"))
+        files = host.files()
+        silent, speaker = Caller(host.port), Caller(host.port)
+        taken(host, files, 2)
+        speaker.send(hello("cyd"))
+        ana.ask(BYE)
+        if b'"ok":"hello"' not in (said := speaker.line()) or b'"ok":"look"' not in speaker.ask(look("cyd")):
+            fail(f"outsiders: who has sent a line and waits is told {said!r}")
+        if select.select([silent.socket], [], [], 0)[0]:
+            fail(f"outsiders: who waits in silence is told {silent.line()!r} before another has the seat")
+        ben.ask(BYE)
+        silent.send(hello("ana"))
+        if b'"ok":"hello"' not in (said := silent.line()):
+            fail(f"outsiders: who waited in silence is told {said!r}")
+        ended(host, teacher)
+
+
+TESTS: list[Test] = [denied_in_turn, over_for_all, first_to_speak]

@@ -1,0 +1,139 @@
+"""What a host has synced when it listens, when it has answered, and when it has ended: a power cut would take the rest."""
+import time
+from pathlib import Path
+
+from tests.common.hosting import Caller, Host, lab_of, let_in
+from tests.common.lines import BID, BYE, CLOSE, hello, look, seduction
+from tests.common.preload import Ended, Preloaded, built, fail
+
+SOON = 60.0  # seconds in which a record is synced, on a slow machine
+EAGAIN = 11
+LOOKS = 4  # threads that a host starts before it listens, to see whether it may
+MOVE = seduction(0)
+DONE = Ended(0, b"done: 2 events, configuration 1\n", b"")
+
+
+class Changes:
+    """What a host has changed in files and folders, and synced."""
+
+    def __init__(self, room: Path) -> None:
+        self.library, self.log = built("resume/changes.c", room), room / "changes"
+
+    def variables(self) -> dict[str, str]:
+        """The variables of a host, of which nothing is known yet."""
+        self.log.unlink(missing_ok=True)
+        return {"LD_PRELOAD": str(self.library), "CHANGES": str(self.log)}
+
+    def unsynced(self) -> set[str]:
+        """The files and folders that were changed after they had been synced last."""
+        found = set[str]()
+        for line in self.log.read_text(encoding="utf-8").splitlines():
+            what, _, path = line.partition(" ")
+            (found.add if what == "changed" else found.discard)(path)
+        return found
+
+    def none_left(self, when: str) -> None:
+        """Wants that all is synced."""
+        if left := self.unsynced():
+            fail(f"resume: {when} a host hasn't synced {sorted(left)}")
+
+    def none_left_soon(self, when: str) -> None:
+        """Wants that all is synced before long, though nothing happens."""
+        end = time.monotonic() + SOON
+        while self.unsynced() and time.monotonic() < end:
+            time.sleep(0.1)
+        self.none_left(when)
+
+
+def plays(host: Host, changes: Changes, journal: Path) -> tuple[Caller, Caller]:
+    """A move and its step, each of which is synced once it is told."""
+    ana, tess = let_in(host.port, hello("ana"))[0], let_in(host.desk, hello("tess"))[0]
+    for who, line in ((ana, MOVE), (tess, CLOSE)):
+        if b'"place":' not in who.ask(line):
+            fail("resume: where changes are kept nothing is granted")
+        if str(journal) in changes.unsynced():
+            fail("resume: an event is told whose line isn't synced")
+    return ana, tess
+
+
+def leaves(host: Host, ana: Caller, tess: Caller) -> Ended:
+    """The class's last lines, and its end."""
+    ana.ask(look("ana"))
+    if (ana.ask(BYE), ana.line()) != (BID, b""):
+        fail("resume: another reply to a student's bye")
+    return host.dismissed(tess)
+
+
+def all_is_synced(room: Path) -> None:
+    """When a host listens the names and contents of all that it made are synced, beside older files too; what is said
+    is synced before long, and at the end all is."""
+    changes, lab, folder = Changes(room), lab_of(room, 4), room / "class"
+    folder.mkdir()
+    journal, record = folder / "journal", folder / "record"
+    for when in ("in an empty folder", "beside an older class"):
+        with Host(lab, 0, 0, journal, record, variables=changes.variables()) as host:
+            changes.none_left(f"when it listens {when}")
+            ana, tess = plays(host, changes, journal)
+            if not changes.log.read_text(encoding="utf-8").count(f"changed {record}/"):
+                fail("resume: nothing is recorded where changes are kept")
+            changes.none_left_soon(f"a while after what was said {when}")
+            if leaves(host, ana, tess) != DONE:
+                fail(f"resume: another end {when}, where changes are kept")
+        changes.none_left(f"at its end {when}")
+
+
+def last_words_are_synced(room: Path) -> None:
+    """What is said last is synced at the end, though the time of the next sync hasn't come: the host's clock goes slower."""
+    changes, slow, lab, folder = Changes(room), built("outsiders/slow.c", room), lab_of(room, 4), room / "class"
+    folder.mkdir()
+    journal = folder / "journal"
+    variables = changes.variables() | {"LD_PRELOAD": f"{changes.library} {slow}", "SLOW": "1000"}
+    with Host(lab, 0, 0, journal, folder / "record", variables=variables) as host:
+        if (ended := leaves(host, *plays(host, changes, journal))) != DONE:
+            fail(f"resume: with a slow clock a recorded class ends with {ended}")
+    changes.none_left("at its end, with a slow clock,")
+
+
+def resumes_are_synced(room: Path) -> None:
+    """So where a class goes on, of whose journal and record what is torn is taken off."""
+    changes, lab, folder = Changes(room), lab_of(room, 4), room / "class"
+    folder.mkdir()
+    journal, record = folder / "journal", folder / "record"
+    with Host(lab, 0, 0, journal, record) as host:
+        let_in(host.desk, hello("tess"))
+        host.killed()
+    for path, torn in ((journal, b"1 0 gra"), (record / "1.record", b'1 0 > {"do":"clo')):
+        with path.open("ab") as it:
+            it.write(torn)
+    with Host(lab, 0, 0, journal, record, word="resume", variables=changes.variables()) as host:
+        if not host.listens:
+            fail(f"resume: where changes are kept it ends with {host.end()}")
+        assert host.process.stdout is not None
+        host.process.stdout.readline()
+        changes.none_left("when it goes on")
+        kept = changes.log.read_text(encoding="utf-8").splitlines()
+        if any(f"changed {path}" not in kept for path in (journal, record / "1.record", record / "4.record")):
+            fail(f"resume: what is torn isn't taken off where changes are kept: {kept}")
+        ended = leaves(host, *plays(host, changes, journal))
+    if (ended.status, ended.out) != (DONE.status, DONE.out):
+        fail(f"resume: where a class goes on and changes are kept it ends with {ended}")
+    changes.none_left("at the end of a class that went on")
+
+
+def synced_without_threads(room: Path) -> None:
+    """If the thread that syncs a record can't be made, it is synced at the end."""
+    changes, threads, lab = Changes(room), Preloaded("faults/fail.c", room, "FAIL_COUNTS"), lab_of(room, 4)
+    for at in (LOOKS + 1, LOOKS + 2):  # that which watches the journal, and that which syncs the record
+        folder = room / str(at)
+        folder.mkdir()
+        journal = folder / "journal"
+        variables = threads.variables({"FAIL": "thread", "FAIL_AT": str(at), "FAIL_WITH": str(EAGAIN)}) | changes.variables()
+        variables["LD_PRELOAD"] = f"{changes.library} {threads.library}"
+        with Host(lab, 0, 0, journal, folder / "record", variables=variables) as host:
+            ended = leaves(host, *plays(host, changes, journal))
+        if threads.counts()[1] != 1 or ended != DONE:
+            fail(f"resume: without thread {at} a recorded class ends with {ended}")
+        changes.none_left(f"at the end, without thread {at},")
+
+
+TESTS = [all_is_synced, last_words_are_synced, resumes_are_synced, synced_without_threads]

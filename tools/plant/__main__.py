@@ -1,0 +1,110 @@
+"""Tries plants: bugs in the crates' bodies that the prover has to refuse, or a test to see.
+
+    python3 -B -m tools.plant [PLANT..]                     builds the host's program with each in turn, and runs its test
+    python3 -B -m tools.plant --prove [PLANT..]             asks the prover about those that name their function
+    python3 -B -m tools.plant --build TO [PLANT..]          builds the program once with all of these, and puts it there
+    python3 -B -m tools.plant --list                        says which there are
+
+A PLANT is CRATE or CRATE/NAME. A plant is seen if its test fails over the program that has it; that the test passes
+otherwise is what `./check` shows. Such a program isn't proved: its build takes two minutes, and no library that `rt` leaves.
+The prover is asked by one check a crate, over the libraries that `rt ci` or `rt check` left.
+"""
+from __future__ import annotations
+
+import argparse
+import os
+import subprocess
+import sys
+import tempfile
+from collections import Counter
+from pathlib import Path
+
+from tools.plant.building import build
+from tools.plant.plants import Plant, PlantFault, plants_of
+from tools.plant.proving import LET_THROUGH, REFUSED, UNDECIDED, prove_all
+from tools.wrong.libraries import LibraryFault, Tree, tree_at
+
+TOP = Path(__file__).resolve().parents[2]
+PROGRAM = "mml_host"
+LIMIT = 900.0  # seconds of a test
+LAST = 300  # characters of what a test says last
+
+
+def words() -> argparse.Namespace:
+    """The words of the command line."""
+    parser = argparse.ArgumentParser(prog="tools.plant", description=__doc__, formatter_class=argparse.RawDescriptionHelpFormatter)
+    parser.add_argument("plants", nargs="*", metavar="PLANT", help="try these alone")
+    parser.add_argument("--prove", action="store_true", help="ask the prover, and run no test")
+    parser.add_argument("--build", type=Path, metavar="TO", help="build the program with all of them, and try nothing")
+    parser.add_argument("--list", action="store_true", help="say which there are")
+    return parser.parse_args()
+
+
+def all_plants(tree: Tree) -> list[Plant]:
+    """The plants of all crates, in the order of `crates.txt`."""
+    return [plant for crate in tree.uses for plant in plants_of(crate, tree.folder(crate))]
+
+
+def chosen(every: list[Plant], names: list[str]) -> list[Plant]:
+    """The plants that are named, each by its own name or by its crate's."""
+    for name in names:
+        if not any(name in (it.name, it.crate) for it in every):
+            raise PlantFault(f"{name}: there is no such plant, nor a crate that has one")
+    return [it for it in every if it.name in names or it.crate in names]
+
+
+def sees(plant: Plant, program: Path) -> tuple[bool, str]:
+    """Whether a plant's test fails over the program that has it, and what it says last."""
+    given = {**os.environ, "MML_HOST": str(program)}
+    done = subprocess.run([sys.executable, "-B", "-m", plant.module, plant.test], cwd=TOP, env=given, stdin=subprocess.DEVNULL,
+                          stdout=subprocess.PIPE, stderr=subprocess.STDOUT, text=True, errors="replace", timeout=LIMIT, check=False)
+    told = [line for line in done.stdout.splitlines() if line.startswith("FAILED: ")]
+    return done.returncode != 0 and bool(told), (told or done.stdout.strip().splitlines() or [""])[-1][:LAST]
+
+
+def try_each(tree: Tree, plants: list[Plant]) -> int:
+    """Builds the program with each plant in turn, runs its test, and says what came of it; returns the status."""
+    missed, tested = 0, [plant for plant in plants if plant.test]
+    with tempfile.TemporaryDirectory(prefix="mml-plant-") as room:
+        for plant in tested:
+            program = Path(room) / PROGRAM
+            build(tree, PROGRAM, [plant], program)
+            is_seen, told = sees(plant, program)
+            missed += not is_seen
+            print(f"{'seen' if is_seen else 'MISSED'}: {plant.name}: {told}", flush=True)
+    print(f"{len(tested) - missed} seen, {missed} missed")
+    return 1 if missed else 0
+
+
+def try_proofs(tree: Tree, plants: list[Plant]) -> int:
+    """Says what the prover says of each plant; returns the status."""
+    counts = Counter[str]()
+    for plant, verdict in prove_all(tree, plants):
+        counts[verdict] += 1
+        print(f"{verdict}: {plant.name}: {plant.function}", flush=True)
+    print(", ".join(f"{counts[verdict]} {verdict}" for verdict in (REFUSED, LET_THROUGH, UNDECIDED)))
+    return 1 if counts[LET_THROUGH] + counts[UNDECIDED] else 0
+
+
+def main() -> int:
+    """Does what the words ask for."""
+    asked = words()
+    try:
+        tree = tree_at(TOP)
+        every = all_plants(tree)
+        if asked.list:
+            print("\n".join(" ".join(filter(None, (f"{it.name}:", it.function, it.module, it.test))) for it in every))
+            return 0
+        plants = chosen(every, asked.plants) if asked.plants else every
+        if asked.prove:
+            return try_proofs(tree, plants)
+        if asked.build:
+            build(tree, PROGRAM, chosen(every, asked.plants), asked.build)
+            return 0
+        return try_each(tree, plants)
+    except (PlantFault, LibraryFault) as fault:
+        sys.exit(f"tools.plant: {fault}")
+
+
+if __name__ == "__main__":
+    sys.exit(main())

@@ -1,0 +1,79 @@
+"""Plants: bugs in bodies of the crates, by which it is found what neither the prover nor a test sees.
+
+A plant is a file `crates/NAME/plants/WHAT_IT_DOES.edit`, as a wrong body is, without a goal:
+
+    # in: file_sink::FileSink::write
+    # seen: tests.resume failed_sync
+    file: src/lib.rt
+    old: TEXT
+    new: TEXT
+
+`old` stands exactly once in the file, each TEXT is one line, and further pairs apply to what the earlier ones made. There
+is one of the first two lines, or both: the function, below its crate, in which the prover is asked about the bug, and a
+module of tests over programs with a test of it that has to fail.
+"""
+from __future__ import annotations
+
+from dataclasses import dataclass
+from pathlib import Path
+
+from tools.wrong.edits import Edit, EditFault, apply_edit, parse_pairs
+
+IN, SEEN = "# in:", "# seen:"
+WORDS = {IN: ("FUNCTION",), SEEN: ("MODULE", "TEST")}
+
+
+class PlantFault(Exception):
+    """Why a plant can't be tried."""
+
+
+@dataclass(frozen=True)
+class Plant:
+    """A bug, the function that it is in, and the module and the name of the test that sees it; what isn't known is empty."""
+
+    crate: str
+    edit: Edit
+    function: str = ""
+    module: str = ""
+    test: str = ""
+
+    @property
+    def name(self) -> str:
+        """What it is called."""
+        return f"{self.crate}/{self.edit.name.removesuffix('.edit')}"
+
+
+def marked(name: str, text: str, mark: str) -> list[str]:
+    """The words of the line that begins with a mark; empty ones if there is no such line."""
+    found = [line.removeprefix(mark).split() for line in text.splitlines() if line.startswith(mark)]
+    if len(found) > 1 or any(len(words) != len(WORDS[mark]) for words in found):
+        raise PlantFault(f"{name}: not one line '{mark} {' '.join(WORDS[mark])}'")
+    return found[0] if found else [""] * len(WORDS[mark])
+
+
+def parse_plant(crate: str, name: str, text: str) -> Plant:
+    """The plant that a file's text spells."""
+    (function,), (module, test) = (marked(f"{crate}/{name}", text, mark) for mark in WORDS)
+    if not function and not test:
+        raise PlantFault(f"{crate}/{name}: neither a line '{IN} FUNCTION' nor a line '{SEEN} MODULE TEST'")
+    rest = "".join(line for line in text.splitlines(keepends=True) if not line.startswith(tuple(WORDS)))
+    try:
+        return Plant(crate, Edit(name, (), parse_pairs(name, rest)), function, module, test)
+    except EditFault as fault:
+        raise PlantFault(f"{crate}/{fault}") from None
+
+
+def planted(plant: Plant, folder: Path) -> dict[str, str]:
+    """The texts of the files that a plant changes, in the crate's folder."""
+    try:
+        return apply_edit(plant.edit, {}, folder)
+    except EditFault as fault:
+        raise PlantFault(f"{plant.crate}/{fault}") from None
+
+
+def plants_of(crate: str, folder: Path) -> list[Plant]:
+    """The plants of a crate, in the order of their names. Raises a fault if one of them has no place there."""
+    found = [parse_plant(crate, path.name, path.read_text(encoding="utf-8")) for path in sorted((folder / "plants").glob("*"))]
+    for plant in found:
+        planted(plant, folder)
+    return found

@@ -1,0 +1,49 @@
+"""What the prover says of plants: one check of a crate tries all of them whose functions and texts are apart."""
+from __future__ import annotations
+
+import tempfile
+from collections.abc import Iterator
+from dataclasses import replace
+from pathlib import Path
+
+from tools.plant.plants import Plant, PlantFault
+from tools.wrong.checks import Running, try_round
+from tools.wrong.edits import Refusal, rounds_of
+from tools.wrong.libraries import Tree
+from tools.wrong.outputs import Told, read_output
+from tools.wrong.saved import find_name, hand_on
+
+REFUSED, LET_THROUGH, UNDECIDED = "refused", "let through", "undecided"
+ANY = "any"
+
+
+def verdict(function: str, told: Told) -> str:
+    """What a check says of the plant in a function."""
+    if function in told.open_goals:
+        return REFUSED
+    return LET_THROUGH if function in told.proved else UNDECIDED
+
+
+def prove_crate(tree: Tree, crate: str, plants: list[Plant], kept: str, running: Running) -> Iterator[tuple[Plant, str]]:
+    """The verdict on each plant of a crate that names its function. `kept` is the name under which the prover keeps what a
+    library holds. Raises a fault if a library below isn't built, or a check comes to no end."""
+    if missing := tree.missing(crate):
+        raise PlantFault(f"{crate}: not built, which `rt ci` or `rt check` does: {', '.join(dict.fromkeys(missing))}")
+    named = {plant.edit.name: plant for plant in plants if plant.function}
+    edits = [replace(plant.edit, wanted=(Refusal(plant.function, ANY),)) for plant in named.values()]
+    with tempfile.TemporaryDirectory(prefix="mml-plant-") as room:
+        for tried in rounds_of(edits, tree.folder(crate)):
+            if kept:
+                hand_on(tree.library(crate), Path(room) / "kept" / kept)
+            told = read_output(crate, try_round(tree, crate, tried, Path(room), running).output)
+            if told.errors or told.ending is None:
+                raise PlantFault(f"{crate}: the check of {', '.join(it.name for it in tried.edits)} says: {(told.errors or [told.last])[0]}")
+            for edit in tried.edits:
+                yield named[edit.name], verdict(edit.wanted[0].function, told)
+
+
+def prove_all(tree: Tree, plants: list[Plant]) -> Iterator[tuple[Plant, str]]:
+    """The verdicts on plants, crate by crate."""
+    running, kept = Running(), find_name(tree)
+    for crate in dict.fromkeys(plant.crate for plant in plants if plant.function):
+        yield from prove_crate(tree, crate, [plant for plant in plants if plant.crate == crate], kept, running)
