@@ -213,7 +213,7 @@ class Several:
         if self.is_left:
             self.say("another process takes the desks")
             return FAILED
-        self.say(f"the class is ended; all of it is in {self.folder}: {CLASS} mark {self.folder} tells the marks")
+        self.say(f"the class is ended; all of it is in {self.folder}: {CLASS} mark {self.folder} prints the marks")
         return max(member.code for member in self.members)
 
     def end(self) -> None:
@@ -340,7 +340,7 @@ def side_by_side(words: argparse.Namespace) -> int:
     wants_ports(words, len(words.labs))
     server.ready(words.serve)
     networks, news = networks_of(words), News()
-    members = members_of(Path(), networks, words, news)  # A lab that is refused is told before anything is made.
+    members = members_of(Path(), networks, words, news)  # A lab that is refused ends this before anything is made.
     folder = begun(Path(words.into), networks)
     for member in members:
         member.folder = folder / member.name
