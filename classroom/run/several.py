@@ -153,6 +153,7 @@ class Several:
         for line in start_table([member.shown() for member in self.members], play):
             self.say(line)
         if self.hall is not None:
+            self.hall.show(self.state(False), self.state(True))  # Who opens it sees all networks at once.
             self.say(f"page for all {self.hall.address}")
             if is_private(self.is_typed):
                 self.say(f"page for all to act {self.hall.address_to_act}", private=True)
