@@ -196,7 +196,7 @@ def new_file(path: Path) -> None:
 
 
 def key_of(it: Setting, seed: int) -> Key:
-    """Returns what tells a run from others, before it is made."""
+    """Returns what makes a run another than the others, before it is made."""
     return it.family, it.nodes, it.daemon.spelled(), it.start, seed
 
 

@@ -54,7 +54,7 @@ def results_in(file: Path) -> list[Result]:
 
 def joined(files: Iterable[Path], order: Sequence[Case]) -> tuple[list[Result], list[Case]]:
     """Returns the results of all parts in the order of one run, and the cases that no part has. A case that isn't one of this
-    run, or of which two parts tell otherwise, is a fault."""
+    run, or of which two parts have other results, is a fault."""
     found: dict[Case, Result] = {}
     for file in files:
         for result in results_in(file):

@@ -22,7 +22,7 @@ def short(written: str) -> str:
 
 
 def display_names(lab: Lab) -> dict[str, str]:
-    """Returns what is shown for each student: the short form of the name in the class list, with a number behind it if
+    """Returns what is shown for each student: the short form of the name in the class list, with a number after it if
     several students share it. A student without a written name keeps the name in the lab."""
     found = {name: short(lab.people[name].written) if name in lab.people and lab.people[name].written != name else name
              for name in lab.students}

@@ -11,7 +11,7 @@ from classroom.marks.rule import Value
 
 # The names of the clauses' columns in rules, and in the table for people.
 CLAUSES = {"clause1": "access_denials", "clause2": "stale_denials", "clause3": "chosen_denials", "clause4": "guard_denials"}
-MORE = ("nodes", "network")  # the columns behind those of earlier versions
+MORE = ("nodes", "network")  # the columns after those of earlier versions
 COLUMNS = {
     "journal": "the journal that the row is read from",
     "student": "the student's name in the lab",

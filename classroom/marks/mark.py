@@ -166,7 +166,7 @@ def refusal(journal: Path, error: str) -> str:
 
 
 def rows(runs: list[Run], rule: Rule | None = None) -> list[list[str]]:
-    """Returns a row for each student and run, below a row of heads. What a rule gives is behind the marks."""
+    """Returns a row for each student and run, below a row of heads. What a rule gives comes after the marks."""
     names = rule.names if rule else []
     table = [["journal", "student", "granted", "applied", *RULES, "steps", "first", "last", "shared", *DENIED, *MORE, *names]]
     for run in runs:

@@ -60,7 +60,7 @@ class Rule:
                 known[line.name] = line.expression(known)
             except Wrong as wrong:
                 raise Fault(f"{self.path}: line {line.number}: {wrong}") from None
-            found.append(told(known[line.name]))
+            found.append(shown(known[line.name]))
         return found
 
     def cells(self, row: Row) -> list[str]:
@@ -68,7 +68,7 @@ class Rule:
         return [value if value == UNKNOWN else guarded(value) for value in self.values(row)]
 
 
-def told(value: Value) -> str:
+def shown(value: Value) -> str:
     """Returns a value as a text: a number with three decimals at most."""
     if value is None:
         return UNKNOWN
@@ -121,7 +121,7 @@ def line_of(tokens: list[tuple[str, str]], number: int, known: Sequence[str]) ->
 
 
 def tokens_of(text: str) -> list[tuple[str, str]]:
-    """Returns the kinds and texts of a line's tokens; what stands behind `#` is a comment."""
+    """Returns the kinds and texts of a line's tokens; the rest after `#` is a comment."""
     found, at = list[tuple[str, str]](), 0
     while text[at:].strip() and not text[at:].lstrip().startswith("#"):
         token = TOKEN.match(text, at)
@@ -261,19 +261,19 @@ def constant(value: Value) -> Expression:
 def number(value: Value) -> Fraction:
     """Returns a value that has to be a number."""
     if isinstance(value, (bool, str)) or value is None:
-        raise Wrong(f"{told(value)} is no number")
+        raise Wrong(f"{shown(value)} is no number")
     return value
 
 
 def truth(value: Value) -> bool | None:
     """Returns a value that has to be yes or no, or unknown."""
     if value is not None and not isinstance(value, bool):
-        raise Wrong(f"{told(value)} is neither yes nor no; a comparison is, as: applied >= 1")
+        raise Wrong(f"{shown(value)} is neither yes nor no; a comparison is, as: applied >= 1")
     return value
 
 
 def chosen(condition: Expression, first: Expression, other: Expression) -> Expression:
-    """Returns the first where the condition holds, else the other."""
+    """Returns the first if the condition holds, else the other."""
     def value(row: Row) -> Value:
         """Returns the value."""
         holds = truth(condition(row))
@@ -311,7 +311,7 @@ def comparison(sign: str, left: Expression, right: Expression) -> Expression:
             return None
         if sign in ("==", "!="):
             if isinstance(one, bool) != isinstance(other, bool) or isinstance(one, str) != isinstance(other, str):
-                raise Wrong(f"{told(one)} and {told(other)} can't be compared")
+                raise Wrong(f"{shown(one)} and {shown(other)} can't be compared")
             return (one == other) == (sign == "==")
         a, b = number(one), number(other)
         return {"<": a < b, "<=": a <= b, ">": a > b, ">=": a >= b}[sign]

@@ -66,7 +66,7 @@ class Total:
 
 @dataclass(frozen=True)
 class Marked:
-    """What a run tells: its lab, its network, the marks of each student, and what its record says was asked."""
+    """The result of a run: its lab, its network, the marks of each student, and what its record says was asked."""
 
     lab: Lab
     network: str
@@ -106,7 +106,7 @@ def by_labs(runs: Runs, rule: Rule | None = None) -> list[list[str]]:
 
 
 def by_roster(runs: Runs, roster: People, rule: Rule | None = None) -> tuple[list[list[str]], list[str]]:
-    """Returns the list's own rows with the numbers behind them, and the written names that it doesn't have."""
+    """Returns the list's own rows with the numbers after them, and the written names that it doesn't have."""
     left = summed(runs)
     heads, names = roster.heads or ["name"], rule.names if rule else []
     rows = [[*heads, *HEADS, *names]]

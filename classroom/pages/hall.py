@@ -27,7 +27,7 @@ from classroom.pages.web import Asked, Web
 from classroom.pages.web import opened as web_opened
 
 LISTED = 25  # lines that the page shows
-STILL_HERE = 10.0  # seconds without news after which a page is told that there are none
+STILL_HERE = 10.0  # seconds without news after which a comment line is sent
 LAST_WORD = 2.0  # seconds in which pages may learn that the class is over
 MOST_BYTES = 200  # of a line that the page sends
 ACTS = ("close", "shake", "resume", "end")

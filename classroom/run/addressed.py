@@ -13,8 +13,8 @@ OWN = {
     f"{RESUME} NETWORK": "go on with a network whose server or desk is gone",
     f"{END} NETWORK": "end a network; of one that is down, give it up",
 }
-BARE = {word for word, it in WORDS.items() if not it.form} | {RESUME}  # the words that may have the network behind them
-HOW = "a network's number or name stands before a word (2 shake 3, maths-2: close) or behind a word without values (close 2); " \
+BARE = {word for word, it in WORDS.items() if not it.form} | {RESUME}  # the words that the network may follow
+HOW = "a network's number or name stands before a word (2 shake 3, maths-2: close) or after a word without values (close 2); " \
       "all, or no network, is for every one"
 
 

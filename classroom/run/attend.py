@@ -194,7 +194,7 @@ def obeys(desk: Desk, line: str | None, hung: Callable[[], None]) -> str:
 
 def attend(desk: Desk, it: Server, until_stable: bool, typed: Typed, room: Room, hung: Callable[[], None]) -> str:
     """Closes steps and does what is typed, until the run ends; gives by what: `stable`, `full`, `journal`, `end`,
-    `clock`, `left` or `died`. `hung` is called where the terminal went away."""
+    `clock`, `left` or `died`. `hung` is called if the terminal goes away."""
     with contextlib.closing(Striker()) as striker:
         while not it.ended():
             try:

@@ -18,7 +18,7 @@ PATIENCE = 60.0  # seconds in which a process without its terminal leaves the de
 
 
 def free(folder: Path, kept: Class) -> None:
-    """Waits until no process holds the desks of a class. One that has lost its terminal is told to leave them; any other is a
+    """Waits until no process holds the desks of a class. One that has lost its terminal is asked to leave them; any other is a
     fault."""
     if not kept.desk.lives():
         return

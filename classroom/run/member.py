@@ -180,7 +180,7 @@ class Member:
 
 
 def fact_in(line: str) -> tuple[str, str]:
-    """Returns what a line tells that the table has, and its value; else two empty texts."""
+    """Returns the fact for the table that a line has, and its value; else two empty texts."""
     for fact, pattern in FACTS.items():
         if found := pattern.fullmatch(line):
             return fact, found[1]

@@ -153,6 +153,7 @@ class Several:
         for line in start_table([member.shown() for member in self.members], play):
             self.say(line)
         if self.hall is not None:
+            self.hall.show(self.state(False), self.state(True))  # Who opens it sees all networks at once.
             self.say(f"page for all {self.hall.address}")
             if is_private(self.is_typed):
                 self.say(f"page for all to act {self.hall.address_to_act}", private=True)
@@ -213,7 +214,7 @@ class Several:
         if self.is_left:
             self.say("another process takes the desks")
             return FAILED
-        self.say(f"the class is ended; all of it is in {self.folder}: {CLASS} mark {self.folder} tells the marks")
+        self.say(f"the class is ended; all of it is in {self.folder}: {CLASS} mark {self.folder} prints the marks")
         return max(member.code for member in self.members)
 
     def end(self) -> None:
@@ -340,7 +341,7 @@ def side_by_side(words: argparse.Namespace) -> int:
     wants_ports(words, len(words.labs))
     server.ready(words.serve)
     networks, news = networks_of(words), News()
-    members = members_of(Path(), networks, words, news)  # A lab that is refused is told before anything is made.
+    members = members_of(Path(), networks, words, news)  # A lab that is refused ends this before anything is made.
     folder = begun(Path(words.into), networks)
     for member in members:
         member.folder = folder / member.name

@@ -54,7 +54,7 @@ class StateFile:
                 for node, rule in desk.known.waiting()]
 
     def missing(self, desk: Desk) -> list[str]:
-        """Returns the students with a node who have no connection; none where no record says who has one."""
+        """Returns the students with a node who have no connection; none if no record says who has one."""
         if desk.heard is None:
             return []
         lab, there = desk.announcer.shown, desk.heard.connected()

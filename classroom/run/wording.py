@@ -7,7 +7,7 @@ from collections.abc import Sequence
 from classroom.core.counts import plural
 from classroom.core.journal import Event
 
-MOST_MOVES = 6  # moves of a step that are told one by one
+MOST_MOVES = 6  # moves of a step that are printed one by one
 MOST_NODES = 6  # nodes that are named of many
 KINDS = {"fault": "fault", "link": "link", "cut": "cut"}
 

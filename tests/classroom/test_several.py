@@ -89,7 +89,7 @@ class OneDesk(Classes):
         desk.type("9: close")
         desk.until("^not understood: there is no network 9; there are 1 maths-1, 2 maths-2$")
         desk.type("end all\nend")
-        desk.until(f"^the class is ended; all of it is in {desk.folder}: .* mark .* tells the marks$")
+        desk.until(f"^the class is ended; all of it is in {desk.folder}: .* mark .* prints the marks$")
         self.assertEqual(desk.ends(), 0, desk.lines)
         self.assertEqual((desk.marks("maths-1")["faults"], desk.marks("maths-2")["faults"]), (4, 1))
         self.taken_as_a_whole(desk)
