@@ -1,4 +1,4 @@
-"""Where a door leads: the networks of a class, each with the ports that its run's folder tells."""
+"""Where a door leads: the networks of a class, each with the ports that its run's folder has."""
 from __future__ import annotations
 
 import json
@@ -123,7 +123,7 @@ class Routes:
         return {host for network in self.networks.values() for host in network.hosts}
 
     def is_to_begin(self, network: Network) -> bool:
-        """Returns whether a network was announced a moment ago, and its run hasn't told its ports since."""
+        """Returns whether a network was announced a moment ago, and its run hasn't kept its ports since."""
         try:
             has_told = (network.folder / RECORD).stat().st_mtime >= network.announced
         except OSError:

@@ -91,7 +91,7 @@ def names_of_here() -> set[str]:
 
 
 def serve(folder: Path, listener: socket.socket) -> None:
-    """Serves a door, of which the folder tells the rest."""
+    """Serves a door, of which the folder has the rest."""
     kept = Kept.read(folder)
     if kept is None:
         raise SystemExit(f"{folder / DOOR}: no door")

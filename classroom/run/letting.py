@@ -1,4 +1,4 @@
-"""A door for the runs of a class: the words that ask for one, and what is told of it."""
+"""A door for the runs of a class: the words that ask for one, and what is printed of it."""
 from __future__ import annotations
 
 import argparse

@@ -1,6 +1,6 @@
 """Another key for a student while the class goes on: the host is ended, and a new one goes on from its journal at once.
 
-The roster of a running server can't change. A host that is killed tells nobody that the class is over, so programs whose
+The roster of a running server can't change. A host that is killed says to nobody that the class is over, so programs whose
 connection was lost greet again; what was granted is in the journal, each line of which was synced.
 """
 from __future__ import annotations

@@ -121,7 +121,7 @@ def all_or_none() -> Iterator[list[Path]]:
 
 
 def new(words: argparse.Namespace) -> int:
-    """Makes the labs and their slips, once all of it is known to work, and tells who is where and what comes next."""
+    """Makes the labs and their slips, once all of it is known to work, and prints who is where and what comes next."""
     program()
     people = lists.read(Path(words.students), words).people
     chance = random.Random(words.seed)
@@ -159,7 +159,7 @@ def written(words: argparse.Namespace, made: list[Made], rooms: list[str], merge
 
 
 def told(words: argparse.Namespace, made: list[Made], ways: list[Way], everybody: int) -> None:
-    """Tells the labs with their slips, who is where, and what a teacher has to know of them."""
+    """Prints the labs with their slips, who is where, and what a teacher has to know of them."""
     for it in made:
         print(f"{it.file}: {it.size}; slips: {slips.page_of(it.file)} to print, {slips.folder_of(it.file)} for programs")
         print(f"  {dealing.counts(it.lab)}")

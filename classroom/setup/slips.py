@@ -29,7 +29,7 @@ class Way:
     ssh: str = ""
 
     def lines(self) -> list[str]:
-        """Returns the lines of a slip that tell this; those of a door stand last."""
+        """Returns the lines of a slip that say this; those of a door stand last."""
         told = {"network": self.network, "room": self.room, "page": str(self.page), "ssh": self.ssh, "door": self.door,
                 "fingerprint": self.fingerprint}
         return [f"{word} {value}" for word, value in told.items() if value]

@@ -133,7 +133,7 @@ class Far(InRoom):
         self.assertTrue((going.folder / "record.~1~" / "begun").is_file())
         run = json.loads((going.folder / "marks.json").read_text(encoding="utf-8"))["runs"][0]
         journal = (going.folder / "journal").read_text(encoding="ascii")
-        self.assertEqual(sum(it["granted"] for it in run["students"].values()), journal.count(" grant "))
+        self.assertEqual(sum(sum(it["granted"].values()) for it in run["students"].values()), journal.count(" grant "))
         self.assertEqual(words("mark", going.folder, "--json").returncode, 0)
 
 
