@@ -148,7 +148,7 @@ class Words(Cycle):
         self.assertEqual(process.wait(LIMIT), 0, told)
         self.assertIn("not understood: there is no network 9; there are 1 lab-1, 2 lab-2\n", told)
         self.assertFalse(any(line.startswith("lab-1: configuration 1: ") for line in told))
-        self.assertEqual([bool(re.match(r"\d  lab-\d  28\d\d\d +3 +15 +http://127.0.0.1:282\d\d/", line)) for line in told if line[:1].isdigit()], [True, True])
+        self.assertEqual([bool(re.match(r"\d  lab-\d +28\d\d\d +3 +15 +http://127.0.0.1:282\d\d/", line)) for line in told if line[:1].isdigit()], [True, True])
 
 
 class InATerminal(Cycle):
