@@ -24,7 +24,8 @@ MOST = 30  # words of a sentence
 # Each phrase, and what to write instead.
 PHRASES = {
     r"(?<![A-Za-z`] )\bWhere\b(?= \S)(?![^.?!]*\?)": "If, When",
-    r"(?<!says)(?<!shows)(?<!sees)(?<!knows),? where (?:no|none|nobody|nothing|not|it|they|one|some|each|two|there|that|this|a|an|the|you|he|she|n)\b(?![^.?!]*\?)": "if, when",
+    r"(?<!says)(?<!shows)(?<!sees)(?<!knows),? where (?:no|none|nobody|nothing|not|it|they|one|some|each|"
+    r"two|there|that|this|a|an|the|you|he|she|n)\b(?![^.?!]*\?)": "if, when",
     r"\b(?:tells?|told|telling)\b(?!.*\bapart\b)": "prints, returns, says, names",
     r"\bbehind\b": "after",
     r"\bin vain\b": "without success, denied",
