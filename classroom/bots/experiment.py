@@ -11,6 +11,7 @@ import multiprocessing
 import os
 import re
 import signal
+import statistics
 import sys
 import time
 from collections.abc import Iterator
@@ -173,20 +174,34 @@ class Progress:
 
 
 def table(rows: list[Row]) -> str:
-    """The greatest of each family and daemon beside its bound."""
-    title = f"greatest moves of {MOVES}"
-    lines = [f"{'family':10} {'daemon':14} {'runs':>6} {'nodes':>8}  {title}  greatest rounds of 2n"]
+    """Returns a row for each family, daemon and number of nodes: its runs, and the median, the greatest and the bound of
+    moves and of rounds. A line for each family and daemon tells which run came closest to its bound."""
+    lines = [f"{'family':10} {'daemon':14} {'nodes':>5} {'runs':>6}  moves: median, greatest, bound  rounds: median, greatest, bound"]
     groups: dict[tuple[str, str], list[Row]] = {}
     for row in rows:
         groups.setdefault((row.family.partition(":")[0], row.daemon), []).append(row)
     for (family, daemon), own in groups.items():
-        by_moves = max(own, key=lambda row: row.moves / bounds.of(row.nodes, row.links).moves)
-        by_rounds = max(own, key=lambda row: row.rounds / bounds.of(row.nodes, row.links).rounds)
-        span = f"{min(row.nodes for row in own)}..{max(row.nodes for row in own)}"
-        moves = f"{by_moves.moves} of {bounds.of(by_moves.nodes, by_moves.links).moves} (n {by_moves.nodes})"
-        rounds = f"{by_rounds.rounds} of {bounds.of(by_rounds.nodes, by_rounds.links).rounds} (n {by_rounds.nodes})"
-        lines.append(f"{family:10} {daemon:14} {len(own):6} {span:>8}  {moves:{len(title)}}  {rounds}")
+        for nodes in sorted({row.nodes for row in own}):
+            sized = [row for row in own if row.nodes == nodes]
+            most = max((bounds.of(row.nodes, row.links) for row in sized), key=lambda each: each.moves)
+            moves, rounds = spread([row.moves for row in sized], most.moves), spread([row.rounds for row in sized], most.rounds)
+            lines.append(f"{family:10} {daemon:14} {nodes:5} {len(sized):6}  {moves:31}  {rounds}")
+        lines.append(closest(family, daemon, own))
     return "\n".join(lines)
+
+
+def spread(counts: list[int], bound: int) -> str:
+    """Returns the median and the greatest of some counts, and their bound."""
+    return f"{statistics.median(counts):>13g} {max(counts):9} {bound:6}"
+
+
+def closest(family: str, daemon: str, own: list[Row]) -> str:
+    """Returns which runs came closest to the bounds of their networks."""
+    by_moves = max(own, key=lambda row: row.moves / bounds.of(row.nodes, row.links).moves)
+    by_rounds = max(own, key=lambda row: row.rounds / bounds.of(row.nodes, row.links).rounds)
+    return (f"{family:10} {daemon:14} closest to the bound {MOVES}: {by_moves.moves} of {bounds.of(by_moves.nodes, by_moves.links).moves} moves "
+            f"(n {by_moves.nodes}, seed {by_moves.seed}); to that of rounds: {by_rounds.rounds} of "
+            f"{bounds.of(by_rounds.nodes, by_rounds.links).rounds} (n {by_rounds.nodes}, seed {by_rounds.seed})")
 
 
 def new_file(path: Path) -> None:

@@ -21,6 +21,7 @@ from classroom.core import lab as labs
 from classroom.core import bounds
 from classroom.core.program import TOP, call
 from classroom.core.rounds import Recovery
+from classroom.core.tally import Bounds
 from classroom.run.daemons import Daemon, heads, movers
 from tests.classroom.help import LIMIT, InRoom, words
 
@@ -110,6 +111,16 @@ class Runs(InRoom):
 
 class Words(InRoom):
     """The word itself."""
+
+    def test_the_table_has_a_row_for_each_number_of_nodes(self) -> None:
+        rows = [Row("path", nodes, nodes - 1, "central", "random", seed, moves, moves, 1, True)
+                for nodes, seed, moves in ((4, 1, 3), (4, 2, 9), (4, 3, 4), (8, 1, 20), (8, 2, 10))]
+        with unittest.mock.patch.object(bounds, "of", side_effect=lambda nodes, links: Bounds(5 * nodes, 2 * nodes, 0)):
+            lines = [line.split() for line in experiment.table(rows).splitlines()]
+        self.assertEqual(lines[1], ["path", "central", "4", "3", "4", "9", "20", "1", "1", "8"])
+        self.assertEqual(lines[2], ["path", "central", "8", "2", "15", "20", "40", "1", "1", "16"])
+        self.assertIn("closest to the bound", " ".join(lines[3]))
+        self.assertIn("20 of 40 moves (n 8, seed 1)", " ".join(lines[3]))
 
     def test_a_table_and_a_chart_and_going_on(self) -> None:
         table, plot = self.room / "runs.csv", self.room / "runs.svg"
