@@ -8,7 +8,7 @@ from model.events import apply
 from model.fault import Fault, read_file
 from model.journal import Event
 from model.lab import Lab
-from model.requests import GREATEST
+from model.requests import GREATEST, read_request
 from model.run import LONGEST_REQUEST, answer
 
 MOST_BEGUN, MOST_RECORD = 20, 2**30
@@ -20,8 +20,15 @@ ASKED = re.compile(STAMP + rb"> ")
 # The kinds of entries. Another kind has its pattern here, and what it means in `Seat.take`.
 SAID = re.compile(STAMP + rb"(>) ([^\n]*)\n" + STAMP + rb"< ([^\n]*)\n")
 MARK = re.compile(STAMP + rb"(?:([.!-])|(\+) %s)\n" % NUMERAL)
-# Where a session stands: lines may come, or none until its end, or none until recording resumes, or only a hello.
-OPEN, OVER, PAUSED, RESUMING = "open", "over", "paused", "resuming"
+# Where a session stands: nothing was recorded yet; lines may come, or none until its end, after a bye or because anything
+# may be missing, or none until recording resumes, or only a hello.
+FRESH, OPEN, OVER, CUT, PAUSED, RESUMING = "fresh", "open", "over", "cut", "paused", "resuming"
+
+
+def is_command(line: bytes) -> bool:
+    """Returns whether a line asks for what the clauses decide."""
+    asked = read_request(line)
+    return asked is not None and asked.do not in ("hello", "bye")
 
 
 class Entry(NamedTuple):
@@ -69,7 +76,7 @@ class Seat:
         self.lab, self.events, self.number, self.record = lab, events, number, record
         self.world = lab.opening()  # after the events that had been seen
         self.known: str | None = None  # who is known in the session
-        self.stage = OPEN
+        self.stage = FRESH
 
     def entry(self, text: bytes, at: int) -> Entry | str:
         """Returns the entry that begins at a byte of the text, or why none does."""
@@ -88,21 +95,27 @@ class Seat:
         """Returns whether an entry has the seat's number, and a number of events of 64 bits."""
         return int(found[1]) == self.number and int(found[2]) <= GREATEST
 
+    def advance(self) -> None:
+        """Lets the next event of the journal happen."""
+        apply(self.world, self.events[self.world.place].asked)
+
     def take(self, entry: Entry) -> str | None:
         """Takes an entry as the next one of the seat, or returns why it can't be that."""
         if entry.seen < self.world.place:
             return "goes back"
         if entry.seen > len(self.events):
             return "past the journal's end"
+        if entry.seen > self.world.place and not self.may_rise(entry):
+            return "goes ahead"
         while self.world.place < entry.seen:
-            apply(self.world, self.events[self.world.place].asked)
+            self.advance()
         # The session ended, and the next one begins: nobody is known.
         if entry.mark == b".":
             self.known, self.stage = None, OPEN
             self.record.sessions += 1
         # Anything may be missing up to the session's end.
         elif entry.mark == b"!":
-            self.known, self.stage = None, OVER
+            self.known, self.stage = None, CUT
             self.record.is_cut = True
         # Recording pauses, for whoever is known.
         elif entry.mark == b"-":
@@ -118,9 +131,20 @@ class Seat:
             return self.judge(entry)
         return None
 
+    def may_rise(self, entry: Entry) -> bool:
+        """Returns whether more events may have been seen at an entry than before it."""
+        # Recording pauses at a line that isn't recorded; it resumes, or is cut, after what isn't recorded.
+        if self.stage in (FRESH, PAUSED, CUT) or entry.mark in (b"!", b"+") or entry.mark == b"-" and self.known is not None:
+            return True
+        # The teacher, and whoever owns a node, may have been shown something.
+        if self.known == self.lab.teacher or any(self.known in owners for owners in self.lab.owners.values()):
+            return True
+        # A command asks the window, unless memory is refused before.
+        return entry.mark == b">" and entry.reply != NO_MEMORY and self.known is not None and is_command(entry.line)
+
     def judge(self, entry: Entry) -> str | None:
         """Takes an answered line if one may come and its reply is that of the rules, or returns why it can't be."""
-        if self.stage in (OVER, PAUSED):
+        if self.stage in (OVER, CUT, PAUSED):
             return "not the session's end"
         before = self.known
         why = self.check(entry)
@@ -142,7 +166,8 @@ class Seat:
             return None
         # An event that the line grants must be the next one of the journal.
         event = found.event and [Event(place + 1, self.world.number, str(self.known), found.event)]
-        is_reply = entry.reply == found.reply.encode("ascii")
+        # A view that was shown has no entry.
+        is_reply = not found.is_view and entry.reply == found.reply.encode("ascii")
         if is_reply and event and event != self.events[place : place + 1]:
             return f"not the journal's event at place {place + 1}"
         if not is_reply or len(entry.line) > LONGEST_REQUEST:
