@@ -53,6 +53,7 @@ class Said(NamedTuple):
 class Record:
     """What the records of all seats come to."""
 
+    begun: int = 0  # how many events came before
     sessions: int = 0
     said: list[Said] = field(default_factory=list)
     granted: list[int] = field(default_factory=list)
@@ -190,16 +191,16 @@ class Seat:
             at = entry.end
 
 
-def check_places(record: Record, begun: int, events: int) -> None:
+def check_places(record: Record, events: int) -> None:
     """Refuses a record unless its seats grant each event once; events before the record began none of them may grant."""
     seen: set[int] = set()
     for place in record.granted:
-        if place <= begun:
+        if place <= record.begun:
             raise Fault(f"verify: place {place}: granted before the record began", 3)
         if place in seen:
             raise Fault(f"verify: place {place}: granted twice", 3)
         seen.add(place)
-    for place in range(begun + 1, events + 1):
+    for place in range(record.begun + 1, events + 1):
         if record.is_whole() and place not in seen:
             raise Fault(f"verify: place {place}: granted in no record", 3)
 
@@ -209,10 +210,10 @@ def read_record(lab: Lab, events: list[Event], folder: Path) -> Record:
     begun = read_file(folder / "begun", "record", MOST_BEGUN).removesuffix(b"\n")
     if not re.fullmatch(rb"[0-9]{1,19}", begun):
         raise Fault("read fault: record", 4)
-    record = Record()
+    record = Record(begun=int(begun))
     for number in range(1, lab.sessions + 1):
         Seat(lab, events, number, record).read(read_file(folder / f"{number}.record", "record", MOST_RECORD))
-    check_places(record, int(begun), len(events))
+    check_places(record, len(events))
     return record
 
 
@@ -220,4 +221,4 @@ def verified(lab: Lab, record: Record, events: list[Event]) -> str:
     """Returns what verifying prints of a record that passes."""
     end = "" if record.is_whole() else ", not whole"
     first = f"ok: {record.sessions} sessions, {len(record.said)} lines, {len(events)} events{end}"
-    return f"{first}\n{' '.join(record.whole(lab))}\n"
+    return f"{first}\n{' '.join(record.whole(lab))}\nbegun after {record.begun} events\n"

@@ -148,7 +148,7 @@ def risen(run: Recording) -> list[tuple[str, dict[int, bytes], str]]:
     def told(sessions: int, lines: int, rest: str = f"\n{whole_line(run.lab)}") -> str:
         return f"ok: {run.sessions + sessions} sessions, {run.lines + lines} lines, 2 events{rest}"
 
-    cut, paused = ", not whole\nwhole", f", not whole\n{whole_line(run.lab)}"
+    cut, paused = f", not whole\n{whole_line(run.lab, cut=True)}", f", not whole\n{whole_line(run.lab)}"
     found: list[tuple[str, bytes, str]] = [
         ("begun later, at a line", noise % later + b"3 2 .\n", told(1, 1)),
         ("begun later, at an end", b"3 2 .\n", told(1, 0)),
@@ -223,7 +223,7 @@ def by_hand(files: Files, lab: Lab) -> int:
         ("a lost grant", {1: b"".join(one.splitlines(keepends=True)[:4]) + b"1 2 .\n", 2: two},
          "place 2: granted in no record"),
         ("a lost grant, cut", {1: b"".join(one.splitlines(keepends=True)[:4]) + b"1 2 !\n1 2 .\n", 2: two},
-         f"ok: 2 sessions, {run.lines - 1} lines, 2 events, not whole\nwhole"),
+         f"ok: 2 sessions, {run.lines - 1} lines, 2 events, not whole\n{whole_line(lab, cut=True)}"),
         ("a grant told again by its seat", {1: one + replaced(one, b"1 2 .\n", b"").replace(b"1 0 ", b"1 2 "), 2: two},
          "seat 1, line 10: not the reply of the rules at place 2"),
         ("a grant told twice", {1: one, 2: two, 3: in_seat(1, 3, one)}, "place 1: granted twice"),
@@ -238,7 +238,7 @@ def by_hand(files: Files, lab: Lab) -> int:
     for what, texts, line in cases:
         files.wants(what, journal, {**rest, **texts}, line if line.startswith("ok: ") else f"verify: {line}")
     files.wants("begun later", journal, {**rest, 1: one, 2: two}, "verify: place 1: granted before the record began", 1)
-    files.wants("begun where it ends", journal, rest, f"ok: 0 sessions, 0 lines, 2 events\n{whole_line(lab)}", 2)
+    files.wants("begun where it ends", journal, rest, f"ok: 0 sessions, 0 lines, 2 events\n{whole_line(lab, begun=2)}", 2)
     return len(cases) + 2
 
 

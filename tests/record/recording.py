@@ -14,10 +14,11 @@ def is_shown(reply: str) -> bool:
     return json.loads(reply).get("ok") in SHOWN
 
 
-def whole_line(lab: Lab, cut: bool = False, lacking: Collection[str] = ()) -> str:
+def whole_line(lab: Lab, cut: bool = False, lacking: Collection[str] = (), begun: int = 0) -> str:
     """Returns the line of those of whom all is recorded, the teacher first and students in the lab's order: nobody, if
-    anything may be missing, or all but those for whom recording paused."""
-    return " ".join(["whole", *(name for name in lab.keys if not cut and name not in lacking)])
+    anything may be missing, or all but those for whom recording paused; and the line of how many events came before."""
+    line = " ".join(["whole", *(name for name in lab.keys if not cut and name not in lacking)])
+    return f"{line}\nbegun after {begun} events"
 
 
 class Recording:
