@@ -14,6 +14,8 @@ pub enum RecordRefusal {
     GoesBack(u8, u64),
     #[error("seat {0}, line {1}: past the journal's end")]
     PastEnd(u8, u64),
+    #[error("seat {0}, line {1}: goes ahead")]
+    GoesAhead(u8, u64),
     #[error("seat {0}, line {1}: not the session's end")]
     NoEnd(u8, u64),
     #[error("seat {0}, line {1}: not a hello that is granted")]
@@ -42,6 +44,7 @@ impl RecordRefusal {
             Why::NoEntry => RecordRefusal::NoEntry(seat, line),
             Why::GoesBack => RecordRefusal::GoesBack(seat, line),
             Why::PastEnd => RecordRefusal::PastEnd(seat, line),
+            Why::GoesAhead => RecordRefusal::GoesAhead(seat, line),
             Why::NoEnd => RecordRefusal::NoEnd(seat, line),
             Why::NoHello => RecordRefusal::NoHello(seat, line),
             Why::NoPause => RecordRefusal::NoPause(seat, line),
