@@ -32,7 +32,7 @@ ELSEWHERE = set(Path(__file__).with_name("elsewhere.txt").read_text(encoding="ut
 
 # The pages that show how the program is used, and by which test their blocks are run: those without a mark
 # by `tests/pages/pages`, but for the commands that another test has in these words.
-USED = ("README.md", "docs/STUDENT.md", "docs/TEACHER.md", "docs/COURSE.md", "docs/TRUST.md", "docs/OPERATE.md")
+USED = ("README.md", "docs/STUDENT.md", "docs/SELF-STABILISATION.md", "docs/TEACHER.md", "docs/COURSE.md", "docs/TRUST.md", "docs/OPERATE.md")
 RUN_BY = {("docs/OPERATE.md", "sh"): "tests/pages/operate", ("docs/STUDENT.md", "python"): "tests/pages/pages"}
 RUN_BEFORE = {
     "tar ": ("tests/release/run", "tar -xzf $release.tar.gz"),
@@ -151,7 +151,7 @@ def told(page: str, files: list[str], folders: set[str], words: set[str], laws: 
 
 def is_command(line: str) -> bool:
     """Whether a line of a block is a command."""
-    return bool(re.match(r"(\./|\.ci/|python3 |tar |ssh |java |mkdir |sha256sum )", line.strip().removeprefix("$ ")))
+    return bool(re.match(r"(\./|\.ci/|python3 |tar |ssh |java |mkdir |sha256sum |sed |cmp |cat )", line.strip().removeprefix("$ ")))
 
 
 def commands_of(page: str) -> Iterator[str]:
@@ -227,4 +227,5 @@ def main() -> None:
     print(f"documents: {len(pages)} pages, {total} words; each link, file, name and contract is there, and each command is run")
 
 
-main()
+if __name__ == "__main__":
+    main()
