@@ -10,13 +10,13 @@ use Rattle.mml_lines.specs.LinesOf.{IsWithinLimit}
 use Rattle.mml_lines.specs.LinesState.{bytes_ahead}
 use Rattle.mml_lines.specs.declared.lines.TheConstants.{READ_SIZE}
 use Rattle.mml_session.proofs.EndingLemmas.{AnsweredSoFar}
-use Rattle.mml_session.proofs.session.serve_recorded.Given as goal
+use Rattle.mml_session.proofs.session.serve_observed.Given as goal
 
 abbrev pub invariant-loop-before : goal.invariant-loop-before
 invariant-loop-before g l = record {
   so_far : AnsweredSoFar l.fn.connection g.H.House.lab l.fn.window (standing l.session.known l.window) l.before (g.R.Read.remaining l.fn.reader)
       (prepend_known l.session.lines.unread (g.R.Read.remaining l.reader)) l.session.held.bytes.items (g.W.Write.contents l.fn.writer) (g.W.Write.contents l.writer)
-      (g.K.Recorder.kept l.fn.recorder) (g.K.Recorder.kept l.recorder);
+      (g.O.Observer.kept l.fn.observer) (g.O.Observer.kept l.observer);
   few : length l.session.lines.unread < READ_SIZE;
   out : IsWithinLimit l.session.lines.limit l.session.lines.unread → l.session.held.bytes.items ≡ [];
   number : l.session.connection ≡ l.fn.connection;
