@@ -8,6 +8,9 @@
 
 By hand: python3 client.py SLIP, or client.py PORT NAME KEYFILE, either with --log FILE. It greets; then what is typed
 is sent, and what comes is shown. SLIP - is the environment's CENDUWA_SLIP, KEYFILE - its CENDUWA_KEY.
+
+From elsewhere: a slip that names a door is taken through it, and python3 client.py --tunnel SLIP opens the slip's port
+on this machine for programs in any language: it leads through the door.
 """
 from __future__ import annotations
 
@@ -66,6 +69,10 @@ class Silent(Closed):
 
 class NoServer(Closed):
     """Nobody listens at the port, or another program does."""
+
+
+class NoDoor(NoServer):
+    """The door's certificate isn't the slip's."""
 
 
 class NoSlip(Exception):
@@ -147,12 +154,16 @@ class Report:
 
 @dataclass(frozen=True)
 class Slip:
-    """What a student's sheet says. As a file it has a line each: `port 4711`, `name ana`, `key ..`, `nodes 1,4`."""
+    """What a student's sheet says. As a file it has a line each: `port 4711`, `name ana`, `key ..`, `nodes 1,4`. A door,
+    `class.example:4700`, takes the network's name, and is known by its certificate's SHA-256."""
 
     port: int
     name: str
     key: str
     nodes: tuple[int, ...]
+    door: str = ""
+    network: str = ""
+    fingerprint: str = ""
 
     @staticmethod
     def read(path: str | Path) -> Slip:
@@ -163,7 +174,10 @@ class Slip:
         missing = [word for word in ("port", "name", "key") if word not in it]
         if missing:
             raise NoSlip(f"{path}: no line `{missing[0]} ..`, so it is no slip")
-        return Slip(port_of(it["port"]), it["name"], it["key"], nodes_of(it.get("nodes", "")))
+        door, network, fingerprint = (it.get(word, "") for word in ("door", "network", "fingerprint"))
+        if door and not (door_of(door) and network and re.fullmatch("[0-9a-f]{64}", fingerprint)):
+            raise NoSlip(f"{path}: a door, and no line `network ..`, or no `fingerprint ..` of 64 digits")
+        return Slip(port_of(it["port"]), it["name"], it["key"], nodes_of(it.get("nodes", "")), door, network, fingerprint)
 
     @staticmethod
     def of(words: list[str]) -> tuple[Slip, list[str]]:
@@ -208,12 +222,59 @@ def port_of(word: str) -> int:
     return int(word)
 
 
+def door_of(word: str) -> tuple[str, int]:
+    """The host and port of a door, `class.example:4700`; it raises NoSlip where a word is none."""
+    host, _, port = word.rpartition(":")
+    if not re.fullmatch(r"[A-Za-z0-9.-]+|\[[0-9A-Fa-f:.]+\]", host):
+        raise NoSlip(f"{word} is no door: HOST:PORT")
+    return host.strip("[]"), port_of(port)
+
+
 def nodes_of(word: str = "") -> tuple[int, ...]:
     """The nodes whose numbers a word has, with commas or spaces between them; it raises NoSlip for anything else."""
     words = word.replace(",", " ").split()
     if not all(node.isascii() and node.isdecimal() for node in words):
         raise NoSlip(f"nodes {word}: no numbers with commas between them")
     return tuple(map(int, words))
+
+
+def want_certificate(certificate: bytes | None, slip: Slip) -> None:
+    """Raises NoDoor unless a certificate is the one whose fingerprint a slip has."""
+    import hashlib
+
+    if hashlib.sha256(certificate or b"").hexdigest() != slip.fingerprint:
+        raise NoDoor(f"the certificate of the door at {slip.door} isn't the slip's, so nothing was sent")
+
+
+def no_door(slip: Slip, error: Exception) -> NoServer:
+    """The error to raise where there is no way through a door."""
+    return error if isinstance(error, NoDoor) else NoServer(f"no door at {slip.door}: {error}")
+
+
+def tls() -> Any:
+    """How a door is spoken to: who it is, the fingerprint alone tells."""
+    import ssl
+
+    it = ssl.SSLContext(ssl.PROTOCOL_TLS_CLIENT)
+    it.check_hostname, it.verify_mode = False, ssl.CERT_NONE
+    return it
+
+
+def through_door(slip: Slip, limit: float) -> socket.socket:
+    """A connection through the slip's door, whose certificate is the slip's. A door that has no room ends the handshake,
+    which counts as `busy`."""
+    it: Any = None
+    try:
+        it = socket.create_connection(door_of(slip.door), timeout=limit)
+        it = tls().wrap_socket(it, server_hostname=slip.network)
+        want_certificate(it.getpeercert(True), slip)
+    except (OSError, NoDoor) as error:
+        if it is None:
+            raise no_door(slip, error) from None
+        it.close()
+        has_no_room = isinstance(error, ConnectionError) or type(error).__name__ == "SSLEOFError"
+        raise Refused("busy") if has_no_room else no_door(slip, error) from None
+    return it  # type: ignore[no-any-return]
 
 
 class Client:
@@ -243,7 +304,7 @@ class Client:
     @staticmethod
     def of(slip: Slip, limit: float = 30.0) -> Client:
         """A connection as a slip says that was read."""
-        return Client(slip.port, slip.name, slip.key, limit=limit)
+        return Client(slip.port, slip.name, slip.key, limit=limit, connection=through_door(slip, limit) if slip.door else None)
 
     def own_port(self) -> int:
         """The port of this end."""
@@ -412,7 +473,7 @@ def stop(error: Exception) -> tuple[int, str]:
     if isinstance(error, NoSlip):
         return 1, str(error)
     if isinstance(error, NoServer):
-        return 4, f"{error}; your teacher tells the port"
+        return 4, f"{error}; your teacher tells the {'certificate' if isinstance(error, NoDoor) else 'port'}"
     if isinstance(error, Over):
         return 0, "the run is over"
     return (LOST, f"{LOST_SO} ({error})") if isinstance(error, Closed) else (3, str(error))
@@ -455,7 +516,7 @@ def again(slip: Slip, lost: Closed | Refused, patience: float = 60.0) -> Client:
         time.sleep(1)
         try:
             return Client.of(slip)
-        except Over:
+        except (Over, NoDoor):
             raise
         except Closed:
             pass
@@ -607,7 +668,7 @@ class ByHand:
         self.greeted = False
         self.ended = False
         try:
-            self.connection = socket.create_connection(("127.0.0.1", port))
+            self.connection = through_door(slip, limit) if slip and slip.door else socket.create_connection(("127.0.0.1", port))
         except OSError as error:
             raise NoServer(f"no server at port {port}: {error}") from None
         self.answers = self.connection.makefile("rb")
@@ -675,22 +736,70 @@ class ByHand:
         return "the class is over, or it was cut off"
 
 
+LINGER = 5.0  # seconds for which replies are waited for after a program has ended its side
+
+
+async def carry(reader: Any, writer: Any) -> None:
+    """Passes bytes on until they end."""
+    while more := await reader.read(65536):
+        writer.write(more)
+        await writer.drain()
+
+
+async def tunnel(slip: Slip, port: int) -> None:
+    """Leads each connection to a port of this machine through the slip's door, for ever."""
+    import asyncio
+
+    async def opened() -> tuple[Any, Any]:
+        """Both ends of a connection through the door."""
+        try:
+            far = await asyncio.open_connection(*door_of(slip.door), ssl=tls(), server_hostname=slip.network)
+            want_certificate(far[1].get_extra_info("ssl_object").getpeercert(True), slip)
+            return far
+        except (OSError, NoDoor) as error:
+            raise no_door(slip, error) from None
+
+    async def lead(reader: Any, writer: Any) -> None:
+        """Leads one connection there."""
+        try:
+            far, near = await opened()
+            both = asyncio.ensure_future(carry(reader, near)), asyncio.ensure_future(carry(far, writer))
+            await asyncio.wait(both, return_when=asyncio.FIRST_COMPLETED)
+            await asyncio.wait(both[1:], timeout=LINGER)
+            await asyncio.gather(*(it for it in both if it.cancel() or it.done()), return_exceptions=True)
+            near.close()
+        except NoServer as error:
+            print(f"client: {error}", file=sys.stderr, flush=True)
+        writer.close()
+
+    (await opened())[1].close()
+    try:
+        server = await asyncio.start_server(lead, "127.0.0.1", port)
+    except OSError as error:
+        raise NoServer(f"port {port} of this machine: {error.strerror}; --tunnel SLIP PORT takes another") from None
+    print(f"port {port} of this machine leads through the door at {slip.door} to {slip.network}; Ctrl-C ends it", flush=True)
+    await server.serve_forever()
+
+
 def by_hand(words: list[str]) -> None:
     """Sends each line of standard input, and shows the line that answers it."""
+    if words[0] == "--tunnel":
+        import asyncio
+
+        far, rest = Slip.of(words[1:])
+        if not far.door or len(rest) > 1:
+            raise NoSlip("--tunnel SLIP [PORT]: the slip names a door")
+        return asyncio.run(tunnel(far, port_of(rest[0]) if rest else far.port))
     log = None
     if "--log" in words:
         index = words.index("--log")
         if index + 1 == len(words):
             raise NoSlip("--log FILE")
-        log = Path(words[index + 1])
-        words = words[:index] + words[index + 2:]
-    if len(words) == 1 and words[0].isdecimal():
-        talk = ByHand(None, port_of(words[0]), log)
-    else:
-        slip, rest = Slip.of(words)
-        if rest:
-            raise NoSlip(f"{rest[0]}: no word is taken there")
-        talk = ByHand(slip, slip.port, log)
+        log, words = Path(words[index + 1]), words[:index] + words[index + 2:]
+    given: tuple[Slip | None, list[str]] = (None, []) if len(words) == 1 and words[0].isdecimal() else Slip.of(words)
+    if given[1]:
+        raise NoSlip(f"{given[1][0]}: no word is taken there")
+    talk = ByHand(given[0], given[0].port if given[0] else port_of(words[0]), log)
     for line in [] if talk.ended else open(0, encoding="utf-8", errors="surrogateescape", newline="\n", closefd=False):
         talk.send(line.rstrip("\r\n"))
         if talk.ended:
@@ -698,4 +807,4 @@ def by_hand(words: list[str]) -> None:
 
 
 if __name__ == "__main__":
-    run(by_hand, "usage: python3 client.py SLIP, or PORT NAME KEYFILE, or PORT; each with --log FILE")
+    run(by_hand, "usage: python3 client.py SLIP, or PORT NAME KEYFILE, or PORT; each with --log FILE; or --tunnel SLIP [PORT]")

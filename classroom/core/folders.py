@@ -101,6 +101,7 @@ class Record:
     stand_in: float | None = None  # seconds after which the house plays
     looks: str | None = None  # The token of the page's address to look at.
     played: list[str] = field(default_factory=list)  # for whom the house plays at once
+    door: str | None = None  # The folder of the door that leads to the run.
 
     @staticmethod
     def read(folder: Path) -> Record | None:
@@ -114,7 +115,7 @@ class Record:
 
     def is_sound(self) -> bool:
         """Whether each value is of its kind: the folder may be another's."""
-        texts = [self.lab, self.close, self.run.start, self.server.start, *self.played, *filter(None, (self.until, self.looks))]
+        texts = [self.lab, self.close, self.run.start, self.server.start, *self.played, *filter(None, (self.until, self.looks, self.door))]
         numbers = [self.port, self.desk, *(each for each in (self.page, self.play) if each is not None)]
         seconds = 1.0 if self.stand_in is None else self.stand_in
         return (

@@ -53,7 +53,8 @@ def attach(words: argparse.Namespace) -> int:
     free(folder, record)
     run = Running(folder, Path(record.lab), lab, words.close or kept(folder, record), words.until or record.until,
                   words.page or record.page, words.typed, Teller(folder), words.play or record.play,
-                  goes_on=True, stand_in=words.stand_in or record.stand_in, looks=record.looks, played=record.played)
+                  goes_on=True, stand_in=words.stand_in or record.stand_in, looks=record.looks, played=record.played,
+                  door=record.door)
     it = Server(record.server, record.port, record.desk, True, folder / "server.txt")
     run.tell(f"port {it.port}, desk {it.desk}; folder {folder}")
     return to_the_end(run, lambda: it)

@@ -19,7 +19,7 @@ from classroom.core.folders import Process, Record, title
 from classroom.core.program import CLASS
 from classroom.core.statuses import FAILED, WARNED
 from classroom.pages import by_hand, projector
-from classroom.run import server
+from classroom.run import letting, server
 from classroom.run.attend import TICK, Room, attend
 from classroom.run.closing import Closing, spelled
 from classroom.run.connected import Connected
@@ -53,6 +53,7 @@ class Running:
     stand_in: float | None = None  # seconds after which the house plays
     looks: str | None = None  # The token of the page's address to look at, where it had one before.
     played: list[str] = field(default_factory=list)  # for whom the house plays at once
+    door: str | None = None  # The folder of the door that leads here.
     typed: Typed = field(default_factory=queue.SimpleQueue)
     pages: projector.Pages | None = None
     hands: by_hand.Hands | None = None
@@ -63,7 +64,8 @@ class Running:
         page, looks = (self.pages.server_port, self.pages.looks) if self.pages else (self.page, self.looks)
         play = self.hands.server_port if self.hands else self.play
         return Record(str(self.lab_file.resolve()), it.port, it.desk, page, spelled(self.close), self.until,
-                      Process.of(os.getpid()), it.process, play, stand_in=self.stand_in, looks=looks, played=self.played)
+                      Process.of(os.getpid()), it.process, play, stand_in=self.stand_in, looks=looks, played=self.played,
+                      door=self.door)
 
     def keep(self, **other: Any) -> None:
         """Changes something of the record in its folder, where there is one."""
@@ -159,6 +161,8 @@ def hold(run: Running, it: server.Server) -> int | None:
         if run.hands is not None:
             run.hands.show(it.port, run.tell)
             run.tell(f"page to play {run.hands.address}")
+        for line in letting.told(run.door, run.lab_file, run.pages.looks if run.pages else None):
+            run.tell(line)
     except Left:
         run.tell("another process takes the desk")
         return None

@@ -10,12 +10,13 @@ from classroom.core import lab as labs
 from classroom.core.counts import seconds
 from classroom.core.folders import Record, going, new_folder, of_folder
 from classroom.core.program import CLASS, Fault
-from classroom.run import closing, house, server
+from classroom.run import closing, house, letting, server
 from classroom.run.daemons import FORMS
 from classroom.run.holding import Running, to_the_end
 from classroom.run.several import side_by_side
 from classroom.run.teller import Teller
 
+PLAY = 4790  # the port of the page to play by
 CLOSING = closing.closing("when-idle:2")
 
 
@@ -41,7 +42,7 @@ def add_desk_words(words: argparse.ArgumentParser) -> None:
     words.add_argument("--until", choices=["stable"], help="end the run where no node is privileged")
     words.add_argument("--page", type=port, nargs="?", const=4780, metavar="PORT",
                        help="serve a page of the run, for the projector, at that port or the next free one (4780)")
-    words.add_argument("--play", type=port, nargs="?", const=4790, metavar="PORT",
+    words.add_argument("--play", type=port, nargs="?", const=PLAY, metavar="PORT",
                        help="serve a page at which students play by hand, at that port or the next free one (4790)")
     words.add_argument("--typed", action="store_true", help="take words on standard input where it is no terminal too")
 
@@ -57,6 +58,7 @@ def add_words(words: argparse.ArgumentParser) -> None:
     words.add_argument("--serve", action="store_true",
                        help="no host: a server for so many connections in all as the lab has sessions")
     words.add_argument("--beside", action="store_true", help="start the class where a run of the lab goes on, too")
+    letting.add_words(words)
     add_desk_words(words)
     words.set_defaults(work=run)
 
@@ -75,7 +77,8 @@ def one(words: argparse.Namespace) -> int:
     run = Running(folder, lab_file, lab, words.close or CLOSING, words.until, words.page, words.typed, Teller(folder),
                   words.play, by_number=words.serve, stand_in=words.stand_in)
     try:
-        return to_the_end(run, lambda: begin(run, words.port))
+        with letting.door(words, [lab_file], run.tell) as run.door:
+            return to_the_end(run, lambda: begin(run, words.port))
     except Fault:
         if not (folder / "journal").exists() or (folder / "journal").stat().st_size == 0:
             shutil.rmtree(folder)
@@ -106,7 +109,8 @@ def resumed(words: argparse.Namespace) -> int:
                   words.play or record.play, goes_on=True, stand_in=words.stand_in or record.stand_in,
                   looks=record.looks, played=record.played)
     before = record
-    return to_the_end(run, lambda: begin(run, before.port, before))
+    with letting.door(words, [run.lab_file], run.tell, before.door) as run.door:
+        return to_the_end(run, lambda: begin(run, before.port, before))
 
 
 def refuse_beside(into: Path, lab_file: Path) -> None:
@@ -125,6 +129,7 @@ def refuse_beside(into: Path, lab_file: Path) -> None:
 
 def begin(run: Running, port_asked: int, record: Record | None = None) -> server.Server:
     """Starts the server, and tells where the run is."""
+    letting.lead(run.door, run.lab_file, run.folder)
     by_number = run.lab.sessions if run.by_number else None
     it = server.start(run.folder, run.folder / "lab.toml", port_asked, run.folder / "journal", by_number, record)
     slips = run.lab_file.with_name(f"{run.lab_file.stem}-slips.txt")
@@ -146,6 +151,8 @@ def run(words: argparse.Namespace) -> int:
         raise Fault("run: a LAB or several, or --resume FOLDER")
     if words.again and not words.resume:
         raise Fault("run: --again is for --resume FOLDER")
+    if words.door is not None and words.play is None:
+        words.play = PLAY  # The slips lead there.
     if words.resume:
         return resumed(words)
     return one(words) if len(words.labs) == 1 else side_by_side(words)

@@ -12,6 +12,7 @@ from pathlib import Path
 
 from classroom.core import lab as labs
 from classroom.core.program import TOP, Fault
+from classroom.run import letting
 from classroom.run.closing import spelled
 from classroom.run.teller import is_private
 from classroom.run.typed import EOF, HELP, Terminal, read_lines
@@ -20,11 +21,12 @@ SIGNALS = (signal.SIGINT, signal.SIGTERM)
 Child = subprocess.Popen[str]
 
 
-def started(words: argparse.Namespace, index: int) -> Child:
-    """Starts the run of one lab, in a process of its own and at ports of its own."""
+def started(words: argparse.Namespace, index: int, door: str | None) -> Child:
+    """Starts the run of one lab, in a process of its own and at ports of its own; a door may lead to it."""
     more = ["--until", words.until] if words.until else []
     more += ["--page", str(words.page + index)] if words.page is not None else []
     more += ["--play", str(words.play + index)] if words.play is not None else []
+    more += ["--door-at", door] if door is not None else []
     more += ["--beside"] if words.beside else []
     more += ["--serve"] if words.serve else []
     more += ["--close", spelled(words.close)] if words.close else []
@@ -39,11 +41,11 @@ def started(words: argparse.Namespace, index: int) -> Child:
 class Several:
     """The runs, numbered from 1."""
 
-    def __init__(self, words: argparse.Namespace) -> None:
+    def __init__(self, words: argparse.Namespace, door: str | None = None) -> None:
         self.labs = [Path(lab) for lab in words.labs]
         self.names = [lab.stem for lab in self.labs]
         self.typed = words.typed
-        self.children = [started(words, index) for index in range(len(words.labs))]
+        self.children = [started(words, index, door) for index in range(len(words.labs))]
         self.terminal: Terminal | None = None
         self.turn = threading.Lock()
 
@@ -121,7 +123,12 @@ def side_by_side(words: argparse.Namespace) -> int:
         raise Fault("several labs are closed by time: --close every:SECONDS or when-idle:SECONDS; or by what is typed: --typed")
     if words.port + len(words.labs) > 65536 or max(words.page or 0, words.play or 0) + len(words.labs) > 65536:
         raise Fault(f"{len(words.labs)} labs need a port each, up to 65535")
-    several = Several(words)
+    with letting.door(words, map(Path, words.labs), lambda line: print(line, flush=True)) as door:
+        return attended(Several(words, door), typed)
+
+
+def attended(several: Several, typed: bool) -> int:
+    """Attends to runs that have been started, until all have ended."""
     running: queue.SimpleQueue[Child] = queue.SimpleQueue()
     for child in several.children:
         running.put(child)

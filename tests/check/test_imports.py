@@ -10,7 +10,7 @@ from pathlib import Path
 from tools.check.parts import TOP
 
 # Each package of `classroom` imports its own modules and those of the packages before it.
-PACKAGES = ("core", "setup", "pages", "marks", "run", "bots")
+PACKAGES = ("core", "door", "setup", "pages", "marks", "run", "bots")
 BOTTOM, TOPMOST = "classroom.client", "classroom.words"  # beside the packages: below all, and above all
 OF_PAGES = (".css", ".html", ".js")
 Sources = dict[str, str]  # the text of each module

@@ -12,6 +12,7 @@ crate's page one that the crate declares or cites. A command block of the pages 
 used is run by a test, or is marked: `sh not run`, or `text` for what is only an example of an output.
 `docs/crates.svg` has to be what `tests.documents.crates` draws of `crates.txt`.
 A number, a status or a limit of `tests.documents.numbers` has to be what it is counted or taken from.
+Phrases that are hard to read, and sentences of more than 30 words, are counted by `tests.documents.style`.
 There is no limit on words: a page that is too long is split, or cut where it repeats itself.
 """
 from __future__ import annotations
@@ -22,7 +23,7 @@ import sys
 from collections.abc import Iterable, Iterator
 from pathlib import Path
 
-from tests.documents import crates, numbers
+from tests.documents import crates, numbers, style
 
 TOP = Path(__file__).resolve().parents[2]
 FENCE = re.compile(r"^```.*?^```$", re.MULTILINE | re.DOTALL)
@@ -32,7 +33,7 @@ ELSEWHERE = set(Path(__file__).with_name("elsewhere.txt").read_text(encoding="ut
 
 # The pages that show how the program is used, and by which test their blocks are run: those without a mark
 # by `tests/pages/pages`, but for the commands that another test has in these words.
-USED = ("README.md", "docs/STUDENT.md", "docs/TEACHER.md", "docs/COURSE.md", "docs/TRUST.md", "docs/OPERATE.md")
+USED = ("README.md", "docs/STUDENT.md", "docs/SELF-STABILISATION.md", "docs/TEACHER.md", "docs/COURSE.md", "docs/TRUST.md", "docs/OPERATE.md")
 RUN_BY = {("docs/OPERATE.md", "sh"): "tests/pages/operate", ("docs/STUDENT.md", "python"): "tests/pages/pages"}
 RUN_BEFORE = {
     "tar ": ("tests/release/run", "tar -xzf $release.tar.gz"),
@@ -151,7 +152,7 @@ def told(page: str, files: list[str], folders: set[str], words: set[str], laws: 
 
 def is_command(line: str) -> bool:
     """Whether a line of a block is a command."""
-    return bool(re.match(r"(\./|\.ci/|python3 |tar |ssh |java |mkdir |sha256sum )", line.strip().removeprefix("$ ")))
+    return bool(re.match(r"(\./|\.ci/|python3 |tar |ssh |java |mkdir |sha256sum |sed |cmp |cat )", line.strip().removeprefix("$ ")))
 
 
 def commands_of(page: str) -> Iterator[str]:
@@ -219,7 +220,7 @@ def main() -> None:
     missing = [f"not there: {page}: {name}" for page in pages for name in dict.fromkeys(told(page, files, folders, words, laws))]
     missing += [f"no contract: {page}: {name}" for page in pages for name in missing_contracts(page, texts, declared, laws)]
     missing += [f"no test runs it: {page}: {line}" for page in USED for line in unrun_blocks(page, files)]
-    missing += crates.faults() + numbers.faults()
+    missing += crates.faults() + numbers.faults() + style.faults(files)
     for line in missing:
         print(f"FAILED: {line}")
     if missing:
@@ -227,4 +228,5 @@ def main() -> None:
     print(f"documents: {len(pages)} pages, {total} words; each link, file, name and contract is there, and each command is run")
 
 
-main()
+if __name__ == "__main__":
+    main()

@@ -64,7 +64,7 @@ def releases() -> Iterator[tuple[str, str]]:
 
 def classes() -> Iterator[tuple[str, str]]:
     """Labs, suites, defaults, and statuses."""
-    yield README, f"`examples/` has {WORDS[len(list((TOP / 'examples').glob('*.toml')))]} labs."
+    yield README, f"`examples/` has {WORDS[len(list((TOP / 'examples').glob('*.toml')))]} labs, "
     small, families = WORDS[len(suites.SMALL)], WORDS[len(suites.FAMILIES)]
     yield STUDENT, f"`grade` tries {small} cases, each in an empty folder"
     yield COURSE, f"`small` has {small} cases, `full` {len(suites.FULL)}, over {families} families of networks"
@@ -74,8 +74,11 @@ def classes() -> Iterator[tuple[str, str]]:
     yield TEACHER, (f"A word's status is 0 for done, {statuses.USAGE} not as the words are, {statuses.LAB} the lab or {statuses.JOURNAL} "
                     f"the journal is refused, {statuses.FAILED} failed, {statuses.WARNED} done with warnings.")
     status = {word: number for word, (number, _) in STOPS.items()}
-    yield STUDENT, (f"0 the run's end, 1 wrong words, {status['unknown']} a wrong key, {status['not-owner']} a wrong node or line, 4 no server, "
-                    f"{status['busy']} no seat for a minute, {status['full']} nothing is granted any longer, {LOST} the connection was lost")
+    for number, what in ((0, "the run has ended"), (1, "the words of the command line are wrong"), (status["unknown"], "the name or the key is wrong"),
+                         (status["not-owner"], "a node isn't yours, or a line is no request"), (4, "there is no server at the port"),
+                         (status["busy"], "no seat became free for a minute"), (status["full"], "nothing is granted any longer"),
+                         (LOST, "the connection was lost, and for a minute the bot couldn't greet again: start it again")):
+        yield STUDENT, f"\n| {number} | {what} |\n"
     yield STUDENT, f"a line of more than {MOST} bytes"
     yield README, f"of {only(r'>([0-9]+) runs<', 'docs/experiment.svg')} runs]"
 

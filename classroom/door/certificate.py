@@ -1,0 +1,83 @@
+"""The door's certificate: made by `openssl` if there is none, and known by its fingerprint."""
+from __future__ import annotations
+
+import hashlib
+import ipaddress
+import os
+import re
+import shutil
+import ssl
+import tempfile
+from pathlib import Path
+
+from classroom.core.lab import write_new
+from classroom.core.processes import run
+from classroom.core.program import Fault
+from classroom.core.statuses import FAILED
+
+FILE = "door.pem"  # beside the labs
+DAYS = 730
+BLOCK = re.compile(r"-----BEGIN CERTIFICATE-----.*?-----END CERTIFICATE-----", re.DOTALL)
+
+
+def beside(lab: Path) -> Path:
+    """Returns the file of the certificate that the labs of a folder share."""
+    return lab.with_name(FILE)
+
+
+def subject(name: str) -> str:
+    """Returns a name as a certificate lists it: a host's, or an address."""
+    try:
+        return f"IP:{ipaddress.ip_address(name)}"
+    except ValueError:
+        return f"DNS:{name}"
+
+
+def ready(file: Path, name: str) -> str:
+    """Returns the fingerprint of a certificate, which is made for a host's name if there is no file."""
+    if not os.path.lexists(file):
+        make(file, name)
+    return fingerprint(file)
+
+
+def make(file: Path, name: str) -> None:
+    """Makes a key and a certificate in one file, which nobody else reads."""
+    if shutil.which("openssl") is None:
+        raise Fault(f"{file}: there is no certificate, and no `openssl` to make one: install it, or --certificate FILE names "
+                    "a file with a key and its certificate", FAILED)
+    if not re.fullmatch(r"[A-Za-z0-9.:-]+", name):
+        raise Fault(f"{name} is no host's name or address")
+    with tempfile.TemporaryDirectory() as room:
+        key, made = Path(room, "key"), Path(room, "certificate")
+        done = run(["openssl", "req", "-x509", "-newkey", "ec", "-pkeyopt", "ec_paramgen_curve:prime256v1", "-nodes", "-days", str(DAYS),
+                    "-subj", "/CN=Cenduwa", "-addext", f"subjectAltName={subject(name)}", "-keyout", key, "-out", made])
+        if done.returncode != 0:
+            raise Fault(f"{file}: openssl makes no certificate: {done.stderr.decode(errors='replace').strip()}", FAILED)
+        write_new(file, key.read_text(encoding="ascii") + made.read_text(encoding="ascii"))
+
+
+def fingerprint(file: Path) -> str:
+    """Returns the SHA-256 of a file's first certificate, as 64 hexadecimal digits."""
+    try:
+        found = BLOCK.search(file.read_text(encoding="utf-8", errors="replace"))
+    except OSError as error:
+        raise Fault(f"{file}: {error.strerror}", FAILED) from None
+    if found is None:
+        raise Fault(f"{file}: it has no certificate", FAILED)
+    try:
+        return hashlib.sha256(ssl.PEM_cert_to_DER_cert(found[0])).hexdigest()
+    except ValueError as error:
+        raise Fault(f"{file}: its certificate can't be read: {error}", FAILED) from None
+
+
+def context(file: Path) -> ssl.SSLContext:
+    """Returns how a door speaks TLS by a file's key and certificate."""
+    it = ssl.SSLContext(ssl.PROTOCOL_TLS_SERVER)
+    it.minimum_version = ssl.TLSVersion.TLSv1_2
+    it.options |= ssl.OP_NO_RENEGOTIATION | ssl.OP_NO_COMPRESSION
+    setattr(it, "num_tickets", 0)  # Nobody resumes a session, and nothing is sent that no line asked for.
+    try:
+        it.load_cert_chain(file)
+    except (OSError, ValueError) as error:
+        raise Fault(f"{file}: no key with its certificate: {error}", FAILED) from None
+    return it

@@ -1,0 +1,152 @@
+"""Opens a door for the runs of a class, and opens it again if its process ends before they do."""
+from __future__ import annotations
+
+import argparse
+import signal
+import socket
+import subprocess
+import sys
+import threading
+from collections.abc import Callable, Iterable
+from dataclasses import dataclass
+from pathlib import Path
+
+from classroom.client import NoSlip, Slip, door_of
+from classroom.core.folders import Process
+from classroom.core.program import TOP, Fault
+from classroom.core.statuses import FAILED
+from classroom.door import certificate
+from classroom.door.routes import NETWORK, Kept, announce, network
+
+BACKLOG = 256
+TIMES = 5  # that a door is opened again
+FOLDER = ".door-{}"  # of the port, where the runs' folders are
+
+
+@dataclass(frozen=True)
+class Place:
+    """Where a door is: at a port of an address or name, or of all addresses of this machine."""
+
+    address: str
+    port: int
+
+    @staticmethod
+    def of(word: str) -> Place:
+        """Returns the place that a word names, as `4700` or `class.example:4700`."""
+        address, _, port = word.rpartition(":")
+        try:
+            return Place(*door_of(f"{address or 'any'}:{port}")) if address else Place("", door_of(f"any:{port}")[1])
+        except NoSlip:
+            raise argparse.ArgumentTypeError(f"{word} is no place of a door: [ADDRESS:]PORT") from None
+
+    def told(self) -> str:
+        """Returns the place as it is written."""
+        return f"{f'[{self.address}]' if ':' in self.address else self.address}:{self.port}"
+
+
+def here() -> str:
+    """Returns the name that this machine has in its network, as far as it knows it."""
+    name = socket.getfqdn()
+    return socket.gethostname() if name.startswith("localhost") else name
+
+
+def listening(place: Place) -> socket.socket:
+    """Returns a socket that listens there."""
+    try:
+        if not place.address and socket.has_dualstack_ipv6():
+            return socket.create_server(("", place.port), family=socket.AF_INET6, dualstack_ipv6=True, backlog=BACKLOG)
+        family = socket.getaddrinfo(place.address or "0.0.0.0", place.port, type=socket.SOCK_STREAM)[0][0]
+        return socket.create_server((place.address, place.port), family=family, backlog=BACKLOG)
+    except OSError as error:
+        raise Fault(f"no door at {place.told().removeprefix(':')}: {error.strerror or error}; --door [ADDRESS:]PORT names another place", FAILED) from None
+
+
+class Opened:
+    """A door that this process has opened."""
+
+    def __init__(self, folder: Path, listener: socket.socket, tell: Callable[[str], None]) -> None:
+        self.folder, self.listener, self.tell = folder, listener, tell
+        self.port: int = listener.getsockname()[1]
+        self.closes = threading.Event()
+        self.child = self.started()
+        threading.Thread(target=self.watch, daemon=True).start()
+
+    def started(self) -> subprocess.Popen[bytes]:
+        """Starts the process that serves."""
+        number = self.listener.fileno()
+        words = [sys.executable, "-m", "classroom.door.serving", str(self.folder), str(number)]
+        with (self.folder / "door.txt").open("ab") as prints:
+            return subprocess.Popen(words, cwd=TOP, stdin=subprocess.DEVNULL, stdout=prints, stderr=prints,
+                                    pass_fds=[number], start_new_session=True)
+
+    def watch(self) -> None:
+        """Starts the process again where it ends by itself, a few times."""
+        for _ in range(TIMES):
+            if self.child.wait() == 0 or self.closes.is_set():
+                return self.listener.close()
+            self.tell(f"the door's process has ended, status {self.child.returncode}: it is opened again")
+            self.child = self.started()
+        self.child.wait()
+        self.tell(f"the door is closed: its process ends again and again: {self.folder / 'door.txt'}")
+
+    def close(self) -> None:
+        """Lets the door end with the last of its networks."""
+        self.closes.set()
+        self.listener.close()
+        if self.child.poll() is None:
+            self.child.send_signal(signal.SIGTERM)
+
+
+def opened(place: Place, into: Path, file: Path, tell: Callable[[str], None]) -> Opened:
+    """Opens a door, by the certificate of a file; its folder is made among those of the runs."""
+    certificate.context(file)
+    listener = listening(place)
+    folder = (into / FOLDER.format(listener.getsockname()[1])).resolve()
+    try:
+        folder.mkdir(0o700, parents=True, exist_ok=True)
+        for old in folder.glob(f"*{NETWORK}"):
+            old.unlink()
+        Kept(place.address, place.port, str(file.resolve()), Process(0, "")).write(folder)
+    except OSError as error:
+        listener.close()
+        raise Fault(f"{folder}: {error.strerror}", FAILED) from None
+    return Opened(folder, listener, tell)
+
+
+def again(folder: Path, tell: Callable[[str], None]) -> Opened | None:
+    """Opens a door of a folder again, unless it is still open."""
+    kept = Kept.read(folder)
+    if kept is None:
+        raise Fault(f"{folder}: there is no door to open again: --door [ADDRESS:]PORT opens another", FAILED)
+    if kept.process.lives():
+        return None
+    certificate.context(Path(kept.certificate))
+    return Opened(folder, listening(Place(kept.address, kept.port)), tell)
+
+
+def slips_of(lab: Path) -> list[Slip]:
+    """Returns the slips beside a lab that can be read."""
+    found = []
+    for file in sorted(lab.with_name(f"{lab.stem}-slips").glob("*.slip")):
+        try:
+            found.append(Slip.read(file))
+        except NoSlip:
+            pass
+    return found
+
+
+def lead(folder: Path, lab: Path, run: Path) -> None:
+    """Leads a door to a run, under the names of hosts that the slips beside its lab have."""
+    hosts = {door_of(slip.door)[0] for slip in slips_of(lab) if slip.door}
+    announce(folder, network(lab), run, sorted(hosts))
+
+
+def amiss(labs: Iterable[Path], file: Path, port: int) -> list[str]:
+    """Returns the labs whose slips don't lead to a door with the certificate of a file, at that port."""
+    known = certificate.fingerprint(file)
+
+    def leads(slip: Slip, lab: Path) -> bool:
+        """Returns whether a slip leads there."""
+        return bool(slip.door) and (door_of(slip.door)[1], slip.network, slip.fingerprint) == (port, network(lab), known)
+
+    return [str(lab) for lab in labs if not all(leads(slip, lab) for slip in slips_of(lab))]

@@ -1,0 +1,117 @@
+"""The process of a door: accepts connections, and ends with the last of its networks.
+
+    python3 -m classroom.door.serving FOLDER LISTENER
+
+FOLDER has what `routes` keeps there, LISTENER is the number of an open file: the socket that listens.
+"""
+from __future__ import annotations
+
+import asyncio
+import os
+import resource
+import signal
+import socket
+import ssl
+import sys
+from dataclasses import dataclass, field
+from pathlib import Path
+
+from classroom.core.folders import Process
+from classroom.door.bounds import Bounds, origin
+from classroom.door.certificate import context
+from classroom.door.passing import Door, served
+from classroom.door.routes import DOOR, NETWORK, Kept, Routes
+
+LOOK = 0.5  # seconds between two looks at which networks there are
+PATIENCE = 10.0  # seconds that a door stays open after its last network has ended
+FILES = 4096  # that may be open
+LAST_WORD = 3.0  # seconds for what still goes out then
+AGAIN = 0.1  # seconds after a connection that couldn't be accepted
+
+
+def note_network(it: ssl.SSLObject, name: str | None, _: ssl.SSLContext) -> None:
+    """Notes the server name of a handshake, where `passing` finds it."""
+    setattr(it, "network", name)
+
+
+@dataclass
+class Serving:
+    """A door that serves: its connections, each with a task, and whether it ends with its last network at once."""
+
+    listener: socket.socket
+    door: Door
+    tasks: set[asyncio.Task[None]] = field(default_factory=set)
+    patience: float = PATIENCE
+
+    async def accept(self) -> None:
+        """Accepts connections."""
+        loop = asyncio.get_running_loop()
+        while True:
+            try:
+                sock, address = await loop.sock_accept(self.listener)
+            except OSError:
+                await asyncio.sleep(AGAIN)
+                continue
+            of = origin(str(address[0]))
+            if not self.door.bounds.enter(of):
+                sock.close()
+                continue
+            task = loop.create_task(self.one(sock, of))
+            self.tasks.add(task)
+            task.add_done_callback(self.tasks.discard)
+
+    async def one(self, sock: socket.socket, of: str) -> None:
+        """Serves a connection of an address."""
+        try:
+            await served(sock, of, self.door)
+        finally:
+            self.door.bounds.leave(of)
+
+    def hurry(self) -> None:
+        """Ends as soon as no network goes on."""
+        self.patience = 0.0
+
+    async def keep(self) -> None:
+        """Serves until no network goes on, and lets the last words go out."""
+        asyncio.get_running_loop().add_signal_handler(signal.SIGTERM, self.hurry)
+        accepting = asyncio.ensure_future(self.accept())
+        silent = 0.0
+        while (goes_on := self.door.routes.go_on()) or silent < self.patience:
+            silent = 0.0 if goes_on else silent + LOOK
+            await asyncio.sleep(LOOK)
+        self.listener.close()
+        accepting.cancel()
+        if self.tasks:
+            await asyncio.wait(self.tasks, timeout=LAST_WORD)
+
+
+def names_of_here() -> set[str]:
+    """Returns the names that this machine has for itself."""
+    return {"localhost", "127.0.0.1", "::1", socket.gethostname(), socket.getfqdn()}
+
+
+def serve(folder: Path, listener: socket.socket) -> None:
+    """Serves a door, of which the folder tells the rest."""
+    kept = Kept.read(folder)
+    if kept is None:
+        raise SystemExit(f"{folder / DOOR}: no door")
+    soft, hard = resource.getrlimit(resource.RLIMIT_NOFILE)
+    most = FILES if hard == resource.RLIM_INFINITY else min(FILES, hard)
+    resource.setrlimit(resource.RLIMIT_NOFILE, (max(soft, most), hard))
+    speaks = context(Path(kept.certificate))
+    speaks.sni_callback = note_network
+    listener.setblocking(False)
+    door = Door(Routes(folder), Bounds(), speaks, listener.getsockname()[1], names_of_here() | ({kept.address} if kept.address else set()))
+    door.routes.look()
+    Kept(kept.address, door.port, kept.certificate, Process.of(os.getpid())).write(folder)
+    with asyncio.Runner() as runner:
+        runner.get_loop().set_exception_handler(lambda *_: None)  # A connection's errors are its own.
+        runner.run(Serving(listener, door).keep())
+    for file in folder.glob(f"*{NETWORK}"):
+        file.unlink(missing_ok=True)
+
+
+if __name__ == "__main__":
+    signal.signal(signal.SIGHUP, signal.SIG_IGN)  # The class goes on without a terminal.
+    signal.signal(signal.SIGINT, signal.SIG_IGN)
+    serve(Path(sys.argv[1]), socket.socket(fileno=int(sys.argv[2])))

@@ -1,0 +1,522 @@
+"""The door by itself, before a server that answers each line: what it lets through, and what it does with whom it doesn't."""
+from __future__ import annotations
+
+import http.client
+import json
+import os
+import socket
+import ssl
+import subprocess
+import sys
+import threading
+import time
+import unittest
+from collections.abc import Iterator
+from contextlib import contextmanager
+from http.server import BaseHTTPRequestHandler, ThreadingHTTPServer
+from pathlib import Path
+from unittest import mock
+
+from classroom.client import Client, Closed, NoDoor, NoServer, NoSlip, Over, Refused, Slip
+from classroom.core.folders import Process, Record
+from classroom.core.program import Fault
+from classroom.door import bounds, certificate, opening, routes
+from classroom.door.asking import Asked, Bad
+from classroom.door.bounds import Bounds, Handshake, Meter, origin
+from classroom.door.opening import Place
+from tests.classroom.help import EXAMPLES, LIMIT, InRoom
+
+CLIENT = EXAMPLES.parent / "classroom/client.py"
+
+
+class Lines:
+    """A server that answers each line by its word and its own name, and hangs up after `bye`, or after a last word."""
+
+    def __init__(self, name: str, last: bytes = b"") -> None:
+        self.name, self.last, self.taken = name, last, list[bytes]()
+        self.listener = socket.create_server(("127.0.0.1", 0), backlog=1024)
+        self.port: int = self.listener.getsockname()[1]
+        threading.Thread(target=self.serve, daemon=True).start()
+
+    def serve(self) -> None:
+        """Takes connections until the listener is closed."""
+        while True:
+            try:
+                connection, _ = self.listener.accept()
+            except OSError:
+                return
+            threading.Thread(target=self.one, args=[connection], daemon=True).start()
+
+    def one(self, connection: socket.socket) -> None:
+        """One connection."""
+        with connection, connection.makefile("rb") as lines:
+            if self.last:
+                connection.sendall(self.last)
+                return
+            for line in lines:
+                self.taken.append(line)
+                try:
+                    word = json.loads(line)["do"]
+                    connection.sendall(json.dumps({"ok": word, "by": self.name}).encode() + b"\n")
+                except (ValueError, OSError):
+                    return
+                if word == "bye":
+                    return
+
+
+class Page(BaseHTTPRequestHandler):
+    """A page's server, which tells what it was asked."""
+
+    def log_message(self, *_: object) -> None:
+        """Nothing is printed."""
+
+    def do_GET(self) -> None:
+        """Tells method, path, head and body."""
+        body = self.rfile.read(int(self.headers.get("Content-Length") or 0)).decode()
+        told = json.dumps({"asked": f"{self.command} {self.path}", "heads": dict(self.headers), "body": body}).encode()
+        self.send_response(200)
+        self.send_header("Content-Length", str(len(told)))
+        self.end_headers()
+        self.wfile.write(told)
+
+    do_POST = do_GET
+
+
+class AtDoor(InRoom):
+    """A door of this machine, with networks that answer."""
+
+    def setUp(self) -> None:
+        super().setUp()
+        self.told: list[str] = []
+        self.known = certificate.ready(self.room / "door.pem", "localhost")
+        self.door = opening.opened(Place("127.0.0.1", 0), self.room, self.room / "door.pem", self.told.append)
+        self.addCleanup(self.ended)
+        self.wait(lambda: (kept := routes.Kept.read(self.door.folder)) is not None and kept.process.lives())
+
+    def ended(self) -> None:
+        """Ends the door's process."""
+        self.door.close()
+        self.door.child.kill()
+        self.door.child.wait()
+
+    def wait(self, until: object, seconds: float = LIMIT) -> None:
+        """Waits until something is so."""
+        end = time.monotonic() + seconds
+        assert callable(until)
+        while not until():
+            self.assertLess(time.monotonic(), end)
+            time.sleep(0.02)
+
+    def network(self, name: str, students: int, page: int | None = None, play: int | None = None) -> Path:
+        """A network whose run goes on, as this test does."""
+        run = self.room / f"run-{name}"
+        run.mkdir(exist_ok=True)
+        routes.announce(self.door.folder, name, run, ["class.example"])
+        self.record(run, students, page, play)
+        return run
+
+    def record(self, run: Path, students: int, page: int | None = None, play: int | None = None) -> None:
+        """What a run keeps of its ports."""
+        me = Process.of(os.getpid())
+        Record("lab.toml", students, 1, page, "by-hand", None, me, me, play, looks="look-token").write(run)
+
+    def lines(self, name: str, last: bytes = b"") -> Lines:
+        """A network that answers lines."""
+        it = Lines(name, last)
+        self.addCleanup(it.listener.close)
+        self.network(name, it.port)
+        return it
+
+    def slip(self, name: str, fingerprint: str = "") -> Slip:
+        """A slip that leads to a network."""
+        return Slip(4711, "gus", "heron-31", (1,), f"127.0.0.1:{self.door.port}", name, fingerprint or self.known)
+
+    def files(self, slip: Slip) -> Path:
+        """The file of a slip."""
+        path = self.room / "gus.slip"
+        path.write_text(f"port {slip.port}\nname gus\nkey heron-31\nnodes 1\ndoor {slip.door}\nnetwork {slip.network}\n"
+                        f"fingerprint {slip.fingerprint}\n", encoding="utf-8")
+        return path
+
+    def raw(self, name: str) -> ssl.SSLSocket:
+        """A connection after its handshake, with a server name or without."""
+        context = ssl.SSLContext(ssl.PROTOCOL_TLS_CLIENT)
+        context.check_hostname, context.verify_mode = False, ssl.CERT_NONE
+        it = context.wrap_socket(socket.create_connection(("127.0.0.1", self.door.port), LIMIT), server_hostname=name or None)
+        self.addCleanup(it.close)
+        return it
+
+    def asks(self, path: str, host: str = "", method: str = "GET", **more: str) -> tuple[int, bytes]:
+        """Status and body of an answer to a request."""
+        context = ssl.SSLContext(ssl.PROTOCOL_TLS_CLIENT)
+        context.check_hostname, context.verify_mode = False, ssl.CERT_NONE
+        it = http.client.HTTPSConnection("127.0.0.1", self.door.port, timeout=LIMIT, context=context)
+        it.request(method, path, headers={"Host": host or f"127.0.0.1:{self.door.port}", **more}, body="told" if method == "POST" else None)
+        answer = it.getresponse()
+        return answer.status, answer.read()
+
+
+class Bots(AtDoor):
+    """Who comes with lines."""
+
+    def test_each_name_leads_to_its_network(self) -> None:
+        for name in ("maths-1", "maths-2"):
+            self.lines(name)
+        for name in ("maths-1", "maths-2", "maths-1"):
+            with Client.of(self.slip(name)) as me:
+                self.assertEqual(me.ask(do="look", node=1), {"ok": "look", "by": name})
+        for name in ("class.example", ""):  # As a browser would, or who names nobody.
+            it = self.raw(name)
+            it.sendall(b'{"do":"look"}\n')
+            self.assertEqual(it.recv(100), b"")
+
+    def test_one_network_alone_needs_no_name(self) -> None:
+        self.lines("maths")
+        for name in ("class.example", ""):
+            it = self.raw(name)
+            it.sendall(b'{"do":"bye"}\n')
+            self.assertEqual(json.loads(it.makefile("rb").readline()), {"ok": "bye", "by": "maths"})
+
+    def test_a_certificate_that_is_not_the_slip_s(self) -> None:
+        seen = self.lines("maths").taken
+        other = self.slip("maths", "0" * 64)
+        with self.assertRaisesRegex(NoDoor, "^the certificate of the door at 127.0.0.1:.* isn't the slip's, so nothing was sent$"):
+            Client.of(other)
+        for words in ([str(self.files(other))], ["--tunnel", str(self.files(other))]):
+            done = subprocess.run([sys.executable, CLIENT, *words], capture_output=True, text=True, check=False, timeout=LIMIT, input="")
+            self.assertEqual((done.returncode, done.stdout), (4, ""))
+            self.assertRegex(done.stderr, "^client.py: the certificate of the door .*; your teacher tells the certificate\n$")
+        self.assertEqual(seen, [])
+
+    def test_last_words_reach_the_client(self) -> None:
+        for word, error in (("busy", Refused), ("over", Over), ("late", Closed)):
+            self.lines("maths", b'{"refuse":"%s"}\n' % word.encode())
+            with self.assertRaises(error):
+                Client.of(self.slip("maths"))
+
+    def test_a_network_whose_server_is_gone_and_comes_back(self) -> None:
+        first = self.lines("maths")
+        with Client.of(self.slip("maths")):
+            pass
+        first.listener.shutdown(socket.SHUT_RDWR)
+        first.listener.close()
+        with self.assertRaises(NoServer):
+            Client.of(self.slip("maths"))
+        again = Lines("again")
+        self.addCleanup(again.listener.close)
+        self.record(self.room / "run-maths", again.port)
+        with Client.of(self.slip("maths")) as me:
+            self.assertEqual(me.ask(do="see", node=1)["by"], "again")
+
+    def test_who_says_nothing_is_late(self) -> None:
+        self.lines("maths")
+        it, begun = self.raw("maths"), time.monotonic()
+        self.assertEqual(it.makefile("rb").readline(), b'{"refuse":"late"}\n')
+        self.assertGreater(time.monotonic() - begun, 5)
+
+    def test_a_door_that_fell_is_opened_again(self) -> None:
+        self.lines("maths")
+        self.door.child.kill()
+        self.wait(lambda: self.told != [])
+        with Client.of(self.slip("maths")) as me:
+            self.assertEqual(me.ask(do="see", node=1)["by"], "maths")
+        self.assertRegex(self.told[0], "^the door's process has ended, status -9: it is opened again$")
+
+    def test_it_ends_with_its_last_network(self) -> None:
+        self.lines("maths")
+        self.door.closes.set()
+        record = Record.read(self.room / "run-maths")
+        assert record is not None
+        gone = Process(record.run.number, "1")
+        Record("lab.toml", record.port, 1, None, "by-hand", None, gone, gone).write(self.room / "run-maths")
+        self.assertEqual(self.door.child.wait(LIMIT), 0)
+        self.wait(lambda: self.door.listener.fileno() == -1)
+        with self.assertRaises(NoServer):
+            Client.of(self.slip("maths"))
+
+
+class Tunnels(AtDoor):
+    """`client.py --tunnel`."""
+
+    @contextmanager
+    def tunnel(self, slip: Path, *more: str) -> Iterator[str]:
+        """A tunnel, once it has told its line."""
+        with subprocess.Popen([sys.executable, CLIENT, "--tunnel", slip, *more], stdout=subprocess.PIPE, stderr=subprocess.PIPE, text=True) as it:
+            try:
+                assert it.stdout is not None
+                yield it.stdout.readline()
+            finally:
+                it.kill()
+
+    def test_programs_as_they_are(self) -> None:
+        self.lines("maths")
+        port = opening_port()
+        with self.tunnel(self.files(self.slip("maths")), str(port)) as line:
+            self.assertEqual(line, f"port {port} of this machine leads through the door at 127.0.0.1:{self.door.port} to maths; Ctrl-C ends it\n")
+            with Client(port, "gus", "heron-31") as me:
+                self.assertEqual(me.ask(do="look", node=1)["by"], "maths")
+            with socket.create_connection(("127.0.0.1", port), LIMIT) as it:  # Who ends its own side gets the replies.
+                it.sendall(b'{"do":"see"}\n{"do":"bye"}\n')
+                it.shutdown(socket.SHUT_WR)
+                self.assertEqual([json.loads(line)["ok"] for line in it.makefile("rb")], ["see", "bye"])
+
+    def test_wrong_words(self) -> None:
+        self.lines("maths")
+        plain = self.room / "plain.slip"
+        plain.write_text("port 4711\nname gus\nkey heron-31\n", encoding="utf-8")
+        slip = self.files(self.slip("maths"))
+        wrong: tuple[tuple[str | Path, ...], ...] = ((plain,), (slip, "70000"), (slip, "1", "2"), ())
+        for words in wrong:
+            done = subprocess.run([sys.executable, CLIENT, "--tunnel", *words], capture_output=True, text=True, check=False, timeout=LIMIT)
+            self.assertEqual((done.returncode, done.stdout, done.stderr.count("\n")), (1, "", 1), done.stderr)
+        with socket.create_server(("127.0.0.1", 0)) as taken:
+            done = subprocess.run([sys.executable, CLIENT, "--tunnel", slip, str(taken.getsockname()[1])], capture_output=True, text=True,
+                                  check=False, timeout=LIMIT)
+            self.assertEqual(done.returncode, 4)
+            self.assertIn("--tunnel SLIP PORT takes another", done.stderr)
+        far = Slip(4711, "gus", "k", (), f"127.0.0.1:{opening_port()}", "maths", "0" * 64)
+        done = subprocess.run([sys.executable, CLIENT, "--tunnel", self.files(far)], capture_output=True, text=True, check=False, timeout=LIMIT)
+        self.assertEqual(done.returncode, 4)
+        self.assertIn(f"no door at {far.door}", done.stderr)
+
+    def test_slips_that_name_no_whole_door(self) -> None:
+        text = self.files(self.slip("maths")).read_text(encoding="utf-8")
+        for old in ("network maths\n", f"fingerprint {self.known}\n", "127.0.0.1:"):
+            (self.room / "bad.slip").write_text(text.replace(old, ""), encoding="utf-8")
+            with self.assertRaises(NoSlip):
+                Slip.read(self.room / "bad.slip")
+
+
+class Pages(AtDoor):
+    """Who asks for a page."""
+
+    def setUp(self) -> None:
+        super().setUp()
+        ports = []
+        for _ in range(2):
+            it = ThreadingHTTPServer(("127.0.0.1", 0), Page)
+            self.addCleanup(it.server_close)
+            self.addCleanup(it.shutdown)
+            threading.Thread(target=it.serve_forever, daemon=True).start()
+            ports.append(it.server_port)
+        self.page, self.play = ports
+        self.bots = Lines("maths")
+        self.addCleanup(self.bots.listener.close)
+        self.network("maths", self.bots.port, self.page, self.play)
+
+    def test_the_pages_have_paths_below_the_network_s_name(self) -> None:
+        for path, asked, port in (("/maths/", "GET /", self.play), ("/maths/enter", "GET /enter", self.play),
+                                  ("/maths/look/look-token/", "GET /look-token/", self.page),
+                                  ("/maths/look/look-token/events", "GET /look-token/events", self.page)):
+            status, body = self.asks(path, Cookie="a=b", Accept="text/html")
+            told = json.loads(body)
+            self.assertEqual((status, told["asked"]), (200, asked))
+            self.assertEqual(told["heads"], {"Host": f"127.0.0.1:{port}", "Connection": "close", "accept": "text/html"})
+        told = json.loads(self.asks("/maths/move", method="POST")[1])
+        self.assertEqual((told["asked"], told["body"]), ("POST /move", "told"))
+        self.assertEqual(self.bots.taken, [])
+
+    def test_the_page_to_act_has_no_way_through(self) -> None:
+        for path in ("/maths/look/act-token/", "/maths/look/act-token/act", "/maths/look/look-token/../act-token/", "/maths/look/look-token%2f",
+                     "/maths/look/", "/maths/act-token/act", "/maths/a/b", "/other/", "/", "/maths/look/look-token/events?x"):
+            self.assertEqual(self.asks(path)[0], 404, path)
+        self.assertEqual(self.asks("/maths/look/look-token/act", method="POST")[0], 404)
+
+    def test_hosts(self) -> None:
+        for host, status in ((f"class.example:{self.door.port}", 200), (f"localhost:{self.door.port}", 200), ("class.example", 421),
+                             (f"evil.example:{self.door.port}", 421), ("127.0.0.1:1", 421), ("", 200)):
+            self.assertEqual(self.asks("/maths/", host)[0], status, host)
+
+    def test_what_is_no_request(self) -> None:
+        many = b"A: " + b"x" * 9000
+        for text, status in ((b"GET / HTTP/1.1\r\nA b\r\n\r\n", b"400"), (b"GARBAGE\r\n\r\n", b"400"), (b"PUT / HTTP/1.1\r\n\r\n", b"405"),
+                             (b"GET / HTTP/1.1\r\n" + many + b"\r\n\r\n", b"431"), (b"GET / HTTP/1.1\r\nHost: a\r\nHost: b\r\n\r\n", b"400"),
+                             (b"GET /\x00 HTTP/1.1\r\n\r\n", b"400"), (b"POST /maths/move HTTP/1.1\r\nTransfer-Encoding: chunked\r\n\r\n", b"400")):
+            it = self.raw("")
+            it.sendall(text)
+            self.assertEqual(it.makefile("rb").readline().split()[1], status, text[:40])
+        large = self.asks("/maths/move", method="POST", **{"Content-Length": "5000"})
+        self.assertEqual(large[0], 413)
+
+    def test_no_second_request_goes_in_behind_a_first(self) -> None:
+        one = f"GET /maths/ HTTP/1.1\r\nHost: 127.0.0.1:{self.door.port}\r\nConnection: keep-alive\r\n\r\n".encode()
+        it = self.raw("")
+        it.sendall(one + b"GET /act-token/ HTTP/1.1\r\nHost: 127.0.0.1:1\r\n\r\n")
+        self.assertEqual(it.makefile("rb").read().count(b"HTTP/1."), 1)
+
+    def test_a_page_s_address_without_its_slash(self) -> None:
+        it = self.raw("")
+        it.sendall(f"GET /maths HTTP/1.1\r\nHost: 127.0.0.1:{self.door.port}\r\n\r\n".encode())
+        self.assertIn(b"\r\nLocation: /maths/\r\n", it.makefile("rb").read())
+
+    def test_no_page_where_the_run_has_none(self) -> None:
+        self.record(self.room / "run-maths", self.bots.port)
+        self.assertEqual(self.asks("/maths/"), (404, b"this class has no page to play by\n"))
+        self.assertEqual(self.asks("/maths/look/look-token/")[0], 404)
+        self.assertEqual(self.bots.taken, [])
+
+    def test_a_slow_request_ends(self) -> None:
+        it = self.raw("")
+        it.sendall(b"GET /maths/ HTTP/1.1\r\n")
+        begun = time.monotonic()
+        self.assertEqual(it.recv(100), b"")
+        self.assertGreater(time.monotonic() - begun, 2)
+
+    def test_lines_where_a_page_is_expected(self) -> None:
+        it = self.raw("localhost")
+        it.sendall(b'{"do":"see"}\n')
+        self.assertEqual(json.loads(it.makefile("rb").readline())["by"], "maths")
+
+
+class Crowds(AtDoor):
+    """Very many, and none that is right."""
+
+    def test_slow_handshakes_end_and_leave_room(self) -> None:
+        self.lines("maths")
+        slow = []
+        for _ in range(bounds.HANDSHAKES_EACH):
+            it = socket.create_connection(("127.0.0.1", self.door.port), LIMIT)
+            it.sendall(b"\x16\x03\x01")  # The beginning of a handshake.
+            slow.append(it)
+            self.addCleanup(it.close)
+        for _ in range(5):
+            with Client.of(self.slip("maths")) as me:
+                me.ask(do="look")
+        begun = time.monotonic()
+        for it in slow:
+            try:
+                self.assertEqual(it.recv(1), b"")
+            except ConnectionError:
+                pass
+        self.assertLess(time.monotonic() - begun, LIMIT)
+
+    def test_garbage_and_a_thousand_connections(self) -> None:
+        self.lines("maths")
+        crowd = []
+        for number in range(1000):
+            it = socket.create_connection(("127.0.0.1", self.door.port), LIMIT)
+            crowd.append(it)
+            self.addCleanup(it.close)
+            try:
+                it.sendall((b"", b"\x00" * 100, b"GET / HTTP/1.1\r\n\r\n", b"\x16\x03\x01\x02\x00\x01\x00\x01\xfc\x03\x03", b'{"do":"bye"}\n')[number % 5])
+            except ConnectionError:
+                pass
+        end = time.monotonic() + LIMIT
+        while True:  # While they are there one may be turned away; a client comes again.
+            try:
+                with Client.of(self.slip("maths")) as me:
+                    self.assertEqual(me.ask(do="look")["by"], "maths")
+                break
+            except (Refused, NoServer):
+                self.assertLess(time.monotonic(), end)
+        for it in crowd:
+            try:
+                while it.recv(4096):
+                    pass
+            except ConnectionError:
+                pass
+        files = Path(f"/proc/{self.door.child.pid}/fd")
+        self.wait(lambda: len([*files.iterdir()]) < 40)
+        self.assertIsNone(self.door.child.poll())
+        self.assertEqual((self.door.folder / "door.txt").read_text(encoding="utf-8"), "")
+
+
+class Counts(unittest.TestCase):
+    """What is counted of whom."""
+
+    def test_connections(self) -> None:
+        it = Bounds()
+        with mock.patch.multiple(bounds, CONNECTIONS=5, CONNECTIONS_EACH=3):
+            self.assertEqual([it.enter("a") for _ in range(4)], [True, True, True, False])
+            self.assertEqual([it.enter(of) for of in "bbb"], [True, True, False])
+            it.leave("a")
+            self.assertTrue(it.enter("b"))
+        for of in "aabbb":
+            it.leave(of)
+        self.assertEqual((it.connections, it.meters), ({}, {}))
+
+    def test_the_oldest_handshake_of_who_has_most_ends(self) -> None:
+        it, ended = Bounds(), list[str]()
+
+        def begin(name: str) -> None:
+            it.begin(Handshake(name[0], lambda: ended.append(name)))
+
+        with mock.patch.multiple(bounds, HANDSHAKES=5, HANDSHAKES_EACH=3):
+            for name in ("b1", "a1", "a2", "a3", "a4"):
+                begin(name)
+            self.assertEqual(ended, ["a1"])
+            begin("c1")
+            begin("d1")
+            self.assertEqual(ended, ["a1", "a2"])
+
+    def test_bytes(self) -> None:
+        now = [0.0]
+        it = Meter(100, lambda: now[0])
+        self.assertEqual(it.wait(200), 0)
+        self.assertEqual(it.wait(50), 0.5)
+        now[0] = 1.0
+        self.assertEqual(it.wait(50), 0)
+        now[0] = 100.0
+        self.assertEqual(it.wait(300), 1.0)
+
+    def test_addresses(self) -> None:
+        for address, of in (("192.0.2.7", "192.0.2.7"), ("::ffff:192.0.2.7", "192.0.2.7"), ("2001:db8::7", "2001:db8::/64"),
+                            ("2001:db8:0:0:9::1", "2001:db8::/64"), ("fe80::1%eth0", "fe80::/64"), ("?", "?")):
+            self.assertEqual(origin(address), of)
+
+    def test_heads(self) -> None:
+        asked = Asked.read(b"POST /maths/move HTTP/1.1\r\nHost: a\r\nContent-Length: 12\r\nX-Any: 1\r\n\r\n")
+        self.assertEqual(asked.for_page(80, "/move"), b"POST /move HTTP/1.0\r\nHost: 127.0.0.1:80\r\nConnection: close\r\nContent-Length: 12\r\n\r\n")
+        with self.assertRaises(Bad):
+            Asked.read(b"GET http://a/ HTTP/1.1\r\n\r\n")
+
+    def test_places_and_names(self) -> None:
+        for word, place in (("4700", Place("", 4700)), ("class.example:4700", Place("class.example", 4700)), ("[::1]:4700", Place("::1", 4700))):
+            self.assertEqual(Place.of(word), place)
+            self.assertEqual(place.told().removeprefix(":"), word)
+        for word in ("", "a", "a:b", "0", "a:70000", "::1:4700", "a b:1"):
+            with self.assertRaises(Exception, msg=word):
+                Place.of(word)
+        for name, known in (("maths-2", "maths-2"), ("Mathe 2 (Zürich)", "mathe-2-zurich"), ("2026_a", "n-2026-a"), ("..", "n")):
+            self.assertEqual(routes.network(Path(f"{name}.toml")), known)
+
+
+class Certificates(InRoom):
+    """The door's certificate."""
+
+    def test_one_is_made_once(self) -> None:
+        file = self.room / "door.pem"
+        known = certificate.ready(file, "class.example")
+        self.assertRegex(known, "^[0-9a-f]{64}$")
+        self.assertEqual((file.stat().st_mode & 0o777, certificate.ready(file, "other.example")), (0o600, known))
+        told = subprocess.run(["openssl", "x509", "-in", file, "-noout", "-fingerprint", "-sha256", "-ext", "subjectAltName"], capture_output=True,
+                              text=True, check=True).stdout
+        self.assertIn(known, told.replace(":", "").lower())
+        self.assertIn("DNS:class.example", told)
+
+    def test_none_can_be_had(self) -> None:
+        with mock.patch("shutil.which", return_value=None), self.assertRaisesRegex(Fault, "there is no certificate, and no `openssl` to make one"):
+            certificate.ready(self.room / "door.pem", "class.example")
+        for text in ("", "-----BEGIN CERTIFICATE-----\nAAA\n-----END CERTIFICATE-----\n"):
+            with self.assertRaises(Fault):
+                certificate.fingerprint(self.file("bad.pem", text))
+        with self.assertRaises(Fault):
+            certificate.context(self.room / "bad.pem")
+        with self.assertRaises(Fault):
+            certificate.make(self.room / "a.pem", "a b")
+
+    def test_a_port_that_is_taken(self) -> None:
+        certificate.ready(self.room / "door.pem", "localhost")
+        with socket.create_server(("127.0.0.1", 0)) as taken, self.assertRaisesRegex(Fault, "^no door at 127.0.0.1:"):
+            opening.opened(Place("127.0.0.1", taken.getsockname()[1]), self.room, self.room / "door.pem", print)
+
+
+def opening_port() -> int:
+    """A port that is free."""
+    with socket.create_server(("127.0.0.1", 0)) as it:
+        port: int = it.getsockname()[1]
+    return port
+
+
+if __name__ == "__main__":
+    unittest.main()

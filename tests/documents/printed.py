@@ -1,0 +1,62 @@
+"""Compares what a command printed with what the documents say that it prints.
+
+    python3 -B -m tests.documents.printed COMMAND < OUTPUT
+
+In an indented block a command stands after `$ `, and what it prints below it, up to the next command or the end of the
+block. There `...` stands for any text, and on a line of its own for any lines; the folder of a run has another hour.
+"""
+from __future__ import annotations
+
+import re
+import sys
+from collections.abc import Iterator
+from pathlib import Path
+
+TOP = Path(__file__).resolve().parents[2]
+PAGES = ("*.md", "docs/*.md", "course/*.md", "course/*/*.md")
+FENCE = re.compile(r"^```.*?^```$", re.MULTILINE | re.DOTALL)
+RUN = r"(runs|grades)/\d{4}-\d\d-\d\dT\d{4}-"
+CONVERSATION = "python3 client.py "  # Its lines are typed too: the pages' test has them.
+
+
+def shown(text: str) -> Iterator[tuple[str, list[str]]]:
+    """Yields each command of a page that stands after `$ `, with the lines that are shown below it."""
+    for block in re.findall(r"(?:^    .*\n)+", FENCE.sub("", text), re.MULTILINE):
+        lines = [line[4:] for line in block.splitlines()]
+        starts = [at for at, line in enumerate(lines) if line.startswith("$ ")]
+        for at, end in zip(starts, [*starts[1:], len(lines)]):
+            yield lines[at][2:], lines[at + 1:end]
+
+
+def pattern(lines: list[str]) -> str:
+    """Returns the regular expression of an output that is shown so."""
+    text = "".join(f"{line}\n" for line in lines)
+    whole = re.sub(r"(?m)^\.\.\.\n", "\0", text)
+    found = re.sub(RUN, lambda folder: f"\1{folder[1]}\2", whole)
+    found = re.escape(found).replace(re.escape("..."), "[^\n]*").replace(re.escape("\0"), "(?:[^\n]*\n)*")
+    return re.sub(f"{re.escape(chr(1))}(\\w+){re.escape(chr(2))}", lambda folder: f"{folder[1]}/[0-9T-]+-", found)
+
+
+def differs(command: str, output: str, texts: dict[str, str]) -> str | None:
+    """Returns the first page on which a command's output is shown otherwise, if there is one."""
+    for page, text in texts.items():
+        for each, lines in shown(text):
+            if each == command and lines and not each.startswith(CONVERSATION) and not re.fullmatch(pattern(lines), output):
+                return page
+    return None
+
+
+def pages() -> dict[str, str]:
+    """Returns the text of each page by its path."""
+    return {str(path.relative_to(TOP)): path.read_text(encoding="utf-8") for form in PAGES for path in sorted(TOP.glob(form))}
+
+
+def main() -> None:
+    """Exits with status 1 and says where, if a page shows another output."""
+    page = differs(" ".join(sys.argv[1:]), sys.stdin.read(), pages())
+    if page:
+        sys.exit(f"{page} shows another output of: {' '.join(sys.argv[1:])}")
+
+
+if __name__ == "__main__":
+    main()

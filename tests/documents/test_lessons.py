@@ -1,0 +1,209 @@
+"""What the lessons claim is so: rules, steps and potentials of the worksheets, by the plain model, and what a fault may move."""
+from __future__ import annotations
+
+import random
+import re
+import unittest
+from html.parser import HTMLParser
+from pathlib import Path
+
+from model.fault import Fault
+from model.journal import audit
+from model.lab import read_lab
+from model.world import World
+from tests.documents.test_potential import link_part, own_part
+
+TOP = Path(__file__).resolve().parents[2]
+COURSE = TOP / "course"
+RING = [(1, 2), (2, 3), (3, 4), (4, 1)]
+PATH = [(1, 2), (2, 3), (3, 4)]
+
+
+def tables(path: str) -> list[list[list[str]]]:
+    """Returns the tables of a page, each as its rows with their cells."""
+    text = (COURSE / path).read_text(encoding="utf-8")
+    found = re.findall(r"(?m)((?:^\|.*\n)+)", text)
+    return [[[cell.strip() for cell in line.strip("|").split("|")] for line in table.splitlines()] for table in found]
+
+
+def world(links: list[tuple[int, int]], rows: list[list[str]] | None = None) -> World:
+    """Returns a network with the registers of a table whose first column has p and m, or with clean ones."""
+    nodes = sorted({end for link in links for end in link})
+    near = {node: {a + b - node for a, b in links if node in (a, b)} for node in nodes}
+    values = {row[0]: row[1:] for row in rows or []}
+    p = [None if it == "null" else int(it) for it in values.get("p", ["null"] * len(nodes))]
+    return World(near, dict(zip(nodes, p)), dict(zip(nodes, [it == "true" for it in values.get("m", [""] * len(nodes))])))
+
+
+def step(it: World, nodes: list[int] | None = None, partner: int | None = None) -> int:
+    """Lets these nodes move, or all that are privileged; a marriage takes the partner, if it may. Returns how many moved."""
+    for node in nodes or [node for node in it.nodes() if it.enabled(node)]:
+        moves = it.moves(node)
+        it.chosen[node] = next((move for move in moves if move.partner == partner), moves[-1])
+    moved = len(it.chosen)
+    it.step()
+    return moved
+
+
+def pairs(it: World) -> set[tuple[int, int]]:
+    """Returns the pairs of a world."""
+    return {(i, p) for i, p in it.p.items() if p is not None and i < p and it.p[p] == i}
+
+
+class Lessons(unittest.TestCase):
+    """The worksheets and their solutions."""
+
+    def test_playing_by_hand(self) -> None:
+        it = world([*PATH, (4, 5), (5, 1)], tables("worksheets/1.md")[0])
+        rules, after = tables("solutions/1.md")
+        for row in rules[2:]:
+            self.assertEqual(row[1].split(" with ")[0].replace("none", ""), it.enabled(int(row[0])) or "", row)
+        self.assertEqual(step(it), 3)
+        self.assertEqual((it.p, it.m), (world([*PATH, (4, 5), (5, 1)], after).p, world([*PATH, (4, 5), (5, 1)], after).m))
+        step(it)
+        self.assertTrue(it.stable())
+        self.assertEqual(pairs(it), {(1, 2), (3, 4)})
+
+    def test_a_rule_in_python(self) -> None:
+        text = re.search(r"```text\n(.*?)```", (COURSE / "solutions/2.md").read_text(encoding="utf-8"), re.DOTALL)
+        assert text
+        room: dict[str, object] = {}
+        exec(text[1], room)
+        chance = random.Random(2)
+        for _ in range(200):
+            it = drawn(chance)
+            for node in it.nodes():
+                near = [Shown(other, it.p[other], it.m[other]) for other in it.near(node)]
+                found = room["rule_of"](Shown(node, it.p[node], it.m[node], near))  # type: ignore[operator]
+                self.assertEqual(found, it.enabled(node))
+
+    def test_daemons(self) -> None:
+        it, moves, steps = world(PATH), 0, 0
+        while not it.stable():
+            moves, steps = moves + step(it), steps + 1
+        self.assertEqual((steps, moves, pairs(it)), (6, 10, {(1, 2), (3, 4)}))
+        for order, most, married in (([1, 2, 3, 4], 8, {(1, 2), (3, 4)}), ([2, 3, 1, 4], 4, {(2, 3)})):
+            it, moves = world(PATH), 0
+            while not it.stable():
+                moves += step(it, [next(node for node in order if it.enabled(node))])
+            self.assertEqual((moves, pairs(it)), (most, married))
+        for partner, steps, most in ((1, 6, 10), (3, 7, 12)):
+            it, moves, taken = world(RING), 0, 0
+            while not it.stable():
+                moves, taken = moves + step(it, None, partner), taken + 1
+            self.assertEqual((taken, moves), (steps, most))
+
+    def test_potentials(self) -> None:
+        it = world(RING, tables("worksheets/5.md")[0])
+        for row, moved in zip(tables("solutions/5.md")[0][2:], (0, 4)):
+            self.assertEqual(step(it) if moved else 0, moved)
+            parts = [[own_part(it, i)] + [link_part(it, i, j) for j in it.near(i) if j > i] for i in it.nodes()]
+            self.assertEqual(row[1:], [" + ".join(map(str, each)) for each in parts] + [str(sum(sum(each) for each in parts))])
+
+    def test_forgeries(self) -> None:
+        lines = (TOP / "examples/whole-run.journal").read_text(encoding="ascii").splitlines(keepends=True)
+        swapped = ["1 0 grant ben 2 seduction\n", "2 0 grant ana 1 seduction\n"]
+        forged = {"a": [*lines[:3], lines[3].replace("marriage 2", "seduction"), *lines[4:]], "b": [lines[0], *lines[2:]],
+                  "c": swapped + lines[2:], "d": [lines[0].replace("ana", "ben"), *lines[1:]], "e": lines[:-1]}
+        lab = read_lab((TOP / "examples/built-in.toml").read_bytes())
+        for letter, found, line in (row for row in tables("solutions/8.md")[0][2:]):
+            try:
+                audit(lab, "".join(forged[letter]).encode())
+                error = ""
+            except Fault as fault:
+                error = str(fault)
+            self.assertEqual((found == "yes", line.strip("`")), (bool(error), error), letter)
+
+
+class Shown:
+    """A look, as far as the function of the solution reads it."""
+
+    def __init__(self, node: int, p: int | None, m: bool, near: list[Shown] | None = None) -> None:
+        self.node, self.p, self.m, self.near = node, p, m, near or []
+
+
+def drawn(chance: random.Random) -> World:
+    """Returns a connected network with any registers."""
+    count = chance.randint(2, 9)
+    links = {(chance.randint(1, node - 1), node) for node in range(2, count + 1)}
+    links |= {(a, b) for a in range(1, count) for b in range(a + 1, count + 1) if chance.random() < 0.25}
+    it = world(sorted(links))
+    for node in it.nodes():
+        it.p[node], it.m[node] = chance.choice([None, *it.near(node)]), chance.random() < 0.5
+    return it
+
+
+class Containment(unittest.TestCase):
+    """After one fault in a stable network only the node, its partner and their free neighbours move."""
+
+    def test_drawn_networks(self) -> None:
+        chance = random.Random(3)
+        far = 0
+        for _ in range(200):
+            it = drawn(chance)
+            self.play(it, chance)
+            hit = chance.choice(it.nodes())
+            partner = it.p[hit]
+            near = {hit} if partner is None else {hit, partner}
+            may = near | {node for node in it.nodes() if not it.married(node) and it.links[node] & near}
+            it.fault(hit, chance.choice([None, *it.near(hit)]), chance.random() < 0.5)
+            moved = self.play(it, chance)
+            self.assertLessEqual(moved, {hit} if partner is None else may)
+            far += bool(moved - near - it.links[hit])
+        self.assertGreater(far, 0, "no node moved that is two links away")
+
+    def play(self, it: World, chance: random.Random) -> set[int]:
+        """Lets drawn nodes move until the world is stable. Returns who moved."""
+        moved: set[int] = set()
+        while not it.stable():
+            may = [node for node in it.nodes() if it.enabled(node)]
+            some = [node for node in may if chance.random() < 0.5] or [chance.choice(may)]
+            step(it, some)
+            moved |= set(some)
+        return moved
+
+
+class Reader(HTMLParser):
+    """Reads the slides: which elements are open, and the slides' and pictures' names."""
+
+    def __init__(self) -> None:
+        super().__init__()
+        self.open: list[str] = []
+        self.slides: list[str] = []
+        self.pictures: list[str] = []
+        self.crossed: list[str] = []
+
+    def handle_starttag(self, tag: str, attrs: list[tuple[str, str | None]]) -> None:
+        """Opens an element."""
+        of = dict(attrs)
+        if tag == "img":
+            self.pictures.append(of["src"] or "")
+        if tag == "section":
+            self.slides.append(of["id"] or "")
+        if tag not in ("img", "meta"):
+            self.open.append(tag)
+
+    def handle_startendtag(self, tag: str, attrs: list[tuple[str, str | None]]) -> None:
+        """Passes over an element that is closed at once."""
+
+    def handle_endtag(self, tag: str) -> None:
+        """Closes the element that was opened last."""
+        if self.open.pop() != tag:
+            self.crossed.append(tag)
+
+
+class Slides(unittest.TestCase):
+    """The slides."""
+
+    def test_they_are_whole(self) -> None:
+        it = Reader()
+        it.feed((COURSE / "slides.html").read_text(encoding="utf-8"))
+        self.assertEqual((it.open, it.crossed), ([], []))
+        self.assertEqual(it.slides, [f"s{number}" for number in range(1, len(it.slides) + 1)])
+        self.assertEqual([picture for picture in it.pictures if not (COURSE / picture).exists()], [])
+        named = re.findall(r"slides? (\d+)(?: (?:to|and) (\d+))?", (TOP / "docs/COURSE.md").read_text(encoding="utf-8"))
+        self.assertEqual(max(int(number) for pair in named for number in pair if number), len(it.slides))
+
+
+if __name__ == "__main__":
+    unittest.main()

@@ -1,0 +1,86 @@
+"""The potentials that docs/SELF-STABILISATION.md counts by hand are those of the registers that the program shows."""
+from __future__ import annotations
+
+import json
+import re
+import unittest
+from pathlib import Path
+
+from model.lab import read_lab
+from model.world import World
+
+TOP = Path(__file__).resolve().parents[2]
+PAGE = (TOP / "docs/SELF-STABILISATION.md").read_text(encoding="utf-8")
+LAB, SHOWN = TOP / "examples/five.toml", TOP / "examples/five-run.out"  # which tests/program compares with the program's
+HIGHEST = 5
+
+
+def rows(first: str) -> list[list[str]]:
+    """Returns the cells of the table whose first head is this."""
+    table = re.search(rf"(?m)^\| {re.escape(first)} \|.*\n\|[-| ]+\|\n((?:\|.*\n)+)", PAGE)
+    assert table, first
+    return [[cell.strip() for cell in line.strip("|").split("|")] for line in table[1].splitlines()]
+
+
+def own_part(world: World, i: int) -> int:
+    """Returns a node's own part, by the page's first table."""
+    married, _, down = (row[1:] for row in rows("Own part of i"))
+    unmarried = rows("Own part of i")[1][1:]
+    column = 0 if world.m[i] else 1
+    pointer = world.p[i]
+    if world.married(i):
+        return int(married[column])
+    return int((down if pointer is not None and pointer < i else unmarried)[column])
+
+
+def link_part(world: World, i: int, j: int) -> int:
+    """Returns a node's part for a higher neighbour, by the page's second table."""
+    both, deceived, waits, settled, rest = (int(row[1]) for row in rows("Part of i for a higher neighbour j"))
+    if world.p[i] == j:
+        return both if world.p[j] == i else deceived if world.m[j] and not world.married(j) else waits
+    return settled if world.m[j] and world.married(j) else rest
+
+
+def configurations() -> list[World]:
+    """Returns the world at the beginning and after each close, with the registers that the program showed."""
+    world = read_lab(LAB.read_bytes()).world
+    found = [world]
+    for line in SHOWN.read_text(encoding="ascii").splitlines():
+        reply = json.loads(line.partition(" ")[2])
+        if reply["ok"] == "close":
+            found.append(World(world.links, dict(found[-1].p), dict(found[-1].m)))
+        if reply["ok"] == "see":
+            found[-1].p[reply["node"]], found[-1].m[reply["node"]] = reply["p"], reply["m"]
+    return found
+
+
+class ByHand(unittest.TestCase):
+    """The table of five nodes."""
+
+    def test_each_row_is_that_of_the_registers(self) -> None:
+        table, worlds = rows("Configuration"), configurations()
+        self.assertEqual(len(table), len(worlds))
+        for row, world in zip(table, worlds):
+            pointers = {(int(a), int(b)) for a, b in re.findall(r"(\d)[→↔](\d)", row[1])}
+            pointers |= {(int(b), int(a)) for a, b in re.findall(r"(\d)↔(\d)", row[1])}
+            self.assertEqual(pointers, {(i, p) for i, p in world.p.items() if p is not None}, row)
+            self.assertEqual(set(map(int, re.findall(r"\d", row[2]))), {i for i in world.nodes() if world.m[i]}, row)
+            for i in range(1, HIGHEST + 1):
+                parts = [own_part(world, i)] + [link_part(world, i, j) for j in world.near(i) if j > i]
+                self.assertEqual(row[2 + i], " + ".join(map(str, parts)), f"node {i} of {row}")
+
+    def test_sums_fall_by_the_moves(self) -> None:
+        table = rows("Configuration")
+        sums = [int(row[8]) for row in table]
+        for row, total in zip(table, sums):
+            self.assertEqual(sum(map(int, re.findall(r"\d+", " ".join(row[3:8])))), total, row)
+        moves = [int(row[9].partition(":")[0]) for row in table[:-1]]
+        closes = [len(json.loads(line[2:])["moved"]) for line in SHOWN.read_text(encoding="ascii").splitlines() if '"ok":"close"' in line]
+        self.assertEqual(moves, closes)
+        self.assertTrue(all(before - after >= moved for before, after, moved in zip(sums, sums[1:], moves)))
+        self.assertIn(f"The sum falls by {', '.join(str(a - b) for a, b in zip(sums, sums[1:-1]))} and {sums[-2] - sums[-1]}", PAGE)
+        self.assertIn(f"There are {sum(moves)} moves in all", PAGE)
+
+
+if __name__ == "__main__":
+    unittest.main()
