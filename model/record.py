@@ -20,7 +20,7 @@ ASKED = re.compile(STAMP + rb"> ")
 # The kinds of entries. Another kind has its pattern here, and what it means in `Seat.take`.
 SAID = re.compile(STAMP + rb"(>) ([^\n]*)\n" + STAMP + rb"< ([^\n]*)\n")
 MARK = re.compile(STAMP + rb"(?:([.!-])|(\+) %s)\n" % NUMERAL)
-# Where a session stands: nothing was recorded yet; lines may come, or none until its end, after a bye or because anything
+# The stages of a session: nothing was recorded yet; lines may come, or none until its end, after a bye or because anything
 # may be missing, or none until recording resumes, or only a hello.
 FRESH, OPEN, OVER, CUT, PAUSED, RESUMING = "fresh", "open", "over", "cut", "paused", "resuming"
 

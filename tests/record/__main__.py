@@ -4,7 +4,7 @@
 
 Records that are written by hand, each reason to refuse one, one byte hurt at each position of a short record,
 and the records of drawn runs of many clients: as they came, hurt, cut, beside another journal, and with an entry
-that tells what can't have been said, of each kind that a lax verifier would let pass. Then a host records classes, one of which is killed, and one meets a full disk. With a number, only that seed's run
+that can't have been said, of each kind that a lax verifier would let pass. Then a host records classes, one of which is killed, and one meets a full disk. With a number, only that seed's run
 is verified, and its files are left in the working folder.
 """
 import os
@@ -139,7 +139,7 @@ def pauses(lab: Lab, run: Recording) -> list[tuple[str, dict[int, bytes], str]]:
 
 
 def risen(run: Recording) -> list[tuple[str, dict[int, bytes], str]]:
-    """Events that a seat has seen, behind the short record, in a seat of their own."""
+    """Events that a seat has seen, after the short record, in a seat of their own."""
     ana = b'3 %d > {"do":"hello","name":"ana","key":"a-key"}\n3 %d < {"ok":"hello","who":"ana"}\n'
     noise, bye = b'3 %d > x\n3 %d < {"refuse":"malformed"}\n', b'3 %d > {"do":"bye"}\n3 %d < {"ok":"bye"}\n'
     first, later = (0, 0), (2, 2)
@@ -157,7 +157,7 @@ def risen(run: Recording) -> list[tuple[str, dict[int, bytes], str]]:
         ("more at an end of nobody", noise % first + b"3 2 .\n", ahead % 3),
         ("more between sessions", b"3 0 .\n3 2 .\n", ahead % 2),
         ("more at a bye of nobody", b"3 0 .\n" + bye % later, ahead % 2),
-        ("more behind a bye", bye % first + b"3 2 .\n", ahead % 3),
+        ("more after a bye", bye % first + b"3 2 .\n", ahead % 3),
         ("more at a pause of nobody", noise % first + b"3 2 -\n3 2 + 1\n3 2 .\n", ahead % 3),
         ("more at a line of ana", ana % first + noise % later + b"3 2 .\n", told(1, 2)),
         ("more at ana's bye", ana % first + bye % later + b"3 2 .\n", told(1, 2)),
@@ -165,7 +165,7 @@ def risen(run: Recording) -> list[tuple[str, dict[int, bytes], str]]:
         ("more at ana's pause", ana % first + b"3 2 -\n3 2 + 1\n3 2 .\n", told(1, 1, paused.replace(" ana", ""))),
         ("more in a pause", noise % first + b"3 0 -\n3 2 + 1\n3 2 .\n", told(1, 1, paused)),
         ("more at a cut", b"3 0 .\n3 2 !\n3 2 .\n", told(2, 0, cut)),
-        ("more behind a cut", b"3 0 !\n3 2 .\n", told(1, 0, cut)),
+        ("more after a cut", b"3 0 !\n3 2 .\n", told(1, 0, cut)),
     ]
     return [(what, {1: run.texts[1], 2: run.texts[2], 3: text}, line) for what, text, line in found]
 
@@ -391,7 +391,7 @@ def drawn(room: Path) -> Counter[str]:
 
 
 def slipped(room: Path) -> int:
-    """Drawn records in each of which one entry tells what can't have been said; how many there were."""
+    """Drawn records in each of which one entry can't have been said; how many there were."""
     count: Counter[str] = Counter()
     for seed in SLIPS:
         rng = Random(seed)

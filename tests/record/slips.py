@@ -1,4 +1,4 @@
-"""Records in which one entry tells what can't have been said, in each of the ways that a lax verifier would let pass."""
+"""Records in which one entry can't have been said, in each of the ways that a lax verifier would let pass."""
 import json
 from collections.abc import Callable, Iterator
 from dataclasses import dataclass
@@ -19,7 +19,7 @@ OTHER_REPLY, OTHER_EVENT, BACK = "not the reply of the rules at place %d", "not 
 
 @dataclass(frozen=True)
 class Told:
-    """An entry of a seat's text: where it begins, who was known, and of a line what the rules answer."""
+    """An entry of a seat's text: the byte at which it begins, who was known, and of a line what the rules answer."""
 
     seat: int
     start: int
@@ -43,7 +43,7 @@ class Drawn:
 
 @dataclass(frozen=True)
 class Hurt:
-    """An entry that is told otherwise: the seat's text with it, and why it can't be."""
+    """An entry that is another: the seat's text with it, and why it can't be."""
 
     seat: int
     text: bytes
@@ -75,7 +75,7 @@ def read(run: Recording) -> Drawn:
 
 
 def changed(drawn: Drawn, it: Told, text: bytes, why: str) -> Hurt:
-    """Returns a seat's text in which an entry is another, and the line that tells why it can't be."""
+    """Returns a seat's text in which an entry is another, and the line that says why it can't be."""
     whole = drawn.run.texts[it.seat]
     line = 1 + whole.count(b"\n", 0, it.start)
     return Hurt(it.seat, whole[: it.start] + text + whole[it.entry.end :], f"verify: seat {it.seat}, line {line}: {why}")
@@ -87,7 +87,7 @@ def is_denied(it: Told) -> bool:
 
 
 def replied(reply: bytes, is_granted: bool) -> Callable[[Drawn, Told], Iterator[Hurt]]:
-    """Returns how a grant, or a denial, is told as this refusal."""
+    """Returns how a grant, or a denial, is recorded as this refusal."""
     def hurts(drawn: Drawn, it: Told) -> Iterator[Hurt]:
         if it.found is not None and it.found.event is not None if is_granted else is_denied(it):
             yield changed(drawn, it, stamped(it.seat, it.entry.seen, it.entry.line, reply), OTHER_REPLY % it.entry.seen)
@@ -95,7 +95,7 @@ def replied(reply: bytes, is_granted: bool) -> Callable[[Drawn, Told], Iterator[
 
 
 def of_other_owner(drawn: Drawn, it: Told) -> Iterator[Hurt]:
-    """Yields a seat in which the first line behind a hello, a move at a shared node, is another owner's."""
+    """Yields a seat in which the first line after a hello, a move at a shared node, is another owner's."""
     before = drawn.before(it)[-2:]
     is_first = len(before) == 1 or len(before) == 2 and before[0].entry.mark == b"."
     if not is_first or it.found is None or it.found.event is None or it.found.event.do != "move":
@@ -111,7 +111,7 @@ def of_other_owner(drawn: Drawn, it: Told) -> Iterator[Hurt]:
 
 
 def of_other_event(drawn: Drawn, it: Told) -> Iterator[Hurt]:
-    """Yields a seat in which the teacher's event is told as a close or a release that the rules grant there."""
+    """Yields a seat in which the teacher's event is recorded as a close or a release that the rules grant there."""
     lab = drawn.run.lab
     if it.found is None or it.found.event is None or it.known != lab.teacher:
         return
@@ -127,7 +127,7 @@ def of_other_event(drawn: Drawn, it: Told) -> Iterator[Hurt]:
 
 
 def earlier(drawn: Drawn, it: Told) -> Iterator[Hurt]:
-    """Yields a seat in which an entry behind a denial or a session's end names one event fewer."""
+    """Yields a seat in which an entry after a denial or a session's end names one event fewer."""
     is_same = it.entry.mark == b"." or it.entry.reply == MALFORMED
     last = drawn.before(it)[-1:]
     if is_same and it.entry.seen and last and last[0].entry.seen == it.entry.seen and (last[0].entry.mark == b"." or is_denied(last[0])):
@@ -137,12 +137,12 @@ def earlier(drawn: Drawn, it: Told) -> Iterator[Hurt]:
 
 
 KINDS: dict[str, Callable[[Drawn, Told], Iterator[Hurt]]] = {
-    "a denial told as a halted journal": replied(NO_JOURNAL, is_granted=False),
-    "a grant told as a full journal": replied(FULL, is_granted=True),
-    "a denial told as no request": replied(MALFORMED, is_granted=False),
-    "a move told as another owner's": of_other_owner,
-    "an event told as another": of_other_event,
-    "an entry told earlier": earlier,
+    "a denial as a halted journal": replied(NO_JOURNAL, is_granted=False),
+    "a grant as a full journal": replied(FULL, is_granted=True),
+    "a denial as no request": replied(MALFORMED, is_granted=False),
+    "a move as another owner's": of_other_owner,
+    "an event as another": of_other_event,
+    "an earlier entry": earlier,
 }
 
 
