@@ -8,7 +8,7 @@ from model.events import apply
 from model.fault import Fault, read_file
 from model.journal import Event
 from model.lab import Lab
-from model.requests import GREATEST
+from model.requests import GREATEST, read_request
 from model.run import LONGEST_REQUEST, answer
 
 MOST_BEGUN, MOST_RECORD = 20, 2**30
@@ -20,8 +20,15 @@ ASKED = re.compile(STAMP + rb"> ")
 # The kinds of entries. Another kind has its pattern here, and what it means in `Seat.take`.
 SAID = re.compile(STAMP + rb"(>) ([^\n]*)\n" + STAMP + rb"< ([^\n]*)\n")
 MARK = re.compile(STAMP + rb"(?:([.!-])|(\+) %s)\n" % NUMERAL)
-# Where a session stands: lines may come, or none until its end, or none until recording resumes, or only a hello.
-OPEN, OVER, PAUSED, RESUMING = "open", "over", "paused", "resuming"
+# The stages of a session: nothing was recorded yet; lines may come, or none until its end, after a bye or because anything
+# may be missing, or none until recording resumes, or only a hello.
+FRESH, OPEN, OVER, CUT, PAUSED, RESUMING = "fresh", "open", "over", "cut", "paused", "resuming"
+
+
+def is_command(line: bytes) -> bool:
+    """Returns whether a line asks for what the clauses decide."""
+    asked = read_request(line)
+    return asked is not None and asked.do not in ("hello", "bye")
 
 
 class Entry(NamedTuple):
@@ -46,6 +53,7 @@ class Said(NamedTuple):
 class Record:
     """What the records of all seats come to."""
 
+    begun: int = 0  # how many events came before
     sessions: int = 0
     said: list[Said] = field(default_factory=list)
     granted: list[int] = field(default_factory=list)
@@ -69,7 +77,7 @@ class Seat:
         self.lab, self.events, self.number, self.record = lab, events, number, record
         self.world = lab.opening()  # after the events that had been seen
         self.known: str | None = None  # who is known in the session
-        self.stage = OPEN
+        self.stage = FRESH
 
     def entry(self, text: bytes, at: int) -> Entry | str:
         """Returns the entry that begins at a byte of the text, or why none does."""
@@ -88,21 +96,27 @@ class Seat:
         """Returns whether an entry has the seat's number, and a number of events of 64 bits."""
         return int(found[1]) == self.number and int(found[2]) <= GREATEST
 
+    def advance(self) -> None:
+        """Lets the next event of the journal happen."""
+        apply(self.world, self.events[self.world.place].asked)
+
     def take(self, entry: Entry) -> str | None:
         """Takes an entry as the next one of the seat, or returns why it can't be that."""
         if entry.seen < self.world.place:
             return "goes back"
         if entry.seen > len(self.events):
             return "past the journal's end"
+        if entry.seen > self.world.place and not self.may_rise(entry):
+            return "goes ahead"
         while self.world.place < entry.seen:
-            apply(self.world, self.events[self.world.place].asked)
+            self.advance()
         # The session ended, and the next one begins: nobody is known.
         if entry.mark == b".":
             self.known, self.stage = None, OPEN
             self.record.sessions += 1
         # Anything may be missing up to the session's end.
         elif entry.mark == b"!":
-            self.known, self.stage = None, OVER
+            self.known, self.stage = None, CUT
             self.record.is_cut = True
         # Recording pauses, for whoever is known.
         elif entry.mark == b"-":
@@ -118,9 +132,20 @@ class Seat:
             return self.judge(entry)
         return None
 
+    def may_rise(self, entry: Entry) -> bool:
+        """Returns whether more events may have been seen at an entry than before it."""
+        # Recording pauses at a line that isn't recorded; it resumes, or is cut, after what isn't recorded.
+        if self.stage in (FRESH, PAUSED, CUT) or entry.mark in (b"!", b"+") or entry.mark == b"-" and self.known is not None:
+            return True
+        # The teacher, and whoever owns a node, may have been shown something.
+        if self.known == self.lab.teacher or any(self.known in owners for owners in self.lab.owners.values()):
+            return True
+        # A command asks the window, unless memory is refused before.
+        return entry.mark == b">" and entry.reply != NO_MEMORY and self.known is not None and is_command(entry.line)
+
     def judge(self, entry: Entry) -> str | None:
         """Takes an answered line if one may come and its reply is that of the rules, or returns why it can't be."""
-        if self.stage in (OVER, PAUSED):
+        if self.stage in (OVER, CUT, PAUSED):
             return "not the session's end"
         before = self.known
         why = self.check(entry)
@@ -142,7 +167,8 @@ class Seat:
             return None
         # An event that the line grants must be the next one of the journal.
         event = found.event and [Event(place + 1, self.world.number, str(self.known), found.event)]
-        is_reply = entry.reply == found.reply.encode("ascii")
+        # A view that was shown has no entry.
+        is_reply = not found.is_view and entry.reply == found.reply.encode("ascii")
         if is_reply and event and event != self.events[place : place + 1]:
             return f"not the journal's event at place {place + 1}"
         if not is_reply or len(entry.line) > LONGEST_REQUEST:
@@ -165,16 +191,16 @@ class Seat:
             at = entry.end
 
 
-def check_places(record: Record, begun: int, events: int) -> None:
+def check_places(record: Record, events: int) -> None:
     """Refuses a record unless its seats grant each event once; events before the record began none of them may grant."""
     seen: set[int] = set()
     for place in record.granted:
-        if place <= begun:
+        if place <= record.begun:
             raise Fault(f"verify: place {place}: granted before the record began", 3)
         if place in seen:
             raise Fault(f"verify: place {place}: granted twice", 3)
         seen.add(place)
-    for place in range(begun + 1, events + 1):
+    for place in range(record.begun + 1, events + 1):
         if record.is_whole() and place not in seen:
             raise Fault(f"verify: place {place}: granted in no record", 3)
 
@@ -184,10 +210,10 @@ def read_record(lab: Lab, events: list[Event], folder: Path) -> Record:
     begun = read_file(folder / "begun", "record", MOST_BEGUN).removesuffix(b"\n")
     if not re.fullmatch(rb"[0-9]{1,19}", begun):
         raise Fault("read fault: record", 4)
-    record = Record()
+    record = Record(begun=int(begun))
     for number in range(1, lab.sessions + 1):
         Seat(lab, events, number, record).read(read_file(folder / f"{number}.record", "record", MOST_RECORD))
-    check_places(record, int(begun), len(events))
+    check_places(record, len(events))
     return record
 
 
@@ -195,4 +221,4 @@ def verified(lab: Lab, record: Record, events: list[Event]) -> str:
     """Returns what verifying prints of a record that passes."""
     end = "" if record.is_whole() else ", not whole"
     first = f"ok: {record.sessions} sessions, {len(record.said)} lines, {len(events)} events{end}"
-    return f"{first}\n{' '.join(record.whole(lab))}\n"
+    return f"{first}\n{' '.join(record.whole(lab))}\nbegun after {record.begun} events\n"

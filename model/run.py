@@ -17,11 +17,13 @@ SCRIPT_LINE = re.compile(rb"([1-9][0-9]?) (.*)", re.DOTALL)
 
 
 class Answer(NamedTuple):
-    """The reply to a line, who is known on its connection from then on, and the request if it was granted as an event."""
+    """The reply to a line, who is known on its connection from then on, the request if it was granted as an event, and
+    whether the reply shows something."""
 
     reply: str
     known: str | None
     event: Request | None = None
+    is_view: bool = False
 
 
 def text_of(**values: Any) -> str:
@@ -56,7 +58,7 @@ def answer(lab: Lab, world: World, known: str | None, line: bytes) -> Answer:
         return Answer(denied(world, name), known)
     if asked.do in ("see", "look", "report"):
         shown = report(world) if asked.do == "report" else (registers if asked.do == "see" else look)(world, asked.node)
-        return Answer(text_of(ok=asked.do, at=world.number, **shown), known)
+        return Answer(text_of(ok=asked.do, at=world.number, **shown), known, is_view=True)
     # After the clauses no event is granted if the lab has had all its events.
     if world.place == lab.events:
         return Answer(text_of(refuse="full"), known)

@@ -29,6 +29,8 @@ named = lambda name: (room / name).read_text() if (room / name).exists() else ""
 crates = re.findall(r"(?m)^(\\w+):", pathlib.Path("crates.txt").read_text())
 with (room / "runs").open("a") as it:
     it.write(" ".join(crates) + "\\n")
+with (room / "processors").open("a") as it:
+    it.write(f"{{crates[-1]}} {{len(crates)}} {{len(os.sched_getaffinity(0))}}\\n")
 for crate in crates:
     kept = room / "kept" / crate
     if not kept.exists():

@@ -97,6 +97,16 @@ class Builds(InClone):
         self.assertTrue((self.clone / "crates/low/out/incremental/kept").exists())
         self.assertEqual([*self.temporary.iterdir()], [])
 
+    def test_processors(self) -> None:
+        """The proof that the longest chain waits for is given all processors, and one beside it half of them."""
+        (self.clone / "tools/build/seconds.txt").write_text("low 1\nleft 9\nright 1\nmml_server 1\nmml_host 1\n", encoding="utf-8")
+        self.assertEqual(self.call("./mml", "build", RT_JOBS="2").returncode, 0)
+        number = len(os.sched_getaffinity(0))
+        told = [line.split() for line in (self.room / "processors").read_text(encoding="utf-8").splitlines()]
+        self.assertEqual(told[0], ["mml_host", "5", str(number)])
+        each = {crate: int(processors) for crate, _, processors in told[1:]}
+        self.assertEqual((each["low"], each["left"], each["right"]), (2 * number, 2 * number, number))
+
     def test_where_it_is_proved(self) -> None:
         """In a clone of Git the repository stands on the clone's disk, where no check looks, and is removed at the end."""
         git = self.clone / ".git"

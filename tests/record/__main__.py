@@ -3,10 +3,10 @@
     python3 -B -m tests.record [SEED | WORD..]
 
 Records that are written by hand, each reason to refuse one, one byte hurt at each position of a short record,
-and the records of drawn runs of many clients: as they came, hurt, cut, and beside another journal. Then a
-host records classes, one of which is killed, and one meets a full disk. With a number, only that seed's run
-is verified, and its files are left in the working folder; with words, only the classes whose tests' names have one of
-them are recorded.
+and the records of drawn runs of many clients: as they came, hurt, cut, beside another journal, and with an entry that
+can't have been said, of each kind that a lax verifier would let pass. Then a host records classes, one of which is
+killed, and one meets a full disk. With a number, only that seed's run is verified, and its files are left in the
+working folder; with words, only the classes whose tests' names have one of them are recorded.
 """
 import os
 import re
@@ -18,6 +18,7 @@ from random import Random
 from time import sleep
 
 from model import Lab, read_lab
+from model.run import answer
 from tests.common.hosting import HOST, lab_of
 from tests.common.preload import Ended, fail, in_room
 from tests.common.second import agreed, said
@@ -25,8 +26,10 @@ from tests.random.labs import drawn_lab
 from tests.record.classes import hosted
 from tests.record.drawn import drawn_run
 from tests.record.recording import Recording, whole_line
+from tests.record.slips import check_kinds, drawn_hurts, shared_lab
 
 SEEDS = range(1, 201)
+SLIPS = range(1, 61)
 HURTS = 6
 BYTES = b" 03-eA\n\xff>.!<+"
 # What the seats say one after the other in the short run, of which most is refused.
@@ -85,6 +88,11 @@ def short_run(lab: Lab) -> Recording:
     return run
 
 
+def see_reply(lab: Lab) -> str:
+    """Returns what ana is shown of node 1 at the beginning."""
+    return answer(lab, lab.opening(), "ana", b'{"do":"see","node":1}').reply
+
+
 def replaced(text: bytes, old: bytes, new: bytes) -> bytes:
     """The text with that changed which stands there once."""
     if text.count(old) != 1:
@@ -131,6 +139,55 @@ def pauses(lab: Lab, run: Recording) -> list[tuple[str, dict[int, bytes], str]]:
     return [(what, {1: run.texts[1], 2: run.texts[2], 3: text}, line) for what, text, line in found]
 
 
+def risen(run: Recording) -> list[tuple[str, dict[int, bytes], str]]:
+    """Events that a seat has seen, after the short record, in a seat of their own."""
+    ana = b'3 %d > {"do":"hello","name":"ana","key":"a-key"}\n3 %d < {"ok":"hello","who":"ana"}\n'
+    noise, bye = b'3 %d > x\n3 %d < {"refuse":"malformed"}\n', b'3 %d > {"do":"bye"}\n3 %d < {"ok":"bye"}\n'
+    first, later = (0, 0), (2, 2)
+    ahead = "seat 3, line %d: goes ahead"
+
+    def told(sessions: int, lines: int, rest: str = f"\n{whole_line(run.lab)}") -> str:
+        return f"ok: {run.sessions + sessions} sessions, {run.lines + lines} lines, 2 events{rest}"
+
+    cut, paused = f", not whole\n{whole_line(run.lab, cut=True)}", f", not whole\n{whole_line(run.lab)}"
+    found: list[tuple[str, bytes, str]] = [
+        ("begun later, at a line", noise % later + b"3 2 .\n", told(1, 1)),
+        ("begun later, at an end", b"3 2 .\n", told(1, 0)),
+        ("more at a line of nobody", noise % first + noise % later, ahead % 3),
+        ("more at a hello", noise % first + ana % later, ahead % 3),
+        ("more at an end of nobody", noise % first + b"3 2 .\n", ahead % 3),
+        ("more between sessions", b"3 0 .\n3 2 .\n", ahead % 2),
+        ("more at a bye of nobody", b"3 0 .\n" + bye % later, ahead % 2),
+        ("more after a bye", bye % first + b"3 2 .\n", ahead % 3),
+        ("more at a pause of nobody", noise % first + b"3 2 -\n3 2 + 1\n3 2 .\n", ahead % 3),
+        ("more at a line of ana", ana % first + noise % later + b"3 2 .\n", told(1, 2)),
+        ("more at ana's bye", ana % first + bye % later + b"3 2 .\n", told(1, 2)),
+        ("more at ana's end", ana % first + b"3 2 .\n", told(1, 1)),
+        ("more at ana's pause", ana % first + b"3 2 -\n3 2 + 1\n3 2 .\n", told(1, 1, paused.replace(" ana", ""))),
+        ("more in a pause", noise % first + b"3 0 -\n3 2 + 1\n3 2 .\n", told(1, 1, paused)),
+        ("more at a cut", b"3 0 .\n3 2 !\n3 2 .\n", told(2, 0, cut)),
+        ("more after a cut", b"3 0 !\n3 2 .\n", told(1, 0, cut)),
+    ]
+    return [(what, {1: run.texts[1], 2: run.texts[2], 3: text}, line) for what, text, line in found]
+
+
+def without_a_node(room: Path, lab: str) -> int:
+    """Records of a student who owns no node, to whom nothing can be shown: events are seen at a command alone."""
+    lab += '\n[[student]]\nname = "eve"\nkey = "e-key"\n'
+    files, run = Files(room, lab), short_run(read_lab(lab.encode("ascii")))
+    eve = b'3 0 > {"do":"hello","name":"eve","key":"e-key"}\n3 0 < {"ok":"hello","who":"eve"}\n'
+    asked = [b'{"do":"look","node":1}', b'{"clause":1,"deny":"not-owner","text":"you do not own this node"}']
+    look, noise = (b"3 2 > %s\n3 2 < %s\n" % tuple(it) for it in (asked, (b"x", b'{"refuse":"malformed"}')))
+    ahead = "verify: seat 3, line 3: goes ahead"
+    cases = [
+        (look + noise, f"ok: {run.sessions + 1} sessions, {run.lines + 3} lines, 2 events\n{whole_line(run.lab)}"),
+        (look.replace(asked[1], b'{"refuse":"memory"}'), ahead), (noise, ahead), (b"", ahead),
+    ]
+    for text, line in cases:
+        files.wants(f"eve: {text!r}", run.journal, {**run.texts, 3: eve + text + b"3 2 .\n"}, line)
+    return len(cases)
+
+
 def by_hand(files: Files, lab: Lab) -> int:
     """The short record, whole, and with one thing changed each; how many records that were."""
     run = short_run(lab)
@@ -167,18 +224,22 @@ def by_hand(files: Files, lab: Lab) -> int:
         ("a lost grant", {1: b"".join(one.splitlines(keepends=True)[:4]) + b"1 2 .\n", 2: two},
          "place 2: granted in no record"),
         ("a lost grant, cut", {1: b"".join(one.splitlines(keepends=True)[:4]) + b"1 2 !\n1 2 .\n", 2: two},
-         f"ok: 2 sessions, {run.lines - 1} lines, 2 events, not whole\nwhole"),
+         f"ok: 2 sessions, {run.lines - 1} lines, 2 events, not whole\n{whole_line(lab, cut=True)}"),
         ("a grant told again by its seat", {1: one + replaced(one, b"1 2 .\n", b"").replace(b"1 0 ", b"1 2 "), 2: two},
          "seat 1, line 10: not the reply of the rules at place 2"),
         ("a grant told twice", {1: one, 2: two, 3: in_seat(1, 3, one)}, "place 1: granted twice"),
         ("cut twice", {1: one + b"1 2 !\n1 2 !\n1 2 .\n", 2: two}, run.told(False).replace("ok: 2 ", "ok: 3 ")),
     ]
+    shown = b'2 0 > {"do":"see","node":1}\n2 0 < %s\n' % see_reply(lab).encode()
+    hello = b'2 0 < {"ok":"hello","who":"ana"}\n'
+    cases += [("a view", {1: one, 2: replaced(two, hello, hello + shown)}, "seat 2, line 5: not the reply of the rules at place 0")]
     cases += pauses(lab, run)
+    cases += risen(run)
     assert place == 2
     for what, texts, line in cases:
         files.wants(what, journal, {**rest, **texts}, line if line.startswith("ok: ") else f"verify: {line}")
     files.wants("begun later", journal, {**rest, 1: one, 2: two}, "verify: place 1: granted before the record began", 1)
-    files.wants("begun where it ends", journal, rest, f"ok: 0 sessions, 0 lines, 2 events\n{whole_line(lab)}", 2)
+    files.wants("begun where it ends", journal, rest, f"ok: 0 sessions, 0 lines, 2 events\n{whole_line(lab, begun=2)}", 2)
     return len(cases) + 2
 
 
@@ -330,18 +391,34 @@ def drawn(room: Path) -> Counter[str]:
     return told
 
 
+def slipped(room: Path) -> int:
+    """Drawn records in each of which one entry can't have been said; how many there were."""
+    count: Counter[str] = Counter()
+    for seed in SLIPS:
+        rng = Random(seed)
+        document, lab = shared_lab(rng)
+        run, hurts = drawn_hurts(rng, lab)
+        files = Files(room, document)
+        for kind, hurt in hurts:
+            count[kind] += 1
+            files.wants(f"seed {seed}, {kind}", run.journal, {**run.texts, hurt.seat: hurt.text}, hurt.why)
+    check_kinds(count, len(SLIPS) // 4)
+    return sum(count.values())
+
+
 def work(room: Path) -> str:
     """All comparisons."""
     lab_file = lab_of(room, 4, 100)
     document = lab_file.read_text(encoding="ascii")
     lab = read_lab(document.encode("ascii"))
     files = Files(room, document)
-    hand = by_hand(files, lab)
+    hand = by_hand(files, lab) + without_a_node(room, document)
+    files = Files(room, document)
     other_files(files, lab)
     by_pieces(files, lab)
     bytes_hurt = at_each_byte(files, lab)
-    told = drawn(room)
-    counts = f"{hand} records by hand, {bytes_hurt} with a byte hurt and {sum(told.values())} of drawn runs"
+    told, slips = drawn(room), slipped(room)
+    counts = f"{hand} records by hand, {bytes_hurt} with a byte hurt, {sum(told.values())} of drawn runs and {slips} of what can't be said"
     return f"{counts}, as the model has them; classes of a host: {hosted(room)}"
 
 

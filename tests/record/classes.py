@@ -44,9 +44,10 @@ TESS = b"""\
 
 
 def verified(lab: Path, journal: Path, record: Path, line: bytes) -> None:
-    """Wants that line of the record's verifying, and behind it that all is recorded of everybody, or of nobody where
-    it isn't whole."""
-    line += f"{whole_line(read_lab(lab.read_bytes()), b'not whole' in line)}\n".encode("ascii")
+    """Wants that line of the record's verifying, and after it that all is recorded of everybody, or of nobody where
+    it isn't whole, and how many events came before."""
+    begun = int((record / "begun").read_bytes())
+    line += f"{whole_line(read_lab(lab.read_bytes()), b'not whole' in line, begun=begun)}\n".encode("ascii")
     call: list[str | Path] = [HOST, "verify", lab, journal, record]
     done = subprocess.run(call, stdin=subprocess.DEVNULL, capture_output=True, env=dict[str, str](), timeout=LIMIT, check=False)
     if (done.returncode, done.stdout, done.stderr) != (0, line, b""):

@@ -3,6 +3,7 @@ import json
 from collections.abc import Collection
 
 from model import Lab, Run
+from model.record import is_command
 
 SHOWN = ("see", "look", "report")
 BYE = '{"ok":"bye"}'
@@ -13,10 +14,11 @@ def is_shown(reply: str) -> bool:
     return json.loads(reply).get("ok") in SHOWN
 
 
-def whole_line(lab: Lab, cut: bool = False, lacking: Collection[str] = ()) -> str:
+def whole_line(lab: Lab, cut: bool = False, lacking: Collection[str] = (), begun: int = 0) -> str:
     """Returns the line of those of whom all is recorded, the teacher first and students in the lab's order: nobody, if
-    anything may be missing, or all but those for whom recording paused."""
-    return " ".join(["whole", *(name for name in lab.keys if not cut and name not in lacking)])
+    anything may be missing, or all but those for whom recording paused; and the line of how many events came before."""
+    line = " ".join(["whole", *(name for name in lab.keys if not cut and name not in lacking)])
+    return f"{line}\nbegun after {begun} events"
 
 
 class Recording:
@@ -25,12 +27,15 @@ class Recording:
     def __init__(self, lab: Lab) -> None:
         self.lab, self.model = lab, Run(lab)
         self.texts: dict[int, bytes] = {seat: b"" for seat in range(1, lab.sessions + 1)}
+        self.seen = dict.fromkeys(self.texts, 0)  # How many events have been seen in a seat: all at its last command.
         self.sessions = self.lines = 0
 
     def answer(self, seat: int, line: bytes) -> str:
         """Returns the reply to a line. A bye ends the session."""
-        place = self.model.world.place
+        asks = seat in self.model.names and is_command(line)
+        place = self.model.world.place if asks else self.seen[seat]
         reply = self.model.answer(seat, line)
+        self.seen[seat] = self.model.world.place if asks else place
         if not is_shown(reply):
             self.lines += 1
             self.texts[seat] += b"%d %d > %s\n%d %d < %s\n" % (seat, place, line, seat, place, reply.encode("ascii"))
@@ -42,19 +47,19 @@ class Recording:
         """Ends the session in a seat."""
         self.sessions += 1
         self.model.names.pop(seat, None)
-        self.texts[seat] += b"%d %d .\n" % (seat, self.model.world.place)
+        self.texts[seat] += b"%d %d .\n" % (seat, self.seen[seat])
 
     def cut(self, seat: int) -> None:
         """Says that anything may be missing in a seat up to the session's end."""
-        self.texts[seat] += b"%d %d !\n" % (seat, self.model.world.place)
+        self.texts[seat] += b"%d %d !\n" % (seat, self.seen[seat])
 
     def pause(self, seat: int) -> None:
         """Says that from here on lines in a seat aren't recorded."""
-        self.texts[seat] += b"%d %d -\n" % (seat, self.model.world.place)
+        self.texts[seat] += b"%d %d -\n" % (seat, self.seen[seat])
 
     def resume(self, seat: int, missed: int) -> None:
         """Says that so many lines weren't recorded in a seat, and that a hello or the session's end comes."""
-        self.texts[seat] += b"%d %d + %d\n" % (seat, self.model.world.place, missed)
+        self.texts[seat] += b"%d %d + %d\n" % (seat, self.seen[seat], missed)
 
     @property
     def journal(self) -> bytes:

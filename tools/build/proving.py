@@ -2,7 +2,8 @@
 
 One run over all crates first takes what this machine has proved before. It is ended where it would prove: alone in its
 repository a crate is proved by several processes, and else mostly by one, while the crates above it wait. So each of
-the others has a run of its own, over what the runs before it kept.
+the others has a run of its own, over what the runs before it kept. The crate that the longest chain waits for has all
+processors, and goes before the others.
 """
 from __future__ import annotations
 
@@ -60,7 +61,7 @@ class Proving:
     def all(self) -> Path | None:
         """Proves all; returns the log of the run that failed, if one did."""
         try:
-            whole = Run(self.room.place(self.crates))
+            whole = Run(self.room.place(self.crates), is_whole=True)
             self.runs[""] = whole
             if self.is_over(whole, is_look=True):
                 return self.outcome(whole, self.crates)
@@ -104,7 +105,7 @@ class Proving:
         """Proves all by one run, since nothing is kept for others; returns its log if it failed."""
         for run in self.runs.values():
             run.end()
-        whole = Run(self.room.place(self.crates))
+        whole = Run(self.room.place(self.crates), is_whole=True)
         self.runs = {"": whole}
         self.progress.proved.clear()
         self.progress.begun.clear()

@@ -1,6 +1,7 @@
 """Runs of `rt ci`, side by side, with their progress line. A signal ends them."""
 from __future__ import annotations
 
+import contextlib
 import ctypes
 import os
 import re
@@ -18,6 +19,7 @@ ENDING = (signal.SIGINT, signal.SIGTERM, signal.SIGHUP)
 PR_SET_PDEATHSIG = 1
 PATIENCE = 10.0  # seconds that `rt ci` has to end once it was asked to
 LATER = 5  # how much nicer a proof is that the longest chain doesn't wait for
+WIDE = Path(__file__).with_name("wide.py")
 PROVER = "rattle"  # the name of a process that proves
 PROVED = re.compile(r"^rt: (\w+) (?:proved|(is kept): .*)$", re.MULTILINE)
 NOT_KEPT = re.compile(r"^rt: note: .*(nothing is kept|is not kept)", re.MULTILINE)
@@ -49,9 +51,14 @@ def end_with_parent() -> None:
 
 
 def begin_later() -> None:
-    """As above, for a process that leaves others the processors that they want."""
+    """As above, for a process that leaves others the processors that they want.
+
+    Where the system shares processors by session, only what is written for the session counts between two of them.
+    """
     end_with_parent()
     os.nice(LATER)
+    with contextlib.suppress(OSError):
+        Path("/proc/self/autogroup").write_text(str(LATER), encoding="ascii")
 
 
 class Screen:
@@ -85,11 +92,12 @@ class Screen:
 class Run:
     """A run of `rt ci` over the repository of a place."""
 
-    def __init__(self, place: Place, is_first: bool = True) -> None:
+    def __init__(self, place: Place, is_first: bool = True, is_whole: bool = False) -> None:
         self.place, self.read = place, 0
+        words = ["rt"] if is_whole or not is_first else [sys.executable, "-B", str(WIDE)]
         with place.log.open("wb") as output:
             self.process = subprocess.Popen(
-                ["rt", "ci"], cwd=place.repository, stdin=subprocess.DEVNULL, stdout=output, stderr=subprocess.STDOUT,
+                [*words, "ci"], cwd=place.repository, stdin=subprocess.DEVNULL, stdout=output, stderr=subprocess.STDOUT,
                 env={**os.environ, "TMPDIR": str(place.temporary)}, start_new_session=True,
                 preexec_fn=end_with_parent if is_first else begin_later,
             )

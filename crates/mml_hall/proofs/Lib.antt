@@ -1,3 +1,4 @@
+pub mod LocalLemmas
 pub mod ScriptLinesLemmas
 pub mod TranscriptsLemmas
 pub mod ScriptsLemmas

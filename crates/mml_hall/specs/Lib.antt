@@ -2,6 +2,7 @@ pub mod Turns
 pub mod Transcripts
 pub mod Journals
 pub mod Halls
+pub mod Locally
 pub mod ScriptLines
 pub mod Scripts
 pub mod Serving

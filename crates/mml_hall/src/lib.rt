@@ -3,10 +3,12 @@
 
 mod hall;
 pub mod laws;
+mod local;
 mod script;
 mod script_line;
 
 pub use hall::Hall;
+pub use local::Local;
 pub use mml_audit::{AuditFault, audit};
 pub use script::{ScriptFault, run_script};
 

@@ -12,7 +12,7 @@ use mml_resuming::ResumeFault;
 use thiserror::Error;
 
 /// Why the host ended before its work was done.
-#[derive(Debug, Drop, PartialEq, Eq, Error)]
+#[derive(Debug, Drop, Error)]
 pub enum Fault {
     /// What `mml_server` tells in the same words: of command line, lab, journal, output and memory.
     #[error("{0}")]

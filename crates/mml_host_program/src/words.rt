@@ -8,7 +8,7 @@ use mml_serving::read_port as read_some_port;
 use std::alloc::{AllocError, Global};
 
 /// What the words ask for.
-#[derive(Clone, Copy, Debug, PartialEq, Eq, Drop)]
+#[derive(Drop)]
 pub enum Task<'a> {
     /// To serve a class from its beginning.
     Host(HostTask<'a>),
@@ -18,7 +18,7 @@ pub enum Task<'a> {
 
 /// A lab's class at two ports, each 0 where the system is to choose. The lines of the granted events go
 /// to the journal, where one is named, and what is said in each seat to the record, where one is.
-#[derive(Clone, Copy, Debug, PartialEq, Eq, Drop)]
+#[derive(Drop)]
 pub struct HostTask<'a> {
     pub lab: &'a str,
     pub port: u16,
@@ -29,7 +29,7 @@ pub struct HostTask<'a> {
 
 /// A lab's class that goes on at two ports: the journal has what was granted before, and takes what is granted
 /// from now on.
-#[derive(Clone, Copy, Debug, PartialEq, Eq, Drop)]
+#[derive(Drop)]
 pub struct ResumeTask<'a> {
     pub lab: &'a str,
     pub port: u16,

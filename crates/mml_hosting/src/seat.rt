@@ -6,7 +6,7 @@ use crate::begun::Begun;
 use mml_journal::Sink;
 use mml_lab::Who;
 use mml_serving::HangUp;
-use mml_session::{Ending, Gate, Recorder, SessionEnd, Setting, serve_recorded};
+use mml_session::{Ending, Gate, Gated, Recorder, SessionEnd, Setting, serve_observed};
 use mml_window::Window;
 use std::io::{Read, Write};
 use std::snapshot::Snapshot;
@@ -112,18 +112,19 @@ pub fn serve_in<
     let SeatRecord {
         number,
         mut sessions,
-        mut recorder,
+        recorder,
     } = record;
     let (mut reader, mut writer) = ends;
-    let ending = serve_recorded(
+    let mut observer = Gated { gate, recorder };
+    let ending = serve_observed(
         setting,
         &mut window,
         &mut reader,
         &mut writer,
-        gate,
         number,
-        &mut recorder,
+        &mut observer,
     );
+    let Gated { gate: _, recorder } = observer;
     writer.hang_up();
     // From here on the thread waits for nobody, and so who joins it doesn't either.
     set_mark(marks, number, 1);

@@ -20,6 +20,10 @@ abbrev pub verified_line : Findings → ℕ → List ℕ
 verified_line found events =
     concat (codes "ok: " ∷ decimal found.sessions ∷ codes " sessions, " ∷ decimal found.lines ∷ codes " lines, " ∷ decimal events ∷ end_of found.whole ∷ [])
 
--- that line, and the line of those of whom all is recorded
-abbrev pub verified_text : LabValue → Findings → ℕ → List ℕ
-verified_text lab found events = verified_line found events ++ recorded_line lab found
+-- the line that tells how many events came before the record
+abbrev pub begun_line : ℕ → List ℕ
+begun_line begun = concat (codes "begun after " ∷ decimal begun ∷ codes " events\n" ∷ [])
+
+-- these two lines, and between them the line of those of whom all is recorded
+abbrev pub verified_text : LabValue → Findings → ℕ → ℕ → List ℕ
+verified_text lab found events begun = verified_line found events ++ (recorded_line lab found ++ begun_line begun)

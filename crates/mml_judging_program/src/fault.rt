@@ -7,7 +7,7 @@ use mml_program::Fault as ProgramFault;
 use thiserror::Error;
 
 /// Why a subcommand ended before its work was done.
-#[derive(Debug, Drop, PartialEq, Eq, Error)]
+#[derive(Debug, Drop, Error)]
 pub enum Fault {
     /// What `mml_server` tells in the same words: of command line, lab, journal, script, output and memory.
     #[error("{0}")]

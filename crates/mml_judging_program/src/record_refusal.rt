@@ -3,59 +3,50 @@ use crate::granting::Misgranted;
 use mml_record::{BadEntry, Why};
 use thiserror::Error;
 
-/// Why a text is no record of a seat. The numbers are those of the seat and of the first bad entry's line.
-#[derive(Clone, Copy, Debug, Drop, PartialEq, Eq, Error)]
+/// Why a text is no record of a seat, in the words of its error line.
+#[derive(Debug, Drop, Error)]
 pub enum RecordRefusal {
-    #[error("seat {0}, line {1}: torn")]
-    Torn(u8, u64),
-    #[error("seat {0}, line {1}: not an entry")]
-    NoEntry(u8, u64),
-    #[error("seat {0}, line {1}: goes back")]
-    GoesBack(u8, u64),
-    #[error("seat {0}, line {1}: past the journal's end")]
-    PastEnd(u8, u64),
-    #[error("seat {0}, line {1}: not the session's end")]
-    NoEnd(u8, u64),
-    #[error("seat {0}, line {1}: not a hello that is granted")]
-    NoHello(u8, u64),
-    #[error("seat {0}, line {1}: not after a pause")]
-    NoPause(u8, u64),
-    #[error("seat {0}, line {1}: not the journal's event at place {2}")]
-    OtherEvent(u8, u64, u64),
-    #[error("seat {0}, line {1}: not the reply of the rules at place {2}")]
-    OtherReply(u8, u64, u64),
-    #[error("place {0}: granted before the record began")]
-    Early(u64),
-    #[error("place {0}: granted twice")]
-    Twice(u64),
-    #[error("place {0}: granted in no record")]
-    Nowhere(u64),
+    /// The entry of this seat at this line is none that a record can have there.
+    #[error("seat {0}, line {1}: {2}")]
+    Entry(u8, u64, &'static str),
+    /// The entry of this seat at this line doesn't tell what this place of the journal has.
+    #[error("seat {0}, line {1}: not the {2} at place {3}")]
+    Place(u8, u64, &'static str, u64),
+    /// The event at this place isn't granted once.
+    #[error("place {0}: granted {1}")]
+    Granted(u64, &'static str),
 }
 
 impl RecordRefusal {
-    /// The refusal of a record for the first bad entry of a seat. Where an entry grants another event than the journal
-    /// has, the place is that of the journal's event: one more than how many events the entry says had been seen.
+    /// Returns the refusal of a record for the first bad entry of a seat. Where an entry grants another event than the
+    /// journal has, the place is that of the journal's event: one more than how many events the entry says had been seen.
     pub fn of(seat: u8, bad: BadEntry) -> RecordRefusal {
         let BadEntry { line, place, .. } = bad;
         match bad.why {
-            Why::Torn => RecordRefusal::Torn(seat, line),
-            Why::NoEntry => RecordRefusal::NoEntry(seat, line),
-            Why::GoesBack => RecordRefusal::GoesBack(seat, line),
-            Why::PastEnd => RecordRefusal::PastEnd(seat, line),
-            Why::NoEnd => RecordRefusal::NoEnd(seat, line),
-            Why::NoHello => RecordRefusal::NoHello(seat, line),
-            Why::NoPause => RecordRefusal::NoPause(seat, line),
-            Why::OtherEvent => RecordRefusal::OtherEvent(seat, line, place.saturating_add(1)),
-            Why::OtherReply => RecordRefusal::OtherReply(seat, line, place),
+            Why::Torn => RecordRefusal::Entry(seat, line, "torn"),
+            Why::NoEntry => RecordRefusal::Entry(seat, line, "not an entry"),
+            Why::GoesBack => RecordRefusal::Entry(seat, line, "goes back"),
+            Why::PastEnd => RecordRefusal::Entry(seat, line, "past the journal's end"),
+            Why::GoesAhead => RecordRefusal::Entry(seat, line, "goes ahead"),
+            Why::NoEnd => RecordRefusal::Entry(seat, line, "not the session's end"),
+            Why::NoHello => RecordRefusal::Entry(seat, line, "not a hello that is granted"),
+            Why::NoPause => RecordRefusal::Entry(seat, line, "not after a pause"),
+            Why::OtherEvent => RecordRefusal::Place(
+                seat,
+                line,
+                "journal's event",
+                place.saturating_add(1),
+            ),
+            Why::OtherReply => RecordRefusal::Place(seat, line, "reply of the rules", place),
         }
     }
 
-    /// The refusal of a record for what is amiss with the places that all seats' records grant.
+    /// Returns the refusal of a record for what is amiss with the places that all seats' records grant.
     pub fn of_places(amiss: Misgranted) -> RecordRefusal {
         match amiss {
-            Misgranted::Early(place) => RecordRefusal::Early(place),
-            Misgranted::Twice(place) => RecordRefusal::Twice(place),
-            Misgranted::Nowhere(place) => RecordRefusal::Nowhere(place),
+            Misgranted::Early(place) => RecordRefusal::Granted(place, "before the record began"),
+            Misgranted::Twice(place) => RecordRefusal::Granted(place, "twice"),
+            Misgranted::Nowhere(place) => RecordRefusal::Granted(place, "in no record"),
         }
     }
 }

@@ -5,7 +5,7 @@ ghost use Rattle.std.specs.Io.KnownBytes.{Appends};
 ghost use Rattle.mml_board.specs.Lists.{is_legal_in};
 ghost use Rattle.mml_lab.specs.declared.who.Who.{Who};
 ghost use Rattle.mml_tally.specs.Lacking.{lacks};
-ghost use Rattle.mml_judging_program.specs.Verifying.{end_of, no_findings, verified_text};
+ghost use Rattle.mml_judging_program.specs.Verifying.{begun_line, end_of, no_findings, verified_text};
 
 use crate::fault::Fault;
 use crate::granting::find_misgranted;
@@ -46,7 +46,7 @@ pub fn verify<R: Files<File = File> + Print + AllocGlobal>(
     verify_seats(rt, &lab, events.as_slice(), begun, task.record, &mut found)?;
     let mut writer = Retrying::new(io::writer(rt));
     let count = events.len() as u64;
-    match write_verified(rt.alloc(), &lab, &found, count, &mut writer) {
+    match write_verified(rt.alloc(), &lab, &found, count, begun, &mut writer) {
         Ok(()) => Ok(()),
         Err(fault) => Err(memory_if_lacked(Fault::from(fault), writer.lacked_memory)),
     }
@@ -275,29 +275,48 @@ fn open_plain<R: Files<File = File>>(rt: &R, path: &str) -> io::Result<Option<Fi
     }
 }
 
-/// Writes what a record that passed comes to, and how many events its journal has, and then the line of those of whom
-/// all is recorded; the error is that the write failed, or want of memory.
+/// Writes what a record that passed comes to, and how many events its journal has, then the line of those of whom all is
+/// recorded, and then how many events came before the record. Returns an error if the write fails, or memory lacks.
 pub fn write_verified<W: Write>(
     alloc: Global,
     lab: &Lab,
     found: &Findings,
     events: u64,
+    begun: u64,
     writer: &mut W,
 ) -> Result<(), ProgramFault>
     ensures { OnOk result (Appends (W.contents writer.old) (W.contents writer.new)
-        (verified_text lab.now found.now events)) }
+        (verified_text lab.now found.now events begun)) }
 {
     let mut text = Vec::new(alloc);
-    match put_verified(&mut text, lab, found, events) {
+    match put_verified(&mut text, lab, found, events, begun) {
         Ok(()) => write_text(&text, writer),
         Err(_) => Err(ProgramFault::Memory),
     }
 }
 
-// Puts what a record that passed comes to, and the line of those of whom all is recorded.
-fn put_verified(text: &mut Vec<u8>, lab: &Lab, found: &Findings, events: u64) -> Result<(), Memory>
+// Puts how many events came before the record.
+fn put_begun(text: &mut Vec<u8>, begun: u64) -> Result<(), Memory>
+    ensures { OnOk result (text.new.items ≡ text.old.items ++ begun_line begun) }
+{
+    let pieces = [
+        Piece::Text("begun after "),
+        Piece::Number(begun),
+        Piece::Text(" events\n"),
+    ];
+    put(text, &pieces)
+}
+
+// Puts the lines of a record that passed.
+fn put_verified(
+    text: &mut Vec<u8>,
+    lab: &Lab,
+    found: &Findings,
+    events: u64,
+    begun: u64,
+) -> Result<(), Memory>
     ensures { OnOk result
-        (text.new.items ≡ text.old.items ++ verified_text lab.now found.now events) }
+        (text.new.items ≡ text.old.items ++ verified_text lab.now found.now events begun) }
 {
     let end = end_of(found.whole);
     let pieces = [
@@ -310,7 +329,8 @@ fn put_verified(text: &mut Vec<u8>, lab: &Lab, found: &Findings, events: u64) ->
         Piece::Text(end),
     ];
     put(text, &pieces)?;
-    put_recorded(text, lab, found)
+    put_recorded(text, lab, found)?;
+    put_begun(text, begun)
 }
 
 // What stands behind the number of events, by whether a record is whole.

@@ -4,7 +4,7 @@ use mml_program::{Fault as ProgramFault, match_words, subcommand_of, with_option
 use std::alloc::{AllocError, Global};
 
 /// What the words ask for.
-#[derive(Clone, Copy, Debug, PartialEq, Eq, Drop)]
+#[derive(Drop)]
 pub enum Task<'a> {
     /// To answer the script on standard input over the lab of a file.
     Answer { lab: &'a str },
@@ -17,7 +17,7 @@ pub enum Task<'a> {
 }
 
 /// The folder of a class's record, beside its lab and its journal.
-#[derive(Clone, Copy, Debug, PartialEq, Eq, Drop)]
+#[derive(Drop)]
 pub struct VerifyTask<'a> {
     pub lab: &'a str,
     pub journal: &'a str,
@@ -25,7 +25,7 @@ pub struct VerifyTask<'a> {
 }
 
 /// A lab and a journal of one of its runs.
-#[derive(Clone, Copy, Debug, PartialEq, Eq, Drop)]
+#[derive(Drop)]
 pub struct TallyTask<'a> {
     pub lab: &'a str,
     pub journal: &'a str,

@@ -4,111 +4,94 @@ use mml_ids::IdFault;
 use mml_lab::{Key, LabFault};
 use thiserror::Error;
 
-/// Why a file spells no lab. Nodes and links are numbered from 0, in the order of the file; of the principals the
-/// teacher has 0, and the students have the numbers from 1. The texts are the keys' names.
-#[derive(Clone, Copy, Debug, Drop, PartialEq, Eq, Error)]
+/// Why a file spells no lab, in the words of its error line.
+#[derive(Debug, Drop, PartialEq, Eq, Error)]
 pub enum LabRefusal {
-    #[error("not a TOML document")]
-    NotToml,
-    #[error("{0} is missing")]
-    Missing(&'static str),
-    #[error("{0} is of the wrong kind")]
-    WrongKind(&'static str),
-    #[error("node {0}: owner and owners")]
-    BothOwners(usize),
-    #[error("no nodes")]
-    NoNodes,
-    #[error("too many nodes")]
-    TooManyNodes,
-    #[error("node {0}: identifier out of range")]
-    IdOutOfRange(usize),
-    #[error("node {0}: identifier stands twice")]
-    IdTwice(usize),
-    #[error("principal {0}: bad name or key")]
-    Name(usize),
-    #[error("principal {0}: name stands twice")]
-    NameTwice(usize),
-    #[error("node {0}: no such owner")]
-    NoOwner(usize),
-    #[error("node {0}: owner stands twice")]
-    OwnerTwice(usize),
-    #[error("link {0}: no such node")]
-    LinkEnd(usize),
-    #[error("link {0}: a loop")]
-    Loop(usize),
-    #[error("link {0}: stands twice")]
-    LinkTwice(usize),
-    #[error("node {0}: p is not a neighbour")]
-    BadPointer(usize),
-    #[error("{0} is out of its limits")]
-    Limit(&'static str),
+    /// The file as a whole.
+    #[error("{0}")]
+    File(&'static str),
+    /// What stands under a key, which has this name.
+    #[error("{0} {1}")]
+    Key(&'static str, &'static str),
+    /// A node, a link or a principal, by its number. Nodes and links are numbered from 0, in the order of the file; of
+    /// the principals the teacher has 0, and the students have the numbers from 1.
+    #[error("{0} {1}: {2}")]
+    Element(&'static str, usize, &'static str),
 }
 
 impl LabRefusal {
-    /// What an error refuses a lab file for; none for out of memory, which refuses no file.
+    /// Returns what an error refuses a lab file for; none for out of memory, which refuses no file.
     pub fn of(fault: LabFault) -> Option<LabRefusal> {
         let refusal = match fault {
-            LabFault::NotToml => LabRefusal::NotToml,
-            LabFault::Missing(key) => LabRefusal::Missing(key_name(key)),
-            LabFault::WrongKind(key) => LabRefusal::WrongKind(key_name(key)),
-            LabFault::BothOwners(index) => LabRefusal::BothOwners(index),
+            LabFault::NotToml => LabRefusal::File("not a TOML document"),
+            LabFault::Missing(key) => LabRefusal::Key(key_name(key), "is missing"),
+            LabFault::WrongKind(key) => LabRefusal::Key(key_name(key), "is of the wrong kind"),
+            LabFault::BothOwners(index) => LabRefusal::node(index, "owner and owners"),
             LabFault::Id(fault) => return LabRefusal::of_identifiers(fault),
-            LabFault::Name(index) => LabRefusal::Name(index),
-            LabFault::NameTwice(index) => LabRefusal::NameTwice(index),
-            LabFault::NoOwner(index) => LabRefusal::NoOwner(index),
-            LabFault::OwnerTwice(index) => LabRefusal::OwnerTwice(index),
-            LabFault::LinkEnd(index) => LabRefusal::LinkEnd(index),
-            LabFault::Loop(index) => LabRefusal::Loop(index),
-            LabFault::LinkTwice(index) => LabRefusal::LinkTwice(index),
-            LabFault::BadPointer(index) => LabRefusal::BadPointer(index),
-            LabFault::Limit(key) => LabRefusal::Limit(key_name(key)),
+            LabFault::Name(index) => LabRefusal::Element("principal", index, "bad name or key"),
+            LabFault::NameTwice(index) => LabRefusal::Element(
+                "principal",
+                index,
+                "name stands twice",
+            ),
+            LabFault::NoOwner(index) => LabRefusal::node(index, "no such owner"),
+            LabFault::OwnerTwice(index) => LabRefusal::node(index, "owner stands twice"),
+            LabFault::LinkEnd(index) => LabRefusal::Element("link", index, "no such node"),
+            LabFault::Loop(index) => LabRefusal::Element("link", index, "a loop"),
+            LabFault::LinkTwice(index) => LabRefusal::Element("link", index, "stands twice"),
+            LabFault::BadPointer(index) => LabRefusal::node(index, "p is not a neighbour"),
+            LabFault::Limit(key) => LabRefusal::Key(key_name(key), "is out of its limits"),
             LabFault::Memory => return None,
         };
         Some(refusal)
     }
 
-    // What an error of the nodes' identifiers refuses a lab file for; none for out of memory.
+    // Returns what an error of the nodes' identifiers refuses a lab file for; none for out of memory.
     fn of_identifiers(fault: IdFault) -> Option<LabRefusal> {
         match fault {
-            IdFault::Empty => Some(LabRefusal::NoNodes),
-            IdFault::TooMany => Some(LabRefusal::TooManyNodes),
-            IdFault::OutOfRange(index) => Some(LabRefusal::IdOutOfRange(index)),
-            IdFault::Twice(index) => Some(LabRefusal::IdTwice(index)),
+            IdFault::Empty => Some(LabRefusal::File("no nodes")),
+            IdFault::TooMany => Some(LabRefusal::File("too many nodes")),
+            IdFault::OutOfRange(index) => Some(LabRefusal::node(index, "identifier out of range")),
+            IdFault::Twice(index) => Some(LabRefusal::node(index, "identifier stands twice")),
             IdFault::Memory => None,
         }
+    }
+
+    // Returns the refusal of a file for the node with this number.
+    fn node(index: usize, reason: &'static str) -> LabRefusal {
+        LabRefusal::Element("node", index, reason)
     }
 }
 
 /// Why a text is no journal of a lab. The numbers are those of the first bad line.
-#[derive(Clone, Copy, Debug, Drop, PartialEq, Eq, Error)]
+#[derive(Debug, Drop, PartialEq, Eq, Error)]
 pub enum AuditRefusal {
-    #[error("line {0}: torn")]
-    Torn(u64),
-    #[error("line {0}: not an event")]
-    Shape(u64),
-    #[error("line {0}: wrong place or configuration")]
-    Place(u64),
+    /// The line is none of a journal here.
+    #[error("line {0}: {1}")]
+    Line(u64, &'static str),
+    /// The rules deny the event, by the denial of this name.
     #[error("line {0}: illegal, {1}")]
     Illegal(u64, &'static str),
-    #[error("line {0}: over the limit of events")]
-    Full(u64),
 }
 
 impl AuditRefusal {
-    /// What an error refuses the text of a journal for; none for out of memory, which refuses no text.
+    /// Returns what an error refuses the text of a journal for; none for out of memory, which refuses no text.
     pub fn of(fault: AuditFault) -> Option<AuditRefusal> {
         match fault {
-            AuditFault::Torn(line) => Some(AuditRefusal::Torn(line)),
-            AuditFault::Shape(line) => Some(AuditRefusal::Shape(line)),
-            AuditFault::Place(line) => Some(AuditRefusal::Place(line)),
+            AuditFault::Torn(line) => Some(AuditRefusal::Line(line, "torn")),
+            AuditFault::Shape(line) => Some(AuditRefusal::Line(line, "not an event")),
+            AuditFault::Place(line) => Some(AuditRefusal::Line(
+                line,
+                "wrong place or configuration",
+            )),
             AuditFault::Illegal(line, denial) => Some(AuditRefusal::Illegal(line, denial.name())),
-            AuditFault::Full(line) => Some(AuditRefusal::Full(line)),
+            AuditFault::Full(line) => Some(AuditRefusal::Line(line, "over the limit of events")),
             AuditFault::Memory => None,
         }
     }
 }
 
-// The name that a key of a lab file has in an error line.
+// Returns the name that a key of a lab file has in an error line.
 fn key_name(key: Key) -> &'static str {
     match key {
         Key::Events => "events",

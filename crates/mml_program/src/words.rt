@@ -8,7 +8,7 @@ use std::alloc::{AllocError, Global};
 use std::num::{NonZeroU8, NonZeroU16};
 
 /// What the words ask for.
-#[derive(Clone, Copy, Debug, PartialEq, Eq, Drop)]
+#[derive(Debug, Drop)]
 pub enum Task<'a> {
     /// To answer the script on standard input over the built-in lab.
     BuiltIn,
@@ -23,7 +23,7 @@ pub enum Task<'a> {
 }
 
 /// The files of a script. The lines of the granted events go to the journal, where one is named.
-#[derive(Clone, Copy, Debug, PartialEq, Eq, Drop)]
+#[derive(Debug, Drop)]
 pub struct ScriptTask<'a> {
     pub lab: &'a str,
     pub script: &'a str,
@@ -32,7 +32,7 @@ pub struct ScriptTask<'a> {
 
 /// A lab's file, a port, and how many connections are served there. The lines of the granted events go to the journal,
 /// where one is named.
-#[derive(Clone, Copy, Debug, PartialEq, Eq, Drop)]
+#[derive(Debug, Drop)]
 pub struct ServeTask<'a> {
     pub lab: &'a str,
     pub port: NonZeroU16,

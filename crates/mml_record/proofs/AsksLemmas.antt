@@ -159,16 +159,16 @@ asked_of_rules lab l known stage least (entry.Said p line out ∷ es) ps on =
     let r : Reply = on.3 in
     let bytes : unended out ≡ text lab.ids lab.roster r = ap unended on.7 ∙ unended_is (text lab.ids lab.roster r) in
     let clause : clause_told (unended out) ≡ clause_in r = ap clause_told bytes ∙ told_is lab.ids lab.roster r in
-    let behind : known_after lab.roster known line (unended out) ≡ on.4 = known_of lab l p known line out r on.4 on.7 on.8 in (
+    let behind : known_after lab.roster known line (unended out) ≡ on.4 = known_of lab l p known line out r on.4 on.7 on.8.1 in (
       r,
       on.4,
       asks_from lab.roster on.4 es,
       on.7,
-      on.8,
+      on.8.1,
       λ k. record { who = student_of known; line = line_of (request_in line); denied = clause k } ∷ asks_from lab.roster (behind k) es,
       asked_of_rules lab l on.4 (stage_after (is_bye r)) (seen_after p (place_in r)) es on.5 on.10,
     )
 asked_of_rules lab l known stage least (entry.Left p ∷ es) ps on = asked_of_rules lab l None stages.Open p es ps on.2
-asked_of_rules lab l known stage least (entry.Unrecorded p ∷ es) ps on = asked_of_rules lab l None stages.Over p es ps on.2
+asked_of_rules lab l known stage least (entry.Unrecorded p ∷ es) ps on = asked_of_rules lab l None stages.Cut p es ps on.2
 asked_of_rules lab l known stage least (entry.Paused p ∷ es) ps on = asked_of_rules lab l known stages.Paused p es ps on.2
 asked_of_rules lab l known stage least (entry.Resumed p missed ∷ es) ps on = asked_of_rules lab l known stages.Resuming p es ps on.4

@@ -33,6 +33,8 @@ pub enum Why {
     GoesBack,
     /// It says that more events had been seen than the journal has.
     PastEnd,
+    /// It says that more events had been seen than the entries before it lead to, though nothing was asked or shown.
+    GoesAhead,
     /// Something is said after a bye, or after a mark that lines aren't recorded.
     NoEnd,
     /// Recording resumes at a line that is no hello which is granted.
@@ -41,6 +43,6 @@ pub enum Why {
     NoPause,
     /// The reply tells of an event that the rules grant there, and that isn't the next of the journal.
     OtherEvent,
-    /// The rules answer otherwise there, or the line is longer than a request may be.
+    /// The rules answer otherwise there, or show something, or the line is longer than a request may be.
     OtherReply,
 }

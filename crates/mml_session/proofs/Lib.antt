@@ -1,3 +1,4 @@
+pub mod EngineLemmas
 pub mod TellingLemmas
 pub mod GreetingLemmas
 pub mod MemoryLemmas

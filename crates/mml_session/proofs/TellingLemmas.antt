@@ -1,6 +1,5 @@
 -- What the window's answer to a command says of the reply.
-use Rattle.std.proofs.Common.{◌≡◌, ◌⊎◌, ℕ, List, [], ◌++◌, refl, sym, ap, ◌∙◌, subst, inl, inr, append-nil, Option, Result, Ok, Err, OnOk}
-use Rattle.std.specs.Prelude.{⊤}
+use Rattle.std.proofs.Common.{◌≡◌, ◌⊎◌, ℕ, List, [], ◌++◌, refl, sym, ap, ◌∙◌, subst, inl, inr, append-nil, Option}
 use Rattle.mml_lab.specs.declared.who.Who.{Who}
 use Rattle.mml_lab.specs.Labs.{LabValue}
 use Rattle.mml_board.specs.declared.event.Event.{Event}
@@ -12,22 +11,18 @@ use Rattle.mml_policy.specs.declared.denial.Denial.{Denial}
 use Rattle.mml_policy.specs.declared.refusal.Refusal.{Refusal}
 use Rattle.mml_policy.specs.declared.refusal.Refusal.TheVariants.{Full, Journal, Memory}
 use Rattle.mml_policy.specs.declared.ruling.Ruling.{Ruling}
-use Rattle.mml_codec.specs.declared.greeting.Greeting.{Greeting}
-use Rattle.mml_codec.specs.declared.greeting.Greeting.TheVariants.{LeftToJudge}
 use Rattle.mml_codec.specs.declared.reply.Refused.TheVariants as refused
-use Rattle.mml_codec.specs.declared.reply.Reply.{Reply}
 use Rattle.mml_codec.specs.declared.reply.Reply.TheVariants as replies
 use Rattle.mml_codec.specs.Replies.{as_list}
 use Rattle.mml_codec.specs.Rulings.{reply_of_done, refusal_for}
 use Rattle.mml_codec.proofs.RulingsLemmas.{place_of_done}
 use Rattle.mml_window.specs.declared.answer.Answer.TheVariants.{Denied, Granted, Refused}
-use Rattle.mml_window.specs.declared.sight.Closed.{Closed}
 use Rattle.mml_window.specs.Answers.{Answers, Says}
 use Rattle.mml_board.specs.Lists.{world_in}
 use Rattle.mml_window.specs.Rulings.{ruling_at}
 use Rattle.mml_window.specs.Windows.{WindowValue, HasSeen, window_with}
 use Rattle.mml_window.proofs.ListLemmas.{world-one_more}
-use Rattle.mml_session.specs.Turns.{Told, Plainly, Refuses, Settles, standing}
+use Rattle.mml_session.specs.Turns.{Told, Plainly, Refuses}
 
 -- the reply to what the window granted tells it
 pub granted_told : (lab : LabValue) (old new : WindowValue) (who : Who) (c : Command) (place number : ℕ) (done : Done)
@@ -95,10 +90,3 @@ refused_told lab old new who c why answers = record {
   legal = answers.2;
   says = refused_says lab answers.0 old.places who c why new answers.3;
 }
-
--- what the window tells settles a command that is left to judge
-pub settled_so : (lab : LabValue) (told : Result ⊤ Closed) (g : Greeting) (who : Who) (c : Command) (known : Option Who) (r : Reply)
-    (old new : WindowValue) → LeftToJudge who c ≡ g
-    → OnOk told (Told lab old who c r new) → OnOk told (Settles lab (standing known old) g r (standing known new))
-settled_so lab (Ok done) g who c known r old new left h = subst (λ (x : Greeting). Settles lab (standing known old) x r (standing known new)) left (refl, h)
-settled_so lab (Err fault) g who c known r old new left h = tt

@@ -4,4 +4,4 @@ pub mod Ends
 pub mod Holding
 pub mod Serving
 pub mod Records
-pub mod Asking
+pub mod Engines

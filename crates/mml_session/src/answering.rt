@@ -1,28 +1,25 @@
 //! The answer to a line: its reply, who is known afterwards, and what the window has seen then.
-ghost use Rattle.std.specs.Prelude.{◌≡◌, false, true, IfErr, IfSome, OnOk};
+ghost use Rattle.std.specs.Prelude.{◌≡◌, false, IfErr, IfSome, OnOk};
 ghost use Rattle.mml_lab.specs.Rosters.{IsPrincipal};
 ghost use Rattle.mml_policy.specs.declared.command.Command.TheVariants as command;
 ghost use Rattle.mml_policy.specs.Acts.{is_act};
-ghost use Rattle.mml_codec.specs.Greetings.{greeting};
 ghost use Rattle.mml_codec.specs.Replies.{IsAbout};
-ghost use Rattle.mml_session.specs.Turns.{Told, Settles, Turn, standing};
+ghost use Rattle.mml_session.specs.Turns.{Told, Turn, standing};
 ghost use Rattle.mml_session.specs.Ends.{IsView};
-ghost use Rattle.mml_session.specs.Asking.{AsksToSee};
 
 use crate::setting::Setting;
-use mml_codec::{
-    Greeting, LineScratch, Refused, Reply, Request, greet, put_in, read_request_with, reply_of_done,
-};
+use mml_codec::{LineScratch, Refused, Reply, put_in, reply_of_done};
+use mml_engine::{Closed as EngineClosed, Engine, answer_line};
 use mml_journal::Sink;
-use mml_lab::Who;
+use mml_lab::{Roster, Who};
 use mml_policy::Command;
 use mml_window::{Answer, Closed, House, SightFault, Window};
 use std::alloc::Global;
 use std::sync::Wait;
 
-/// Answers a line on a connection where `known` is known, or nobody yet, and sets `known` to who is known afterwards.
-/// The reply is put into `reply`, where it stays, since it is large to give back. `Closed`, and no reply, where one who
-/// is known asks for a view of a window that shows nothing any more.
+/// Answers a line of a connection on which `known` has greeted, if anybody has, and sets `known` to who is known
+/// afterwards. Puts the reply into `reply`, since a reply is large to return. Returns `Closed`, and puts no reply, if
+/// one who is known asks for a view of a window that shows nothing any more.
 pub(crate) fn answer_into<Rt: Wait, S: Sink + Drop, H: House>(
     setting: &Setting<'_, Rt, S, H>,
     window: &mut Window<H>,
@@ -39,90 +36,101 @@ pub(crate) fn answer_into<Rt: Wait, S: Sink + Drop, H: House>(
     ensures closed { IfErr result (λ _. (known.new ≡ known.old) × (window.new ≡ window.old)
         × IsView (standing known.old window.old) line.now) }
 {
-    match read_request_with(setting.alloc, line, scratch) {
-        Ok(request) => match (*known, &request) {
-            (Some(who), Request::Do(command)) => obey(setting, window, who, command, reply),
-            _ => settle(setting, window, known, request, reply),
-        },
-        Err(fault) => {
-            put_in(reply, Reply::Refuse(fault.refusal()));
-            Ok(())
+    let mut engine = Setting {
+        rt: setting.rt,
+        alloc: setting.alloc,
+        desk: setting.desk,
+    };
+    match answer_line(
+        &mut engine,
+        window,
+        setting.alloc,
+        known,
+        line,
+        scratch,
+        reply,
+    ) {
+        Ok(()) => Ok(()),
+        Err(_) => Err(Closed),
+    }
+}
+
+impl<'a, Rt: Wait, S: Sink + Drop, H: House> Engine for Setting<'a, Rt, S, H> {
+    ghost use Rattle.mml_session.specs.Engines.{OverWindow};
+
+    /// A window of the house.
+    type View = Window<H>;
+
+    ghost lab = { λ _. H.lab };
+
+    ghost seen = { λ e v. v.seen };
+
+    ghost tells = { OverWindow H.lab };
+
+    ghost may_close = { Unit {0} };
+
+    // Returns the roster of the house.
+    fn roster<'r>(&'r self, at: &'r Window<H>) -> &'r Roster {
+        at.roster()
+    }
+
+    // Puts the window's reply to a view. The window reads what is published, without the lock.
+    fn view(
+        &mut self,
+        at: &mut Window<H>,
+        alloc: Global,
+        who: Who,
+        command: &Command,
+        reply: &mut Reply,
+    ) -> Result<(), EngineClosed> {
+        match show(alloc, at, who, command, reply) {
+            Ok(()) => Ok(()),
+            Err(_) => Err(EngineClosed),
+        }
+    }
+
+    // Puts the desk's reply to an act.
+    fn act(
+        &mut self,
+        at: &mut Window<H>,
+        alloc: Global,
+        who: Who,
+        command: &Command,
+        reply: &mut Reply,
+    ) {
+        let answer = self.desk.ask(self.rt, alloc, at, who, command);
+        match answer {
+            Answer::Granted {
+                place,
+                number,
+                done,
+            } => put_in(reply, reply_of_done(number, place, done)),
+            Answer::Denied(denial) => put_in(reply, Reply::Deny(denial)),
+            Answer::Refused(refusal) => put_in(reply, Reply::Refuse(Refused::from(refusal))),
         }
     }
 }
 
-// Puts the reply to any request, and sets `known` to who is known afterwards: `greet` answers a hello, a bye, and a
-// command where nobody is known, the window a command of one who is known. `Closed`, and no reply, where that asks for
-// a view of a window that shows nothing any more. This function is large, and isn't inlined: `answer_into` has a
-// command of one who is known answered without it.
-#[inline(never)]
-fn settle<Rt: Wait, S: Sink + Drop, H: House>(
-    setting: &Setting<'_, Rt, S, H>,
-    window: &mut Window<H>,
-    known: &mut Option<Who>,
-    request: Request,
-    reply: &mut Reply,
-) -> Result<(), Closed>
-    requires principal { IfSome known.old (IsPrincipal H.lab.roster) }
-    ensures principal { IfSome known.new (IsPrincipal H.lab.roster) }
-    ensures settles { OnOk result (Settles H.lab (standing known.old window.old)
-        (greeting H.lab.roster known.old request) reply.new (standing known.new window.new)) }
-    ensures about { OnOk result (IsAbout H.lab.ids H.lab.roster reply.new) }
-    ensures closed { IfErr result (λ _. (known.new ≡ known.old) × (window.new ≡ window.old)
-        × AsksToSee known.old request) }
-{
-    match greet(window.roster(), *known, request) {
-        Greeting::Answered {
-            reply: answered,
-            known: now,
-        } => {
-            *known = now;
-            put_in(reply, answered);
-            Ok(())
-        }
-        Greeting::LeftToJudge { who, command } => obey(setting, window, who, &command, reply),
-    }
-}
-
-// Puts the window's reply to the command of `who`: views are asked of what is published, without the lock, and acts of
-// the desk. `Closed`, and no reply, where a view is asked of a window that shows nothing any more.
-fn obey<Rt: Wait, S: Sink + Drop, H: House>(
-    setting: &Setting<'_, Rt, S, H>,
+// Puts the window's reply to a view. Returns `Closed`, and puts no reply, if the window shows nothing any more.
+#[inline(always)]
+fn show<H: House>(
+    alloc: Global,
     window: &mut Window<H>,
     who: Who,
     command: &Command,
     reply: &mut Reply,
 ) -> Result<(), Closed>
+    requires { is_act command.now ≡ false }
     ensures told { OnOk result
         (Told H.lab window.old who command.now reply.new window.new) }
     ensures about { OnOk result (IsAbout H.lab.ids H.lab.roster reply.new) }
-    ensures closed { IfErr result (λ _.
-        (window.new ≡ window.old) × (is_act command.now ≡ false)) }
+    ensures closed { IfErr result (λ _. window.new ≡ window.old) }
 {
     match command {
         Command::See { node } => see(window, who, *node, reply),
-        Command::Look { node } => look(setting.alloc, window, who, *node, reply),
-        Command::Report => report(setting.alloc, window, who, reply),
-        Command::Move { .. }
-        | Command::Close
-        | Command::Fault { .. }
-        | Command::Link { .. }
-        | Command::Cut { .. }
-        | Command::Release { .. } => {
-            let answer = setting
-                .desk
-                .ask(setting.rt, setting.alloc, window, who, command);
-            match answer {
-                Answer::Granted {
-                    place,
-                    number,
-                    done,
-                } => put_in(reply, reply_of_done(number, place, done)),
-                Answer::Denied(denial) => put_in(reply, Reply::Deny(denial)),
-                Answer::Refused(refusal) => put_in(reply, Reply::Refuse(Refused::from(refusal))),
-            }
-            Ok(())
-        }
+        Command::Look { node } => look(alloc, window, who, *node, reply),
+        Command::Report => report(alloc, window, who, reply),
+        _ => unreachable!(),
     }
 }
 

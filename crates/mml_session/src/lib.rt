@@ -5,11 +5,13 @@ mod answering;
 mod gate;
 mod held;
 pub mod laws;
+mod observer;
 mod recorder;
 mod session;
 mod setting;
 
 pub use gate::{Gate, NoGate, Point};
+pub use observer::{Gated, Observer};
 pub use recorder::{Entry, NoRecorder, Recorder};
-pub use session::{Ending, SessionEnd, is_bye, serve_one, serve_recorded};
+pub use session::{Ending, SessionEnd, is_bye, serve_observed, serve_one};
 pub use setting::Setting;

@@ -6,15 +6,16 @@ ghost use Rattle.mml_lines.specs.LinesState.{bytes_ahead, fresh};
 ghost use Rattle.mml_lab.specs.Rosters.{IsPrincipal};
 ghost use Rattle.mml_session.specs.Turns.{standing, is_bye};
 ghost use Rattle.mml_session.specs.Ends.{Ended};
-ghost use Rattle.mml_session.specs.Records.{EndedRecorded, Records, entry_for};
+ghost use Rattle.mml_session.specs.Records.{EndedRecorded};
 ghost use Rattle.mml_session.specs.Holding.{LetsOut};
 ghost use Rattle.mml_session.specs.Serving.{SendsReply, ServesLine, ServesNext, Tells, next_after, sent_of};
 ghost use Rattle.mml_codec.specs.Replies.{IsAbout};
 
 use crate::answering::answer_into;
-use crate::gate::{Gate, Point};
+use crate::gate::Gate;
 use crate::held::Held;
-use crate::recorder::{NoRecorder, Recorder};
+use crate::observer::{Gated, Observer};
+use crate::recorder::NoRecorder;
 use crate::setting::Setting;
 use mml_codec::{LineScratch, MAX_REQUEST, REPLY_ROOM, Reply, append_reply, tell_reply};
 use mml_ids::Memory;
@@ -72,26 +73,28 @@ pub fn serve_one<Rt: Wait, S: Sink + Drop, H: House, R: Read, W: Write, G: Gate>
         (reader.new ≡ reader.old) × (writer.new ≡ writer.old) }
 {
     let setting = Setting { rt, alloc, desk };
-    let recorder = &mut NoRecorder;
-    serve_recorded(&setting, window, reader, writer, gate, connection, recorder).end
+    let mut observer = Gated {
+        gate,
+        recorder: NoRecorder,
+    };
+    serve_observed(&setting, window, reader, writer, connection, &mut observer).end
 }
 
-/// Answers the lines of a reader one by one, as `serve_one` does. A recorder is given each line that is answered,
-/// before its reply goes out, unless the reply shows what was asked for; and at last the session's end, unless the
-/// session had no memory to begin. It tells how the session ended, and who was known then.
-pub fn serve_recorded<Rt: Wait, S: Sink + Drop, H: House, R: Read, W: Write, G: Gate, K: Recorder>(
+/// Answers the lines of a reader one by one, as `serve_one` does. An observer hears of each line that came, of each
+/// reply before it goes out and once it is out, and at last of the session's end, unless the session had no memory to
+/// begin. Returns how the session ended, and who was known then.
+pub fn serve_observed<Rt: Wait, S: Sink + Drop, H: House, R: Read, W: Write, O: Observer>(
     setting: &Setting<'_, Rt, S, H>,
     window: &mut Window<H>,
     reader: &mut R,
     writer: &mut W,
-    gate: &G,
     connection: u8,
-    recorder: &mut K,
+    observer: &mut O,
 ) -> Ending
     ensures ended { EndedRecorded result.end result.who connection H.lab window.old window.new
         (R.remaining reader.old) (R.remaining reader.new)
         (W.contents writer.old) (W.contents writer.new)
-        (K.kept recorder.old) (K.kept recorder.new) }
+        (O.kept observer.old) (O.kept observer.new) }
     ensures untouched { result.end ≡ SessionEnd.Memory →
         (reader.new ≡ reader.old) × (writer.new ≡ writer.old) }
 {
@@ -104,20 +107,14 @@ pub fn serve_recorded<Rt: Wait, S: Sink + Drop, H: House, R: Read, W: Write, G: 
     let mut before = None;
     loop {
         let who = session.known;
-        match serve_next(
-            setting,
-            &mut session,
-            window,
-            reader,
-            writer,
-            gate,
-            recorder,
-        ) {
+        let next = serve_next(setting, &mut session, window, reader, writer, observer);
+        match next {
             Next::Served => before = who,
             Next::Ended(end) => {
                 let ending = Ending { end, who };
-                let ending = let_out(&mut session, ending, before, writer, gate);
-                recorder.left(connection, window.seen_count());
+                let ending = let_out(&mut session, ending, before, writer, observer);
+                let seen = window.seen_count();
+                observer.left(connection, &ending, seen);
                 return ending;
             }
         }
@@ -168,14 +165,13 @@ enum Next {
 
 // Answers the next line, for which the reader is read only where no reply is held, and tells whether the session
 // goes on or how it ended.
-fn serve_next<Rt: Wait, S: Sink + Drop, H: House, R: Read, W: Write, G: Gate, K: Recorder>(
+fn serve_next<Rt: Wait, S: Sink + Drop, H: House, R: Read, W: Write, O: Observer>(
     setting: &Setting<'_, Rt, S, H>,
     session: &mut Session,
     window: &mut Window<H>,
     reader: &mut R,
     writer: &mut W,
-    gate: &G,
-    recorder: &mut K,
+    observer: &mut O,
 ) -> Next
     requires going { session.old.lines.ending ≡ None }
     requires limit { session.old.lines.limit ≡ MAX_REQUEST }
@@ -203,13 +199,13 @@ fn serve_next<Rt: Wait, S: Sink + Drop, H: House, R: Read, W: Write, G: Gate, K:
         session.new.lines.unread (R.remaining reader.new)
         session.old.held.bytes.items session.new.held.bytes.items
         (W.contents writer.old) (W.contents writer.new)
-        (K.kept recorder.old) (K.kept recorder.new) }
+        (O.kept observer.old) (O.kept observer.new) }
 {
     match session.lines.next(reader) {
         Step::Line => {
-            gate.pass(session.connection, Point::Line);
-            let said = serve_line(setting, session, window, writer, recorder);
-            go_on(said, &mut session.held, gate, session.connection)
+            observer.came(session.connection, session.lines.bytes());
+            let said = serve_line(setting, session, window, writer, observer);
+            go_on(said, &mut session.held, observer, session.connection)
         }
         Step::TooLong => Next::Ended(SessionEnd::TooLong),
         Step::End => Next::Ended(SessionEnd::End),
@@ -217,19 +213,25 @@ fn serve_next<Rt: Wait, S: Sink + Drop, H: House, R: Read, W: Write, G: Gate, K:
     }
 }
 
-// Does what follows from what came of a line: where its reply is out or held, counts the reply, and lets the session
-// stand at its gate if no reply is held any longer. Tells whether the session goes on or how it ended.
-fn go_on<G: Gate>(said: Result<Sent, Closed>, held: &mut Held, gate: &G, connection: u8) -> Next
+// Counts the reply of a line, if it is out or held, and tells the observer what is out. Returns whether the session goes
+// on or how it ended.
+fn go_on<O: Observer>(
+    said: Result<Sent, Closed>,
+    held: &mut Held,
+    observer: &mut O,
+    connection: u8,
+) -> Next
     ensures next { result ≡ next_after said }
     ensures held { held.new.bytes.items ≡ held.old.bytes.items }
+    ensures kept { O.kept observer.new ≡ O.kept observer.old }
 {
     match said {
         Ok(Sent::Told) => {
-            count_told(held, gate, connection);
+            count_told(held, observer, connection);
             Next::Served
         }
         Ok(Sent::Bye) => {
-            count_told(held, gate, connection);
+            count_told(held, observer, connection);
             Next::Ended(SessionEnd::Bye)
         }
         Ok(Sent::Unwritten(_)) => {
@@ -240,44 +242,43 @@ fn go_on<G: Gate>(said: Result<Sent, Closed>, held: &mut Held, gate: &G, connect
     }
 }
 
-// Counts a reply that is out or held, and lets the session stand at its gate for all that are counted if no reply is
-// held any longer.
-fn count_told<G: Gate>(held: &mut Held, gate: &G, connection: u8)
-    ensures { held.new.bytes.items ≡ held.old.bytes.items }
+// Counts a reply that is out or held, and tells the observer of all that are counted if no reply is held any longer.
+fn count_told<O: Observer>(held: &mut Held, observer: &mut O, connection: u8)
+    ensures held { held.new.bytes.items ≡ held.old.bytes.items }
+    ensures kept { O.kept observer.new ≡ O.kept observer.old }
 {
     held.replies = held.replies.saturating_add(1);
-    pass_told(held, gate, connection);
+    pass_told(held, observer, connection);
 }
 
-// Where no reply is held any longer, lets the session stand at its gate once for each that was counted since it stood
-// there last: those are out.
-fn pass_told<G: Gate>(held: &mut Held, gate: &G, connection: u8)
-    ensures { held.new.bytes.items ≡ held.old.bytes.items }
+// Tells the observer how many replies were counted since the last time, if no reply is held any longer: those are out.
+fn pass_told<O: Observer>(held: &mut Held, observer: &mut O, connection: u8)
+    ensures held { held.new.bytes.items ≡ held.old.bytes.items }
+    ensures kept { O.kept observer.new ≡ O.kept observer.old }
 {
     if held.bytes.is_empty() {
-        for _ in 0..held.replies {
-            gate.pass(connection, Point::Told);
-        }
+        observer.wrote(connection, held.replies);
         held.replies = 0;
     }
 }
 
-// Lets out what is held at the end of a session, lets the session stand at its gate for the replies that went out, and
-// gives `ending`. Where the write fails, the session ends by that, and its ending has `before`: who was known before
-// the line that was answered last.
-fn let_out<W: Write, G: Gate>(
+// Lets out what is held at the end of a session, tells the observer of the replies that went out, and returns `ending`.
+// If the write fails, the session ends by that, and its ending has `before`: who was known before the line that was
+// answered last.
+fn let_out<W: Write, O: Observer>(
     session: &mut Session,
     ending: Ending,
     before: Option<Who>,
     writer: &mut W,
-    gate: &G,
+    observer: &mut O,
 ) -> Ending
-    ensures { LetsOut ending before result session.old.held.bytes.items
+    ensures lets { LetsOut ending before result session.old.held.bytes.items
         (W.contents writer.old) (W.contents writer.new) }
+    ensures kept { O.kept observer.new ≡ O.kept observer.old }
 {
     match session.held.let_out(writer) {
         Ok(()) => {
-            pass_told(&mut session.held, gate, session.connection);
+            pass_told(&mut session.held, observer, session.connection);
             ending
         }
         Err(_) => Ending {
@@ -300,12 +301,12 @@ enum Sent {
 
 // Answers the line that was read last; its reply goes out or is held, and what came of it is told. `Closed` where the
 // line asks for a view of a window that shows nothing any more, and so has no reply.
-fn serve_line<Rt: Wait, S: Sink + Drop, H: House, W: Write, K: Recorder>(
+fn serve_line<Rt: Wait, S: Sink + Drop, H: House, W: Write, O: Observer>(
     setting: &Setting<'_, Rt, S, H>,
     session: &mut Session,
     window: &mut Window<H>,
     writer: &mut W,
-    recorder: &mut K,
+    observer: &mut O,
 ) -> Result<Sent, Closed>
     requires going { session.old.lines.ending ≡ None }
     requires line { IsWithinLimit MAX_REQUEST session.old.lines.line }
@@ -322,7 +323,7 @@ fn serve_line<Rt: Wait, S: Sink + Drop, H: House, W: Write, K: Recorder>(
         (standing session.new.known window.new) session.old.lines.line
         session.old.held.bytes.items session.new.held.bytes.items
         (W.contents writer.old) (W.contents writer.new)
-        (K.kept recorder.old) (K.kept recorder.new) }
+        (O.kept observer.old) (O.kept observer.new) }
 {
     let mut reply = Reply::Bye;
     let line = session.lines.bytes();
@@ -348,7 +349,7 @@ fn serve_line<Rt: Wait, S: Sink + Drop, H: House, W: Write, K: Recorder>(
         &mut session.held,
         &mut session.reply,
         writer,
-        recorder,
+        observer,
     ))
 }
 
@@ -364,10 +365,9 @@ struct Judged<'a> {
     is_next_unknown: bool,
 }
 
-// Gives the recorder a line and its reply, unless the reply shows what was asked for, and lets the reply go out or
-// holds it: a short one is put behind what is held, any other, or `memory` in its place, into `out` first. Tells what
-// came of the reply.
-fn tell<H: House, W: Write, K: Recorder>(
+// Tells the observer of a line and its reply, and lets the reply go out or holds it: a short one is put behind what is
+// held, any other, or `memory` in its place, into `out` first. Returns what came of the reply.
+fn tell<H: House, W: Write, O: Observer>(
     alloc: Global,
     window: &Window<H>,
     judged: Judged<'_>,
@@ -375,7 +375,7 @@ fn tell<H: House, W: Write, K: Recorder>(
     held: &mut Held,
     out: &mut Vec<u8>,
     writer: &mut W,
-    recorder: &mut K,
+    observer: &mut O,
 ) -> Sent
     requires room { REPLY_ROOM ≤ vec_capacity out.old }
     requires about { IsAbout H.lab.ids H.lab.roster reply }
@@ -384,36 +384,17 @@ fn tell<H: House, W: Write, K: Recorder>(
     ensures tells { Tells result judged.entry.number H.lab judged.entry.seen judged.entry.line.now reply
         held.old.bytes.items held.new.bytes.items
         (W.contents writer.old) (W.contents writer.new)
-        (K.kept recorder.old) (K.kept recorder.new) }
+        (O.kept observer.old) (O.kept observer.new) }
 {
     let start = held.bytes.len();
     if append_reply(window.ids(), window.roster(), &reply, &mut held.bytes) {
         let (_, line) = held.bytes.as_slice().split_at(start);
-        record(recorder, judged, &reply, line);
+        observer.answered(judged.number, judged.seen, judged.line, &reply, line);
         return send_held(&reply, held, judged.is_next_unknown, writer);
     }
     let told = tell_reply(alloc, window.ids(), window.roster(), reply, out);
-    record(recorder, judged, &told, out);
+    observer.answered(judged.number, judged.seen, judged.line, &told, out);
     send(&told, out, held, judged.is_next_unknown, writer)
-}
-
-// Gives a recorder a line that was answered with `out`, its reply's line, unless the reply shows what was asked for. A
-// line whose reply names the place of an event was judged before that event was seen.
-fn record<K: Recorder>(recorder: &mut K, judged: Judged<'_>, reply: &Reply, out: &[u8])
-    ensures { Records judged.entry.number (K.kept recorder.old) (K.kept recorder.new)
-        (entry_for judged.entry.seen judged.entry.line.now reply.now out.now) }
-{
-    let before = match reply {
-        Reply::See(_) | Reply::Look(_) | Reply::Report(_) => return,
-        Reply::Move { .. }
-        | Reply::Close { .. }
-        | Reply::Fault { .. }
-        | Reply::Link { .. }
-        | Reply::Cut { .. }
-        | Reply::Release { .. } => judged.seen.saturating_sub(1),
-        _ => judged.seen,
-    };
-    recorder.said(judged.number, before, judged.line, out);
 }
 
 // Lets the line of a reply go out behind what is held, or holds the line where there is room, and neither `at_once`

@@ -20,9 +20,9 @@ returns-in-Line-clause-serves g c =
           (length (ended line)) c.args.session.now.lines.unread unsent c.requires.out c.in-Line.ensures.read_where_needed c.in-Line.ensures.reads_grow
           c.in-Line.ensures.reads_counted c.requires.few some,
     ) in
-    rw (c.go_on.ensures.held, c.go_on.ensures.next, c.serve_line-said.ensures.lines)
+    rw (c.go_on.ensures.held, c.go_on.ensures.next, c.go_on.ensures.kept, c.serve_line-said.ensures.lines)
     (serves_next c.args.session.now.connection g.H.House.lab _ _ _ _ _ _ _ _ unread line unsent _ c.in-Line.ensures.taken says.0 says.1 ahead
-    c.serve_line-said.result c.serve_line-said.ensures.serves)
+    c.serve_line-said.result (rw c.came.ensures at c.serve_line-said.ensures.serves))
 
 pub returns-in-TooLong-clause-serves : goal.returns-in-TooLong-clause-serves
 returns-in-TooLong-clause-serves g c =

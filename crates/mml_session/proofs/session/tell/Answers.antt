@@ -18,7 +18,7 @@ returns-then-append_reply-clause-tells g c =
       c.args.reply,
       inl refl,
       sent_behind c.send_held.result c.args.reply unsent line _ _ _ _ behind c.send_held.ensures.sends,
-      rw told at c.record.ensures,
+      rw told at c.answered.ensures,
     )
 
 pub returns-clause-tells : goal.returns-clause-tells
@@ -26,5 +26,5 @@ returns-clause-tells g c = (
   c.tell_reply-told.result,
   c.tell_reply-told.ensures.told,
   rw (c.if-append_reply.ensures.line, c.deref-2.ensures.value, c.tell_reply-told.ensures.line, c.ids-2.ensures.ids, c.roster-2.ensures.roster) at c.send.ensures.sends,
-  rw (c.deref.ensures.value, c.tell_reply-told.ensures.line, c.ids-2.ensures.ids, c.roster-2.ensures.roster) at c.record-2.ensures,
+  rw (c.deref.ensures.value, c.tell_reply-told.ensures.line, c.ids-2.ensures.ids, c.roster-2.ensures.roster) at c.answered-2.ensures,
 )

@@ -1,0 +1,4 @@
+pub mod Asking
+pub mod Named
+pub mod Told
+pub mod Turns

@@ -1,0 +1,31 @@
+-- The event that a reply names, of any engine.
+use Rattle.std.specs.Prelude.{◌≡◌, ℕ, true, List, [], ◌∷◌, ◌++◌, Option, Some, Ok}
+use Rattle.mml_lab.specs.declared.who.Who.{Who}
+use Rattle.mml_lab.specs.Labs.{LabValue}
+use Rattle.mml_board.specs.declared.done.Done.{Done}
+use Rattle.mml_board.specs.declared.event.Event.{Event}
+use Rattle.mml_board.specs.Events.{after}
+use Rattle.mml_board.specs.Lists.{is_legal_in, world_in}
+use Rattle.mml_policy.specs.declared.command.Command.{Command}
+use Rattle.mml_policy.specs.declared.ruling.Ruling.TheVariants.{Granted}
+use Rattle.mml_codec.specs.declared.reply.Reply.{Reply}
+use Rattle.mml_codec.specs.declared.request.Request.TheVariants.{Do}
+use Rattle.mml_codec.specs.Lines.{request_in}
+use Rattle.mml_codec.specs.Rulings.{reply_of_done}
+use Rattle.mml_engine.specs.Told.{ruling_at}
+
+-- somebody was known, and the last event that was seen is the one that their command was granted after the events before it; the
+-- reply tells what it did, its place, and the number of the configuration after it
+pub record NamesLast (lab : LabValue) (known : Option Who) (line : List ℕ) (r : Reply) (p : ℕ) (seen : List Event) : Type 0 where
+  pub who : Who
+  pub command : Command
+  pub event : Event
+  pub done : Done
+  pub before : List Event
+  pub by : known ≡ Some who
+  pub asked : request_in line ≡ Ok (Do command)
+  pub legal : is_legal_in lab before ≡ true
+  pub last : seen ≡ before ++ event ∷ []
+  pub ruled : ruling_at lab (world_in lab before) who command ≡ Granted event done
+  pub place : p ≡ (after (world_in lab before) event).place
+  pub reply : r ≡ reply_of_done (after (world_in lab before) event).number p done

@@ -1,0 +1,108 @@
+//! The answer to a line: its reply, who is known afterwards, and what its session has seen then.
+ghost use Rattle.std.specs.Prelude.{◌≡◌, false, IfErr, IfSome, OnOk};
+ghost use Rattle.mml_lab.specs.Rosters.{IsPrincipal};
+ghost use Rattle.mml_policy.specs.Acts.{is_act};
+ghost use Rattle.mml_codec.specs.Greetings.{greeting};
+ghost use Rattle.mml_codec.specs.Replies.{IsAbout};
+ghost use Rattle.mml_engine.specs.Asking.{AsksToSee, IsView};
+ghost use Rattle.mml_engine.specs.Told.{told_by};
+ghost use Rattle.mml_engine.specs.Turns.{Settles, Turn};
+
+use crate::engine::{Closed, Engine};
+use mml_codec::{Greeted, LineScratch, Reply, Request, greet_into, put_in, read_request_with};
+use mml_lab::Who;
+use mml_policy::Command;
+use std::alloc::Global;
+
+/// Answers a line of a connection on which `known` has greeted, if anybody has, and sets `known` to who is known
+/// afterwards. Puts the reply into `reply`, since a reply is large to return. Returns `Closed`, and puts no reply, if
+/// one who is known asks for a view of an engine that shows nothing any more.
+pub fn answer_line<E: Engine>(
+    engine: &mut E,
+    at: &mut E::View,
+    alloc: Global,
+    known: &mut Option<Who>,
+    line: &[u8],
+    scratch: &mut LineScratch,
+    reply: &mut Reply,
+) -> Result<(), Closed>
+    requires principal { IfSome known.old (IsPrincipal (E.lab engine.old).roster) }
+    ensures lab { E.lab engine.new ≡ E.lab engine.old }
+    ensures principal { IfSome known.new (IsPrincipal (E.lab engine.old).roster) }
+    ensures turn { OnOk result (Turn E.tells (E.lab engine.old).roster known.old engine.old at.old
+        line.now reply.new known.new engine.new at.new) }
+    ensures told { OnOk result (Turn (told_by E.lab E.seen) (E.lab engine.old).roster known.old engine.old at.old
+        line.now reply.new known.new engine.new at.new) }
+    ensures about { OnOk result (IsAbout (E.lab engine.old).ids (E.lab engine.old).roster reply.new) }
+    ensures closed { IfErr result (λ _. E.may_close × (known.new ≡ known.old)
+        × (engine.new ≡ engine.old) × (at.new ≡ at.old) × IsView known.old line.now) }
+{
+    match read_request_with(alloc, line, scratch) {
+        Ok(request) => match (*known, &request) {
+            (Some(who), Request::Do(command)) => obey(engine, at, alloc, who, command, reply),
+            _ => settle(engine, at, alloc, known, &request, reply),
+        },
+        Err(fault) => {
+            put_in(reply, Reply::Refuse(fault.refusal()));
+            Ok(())
+        }
+    }
+}
+
+// Puts the reply to any request, and sets `known` to who is known afterwards. `answer_line` itself has the commands of
+// those who are known; the others are rare and their code is large, so this function isn't inlined.
+#[inline(never)]
+fn settle<E: Engine>(
+    engine: &mut E,
+    at: &mut E::View,
+    alloc: Global,
+    known: &mut Option<Who>,
+    request: &Request,
+    reply: &mut Reply,
+) -> Result<(), Closed>
+    requires principal { IfSome known.old (IsPrincipal (E.lab engine.old).roster) }
+    ensures lab { E.lab engine.new ≡ E.lab engine.old }
+    ensures principal { IfSome known.new (IsPrincipal (E.lab engine.old).roster) }
+    ensures settles { OnOk result (Settles E.tells known.old engine.old at.old
+        (greeting (E.lab engine.old).roster known.old request.now) reply.new known.new engine.new at.new) }
+    ensures told { OnOk result (Settles (told_by E.lab E.seen) known.old engine.old at.old
+        (greeting (E.lab engine.old).roster known.old request.now) reply.new known.new engine.new at.new) }
+    ensures about { OnOk result (IsAbout (E.lab engine.old).ids (E.lab engine.old).roster reply.new) }
+    ensures closed { IfErr result (λ _. E.may_close × (known.new ≡ known.old)
+        × (engine.new ≡ engine.old) × (at.new ≡ at.old) × AsksToSee known.old request.now) }
+{
+    match greet_into(engine.roster(at), *known, request, reply) {
+        Greeted::Known(now) => {
+            *known = now;
+            Ok(())
+        }
+        Greeted::LeftToJudge { who, command } => obey(engine, at, alloc, who, &command, reply),
+    }
+}
+
+// Puts the reply to the command of `who`. Returns `Closed`, and puts no reply, if a view is asked of an engine that
+// shows nothing any more.
+#[inline(always)]
+fn obey<E: Engine>(
+    engine: &mut E,
+    at: &mut E::View,
+    alloc: Global,
+    who: Who,
+    command: &Command,
+    reply: &mut Reply,
+) -> Result<(), Closed>
+    ensures lab { E.lab engine.new ≡ E.lab engine.old }
+    ensures tells { OnOk result (E.tells engine.old at.old who command.now reply.new engine.new at.new) }
+    ensures told { OnOk result (told_by E.lab E.seen engine.old at.old who command.now reply.new
+        engine.new at.new) }
+    ensures about { OnOk result (IsAbout (E.lab engine.old).ids (E.lab engine.old).roster reply.new) }
+    ensures closed { IfErr result (λ _. E.may_close × (engine.new ≡ engine.old)
+        × (at.new ≡ at.old) × (is_act command.now ≡ false)) }
+{
+    if command.is_act() {
+        engine.act(at, alloc, who, command, reply);
+        Ok(())
+    } else {
+        engine.view(at, alloc, who, command, reply)
+    }
+}

@@ -1,0 +1,75 @@
+use mml_codec::Reply;
+use mml_lab::{Roster, Who};
+use mml_policy::Command;
+use std::alloc::Global;
+
+/// The reason why a view has no reply: the engine shows nothing any more.
+#[derive(Clone, Copy, Debug, PartialEq, Eq)]
+pub struct Closed;
+
+/// An engine: it answers the commands of those who are known. It answers views by events that it published before,
+/// and acts by all events.
+pub trait Engine {
+    ghost use Rattle.std.specs.Prelude.{◌≡◌, true, false, List, OnOk, IfErr};
+    ghost use Rattle.mml_lab.specs.declared.who.Who.{Who};
+    ghost use Rattle.mml_lab.specs.Labs.{LabValue};
+    ghost use Rattle.mml_board.specs.declared.event.Event.{Event};
+    ghost use Rattle.mml_policy.specs.declared.command.Command.{Command};
+    ghost use Rattle.mml_policy.specs.Acts.{is_act};
+    ghost use Rattle.mml_codec.specs.declared.reply.Reply.{Reply};
+    ghost use Rattle.mml_codec.specs.Replies.{IsAbout};
+    ghost use Rattle.mml_engine.specs.Told.{Told};
+
+    /// The part of the engine that belongs to one session.
+    type View;
+
+    // The lab whose events it has.
+    ghost lab: { Self → LabValue };
+
+    // The events that a session has seen.
+    ghost seen: { Self → Self.View → List Event };
+
+    // What a command does: engine and view before it, its asker, the command, the reply, engine and view after it.
+    ghost tells: { Self → Self.View → Who → Command → Reply → Self → Self.View → Type 0 };
+
+    // What holds if the engine shows nothing any more.
+    ghost may_close: { Type 0 };
+
+    /// Returns the roster of the engine's lab.
+    fn roster<'r>(&'r self, at: &'r Self::View) -> &'r Roster
+        ensures { result.now ≡ (lab self.now).roster };
+
+    /// Puts the reply to a view, which is a command that changes nothing. Returns `Closed`, and puts no reply, if the
+    /// engine shows nothing any more.
+    fn view(
+        &mut self,
+        at: &mut Self::View,
+        alloc: Global,
+        who: Who,
+        command: &Command,
+        reply: &mut Reply,
+    ) -> Result<(), Closed>
+        requires { is_act command.now ≡ false }
+        ensures lab { lab self.new ≡ lab self.old }
+        ensures tells { OnOk result (tells self.old at.old who command.now reply.new self.new at.new) }
+        ensures told { OnOk result (Told (lab self.old) (seen self.old at.old) who command.now reply.new
+            (seen self.new at.new)) }
+        ensures about { OnOk result (IsAbout (lab self.old).ids (lab self.old).roster reply.new) }
+        ensures closed { IfErr result (λ _. may_close × (self.new ≡ self.old) × (at.new ≡ at.old)) };
+
+    /// Puts the reply to an act, which is a command that asks for an event. The event happens if it is granted.
+    fn act(
+        &mut self,
+        at: &mut Self::View,
+        alloc: Global,
+        who: Who,
+        command: &Command,
+        reply: &mut Reply,
+    )
+        requires { is_act command.now ≡ true }
+        ensures lab { lab self.new ≡ lab self.old }
+        ensures tells { tells self.old at.old who command.now reply.new self.new at.new }
+        ensures told { Told (lab self.old) (seen self.old at.old) who command.now reply.new
+            (seen self.new at.new) }
+        ensures about { IsAbout (lab self.old).ids (lab self.old).roster reply.new };
+}

@@ -1,0 +1,26 @@
+//! Laws of turns over any engine. Each is the clause of a function that does nothing.
+ghost use Rattle.std.specs.Prelude.{◌≡◌, ℕ, List, Option, Some};
+ghost use mathlib.Core.List.{IsPrefix};
+ghost use Rattle.mml_lab.specs.declared.who.Who.{Who};
+ghost use Rattle.mml_lab.specs.Labs.{LabValue};
+ghost use Rattle.mml_board.specs.declared.event.Event.{Event};
+ghost use Rattle.mml_codec.specs.declared.reply.Reply.{Reply};
+ghost use Rattle.mml_codec.specs.Replies.{place_in};
+ghost use Rattle.mml_engine.specs.Named.{NamesLast};
+ghost use Rattle.mml_engine.specs.Told.{told_by};
+ghost use Rattle.mml_engine.specs.Turns.{Turn};
+
+/// The events that were seen before a turn begin those that are seen after it.
+pub fn seen_goes_on()
+    ensures { (lab : LabValue) (known known' : Option Who) (old new : List Event) (line : List ℕ) (r : Reply) →
+        Turn (told_by (λ (e : LabValue). e) (λ e (v : List Event). v)) lab.roster known lab old line r known' lab new →
+        IsPrefix old new }
+{}
+
+/// A reply that names a place answers a command of one who was known. The place is that of the last event that is seen
+/// after the turn, and the policy grants this event for the command after the events before it.
+pub fn replies_name_their_events()
+    ensures { (lab : LabValue) (known known' : Option Who) (old new : List Event) (line : List ℕ) (r : Reply) (place : ℕ) →
+        Turn (told_by (λ (e : LabValue). e) (λ e (v : List Event). v)) lab.roster known lab old line r known' lab new →
+        place_in r ≡ Some place → NamesLast lab known line r place new }
+{}

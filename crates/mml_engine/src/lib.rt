@@ -1,0 +1,9 @@
+//! Engines, which answer the commands of those who have greeted, and the turn of one line over any engine.
+#![tactic(auto)]
+
+mod answering;
+mod engine;
+pub mod laws;
+
+pub use answering::answer_line;
+pub use engine::{Closed, Engine};

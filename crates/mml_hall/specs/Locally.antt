@@ -1,0 +1,14 @@
+-- What comes of a command where all is in one thread.
+use Rattle.std.specs.Prelude.{ℕ, ⊤}
+use Rattle.mml_lab.specs.declared.who.Who.{Who}
+use Rattle.mml_policy.specs.declared.command.Command.{Command}
+use Rattle.mml_policy.specs.Rulings.{ruling}
+use Rattle.mml_codec.specs.declared.reply.Reply.{Reply}
+use Rattle.mml_hall.specs.Halls.{HallValue}
+use Rattle.mml_hall.specs.Turns.{Comes, Halts, outcome_of}
+
+-- the outcome of the ruling by all events, or what prevented it; and whether the journal halted
+abbrev pub TellsHere : {S : Type 0} → (S → ℕ) → HallValue S → ⊤ → Who → Command → Reply → HallValue S → ⊤ → Type 0
+TellsHere failures e v who c r e' v' =
+    Comes e.state (outcome_of e.state (ruling e.lab.ids e.lab.roster e.lab.events e.state.halted e.state.world who c)) (record { reply = r; state = e'.state })
+    × Halts e.state.halted e'.state.halted (failures e.sink) (failures e'.sink)

@@ -1,0 +1,116 @@
+-- One who sees a node can be shown something at any time.
+use Rattle.std.proofs.Common.{◌≡◌, ◌≢◌, ℕ, ◌<◌, ◌≤◌, ◌^◌, true, false, ◌||◌, List, ◌∷◌, [], ◌++◌, codes, decimal, length, slice_index, refl, sym, ap, subst}
+use Rattle.std.proofs.Common.{Option, None, Some, Ok, ok_or, arith, length-append}
+use Rattle.std.specs.List.{All}
+use Rattle.std.proofs.lemmas.Bool.{or_right, false≢true}
+use Rattle.std.proofs.lemmas.Fmt.{length-decimal-le}
+use Rattle.std.proofs.lemmas.List.{get_or_default}
+use Rattle.mml_ids.specs.Lines.{IsUnbroken}
+use Rattle.mml_ids.specs.Ids.{rank_in}
+use Rattle.mml_ids.proofs.SearchLemmas.{some_below-find}
+use Rattle.mml_ids.proofs.GivesLemmas.{bind-from, need-from}
+use Rattle.mml_ids.proofs.IdsLemmas.{rank_of_id}
+use Rattle.mml_lab.specs.declared.who.Who.{Who}
+use Rattle.mml_lab.specs.declared.who.Who.TheVariants as who
+use Rattle.mml_lab.specs.Labs.{LabValue, IsLab}
+use Rattle.mml_lab.specs.Rosters.{owns}
+use Rattle.mml_lines.specs.LinesOf.{IsWithinLimit}
+use Rattle.mml_board.specs.declared.event.Event.{Event}
+use Rattle.mml_board.specs.Lists.{world_in}
+use Rattle.mml_policy.specs.declared.command.Command.{Command}
+use Rattle.mml_policy.specs.declared.command.Command.TheVariants as command
+use Rattle.mml_policy.specs.declared.denial.Denial.TheVariants.{NotOwner}
+use Rattle.mml_policy.specs.declared.ruling.Ruling.{Ruling}
+use Rattle.mml_policy.specs.declared.verdict.Leave.TheVariants.{Look}
+use Rattle.mml_policy.specs.Clauses.{node}
+use Rattle.mml_policy.specs.Rulings.{ruled, after_ruling}
+use Rattle.mml_policy.specs.Verdicts.{clauses}
+use Rattle.mml_policy.specs.Visible.{is_teacher}
+use Rattle.mml_codec.specs.declared.TheConstants.{MAX_REQUEST}
+use Rattle.mml_codec.specs.declared.request.Request.TheVariants as requests
+use Rattle.mml_codec.specs.Canonical.{canonical, IsWritable}
+use Rattle.mml_codec.specs.Lines.{request_in}
+use Rattle.mml_codec.specs.Rulings.{reply_of}
+use Rattle.mml_codec.proofs.CanonicalLemmas.{canonical_line, request_in-canonical}
+use Rattle.json.specs.Print.{escape_byte}
+use Rattle.mml_window.specs.Rulings.{ruling_at}
+use Rattle.mml_session.specs.Records.{is_shown}
+use Rattle.mml_record.specs.Certified.{sees_some}
+use Rattle.mml_record.proofs.RiseLemmas.{owned_within}
+
+-- the command, asked after these events, is answered by a view
+abbrev Shows : LabValue → List Event → Who → Command → Type 0
+Shows lab first x c =
+    is_shown (reply_of (after_ruling (world_in lab first) (ruling_at lab (world_in lab first) x c)) (ruling_at lab (world_in lab first) x c)) ≡ true
+
+-- some line asks for a view after these events that is shown to whoever is known
+abbrev pub CanBeShown : LabValue → List Event → Option Who → Type 0
+CanBeShown lab first known =
+    (who : Who) × (known ≡ Some who) × (line : List ℕ) × IsWithinLimit MAX_REQUEST line × (c : Command) × (request_in line ≡ Ok (requests.Do c))
+    × Shows lab first who c
+
+unbroken_all : (bs : List ℕ) → All (λ b. b ≢ 10) bs → IsUnbroken bs
+unbroken_all bs h = λ i k. h i 0 k
+
+by_request : (lab : LabValue) (first : List Event) (x : Who) (c : Command) → IsWritable (requests.Do c) → length (canonical (requests.Do c)) ≤ MAX_REQUEST
+    → Shows lab first x c → CanBeShown lab first (Some x)
+by_request lab first x c can short shows = (
+  x,
+  refl,
+  canonical (requests.Do c),
+  (unbroken_all (canonical (requests.Do c)) (canonical_line (requests.Do c) can), short),
+  c,
+  request_in-canonical (requests.Do c) can,
+  shows,
+)
+
+-- ---- the teacher's report
+
+report_text : canonical (requests.Do command.Report) ≡ codes "{\"do\":\"report\"}"
+unfolding canonical escape_byte
+report_text = refl
+
+teacher_shown : (lab : LabValue) (first : List Event) → CanBeShown lab first (Some who.Teacher)
+teacher_shown lab first =
+    by_request lab first who.Teacher command.Report (tt, tt) (subst (λ (x : List ℕ). length x ≤ MAX_REQUEST) (sym report_text) (omega arith)) refl
+
+-- ---- an owner's look
+
+look_text : (n : ℕ) → canonical (requests.Do (command.Look n)) ≡ codes "{\"do\":\"look\",\"node\":" ++ (decimal n ++ 125 ∷ [])
+unfolding canonical escape_byte
+look_text n = refl
+
+look_short : (n : ℕ) → n < 2 ^ 64 → length (canonical (requests.Do (command.Look n))) ≤ MAX_REQUEST
+look_short n small =
+    let digits : length (decimal n) ≤ 20 = length-decimal-le 20 n (omega arith) (omega arith) small in
+    let all : length (codes "{\"do\":\"look\",\"node\":" ++ (decimal n ++ 125 ∷ [])) ≤ MAX_REQUEST =
+    omega (arith, digits, length-append (codes "{\"do\":\"look\",\"node\":") (decimal n ++ 125 ∷ []), length-append (decimal n) (125 ∷ [])) in
+    subst (λ (x : List ℕ). length x ≤ MAX_REQUEST) (sym (look_text n)) all
+
+look_shows : (lab : LabValue) (first : List Event) (x : Who) (i id : ℕ) → rank_in lab.ids id ≡ Some i → owns lab.roster x i ≡ true
+    → Shows lab first x (command.Look id)
+look_shows lab first x i id rank own =
+    let w = world_in lab first in
+    let may : (is_teacher x || owns lab.roster x i) ≡ true = or_right (is_teacher x) (owns lab.roster x i) own in
+    let leave : clauses lab.ids lab.roster w x (command.Look id) ≡ Ok (Look i) =
+    bind-from (node lab.ids id NotOwner) _ (Ok (Look i)) i (ap (λ (o : Option ℕ). ok_or o NotOwner) rank)
+    (need-from (is_teacher x || owns lab.roster x i) NotOwner (Ok (Look i)) (Ok (Look i)) may refl) in
+    let is : ruling_at lab w x (command.Look id) ≡ ruled lab.events false w (Ok (Look i)) = ap (ruled lab.events false w) leave in
+    subst (λ (q : Ruling). is_shown (reply_of (after_ruling w q) q) ≡ true) (sym is) refl
+
+owner_shown : (lab : LabValue) → IsLab lab → (first : List Event) (x : Who) (i : ℕ) → owns lab.roster x i ≡ true → CanBeShown lab first (Some x)
+owner_shown lab is first x i own =
+    let there : i < length lab.ids = omega (arith, owned_within lab.roster x i own, is.owned) in
+    let id : ℕ = slice_index lab.ids i in
+    let small : slice_index lab.ids i < 2 ^ 64 = omega (arith, is.ids.within i there) in
+    let rank : rank_in lab.ids (slice_index lab.ids i) ≡ Some i =
+    rank_of_id lab.ids i (slice_index lab.ids i) is.ids there (get_or_default lab.ids i 0 (slice_index lab.ids i) there) in
+    by_request lab first x (command.Look (slice_index lab.ids i)) (tt, (small, tt)) (look_short (slice_index lab.ids i) small)
+    (look_shows lab first x i (slice_index lab.ids i) rank own)
+
+-- whoever sees a node can be shown something
+pub sees_shown : (lab : LabValue) → IsLab lab → (first : List Event) (known : Option Who) → sees_some lab.roster known ≡ true → CanBeShown lab first known
+sees_shown lab is first None h = absurd (false≢true h)
+sees_shown lab is first (Some who.Teacher) h = teacher_shown lab first
+sees_shown lab is first (Some (who.Student s)) h =
+    let f = some_below-find (length lab.roster.owners) (owns lab.roster (who.Student s)) h in owner_shown lab is first (who.Student s) f.0 f.2

@@ -1,0 +1,7 @@
+use Rattle.std.proofs.Common.{None}
+use Rattle.mml_record.specs.declared.stage.Stage.TheVariants as stages
+use Rattle.mml_record.proofs.SeatLemmas.{never_fall}
+use Rattle.mml_record.proofs.laws.entries_never_fall.Goals as goal
+
+pub returns : goal.returns
+returns c = λ lab l es ps h. never_fall lab l None stages.Fresh 0 es ps h

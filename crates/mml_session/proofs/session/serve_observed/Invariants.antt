@@ -1,0 +1,30 @@
+use Rattle.std.proofs.Common.{◌≡◌, ◌≤◌, ◌<◌, None, length, []}
+use Rattle.std.specs.Prelude.{IfSome}
+use Rattle.std.specs.Vec.{vec_capacity}
+use Rattle.std.specs.Io.KnownBytes.{prepend_known}
+use Rattle.mml_lab.specs.Rosters.{IsPrincipal}
+use Rattle.mml_codec.specs.declared.TheConstants.{MAX_REQUEST}
+use Rattle.mml_codec.specs.declared.reply.TheConstants.{REPLY_ROOM}
+use Rattle.mml_session.specs.Turns.{standing}
+use Rattle.mml_lines.specs.LinesOf.{IsWithinLimit}
+use Rattle.mml_lines.specs.LinesState.{bytes_ahead}
+use Rattle.mml_lines.specs.declared.lines.TheConstants.{READ_SIZE}
+use Rattle.mml_session.proofs.EndingLemmas.{AnsweredSoFar}
+use Rattle.mml_session.proofs.session.serve_observed.Given as goal
+
+abbrev pub invariant-loop-before : goal.invariant-loop-before
+invariant-loop-before g l = record {
+  so_far : AnsweredSoFar l.fn.connection g.H.House.lab l.fn.window (standing l.session.known l.window) l.before (g.R.Read.remaining l.fn.reader)
+      (prepend_known l.session.lines.unread (g.R.Read.remaining l.reader)) l.session.held.bytes.items (g.W.Write.contents l.fn.writer) (g.W.Write.contents l.writer)
+      (g.O.Observer.kept l.fn.observer) (g.O.Observer.kept l.observer);
+  few : length l.session.lines.unread < READ_SIZE;
+  out : IsWithinLimit l.session.lines.limit l.session.lines.unread → l.session.held.bytes.items ≡ [];
+  number : l.session.connection ≡ l.fn.connection;
+  going : l.session.lines.ending ≡ None;
+  limit : l.session.lines.limit ≡ MAX_REQUEST;
+  room : REPLY_ROOM ≤ vec_capacity l.session.reply;
+  principal : IfSome l.session.known (IsPrincipal g.H.House.lab.roster);
+}
+
+abbrev pub decreases-loop-before : goal.decreases-loop-before
+decreases-loop-before g l = bytes_ahead l.session.lines

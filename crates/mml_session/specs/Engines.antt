@@ -1,0 +1,11 @@
+-- What comes of a command asked through a window.
+use Rattle.mml_lab.specs.declared.who.Who.{Who}
+use Rattle.mml_lab.specs.Labs.{LabValue}
+use Rattle.mml_policy.specs.declared.command.Command.{Command}
+use Rattle.mml_codec.specs.declared.reply.Reply.{Reply}
+use Rattle.mml_window.specs.Windows.{WindowValue}
+use Rattle.mml_session.specs.Turns.{Told}
+
+-- the window's reply, whatever it is asked with
+abbrev pub OverWindow : {E : Type 0} → LabValue → E → WindowValue → Who → Command → Reply → E → WindowValue → Type 0
+OverWindow lab e v who c r e' v' = Told lab v who c r v'

@@ -1,0 +1,171 @@
+"""Records in which one entry can't have been said, in each of the ways that a lax verifier would let pass."""
+import json
+from collections.abc import Callable, Iterator
+from dataclasses import dataclass
+from random import Random
+
+from model import Lab, read_lab
+from model.journal import Event, audit
+from model.record import NO_JOURNAL, Entry, Record, Seat
+from model.run import Answer, answer
+from tests.common.preload import fail
+from tests.random.labs import drawn_lab
+from tests.record.drawn import drawn_run
+from tests.record.recording import Recording
+
+FULL, MALFORMED = b'{"refuse":"full"}', b'{"refuse":"malformed"}'
+OTHER_REPLY, OTHER_EVENT, BACK = "not the reply of the rules at place %d", "not the journal's event at place %d", "goes back"
+
+
+@dataclass(frozen=True)
+class Told:
+    """An entry of a seat's text: the byte at which it begins, who was known, and of a line what the rules answer."""
+
+    seat: int
+    start: int
+    entry: Entry
+    known: str | None
+    found: Answer | None
+
+
+@dataclass(frozen=True)
+class Drawn:
+    """A drawn run with the events of its journal and the entries of all seats."""
+
+    run: Recording
+    events: list[Event]
+    told: list[Told]
+
+    def before(self, it: Told) -> list[Told]:
+        """Returns the entries of the seat that come before an entry."""
+        return [other for other in self.told if other.seat == it.seat and other.start < it.start]
+
+
+@dataclass(frozen=True)
+class Hurt:
+    """An entry that is another: the seat's text with it, and why it can't be."""
+
+    seat: int
+    text: bytes
+    why: str
+
+
+def stamped(seat: int, seen: int, line: bytes, reply: bytes) -> bytes:
+    """Returns the text of a line's entry."""
+    return b"%d %d > %s\n%d %d < %s\n" % (seat, seen, line, seat, seen, reply)
+
+
+def read(run: Recording) -> Drawn:
+    """Returns a run with its entries, each beside the rules."""
+    _, events = audit(run.lab, run.journal)
+    told = []
+    for number, text in run.texts.items():
+        seat, at = Seat(run.lab, events, number, Record()), 0
+        while at < len(text):
+            entry = seat.entry(text, at)
+            assert isinstance(entry, Entry)
+            known = seat.known
+            while seat.world.place < entry.seen:
+                seat.advance()
+            found = answer(run.lab, seat.world, known, entry.line) if entry.mark == b">" else None
+            told.append(Told(number, at, entry, known, found))
+            assert seat.take(entry) is None
+            at = entry.end
+    return Drawn(run, events, told)
+
+
+def changed(drawn: Drawn, it: Told, text: bytes, why: str) -> Hurt:
+    """Returns a seat's text in which an entry is another, and the line that says why it can't be."""
+    whole = drawn.run.texts[it.seat]
+    line = 1 + whole.count(b"\n", 0, it.start)
+    return Hurt(it.seat, whole[: it.start] + text + whole[it.entry.end :], f"verify: seat {it.seat}, line {line}: {why}")
+
+
+def is_denied(it: Told) -> bool:
+    """Returns whether the line of an entry was denied."""
+    return it.found is not None and b'"deny":' in it.entry.reply
+
+
+def replied(reply: bytes, is_granted: bool) -> Callable[[Drawn, Told], Iterator[Hurt]]:
+    """Returns how a grant, or a denial, is recorded as this refusal."""
+    def hurts(drawn: Drawn, it: Told) -> Iterator[Hurt]:
+        if it.found is not None and it.found.event is not None if is_granted else is_denied(it):
+            yield changed(drawn, it, stamped(it.seat, it.entry.seen, it.entry.line, reply), OTHER_REPLY % it.entry.seen)
+    return hurts
+
+
+def of_other_owner(drawn: Drawn, it: Told) -> Iterator[Hurt]:
+    """Yields a seat in which the first line after a hello, a move at a shared node, is another owner's."""
+    before = drawn.before(it)[-2:]
+    is_first = len(before) == 1 or len(before) == 2 and before[0].entry.mark == b"."
+    if not is_first or it.found is None or it.found.event is None or it.found.event.do != "move":
+        return
+    lab, hello, whole = drawn.run.lab, before[-1], drawn.run.texts[it.seat]
+    for owner in lab.owners[it.found.event.node]:
+        if owner != it.known:
+            line = json.dumps({"do": "hello", "name": owner, "key": lab.keys[owner]}).encode()
+            told = stamped(it.seat, hello.entry.seen, line, b'{"ok":"hello","who":"%s"}' % owner.encode())
+            number = 1 + whole.count(b"\n", 0, it.start)
+            yield Hurt(it.seat, whole[: hello.start] + told + whole[hello.entry.end :],
+                       f"verify: seat {it.seat}, line {number}: {OTHER_EVENT % (it.entry.seen + 1)}")
+
+
+def of_other_event(drawn: Drawn, it: Told) -> Iterator[Hurt]:
+    """Yields a seat in which the teacher's event is recorded as a close or a release that the rules grant there."""
+    lab = drawn.run.lab
+    if it.found is None or it.found.event is None or it.known != lab.teacher:
+        return
+    seat = Seat(lab, drawn.events, it.seat, Record())
+    while seat.world.place < it.entry.seen:
+        seat.advance()
+    for asked in [{"do": "close"}, *({"do": "release", "node": node} for node in seat.world.chosen)]:
+        line = json.dumps(asked).encode()
+        found = answer(lab, seat.world, it.known, line)
+        if found.event is not None and found.event != it.found.event:
+            text = stamped(it.seat, it.entry.seen, line, found.reply.encode())
+            yield changed(drawn, it, text, OTHER_EVENT % (it.entry.seen + 1))
+
+
+def earlier(drawn: Drawn, it: Told) -> Iterator[Hurt]:
+    """Yields a seat in which an entry after a denial or a session's end names one event fewer."""
+    is_same = it.entry.mark == b"." or it.entry.reply == MALFORMED
+    last = drawn.before(it)[-1:]
+    if is_same and it.entry.seen and last and last[0].entry.seen == it.entry.seen and (last[0].entry.mark == b"." or is_denied(last[0])):
+        seen = it.entry.seen - 1
+        text = b"%d %d .\n" % (it.seat, seen) if it.entry.mark == b"." else stamped(it.seat, seen, it.entry.line, it.entry.reply)
+        yield changed(drawn, it, text, BACK)
+
+
+KINDS: dict[str, Callable[[Drawn, Told], Iterator[Hurt]]] = {
+    "a denial as a halted journal": replied(NO_JOURNAL, is_granted=False),
+    "a grant as a full journal": replied(FULL, is_granted=True),
+    "a denial as no request": replied(MALFORMED, is_granted=False),
+    "a move as another owner's": of_other_owner,
+    "an event as another": of_other_event,
+    "an earlier entry": earlier,
+}
+
+
+def shared_lab(rng: Random) -> tuple[str, Lab]:
+    """Returns a drawn lab that has a shared node, and room for a run."""
+    while True:
+        document = drawn_lab(rng)
+        lab = read_lab(document.encode("ascii"))
+        if lab.events >= 10 and len(lab.owners) <= 8 and any(len(owners) > 1 for owners in lab.owners.values()):
+            return document, lab
+
+
+def drawn_hurts(rng: Random, lab: Lab) -> tuple[Recording, list[tuple[str, Hurt]]]:
+    """Returns a drawn run, and of each kind that it has one hurt."""
+    drawn, found = read(drawn_run(rng, lab)), []
+    for kind, hurts in KINDS.items():
+        some = [hurt for it in drawn.told for hurt in hurts(drawn, it)]
+        found += [(kind, rng.choice(some))] if some else []
+    return drawn.run, found
+
+
+def check_kinds(count: dict[str, int], least: int) -> None:
+    """Fails if one of the kinds was drawn too seldom."""
+    missing = [kind for kind in KINDS if count.get(kind, 0) < least]
+    if missing:
+        fail(f"too few records are drawn in which there is {missing}: {count}")

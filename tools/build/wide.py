@@ -1,0 +1,31 @@
+"""Runs `rt` as if there were twice as many processors: `python3 -B wide.py WORDS`.
+
+`rt ci` divides the processors among the proofs that can begin. It counts the tests of a crate as a proof of their own, even
+if it has none, so a crate that is alone in its repository would get half of them.
+"""
+from __future__ import annotations
+
+import os
+import runpy
+import shutil
+import sys
+
+
+def twice(number: int) -> set[int]:
+    """Returns what stands for twice so many processors."""
+    return {*range(2 * number)}
+
+
+def main() -> None:
+    """Runs the `rt` that is on the path, with the words given."""
+    rt = shutil.which("rt")
+    if rt is None:
+        sys.exit("rt is not on the path")
+    found = twice(len(os.sched_getaffinity(0)))
+    os.sched_getaffinity = lambda _: found  # type: ignore[assignment]
+    sys.argv[0] = rt
+    runpy.run_path(rt, run_name="__main__")
+
+
+if __name__ == "__main__":
+    main()
