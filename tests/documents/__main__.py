@@ -12,6 +12,7 @@ crate's page one that the crate declares or cites. A command block of the pages 
 used is run by a test, or is marked: `sh not run`, or `text` for what is only an example of an output.
 `docs/crates.svg` has to be what `tests.documents.crates` draws of `crates.txt`.
 A number, a status or a limit of `tests.documents.numbers` has to be what it is counted or taken from.
+Phrases that are hard to read, and sentences of more than 30 words, are counted by `tests.documents.style`.
 There is no limit on words: a page that is too long is split, or cut where it repeats itself.
 """
 from __future__ import annotations
@@ -22,7 +23,7 @@ import sys
 from collections.abc import Iterable, Iterator
 from pathlib import Path
 
-from tests.documents import crates, numbers
+from tests.documents import crates, numbers, style
 
 TOP = Path(__file__).resolve().parents[2]
 FENCE = re.compile(r"^```.*?^```$", re.MULTILINE | re.DOTALL)
@@ -219,7 +220,7 @@ def main() -> None:
     missing = [f"not there: {page}: {name}" for page in pages for name in dict.fromkeys(told(page, files, folders, words, laws))]
     missing += [f"no contract: {page}: {name}" for page in pages for name in missing_contracts(page, texts, declared, laws)]
     missing += [f"no test runs it: {page}: {line}" for page in USED for line in unrun_blocks(page, files)]
-    missing += crates.faults() + numbers.faults()
+    missing += crates.faults() + numbers.faults() + style.faults(files)
     for line in missing:
         print(f"FAILED: {line}")
     if missing:

@@ -97,7 +97,7 @@ QUICK = [
     Part("journals", ("bash", "tests/journals/run"), 0.1, 0.2, 0.5, BUILT),
     Part("large", module("program.large"), 0.1, 0.1, 1, BUILT),
     Part("documents", module("documents"), 0.1, 0.1, 1, ("git",)),
-    Part("documents-cases", cases("documents.test_lessons", "documents.test_potential", "documents.test_printed"), 0.1, 0.1, 1),
+    Part("documents-cases", cases("documents.test_lessons", "documents.test_potential", "documents.test_printed", "documents.test_style"), 0.1, 0.1, 1),
     Part("manuals", cases("documents.test_manuals"), 0.1, 0.1, 1, ("man",)),
     Part("python", module("check.python", of="tools"), 0.5, 0.5, 1, ("git", "types")),
     Part("kit", module("check.kit", of="tools"), 0.1, 0.1, 1, ("rt",)),

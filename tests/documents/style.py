@@ -1,0 +1,150 @@
+"""Counts what makes a text hard to read: phrases that read as if translated, and sentences of more than 30 words.
+
+    python3 -B -m tests.documents.style             prints what is wrong; its status is 1 if something is
+    python3 -B -m tests.documents.style PAGE..      prints what these pages have, except at the places of `allowed.txt`
+    python3 -B -m tests.documents.style --counts    prints `counts.txt` as it is now
+
+A page has neither, except at the places of `allowed.txt`, where the word is right: a line there is a page's path, a
+space, and a part of the sentence. `counts.txt` has how many are left: in the pages that aren't done yet, and phrases in
+the comments and messages of the sources of a folder. These numbers only fall.
+"""
+from __future__ import annotations
+
+import io
+import re
+import sys
+import tokenize
+from collections import Counter
+from collections.abc import Iterator
+from pathlib import Path
+
+TOP = Path(__file__).resolve().parents[2]
+HERE = Path(__file__).parent
+MOST = 30  # words of a sentence
+# Each phrase, and what to write instead.
+PHRASES = {
+    r"(?<![A-Za-z`] )\bWhere\b(?= \S)(?![^.?!]*\?)": "If, When",
+    r"(?<!says)(?<!shows)(?<!sees)(?<!knows),? where (?:no|none|nobody|nothing|not|it|they|one|some|each|two|there|that|this|a|an|the|you|he|she|n)\b(?![^.?!]*\?)": "if, when",
+    r"\b(?:tells?|told|telling)\b(?!.*\bapart\b)": "prints, returns, says, names",
+    r"\bbehind\b": "after",
+    r"\bin vain\b": "without success, denied",
+    r"\b(?:want|lack) of memory\b|\bmemory lacks\b": "out of memory",
+    r"\b(?:hands?|handed) (?:up|over)\b|\blets? go\b": "returns, passes",
+    r"(?:^|(?<=[.:;] ))Who\b(?![^.?!]*\?)": "Whoever, A student who",
+}
+FENCE = re.compile(r"^```.*?^```$", re.MULTILINE | re.DOTALL)
+
+
+def blocks(text: str) -> Iterator[str]:
+    """Yields the parts of a page that are read by themselves, but for headings: paragraphs, items, and the parts of cells."""
+    text = FENCE.sub("\n\n", text)
+    text = re.sub(r"^    .*$", "", text, flags=re.MULTILINE)
+    for part in re.split(r"\n\s*\n|\n(?=\s*(?:[-*]|\d+\.) )|\n(?=[|#])", text):
+        line = "" if part.startswith("#") else re.sub(r"^\s*(?:[-*]|\d+\.)\s+", "", part.strip())
+        yield from re.split(r"\s*[|;]\s*", line.strip("|")) if line.startswith("|") else (line,)
+
+
+def sentences(text: str) -> Iterator[str]:
+    """Yields the sentences of a page; code counts as one word."""
+    for block in blocks(text):
+        plain = re.sub(r"!?\[([^\]]*)\]\([^)]*\)", r"\1", re.sub(r"`[^`]*`", "`c`", block.replace("\n", " ")))
+        yield from (each for each in re.split(r"(?<=[.!?:])[\"')*]*\s+(?=[\"'(*]*[A-Z0-9`])", plain) if each.strip())
+
+
+def words(sentence: str) -> int:
+    """Returns how many words a sentence has: what has a letter or a digit."""
+    return sum(bool(re.search(r"\w", word)) for word in sentence.split())
+
+
+def found_in(text: str) -> Iterator[tuple[str, str]]:
+    """Yields each sentence of a page that is too long or has a phrase, and what is wrong with it."""
+    for sentence in sentences(text):
+        if words(sentence) > MOST:
+            yield sentence, f"{words(sentence)} words"
+        for phrase, instead in PHRASES.items():
+            for found in re.finditer(phrase, sentence):
+                yield sentence, f"'{found[0].strip(', ')}': {instead}"
+
+
+def allowed() -> list[tuple[str, str]]:
+    """Returns the pages and parts of sentences at which a phrase is right."""
+    lines = (HERE / "allowed.txt").read_text(encoding="utf-8").splitlines()
+    return [(page, part) for page, _, part in (line.partition(" ") for line in lines if line and not line.startswith("#"))]
+
+
+def comments(path: str) -> Iterator[str]:
+    """Yields the comments and docstrings of a source, and the texts of Python that have a space, as messages do."""
+    text = (TOP / path).read_text(encoding="utf-8")
+    if path.endswith(".py"):
+        for it in tokenize.generate_tokens(io.StringIO(text).readline):
+            if it.type == tokenize.COMMENT or it.type == tokenize.STRING and " " in it.string:
+                yield it.string
+    else:
+        yield from re.findall(r"(?:///?!?|--|^#) (.*)", text, re.MULTILINE)
+
+
+def counted(files: list[str]) -> Counter[str]:
+    """Returns how many phrases the sources of each folder have: of each crate, and of each folder of Python."""
+    counts: Counter[str] = Counter()
+    for path in files:
+        folder = re.match(r"crates/\w+|(?:classroom|examples|model|bench|tools|tests)\b", path)
+        if folder and re.search(r"\.(rt|antt|py)$", path) and not path.startswith("tests/documents/"):
+            counts[folder[0]] += sum(len(re.findall(phrase, line)) for line in comments(path) for phrase in PHRASES)
+    return counts
+
+
+def limits() -> dict[str, int]:
+    """Returns how many a page or folder may have; one that isn't named has none."""
+    lines = (HERE / "counts.txt").read_text(encoding="utf-8").splitlines()
+    return {where: int(number) for number, where in (line.split() for line in lines)}
+
+
+def is_read(page: str) -> bool:
+    """Returns whether a file is a page whose sentences count: the old versions' changes stay as they are."""
+    return page.endswith(".md") and page != "CHANGELOG.md"
+
+
+def wrong_in(page: str) -> list[str]:
+    """Returns what is wrong in a page, but for the places at which it is allowed."""
+    parts = [part for where, part in allowed() if where == page]
+    found = found_in((TOP / page).read_text(encoding="utf-8"))
+    return [f"{what}: {sentence}" for sentence, what in found if not any(part in sentence for part in parts)]
+
+
+def idle(pages: list[str]) -> list[str]:
+    """Returns the places of `allowed.txt` at which nothing is to be allowed."""
+    found = {page: [sentence for sentence, _ in found_in((TOP / page).read_text(encoding="utf-8"))] for page in pages}
+    return [f"{page} {part}" for page, part in allowed() if not any(part in sentence for sentence in found.get(page, []))]
+
+
+def counts(files: list[str]) -> dict[str, int]:
+    """Returns how many each page and each folder has."""
+    pages = {page: len(wrong_in(page)) for page in files if is_read(page)}
+    return {where: count for where, count in sorted({**pages, **counted(files)}.items()) if count}
+
+
+def faults(files: list[str]) -> list[str]:
+    """Returns what is wrong in pages and sources."""
+    most = limits()
+    wrong = [f"nothing to allow: tests/documents/allowed.txt: {place}" for place in idle([page for page in files if is_read(page)])]
+    for where, count in counts(files).items():
+        if count > most.get(where, 0):
+            wrong.append(f"harder to read: {where} has {count}, and {most.get(where, 0)} in tests/documents/counts.txt")
+            wrong += [f"hard to read: {where}: {each}" for each in (wrong_in(where) if is_read(where) else [])]
+    return wrong
+
+
+def main() -> None:
+    """Prints what is wrong, what some pages have, or the counts."""
+    from tests.documents.__main__ import tracked
+
+    if sys.argv[1:] == ["--counts"]:
+        print("\n".join(f"{count} {where}" for where, count in counts(tracked()).items()))
+        return
+    lines = [f"{page}: {each}" for page in sys.argv[1:] for each in wrong_in(page)] if sys.argv[1:] else faults(tracked())
+    print("\n".join(lines))
+    sys.exit(1 if lines else 0)
+
+
+if __name__ == "__main__":
+    main()

@@ -1,0 +1,54 @@
+"""What is hard to read is found, and what isn't passes."""
+from __future__ import annotations
+
+import unittest
+
+from tests.documents.style import found_in, sentences
+
+LONG = "This sentence has " + " ".join(["word"] * 28) + "."
+HARD = (
+    "Where no node is privileged, the run has ended.",
+    "The list ends where nothing is left.",
+    "`check` tells what is wrong.",
+    "Nobody was told.",
+    "It is written behind the other.",
+    "A node that isn't there is asked for in vain.",
+    "It ends for want of memory.",
+    "Lets what is held go. The crate hands up a law.",
+    "Who comes and goes.",
+    LONG,
+    f"- An item.\n- {LONG}",
+    f"| Head | Other |\n|---|---|\n| short | {LONG} |",
+)
+PLAIN = (
+    "If no node is privileged, the run has ended.",
+    "Where does it go? Who owns the node?",
+    "# Where a run ends",
+    "| Notion | Where |\n|---|---|\n| a | b |",
+    "Nobody can tell these two apart.",
+    "It shows where the journal is kept.",
+    "    Where no node is code, nobody tells.\n",
+    "```text\nWhere no node is code, nobody tells.\n```",
+    "A line has " + "`some long code that counts as one word` " * 20 + "in it.",
+    f"{LONG[:-1].rsplit(' ', 2)[0]}.",
+)
+
+
+class Style(unittest.TestCase):
+    """Sentences, each by itself."""
+
+    def test_what_is_hard_to_read(self) -> None:
+        for text in HARD:
+            self.assertTrue([*found_in(text)], text)
+
+    def test_what_is_plain(self) -> None:
+        for text in PLAIN:
+            self.assertEqual([*found_in(text)], [], text)
+
+    def test_sentences(self) -> None:
+        self.assertEqual([*sentences("One is here. Two\nis [there](a.md): `code` is three! *Four.*")],
+                         ["One is here.", "Two is there:", "`c` is three!", "*Four.*"])
+
+
+if __name__ == "__main__":
+    unittest.main()
