@@ -1,0 +1,95 @@
+"""However the bytes of lines come in, at the port and at the desk, their replies are those of whole lines one by one."""
+import time
+from collections.abc import Callable
+from concurrent.futures import ThreadPoolExecutor
+from dataclasses import dataclass
+from pathlib import Path
+
+from tests.common.hosting import Caller, Host, lab_of
+from tests.common.lines import BID, BYE, CLOSE, REPORT, WRONG, fault_at, hello, line_of, look, seduction
+from tests.common.preload import fail
+
+SOON = 60.0  # seconds in which a host ends on a slow machine
+BETWEEN = 0.002  # seconds between two parts, so that the host reads most of them by themselves
+SIDE_BY_SIDE = 4
+MALFORMED_LINE = b'{"do":"look","node":}\n'
+STUDENTS = [look("ana"), WRONG, hello("ana"), look("ana"), hello("ben"), seduction(0), MALFORMED_LINE, seduction(0), REPORT, BYE]
+TEACHERS = [REPORT, hello("tess"), REPORT, fault_at(2), CLOSE, line_of(do="see", node=1), line_of(a=1, b=3, do="link"), BYE]
+
+Split = Callable[[list[bytes]], list[bytes]]
+
+
+@dataclass(frozen=True)
+class Way:
+    """A name, and how the bytes of lines are sent: the parts, in order."""
+
+    name: str
+    split: Split
+
+
+def in_groups(size: int) -> Split:
+    """So many lines in a part."""
+    return lambda lines: [b"".join(lines[at:at + size]) for at in range(0, len(lines), size)]
+
+
+def in_bytes(lines: list[bytes]) -> list[bytes]:
+    """A part for each byte."""
+    return [bytes([byte]) for byte in b"".join(lines)]
+
+
+def cut_near(line: int, off: int) -> Split:
+    """Two parts, cut so many bytes after the end of a line."""
+    def split(lines: list[bytes]) -> list[bytes]:
+        whole, end = b"".join(lines), len(b"".join(lines[:line])) + off
+        return [part for part in (whole[:end], whole[end:]) if part]
+    return split
+
+
+def ways() -> list[Way]:
+    """All ways in which lines are sent."""
+    longest = max(len(STUDENTS), len(TEACHERS))
+    groups = [Way(f"in parts of {size} lines", in_groups(size)) for size in (2, 3, longest)]
+    cuts = [Way(f"cut {off} bytes after line {line}", cut_near(line, off)) for line in range(1, longest) for off in (-1, 0, 1)]
+    return [Way("byte by byte", in_bytes), *groups, *cuts]
+
+
+def told(port: int, lines: list[bytes], parts: list[bytes] | None) -> list[bytes]:
+    """The replies on a connection, up to its end: to these parts, or to whole lines, each after the reply before it."""
+    caller = Caller(port)
+    replies: list[bytes] = []
+    if parts is None:
+        replies += [caller.ask(line) for line in lines]
+    for at, part in enumerate(parts or []):
+        time.sleep(BETWEEN if at else 0)
+        caller.send(part)
+    while reply := caller.line():
+        replies.append(reply)
+    caller.close()
+    return replies
+
+
+def replies_by(lab: Path, split: Split | None) -> tuple[list[bytes], list[bytes], bytes]:
+    """What a student and then the teacher are told, and what the host writes at its end."""
+    with Host(lab, 0, 0) as host:
+        student = told(host.port, STUDENTS, split(STUDENTS) if split else None)
+        teacher = told(host.desk, TEACHERS, split(TEACHERS) if split else None)
+        ended = host.end(SOON)
+        if ended.status != 0:
+            fail(f"outsiders: a host ends with {ended}")
+        return student, teacher, ended.out
+
+
+def lines_in_segments(room: Path) -> None:
+    """Lines in parts of one byte, of several lines, and cut at and beside the end of each line."""
+    lab = lab_of(room, 5)
+    wanted = replies_by(lab, None)
+    for lines, replies in ((STUDENTS, wanted[0]), (TEACHERS, wanted[1])):
+        if len(replies) != len(lines) or replies[-1] != BID:
+            fail(f"outsiders: {len(lines)} whole lines are told {replies}")
+    with ThreadPoolExecutor(SIDE_BY_SIDE) as pool:
+        for way, found in zip(ways(), pool.map(lambda way: replies_by(lab, way.split), ways())):
+            if found != wanted:
+                fail(f"outsiders: lines sent {way.name} are told {found}, not {wanted}")
+
+
+TESTS = [lines_in_segments]
