@@ -121,6 +121,10 @@ class Move:
     node: int
     rule: str
 
+    def __str__(self) -> str:
+        """Returns the move as a line for people."""
+        return f"node {self.node}: {self.rule} granted in configuration {self.at}, as event {self.place}"
+
 
 @dataclass(frozen=True)
 class Close:

@@ -62,7 +62,8 @@ TYPED = f"Typed there: {HELP}."
 EXAMPLES = {
     "new": "Example: class new maths.toml --students names.csv --family grid:4x3 --start hurt --stand-in",
     "check": "Example: class check maths.toml",
-    "run": f"Examples: class run maths.toml --until stable --page --stand-in 20s; class run --resume runs/2026-11-24T1015-maths. {TYPED}",
+    "run": "Examples: class run maths.toml --until stable --page --stand-in 20s; class run maths-1.toml maths-2.toml --rooms A,B; "
+           f"class run --resume runs/2026-11-24T1015-maths. {TYPED}",
     "key": "Example: class key runs/2026-11-24T1015-maths zoe-mueller",
     "attach": f"Example: class attach runs/2026-11-24T1015-maths. {TYPED}",
     "mark": "Example: class mark runs/*-maths --roster names.csv --total > marks.csv",
@@ -80,13 +81,15 @@ def add_mark(words: argparse.ArgumentParser) -> None:
     from classroom.core import lists
     from classroom.marks import mark
 
-    words.add_argument("runs", nargs="+", metavar="FOLDER.. or LAB JOURNAL..")
+    words.add_argument("runs", nargs="*", metavar="FOLDER.. or LAB JOURNAL..", help="folders of runs or of classes, or a lab and its journals")
     form = words.add_mutually_exclusive_group()
     form.add_argument("--csv", action="store_true")
     form.add_argument("--json", action="store_true")
     form.add_argument("--total", action="store_true", help="a row a person over all runs (CSV)")
     words.add_argument("--roster", metavar="FILE",
                        help="the class list: its own rows with the totals, to go back into the platform")
+    words.add_argument("--rule", metavar="FILE", help="lines NAME = EXPRESSION over the columns, as pass = applied_per_node >= 1: more columns")
+    words.add_argument("--columns", action="store_true", help="explain each column in a line")
     words.add_argument("--second", action="store_true", help="say whether the plain model (docs/TRUST.md) reads all of it alike")
     lists.add_words(words)
     words.set_defaults(work=mark.mark)

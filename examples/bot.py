@@ -20,9 +20,9 @@ def ask(me: Client, nodes: tuple[int, ...], patience: float) -> None:
                 if look.at > newest:
                     newest, since = look.at, time.monotonic()
                 if look.rule and not look.chosen:
-                    print(me.name, me.move(look), flush=True)
+                    print(f"{me.name}: {me.move(look)}", flush=True)
             except (Denied, Refused) as no:  # A step was closed since, or another program was quicker.
-                print(me.name, node, no, flush=True)
+                print(f"{me.name}: node {node}: {no}", flush=True)
                 if not goes_on(no):
                     raise
         time.sleep(0.1)

@@ -17,7 +17,7 @@ from collections.abc import Iterator
 from dataclasses import asdict, fields
 from pathlib import Path
 
-from classroom.bots import chart
+from classroom.bots import chart, parts
 from classroom.bots.measuring import SIZED, Row, Setting, drawn, runs
 from classroom.core import lab as labs
 from classroom.core import bounds, networks
@@ -57,6 +57,7 @@ def add_words(words: argparse.ArgumentParser) -> None:
     words.add_argument("--seed", type=int, default=1, help="the first run's; each further run has the next (1)")
     words.add_argument("--csv", default="experiment.csv", metavar="FILE", help="a row a run; one that is there already is gone on with")
     words.add_argument("--plot", metavar="FILE.svg", help="the chart")
+    parts.add_words(words, "runs", "tables")
     words.add_argument("--at-once", type=positive, help="how many processes (as many as processors)")
     words.set_defaults(work=experiment)
 
@@ -194,11 +195,40 @@ def new_file(path: Path) -> None:
         path.write_text(",".join(COLUMNS) + "\n", encoding="utf-8")
 
 
+def key_of(it: Setting, seed: int) -> Key:
+    """Returns what tells a run from others, before it is made."""
+    return it.family, it.nodes, it.daemon.spelled(), it.start, seed
+
+
+def settle(path: Path, rows: list[Row]) -> None:
+    """Writes the table in its order, which doesn't depend on what was measured first, or by which part."""
+    new = path.with_name(f"{path.name}.new")
+    new.write_text(",".join(COLUMNS) + "\n" + "".join(map(line_of, sorted(rows, key=key))), encoding="utf-8")
+    new.replace(path)
+
+
+def merge(words: argparse.Namespace, asked: set[Key]) -> int:
+    """Joins the tables of all parts, and draws all of it. Returns the exit status."""
+    rows: dict[Key, Row] = {key(row): row for row in read_rows(Path(words.csv))}
+    for file in map(Path, words.merge):
+        if not file.exists():
+            raise Fault(f"{file}: no such file", FAILED)
+        for row in read_rows(file):
+            if rows.setdefault(key(row), row) != row:
+                raise Fault(f"{file}: another table has this run with other numbers: {line_of(row).strip()}", FAILED)
+    with named(words.csv, OTHER):
+        settle(Path(words.csv), list(rows.values()))
+    broken = [row for row in rows.values() if row.breaks()]
+    own = sorted((row for row in rows.values() if key(row) in asked), key=key)
+    told(own, len(asked), words, [Path(f"{words.csv}: {line_of(row).strip()}") for row in broken])
+    return WARNED if broken or len(own) < len(asked) else 0
+
+
 def left(every: list[Setting], seeds: range, done: set[Key]) -> list[tuple[Setting, list[int]]]:
     """The runs that aren't in the table yet, some in each task; large networks first."""
     tasks = []
     for it in sorted(every, key=lambda setting: -setting.nodes):
-        more = [seed for seed in seeds if (it.family, it.nodes, it.daemon.spelled(), it.start, seed) not in done]
+        more = [seed for seed in seeds if key_of(it, seed) not in done]
         tasks += [(it, more[first:first + CHUNK]) for first in range(0, len(more), CHUNK)]
     return tasks
 
@@ -229,14 +259,17 @@ def experiment(words: argparse.Namespace) -> int:
     answerer()
     every, path = settings(words), Path(words.csv)
     seeds = range(words.seed, words.seed + words.runs)
+    order = [key_of(it, seed) for it in every for seed in seeds]
+    if words.merge:
+        return merge(words, set(order))
+    asked = set(parts.of(order, words.part))
     rows = read_rows(path)
-    asked = {(it.family, it.nodes, it.daemon.spelled(), it.start, seed) for it in every for seed in seeds}
     done = {key(row) for row in rows}
     with named(words.csv, OTHER):
         new_file(path)
     if asked & done:
         print(f"{len(asked & done)} runs are in {path} already")
-    tasks = left(every, seeds, done)
+    tasks = left(every, seeds, done | (set(order) - asked))
     progress = Progress(sum(len(task[1]) for task in tasks))
     broken: list[Path] = []
     interrupted = False
@@ -251,6 +284,8 @@ def experiment(words: argparse.Namespace) -> int:
                 progress.one()
     except KeyboardInterrupt:
         interrupted = True
+    with named(words.csv, OTHER):
+        settle(path, rows)
     told(sorted((row for row in rows if key(row) in asked), key=key), len(asked), words, broken)
     if interrupted:
         print("interrupted; the same words go on with it")

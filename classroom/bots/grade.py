@@ -13,7 +13,7 @@ from collections.abc import Iterator
 from contextlib import contextmanager
 from pathlib import Path
 
-from classroom.bots import graded, seen, suites
+from classroom.bots import graded, parts, seen, suites
 from classroom.bots.bots import Bot, no_worlds
 from classroom.bots.suites import Case
 from classroom.bots.trial import Limits, Result, Seen, tried
@@ -50,6 +50,7 @@ def add_words(words: argparse.ArgumentParser) -> None:
     words.add_argument("--into", default="grades", help="where the cases' records and pages are kept (grades)")
     for form, what in (("json", "a list of cases"), ("junit", "JUnit's form"), ("gradescope", "Gradescope's form")):
         words.add_argument(f"--{form}", metavar="FILE", help=what)
+    parts.add_words(words, "cases", "files of --json")
     words.set_defaults(work=grade)
 
 
@@ -205,6 +206,9 @@ def grade(words: argparse.Namespace) -> int:
         cases = suites.of_suite(words.suite, words.daemon, words.seeds)
     for fault in faults + [bot.fault for bot in bots if bot.fault]:
         print(f"class: {fault}", flush=True)
+    if words.merge:
+        return parts.merged(words, [(bot.name, case.name()) for bot in bots for case in cases])
+    cases = parts.of(cases, words.part)
     runnable = [bot for bot in bots if not bot.fault]
     top = new_folder(Path(words.into), Path("grade")) if runnable else Path()
     reap_orphans()

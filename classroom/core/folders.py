@@ -14,13 +14,16 @@ from classroom.core.program import Fault
 MOST_SECONDS, LAST_PORT = 1e9, 65535
 Run = tuple[Path, Path]
 RECORD = "run.json"
-FILES = (RECORD, f"{RECORD}.new", "lab.toml", "journal", "journal.lab", "journal.torn", "server.txt", "run.txt", "audit.txt",
+CLASS = "class.json"  # in the folder of a class of several networks
+STATE = "state.json"  # in the folder of a run that belongs to a class
+FILES = (RECORD, f"{RECORD}.new", STATE, f"{STATE}.new", "lab.toml", "journal", "journal.lab", "journal.torn", "server.txt", "run.txt", "audit.txt",
          "marks.txt", "marks.json", "run.html")
 
 
 def new_folder(into: Path, lab: Path) -> Path:
-    """Makes a folder that wasn't there, which nobody else reads, named by the minute and the lab."""
-    stamp = f"{datetime.now():%Y-%m-%dT%H%M}-{lab.stem}"
+    """Makes a folder that wasn't there, which nobody else reads. It is named by the minute and the lab, within the folder of
+    a class by the lab alone."""
+    stamp = lab.stem if (into / CLASS).is_file() else f"{datetime.now():%Y-%m-%dT%H%M}-{lab.stem}"
     for number in range(1, 1000):
         folder = into / (stamp if number == 1 else f"{stamp}-{number}")
         try:
@@ -31,16 +34,6 @@ def new_folder(into: Path, lab: Path) -> Path:
         except OSError as error:
             raise Fault(f"{folder}: {error.strerror}; --into FOLDER names another folder", 4) from None
     raise Fault(f"{into}: no name is free for a folder", 4)
-
-
-def given(words: list[str]) -> list[Run]:
-    """Lab and journal of each run: folders of runs, or a lab and its journals."""
-    first = Path(words[0])
-    if first.is_dir():
-        return [of_folder(Path(word)) for word in words]
-    if len(words) == 1:
-        raise Fault(f"{first} is no folder of a run; of a lab its journals are named too")
-    return [(first, Path(word)) for word in words[1:]]
 
 
 def of_folder(folder: Path) -> Run:
@@ -54,11 +47,13 @@ def of_folder(folder: Path) -> Run:
 
 def title(lab: Path, journal: Path, name: str = "") -> str:
     """The lab's name and the day: of a run's folder what its own name has, else that of the journal's last change."""
-    found = re.fullmatch(r"(\d{4}-\d\d-\d\d)T\d{4}-(.+)", lab.resolve().parent.name)
+    own = lab.resolve().parent
+    in_class = (own.parent / CLASS).is_file()
+    found = re.fullmatch(r"(\d{4}-\d\d-\d\d)T\d{4}-(.+)", (own.parent if in_class else own).name)
     if found is None or lab.name != "lab.toml":
         return f"{name or lab.stem}, {datetime.fromtimestamp(journal.stat().st_mtime):%Y-%m-%d}"
     record = Record.read(lab.parent)
-    return f"{name or (Path(record.lab).stem if record else found[2])}, {found[1]}"
+    return f"{name or (Path(record.lab).stem if record else own.name if in_class else found[2])}, {found[1]}"
 
 
 @dataclass(frozen=True)
@@ -101,6 +96,8 @@ class Record:
     stand_in: float | None = None  # seconds after which the house plays
     looks: str | None = None  # The token of the page's address to look at.
     played: list[str] = field(default_factory=list)  # for whom the house plays at once
+    ends: str | None = None  # When the lesson ends, as a date and a time.
+    anonymous: bool = False  # Whether its pages show numbers in place of names.
     door: str | None = None  # The folder of the door that leads to the run.
 
     @staticmethod
@@ -115,12 +112,12 @@ class Record:
 
     def is_sound(self) -> bool:
         """Whether each value is of its kind: the folder may be another's."""
-        texts = [self.lab, self.close, self.run.start, self.server.start, *self.played, *filter(None, (self.until, self.looks, self.door))]
+        texts = [self.lab, self.close, self.run.start, self.server.start, *self.played, *filter(None, (self.until, self.looks, self.ends, self.door))]
         numbers = [self.port, self.desk, *(each for each in (self.page, self.play) if each is not None)]
         seconds = 1.0 if self.stand_in is None else self.stand_in
         return (
             all(isinstance(text, str) and b"\0" not in os.fsencode(text) for text in texts) and (self.looks or "").isascii()
-            and self.until in (None, "stable") and type(seconds) in (int, float) and 0 < seconds < MOST_SECONDS
+            and isinstance(self.anonymous, bool) and self.until in (None, "stable") and type(seconds) in (int, float) and 0 < seconds < MOST_SECONDS
             and all(type(number) is int and 0 <= number <= LAST_PORT for number in numbers)
             and all(type(each.number) is int for each in (self.run, self.server))
         )
@@ -147,7 +144,7 @@ class Record:
 def going(into: Path, lab: Path) -> tuple[Path, Record] | None:
     """Folder and record of a run of that lab which goes on, where there is one; else those of its last run, where it
     didn't end."""
-    files = sorted(into.glob(f"*/{RECORD}"), key=lambda file: file.parent.stat().st_mtime)
+    files = sorted([*into.glob(f"*/{RECORD}"), *into.glob(f"*/*/{RECORD}")], key=lambda file: file.parent.stat().st_mtime)
     records = [(file.parent, Record.read(file.parent)) for file in files]
     same = [(folder, record) for folder, record in records if record is not None and record.lab == str(lab.resolve())]
     live = [(folder, record) for folder, record in same if record.goes_on()]

@@ -11,7 +11,7 @@ from itertools import groupby
 from pathlib import Path
 
 from classroom.core import lab as labs
-from classroom.core import folders
+from classroom.core import classes, folders
 from classroom.core.journal import Event, events
 from classroom.core.present import Book
 from classroom.core.printable import guarded, printable
@@ -46,7 +46,7 @@ class Row:
 
 def add_words(words: argparse.ArgumentParser) -> None:
     """The words of `history`."""
-    words.add_argument("folder", metavar="FOLDER", help="a run's folder; the run may go on")
+    words.add_argument("folder", metavar="FOLDER", help="the folder of a run or of a class; it may go on")
     words.add_argument("name", metavar="NAME", help="a student's name in the lab, or the teacher's")
     form = words.add_mutually_exclusive_group()
     form.add_argument("--csv", action="store_true")
@@ -186,7 +186,8 @@ def hider_of(parts: list[Vouched], lab: labs.Lab) -> Hider:
 
 def history(words: argparse.Namespace) -> int:
     """Prints what was said, or writes it as a page, where the program vouches for it."""
-    run, name = Path(words.folder), words.name
+    name = words.name
+    run = classes.run_of(Path(words.folder), name)
     lab_file, journal = folders.of_folder(run)
     lab = labs.read(lab_file)
     if name not in lab.students and name != lab.teacher[0]:

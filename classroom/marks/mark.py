@@ -12,17 +12,21 @@ from pathlib import Path
 from typing import Any
 
 from classroom.core import lab as labs
-from classroom.core import folders, lists, record, tally
+from classroom.core import classes, folders, lists, record, tally
 from classroom.core.journal import RULES, events, split
 from classroom.core.printable import guarded, printable
 from classroom.core.program import Fault
 from classroom.core.statuses import LAB, WARNED
 from classroom.core.tally import DENIED, Asked
-from classroom.marks import second, totals
+from classroom.marks import columns, second, totals
+from classroom.marks.columns import CLAUSES, MORE
 from classroom.marks.comeback import recoveries
+from classroom.marks.rule import Rule, Value
+from classroom.marks.rule import read as read_rule
 from classroom.marks.vouched import Vouched, vouched
 from classroom.pages import replay
 
+NETWORK = 9 + len(RULES) + len(DENIED)  # the column that the table for people leaves out
 UNTOLD = (
     "Not in a journal: when a line was written, and who used a name. What was denied is counted from the record.",
     "A granted move is applied by the next close; a release takes it back, and a fault, link or cut drops it.",
@@ -49,6 +53,7 @@ NONE = Recorded("no record: what was asked for and denied isn't known")
 class Run:
     """A journal that the audit passed, with what it tells, and the verdicts on its records."""
 
+    lab_file: Path
     journal: Path
     lab: labs.Lab
     pairs: list[list[int]]
@@ -65,20 +70,40 @@ class Run:
             together.add(it.asked)
         return together
 
+    @property
+    def network(self) -> str:
+        """Returns the name of the network: of a run's folder that of the lab which it was begun with, else the lab's file."""
+        if self.journal.name != "journal" or not (self.journal.parent / "lab.toml").is_file():
+            return self.lab_file.stem
+        found = folders.Record.read(self.journal.parent)
+        return Path(found.lab).stem if found else self.lab_file.stem
+
+    def is_whole(self, name: str) -> bool:
+        """Whether the record has all lines of a student."""
+        asked = self.asked
+        return asked is not None and name in (asked.all_of or ())
+
+    def values(self, name: str) -> dict[str, Value]:
+        """Returns the values of a student's columns, as rules have them."""
+        return columns.row(self.tally.students[name], self.lab, name, self.network, self.denied(name), self.is_whole(name))
+
     def denied(self, name: str) -> list[int | None]:
         """How many lines of a student each clause denied, and how many were no request, where that is known."""
         asked = self.asked
         return [None if asked is None else asked.denied.get(name, Counter())[clause] for clause in DENIED]
 
-    def table(self) -> dict[str, Any]:
-        """The run as `--json` has it."""
+    def table(self, rule: Rule | None = None) -> dict[str, Any]:
+        """Returns the run as `--json` has it, with what a rule gives for each student."""
         asked = self.asked
         students = {
             name: {
                 "granted": {rule: marks.granted[rule] for rule in RULES},
                 "applied": {rule: marks.applied[rule] for rule in RULES},
                 "steps": marks.steps, "first": marks.first, "last": marks.last, "shared": marks.shared,
-                **dict(zip(DENIED, self.denied(name))), "whole": asked is not None and name in (asked.all_of or ()),
+                **dict(zip(DENIED, self.denied(name))), "whole": self.is_whole(name),
+                **{named: denied for named, denied in zip(CLAUSES.values(), self.denied(name))},
+                "nodes": len(self.lab.nodes_of(name)), "network": self.network,
+                **({"rule": dict(zip(rule.names, rule.values(self.values(name))))} if rule else {}),
             }
             for name, marks in self.tally.students.items()
         }
@@ -111,7 +136,7 @@ def marked(lab_file: Path, journal: Path) -> Run:
     report = replay.report(lab, found)
     if report["stable"] != told.stable:
         raise Fault(f"{journal}: tally and report disagree", 4)
-    return Run(journal, lab, report["pairs"], told, recorded(journal))
+    return Run(lab_file, journal, lab, report["pairs"], told, recorded(journal))
 
 
 def recorded(journal: Path) -> list[Recorded]:
@@ -140,14 +165,16 @@ def refusal(journal: Path, error: str) -> str:
     return f"{journal}: {error}: {lines[int(line[1]) - 1].decode(errors='replace')}"
 
 
-def rows(runs: list[Run]) -> list[list[str]]:
-    """A line for each student and run, below a line of heads."""
-    table = [["journal", "student", "granted", "applied", *RULES, "steps", "first", "last", "shared", *DENIED]]
+def rows(runs: list[Run], rule: Rule | None = None) -> list[list[str]]:
+    """Returns a row for each student and run, below a row of heads. What a rule gives is behind the marks."""
+    names = rule.names if rule else []
+    table = [["journal", "student", "granted", "applied", *RULES, "steps", "first", "last", "shared", *DENIED, *MORE, *names]]
     for run in runs:
         for name, marks in run.tally.students.items():
             numbers = [marks.granted.total(), marks.applied.total(), *(marks.applied[rule] for rule in RULES), marks.steps,
                        marks.first, marks.last, marks.shared, *run.denied(name)]
-            table.append([guarded(str(run.journal)), name, *("-" if number is None else str(number) for number in numbers)])
+            more = [str(len(run.lab.nodes_of(name))), guarded(run.network), *(rule.cells(run.values(name)) if rule else [])]
+            table.append([guarded(str(run.journal)), name, *("-" if number is None else str(number) for number in numbers), *more])
     return table
 
 
@@ -178,44 +205,52 @@ def shared(run: Run) -> list[str]:
     return lines
 
 
-def text(runs: list[Run]) -> str:
-    """The table for people; the rules' columns are of applied moves."""
+def text(runs: list[Run], rule: Rule | None = None) -> str:
+    """Returns the table for people; the columns of rules count applied moves. The network stands above it."""
     lines = []
     for run in runs:
-        table = [row[1:] for row in rows([run])]
+        table = [[*row[1:NETWORK], *row[NETWORK + 1:]] for row in rows([run], rule)]
+        table[0] = [CLAUSES.get(head, head).replace("_", " ") for head in table[0]]
         widths = [max(len(row[column]) for row in table) for column in range(len(table[0]))]
         lines += [sentence(run), *(it.line for it in run.records), *("  " + "  ".join(map(str.rjust, row, widths)) for row in table)]
         lines += [*shared(run), *recoveries(run.lab, events(run.journal.read_text(encoding="ascii"))), ""]
     return "\n".join([*lines, *UNTOLD]) + "\n"
 
 
-def as_json(runs: list[Run]) -> str:
-    """All runs as one JSON document."""
-    return json.dumps({"runs": [run.table() for run in runs]}, indent=1) + "\n"
+def as_json(runs: list[Run], rule: Rule | None = None) -> str:
+    """Returns all runs as one JSON document."""
+    return json.dumps({"runs": [run.table(rule) for run in runs]}, indent=1) + "\n"
 
 
 def mark(words: argparse.Namespace) -> int:
     """Prints the marks of all journals, or refuses the first that the audit refuses."""
+    if words.columns:
+        print(columns.listing(), end="")
+        return 0
+    if not words.runs:
+        raise Fault("mark: the folders of runs or of classes, or a lab and its journals")
+    is_total = words.total or words.roster is not None
+    rule = read_rule(Path(words.rule), columns.for_rules(is_total)) if words.rule else None
     roster = lists.read(Path(words.roster), words) if words.roster else None
-    given = folders.given(words.runs)
+    given = classes.given(words.runs)
     differ = words.second and second.compare(given)
     runs = [marked(lab, journal) for lab, journal in given]
-    students = [(run.lab, run.tally.students, run.asked) for run in runs]
+    students = [totals.Marked(run.lab, run.network, run.tally.students, run.asked) for run in runs]
     refused = [f"{run.journal}: {it.line}" for run in runs for it in run.records if it.is_refused]
     for line in refused:
         print(printable(f"class: {line}"), file=sys.stderr)
     if roster is not None:
-        rows_of, left = totals.by_roster(students, roster)
+        rows_of, left = totals.by_roster(students, roster, rule)
         totals.write(rows_of, roster.delimiter)
         for name in left:
             print(printable(f"class: {words.roster} has no {name}"), file=sys.stderr)
         return WARNED if left or refused or differ else 0
     if words.total:
-        totals.write(totals.by_labs(students))
+        totals.write(totals.by_labs(students, rule))
     elif words.json:
-        print(as_json(runs), end="")
+        print(as_json(runs, rule), end="")
     elif words.csv:
-        csv.writer(sys.stdout, lineterminator="\n").writerows(rows(runs))
+        csv.writer(sys.stdout, lineterminator="\n").writerows(rows(runs, rule))
     else:
-        print(text(runs), end="")
+        print(text(runs, rule), end="")
     return WARNED if refused or differ else 0

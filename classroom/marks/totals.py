@@ -11,8 +11,10 @@ from classroom.core.lab import Lab
 from classroom.core.lists import People, Person
 from classroom.core.printable import guarded, printable
 from classroom.core.tally import DENIED, Asked, Marks
+from classroom.marks.columns import MORE, with_more
+from classroom.marks.rule import Rule, Value
 
-HEADS = ["granted", "applied", *RULES, "steps", "shared", "runs", *DENIED, "recorded"]
+HEADS = ["granted", "applied", *RULES, "steps", "shared", "runs", *DENIED, "recorded", *MORE]
 
 
 @dataclass
@@ -26,9 +28,13 @@ class Total:
     runs: int = 0
     denied: Counter[str] = field(default_factory=Counter)
     recorded: int = 0  # of how many runs a whole record tells what was denied
+    nodes: int = 0
+    networks: dict[str, None] = field(default_factory=dict)  # whose labs have the person
 
-    def add(self, marks: Marks, denied: Counter[str], is_whole: bool) -> None:
+    def add(self, marks: Marks, denied: Counter[str], is_whole: bool, nodes: int, network: str) -> None:
         """Adds the marks of a run, and what its record tells."""
+        self.nodes += nodes
+        self.networks[network] = None
         self.granted += marks.granted.total()
         self.applied += marks.applied
         self.steps += marks.steps
@@ -42,45 +48,75 @@ class Total:
         rules = [self.applied[rule] for rule in RULES]
         numbers = [self.granted, self.applied.total(), *rules, self.steps, self.shared, self.runs,
                    *(self.denied[clause] for clause in DENIED), self.recorded]
-        return list(map(str, numbers))
+        return [*map(str, numbers), str(self.nodes), guarded(self.network)]
+
+    @property
+    def network(self) -> str:
+        """Returns the networks whose labs have the person."""
+        return "; ".join(self.networks)
+
+    def values(self, name: str) -> dict[str, Value]:
+        """Returns the values of the columns, as rules have them. Denials are known if each run's record is whole."""
+        is_whole = self.recorded == self.runs
+        counts = {"granted": self.granted, "applied": self.applied.total(), **{rule: self.applied[rule] for rule in RULES},
+                  "steps": self.steps, "shared": self.shared, "nodes": self.nodes, "runs": self.runs, "recorded": self.recorded}
+        return with_more({"student": name, "network": self.network, "whole": is_whole}, counts,
+                         {each: self.denied[each] if is_whole else None for each in DENIED})
 
 
-Runs = list[tuple[Lab, dict[str, Marks], Asked | None]]
+@dataclass(frozen=True)
+class Marked:
+    """What a run tells: its lab, its network, the marks of each student, and what its record says was asked."""
+
+    lab: Lab
+    network: str
+    students: dict[str, Marks]
+    asked: Asked | None
+
+
+Runs = list[Marked]
 
 
 def summed(runs: Runs) -> dict[str, tuple[Person, Total]]:
     """The totals by whom the labs say who it is: by the identifier, or where there is none by the name in the lab."""
     found: dict[str, tuple[Person, Total]] = {}
-    for lab, students, asked in runs:
+    for run in runs:
+        lab, asked = run.lab, run.asked
         is_whole = asked is not None and asked.whole
         persons = lab.without_house().students
-        for name, marks in students.items():
+        for name, marks in run.students.items():
             if name not in persons:
                 continue
             person = lab.people.get(name, Person(name))
             found.setdefault(f"id {printable(person.id)}" if person.id else f"name {name}", (person, Total()))[1].add(
-                marks, asked.denied.get(name, Counter()) if asked else Counter(), is_whole)
+                marks, asked.denied.get(name, Counter()) if asked else Counter(), is_whole, len(lab.nodes_of(name)), run.network)
     return found
 
 
-def by_labs(runs: Runs) -> list[list[str]]:
-    """A row a person of the labs, below a line of heads."""
-    return [["student", "id", *HEADS],
-            *([guarded(person.written), guarded(person.id), *total.row()] for person, total in summed(runs).values())]
+def ruled(rule: Rule | None, total: Total, name: str) -> list[str]:
+    """Returns what a rule gives for a person."""
+    return rule.cells(total.values(name)) if rule else []
 
 
-def by_roster(runs: Runs, roster: People) -> tuple[list[list[str]], list[str]]:
-    """The list's own rows with the numbers behind them, and the written names that it doesn't have."""
+def by_labs(runs: Runs, rule: Rule | None = None) -> list[list[str]]:
+    """Returns a row for each person of the labs, below a row of heads."""
+    return [["student", "id", *HEADS, *(rule.names if rule else [])],
+            *([guarded(person.written), guarded(person.id), *total.row(), *ruled(rule, total, person.written)]
+              for person, total in summed(runs).values())]
+
+
+def by_roster(runs: Runs, roster: People, rule: Rule | None = None) -> tuple[list[list[str]], list[str]]:
+    """Returns the list's own rows with the numbers behind them, and the written names that it doesn't have."""
     left = summed(runs)
-    heads = roster.heads or ["name"]
-    rows = [[*heads, *HEADS]]
+    heads, names = roster.heads or ["name"], rule.names if rule else []
+    rows = [[*heads, *HEADS, *names]]
     for cells, person in roster.rows:
         if person is None:
-            rows.append([*cells, *[""] * len(HEADS)])
+            rows.append([*cells, *[""] * (len(HEADS) + len(names))])
             continue
         key = next((key for key, (other, _) in left.items() if same(person, other)), None)
         total = left.pop(key)[1] if key is not None else Total()
-        rows.append([*(cells or [guarded(person.written)]), *total.row()])
+        rows.append([*(cells or [guarded(person.written)]), *total.row(), *ruled(rule, total, person.written)])
     return rows, [person.written for person, _ in left.values()]
 
 

@@ -15,7 +15,7 @@ from classroom.core.program import LISTENING, Answer, Fault, host_call
 from classroom.core.record import CUT, ENDED, begun, json_object, kept, seats
 from classroom.core.statuses import LAB
 
-UNENDED = "the server hasn't ended, or not as it should, so that its last entries may be lacking"
+UNENDED = "its server is running or was killed, so its last entries may be missing, through no fault of a student"
 
 
 @dataclass(frozen=True)

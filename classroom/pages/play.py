@@ -6,7 +6,7 @@ import re
 from itertools import chain, takewhile
 from pathlib import Path
 
-from classroom.core import folders
+from classroom.core import classes, folders
 from classroom.core.program import Fault
 from classroom.pages.drawing import Drawing, standalone
 from classroom.pages.frames import Frame, frames_of
@@ -47,7 +47,7 @@ def picture(lab_file: Path, journal: Path, asked: list[int]) -> str:
 
 def play(words: argparse.Namespace) -> int:
     """Writes the file and says where it lies. Status 3 where the audit says no."""
-    runs = folders.given(words.run)
+    runs = classes.given(words.run)
     if len(runs) != 1:
         raise Fault("play: the folder of a run, or a lab and a journal")
     lab_file, journal = runs[0]

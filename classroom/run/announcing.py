@@ -1,6 +1,7 @@
 """What a run tells as it goes on: each event, how the class comes back, whom it waits for, and why nothing more is granted."""
 from __future__ import annotations
 
+import itertools
 import time
 from collections.abc import Callable
 from pathlib import Path
@@ -11,9 +12,11 @@ from classroom.core import lab as labs
 from classroom.core.journal import Event
 from classroom.core.program import CLASS, Fault
 from classroom.marks.comeback import Comeback, Recount
+from classroom.run import wording
 from classroom.run.following import Follower, News
 
 MOST_TOLD = 0.9  # of the limit of events, from which on what is left is told
+MOST_WAITING = 8  # nodes that are named while the class waits for more
 LOOKS, PAUSE = 10, 0.1  # how often it is looked what the server says of the journal, and seconds between
 
 
@@ -37,16 +40,17 @@ class Announcer:
         self.shown = lab.without_house()
         self.folder = folder
         self.go_on = f"{CLASS} run --resume {folder}"
-        self.told_waiting = ""
+        self.told_waiting: list[str] = []
         self.over = ""
         self.lost_journal: Callable[[], str] = str  # What became of the journal's file, as the server says.
         self.comeback = Comeback(lab)
+        self.edits: list[Event] = []  # that weren't printed yet
 
     def gone_on(self) -> None:
         """Counts how the class came back within the events that have passed, and tells from where it goes on."""
         self.recount()
         self.known.ask_report()
-        self.tell(f"gone on from configuration {self.known.report.at}, {self.events_used()}")
+        self.tell(f"the class goes on at configuration {self.known.report.at}, {self.events_used()}")
         if self.known.count >= self.lab.events:
             self.end_by("full")
 
@@ -64,21 +68,38 @@ class Announcer:
             self.comeback.miss()
 
     def event(self, news: News) -> None:
-        """Tells an event unless it is a grant; where by it the class came back, also how it came."""
+        """Prints an event unless it is a grant; a fault, link or cut is printed with those after it. If the class came back by a
+        close, prints how it came back."""
         event = news.event
+        if event.is_edit:
+            self.comeback.edit(event)
+            self.edits.append(event)
+            return
+        self.tell_edits()
         if event.kind == "close":
-            self.step(event.at + 1, ", ".join(f"{node} ({name}) {rule}" for node, name, rule in news.moved))
+            self.step(event.at + 1, wording.moves(news.moved))
             self.come_back(event, [node for node, _, _ in news.moved], news.before)
         elif event.kind != "grant":
-            self.step(event.at + event.makes_configuration, " ".join(event.words))
-            if event.is_edit:
-                self.comeback.edit(event)
+            self.step(event.at, wording.edit(event))
+
+    def tell_edits(self) -> None:
+        """Prints the faults, links and cuts that weren't printed yet: those of one kind that follow each other are one line."""
+        edits, self.edits = self.edits, []
+        for _, same in itertools.groupby(edits, key=lambda event: event.kind):
+            events = list(same)
+            at = events[-1].at + 1
+            if len(events) == 1:
+                self.step(at, wording.edit(events[0]))
+            else:
+                self.step(at, wording.edits(events))
 
     def limit(self) -> None:
         """Where the lab has few events left, tells that; after the last one ends the run."""
         if self.known.count == int(MOST_TOLD * self.lab.events) > 0:
+            self.tell_edits()
             self.tell(f"{self.events_used()}: nothing more is granted after the last")
         if self.known.count >= self.lab.events:
+            self.tell_edits()
             self.end_by("full")
 
     def events_used(self) -> str:
@@ -106,21 +127,21 @@ class Announcer:
         if told:
             self.tell(told)
 
-    def waiting(self) -> str:
-        """Whose nodes are privileged and have no chosen move."""
-        return ", ".join(f"{node} ({' and '.join(self.shown.owners(node))}): {rule}" for node, rule in self.known.waiting())
+    def waiting(self) -> list[str]:
+        """Returns the nodes that are privileged and have no chosen move, each with its owners and its rule."""
+        return [f"{node} ({' and '.join(self.shown.owners(node))}): {rule}" for node, rule in self.known.waiting()]
 
     def tell_waiting(self) -> None:
-        """Tells whom the class waits for, where that has changed since it was looked at last."""
+        """Prints whom the class waits for if that has changed since it was looked at last; of many, the first."""
         now = self.waiting()
         if now and now != self.told_waiting:
-            self.tell(f"waiting for {now}")
+            self.tell(f"waiting for {wording.some(now, MOST_WAITING, 'node')}")
         self.told_waiting = now
 
     def wait(self) -> None:
-        """Tells whom the class waits for, or that it waits for nobody."""
+        """Prints whom the class waits for, all of them, or that it waits for nobody."""
         self.told_waiting = self.waiting()
-        self.tell(f"waiting for {self.told_waiting or 'nobody'}")
+        self.tell(f"waiting for {', '.join(self.told_waiting) or 'nobody'}")
 
     def end_by(self, word: str) -> None:
         """Nothing is granted any longer: says so at once, with what to do, and ends the run."""

@@ -8,8 +8,11 @@ import time
 from pathlib import Path
 
 from classroom.core import lab as labs
+from classroom.core.classes import is_class
 from classroom.core.folders import Record, of_folder
 from classroom.core.program import CLASS, Fault
+from classroom.run import class_again
+from classroom.run.clock import end_of
 from classroom.run.closing import kept
 from classroom.run.holding import Running, to_the_end
 from classroom.run.run import add_desk_words, may_stand_in
@@ -21,7 +24,7 @@ PATIENCE = 60.0  # seconds in which a `run` without its terminal lets go of the 
 
 def add_words(words: argparse.ArgumentParser) -> None:
     """The words of `attach`."""
-    words.add_argument("folder", metavar="FOLDER", help="the run's folder, which knows the ports")
+    words.add_argument("folder", metavar="FOLDER", help="the folder of the run or of the class, which knows the ports")
     add_desk_words(words)
     words.set_defaults(work=attach)
 
@@ -44,6 +47,8 @@ def free(folder: Path, record: Record) -> None:
 def attach(words: argparse.Namespace) -> int:
     """Takes the desk of a folder's run."""
     folder = Path(words.folder)
+    if is_class(folder):
+        return class_again.held_again(words, folder)
     lab_file, _ = of_folder(folder)
     record = Record.read(folder)
     if record is None or not record.server.lives():
@@ -54,6 +59,7 @@ def attach(words: argparse.Namespace) -> int:
     run = Running(folder, Path(record.lab), lab, words.close or kept(folder, record), words.until or record.until,
                   words.page or record.page, words.typed, Teller(folder), words.play or record.play,
                   goes_on=True, stand_in=words.stand_in or record.stand_in, looks=record.looks, played=record.played,
+                  ends=end_of(words.ends, record.ends), anonymous=words.anonymous or record.anonymous,
                   door=record.door)
     it = Server(record.server, record.port, record.desk, True, folder / "server.txt")
     run.tell(f"port {it.port}, desk {it.desk}; folder {folder}")

@@ -8,11 +8,13 @@ import resource
 import tempfile
 import time
 from collections.abc import Callable
+from datetime import datetime
 from pathlib import Path
 from typing import IO
 
 from classroom.client import Closed
 from classroom.core.program import CLASS
+from classroom.run.clock import Clock
 from classroom.run.closing import Closing
 from classroom.run.desk import Desk
 from classroom.run.server import Server
@@ -143,12 +145,26 @@ def turn(desk: Desk, room: Room, until_stable: bool) -> str:
     people = [*(desk.connected.news() if desk.connected else []), *(desk.heard.news(desk.known.last_step) if desk.heard else [])]
     for line in [*people, *room.news()]:
         desk.tell(line)
+    if desk.keep_state:
+        desk.keep_state()
+    if desk.clock and is_over(desk, desk.clock):
+        return "clock"
     if desk.heard and desk.heard.over:
         desk.read()
         desk.announcer.end_by(desk.heard.over)
     if until_stable and desk.known.report.stable and not desk.known.is_old and not desk.known.book.chosen:
         return "stable"
     return desk.announcer.over
+
+
+def is_over(desk: Desk, clock: Clock) -> bool:
+    """Whether the lesson is over. Prints the warnings before it, and that it is over."""
+    now = datetime.now()
+    if warning := clock.warning(now):
+        desk.tell(warning)
+    if clock.is_over(now):
+        desk.tell(clock.over())
+    return clock.is_over(now)
 
 
 def next_typed(typed: Typed, seconds: float) -> str | None:
@@ -178,7 +194,7 @@ def obeys(desk: Desk, line: str | None, hung: Callable[[], None]) -> str:
 
 def attend(desk: Desk, it: Server, until_stable: bool, typed: Typed, room: Room, hung: Callable[[], None]) -> str:
     """Closes steps and does what is typed, until the run ends; gives by what: `stable`, `full`, `journal`, `end`,
-    `left` or `died`. `hung` is called where the terminal went away."""
+    `clock`, `left` or `died`. `hung` is called where the terminal went away."""
     with contextlib.closing(Striker()) as striker:
         while not it.ended():
             try:

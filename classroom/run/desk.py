@@ -9,8 +9,10 @@ from classroom.core import lab as labs
 from classroom.core.bench import network
 from classroom.core.desk_words import WORDS, Action, request
 from classroom.core.program import Fault
+from classroom.core.shown_names import ShownNames
 from classroom.pages.watch import Watch
 from classroom.run.announcing import Announcer, listed
+from classroom.run.clock import Clock
 from classroom.run.closing import Closing, closing, spelled
 from classroom.run.connected import Connected
 from classroom.run.following import Follower, raise_unless_memory
@@ -32,6 +34,9 @@ class Desk:
         self.connected: Connected | None = None
         self.house: House | None = None
         self.heard: Heard | None = None
+        self.clock: Clock | None = None
+        self.names = ShownNames({})  # what the pages show for students
+        self.keep_state: Callable[[], None] | None = None  # writes the state that the desk of a class reads
         self.asked_to_end = False
         self.lost = ""  # Why the desk was lost, until it is held again.
         self.actions: dict[Action, Callable[[str, list[str]], None]] = {
@@ -91,10 +96,11 @@ class Desk:
         for news in self.known.news():
             self.announcer.event(news)
             if self.watch:
-                self.watch.note(news.event)
+                self.watch.note(self.names.event(news.event))
             if self.house:
                 self.house.note(news.event)
             self.announcer.limit()
+        self.announcer.tell_edits()
         if self.watch:
             try:
                 self.watch.turn(self.known.report, self.known.book)
@@ -107,7 +113,7 @@ class Desk:
         """What the pages are shown, beginning with what the run has done; from now on the desk keeps it up to date."""
         self.watch = Watch(self.lab, self.client, self.known.report, spelled(self.closing))
         for event in self.known.past:
-            self.watch.note(event)
+            self.watch.note(self.names.event(event))
         return self.watch
 
     def stand_in(self) -> None:
@@ -186,7 +192,8 @@ class Desk:
                 self.tell(line)
         elif self.connected:
             self.tell(f"connected: {self.connected.who()}")
-        self.tell(f"no move was granted yet to {', '.join(self.known.book.idle) or 'nobody'}")
+        idle = ", ".join(self.known.book.idle)
+        self.tell(f"without a granted move so far: {idle}" if idle else "each student has had a move granted")
         if self.house:
             self.tell(self.house.told())
 

@@ -40,9 +40,9 @@ def whole_lines(journal: Path) -> None:
             it.truncate(len(whole + found))
 
 
-def finish(folder: Path, tell: Callable[[str], None]) -> int:
-    """Leaves a journal of whole lines, its audit, the page that shows it, and its marks. The status is 0, or that of
-    what failed, which is told."""
+def finish(folder: Path, tell: Callable[[str], None], brief: bool = False) -> int:
+    """Leaves a journal of whole lines, its audit, the page that shows it, and its marks. Returns 0, or the status of what
+    failed, which is printed. A brief end leaves the marks in their file alone."""
     try:
         whole_lines(folder / "journal")
         answer = call("audit", folder / "lab.toml", folder / "journal")
@@ -51,7 +51,7 @@ def finish(folder: Path, tell: Callable[[str], None]) -> int:
         (folder / "run.html").write_text(play.page(folder / "lab.toml", folder / "journal"), encoding="utf-8")
         run = mark.marked(folder / "lab.toml", folder / "journal")
         text = mark.text([run])
-        tell(text.rstrip())
+        tell(f"marks: {folder / 'marks.txt'}" if brief else text.rstrip())
         (folder / "marks.txt").write_text(text, encoding="utf-8")
         (folder / "marks.json").write_text(mark.as_json([run]), encoding="utf-8")
     except Fault as fault:
@@ -60,5 +60,6 @@ def finish(folder: Path, tell: Callable[[str], None]) -> int:
     except OSError as error:
         tell(f"class: {error.filename or folder}: {error.strerror}; the journal is {folder / 'journal'}")
         return 4
-    tell(f"all of it is in {folder}")
+    if not brief:
+        tell(f"all of it is in {folder}")
     return 0

@@ -17,6 +17,7 @@ PAUSE = 1.0  # seconds between two looks
 MOST = 1 << 20  # bytes of a seat that are read at one look
 VAIN = 10  # denials of a kind since the last step from which on they are told
 FLOOD = 100.0  # lines a second
+FEW = 4  # students who came or went since the last look and have a line each
 NOBODY = "someone without a name"
 OTHERS = "names that the lab hasn't"
 MALFORMED = "malformed"
@@ -47,6 +48,13 @@ class Seat:
 def told_so(word: str) -> str:
     """How a line was answered."""
     return f"refused {word}" if word == MALFORMED else f"denied {word}"
+
+
+def together(what: str, who: list[str]) -> list[str]:
+    """Returns a line for each of a few, or one line with the number of many."""
+    if len(who) <= FEW:
+        return [f"{what}: {each}" for each in who]
+    return [f"{what}: {plural(len(who), 'student')}: {'; '.join(who)}"]
 
 
 class Heard:
@@ -151,10 +159,11 @@ class Heard:
         """Whose connections have become more or fewer."""
         before, now = self.shown, self.connected()
         self.shown = now
-        come = [f"connected: {name}" + (f", {plural(now[name], 'connection')}" if now[name] > 1 else "")
+        come = [name + (f", {plural(now[name], 'connection')}" if now[name] > 1 else "")
                 for name in sorted(now) if now[name] > before[name]]
-        return come + [f"gone: {name}" + (f", {plural(now[name], 'connection')} left" if now[name] else "")
-                       for name in sorted(before) if now[name] < before[name]]
+        gone = [name + (f", {plural(now[name], 'connection')} left" if now[name] else "")
+                for name in sorted(before) if now[name] < before[name]]
+        return together("connected", come) + together("gone", gone)
 
     def is_news(self, key: tuple[str, str], count: int, least: int) -> bool:
         """Whether a count is to be told: it is `least` or more, and twice what was told or more. It counts as told

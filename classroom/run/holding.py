@@ -9,24 +9,30 @@ import sys
 import threading
 from collections.abc import Callable
 from dataclasses import dataclass, field, replace
+from datetime import datetime
+from functools import cached_property
 from pathlib import Path
 from typing import Any
 
 from classroom.client import Closed, Denied, Over, Refused
 from classroom.core import lab as labs
 from classroom.core import record
+from classroom.core.classes import is_class
 from classroom.core.folders import Process, Record, title
 from classroom.core.program import CLASS
+from classroom.core.shown_names import ShownNames
 from classroom.core.statuses import FAILED, WARNED
 from classroom.pages import by_hand, projector
 from classroom.run import letting, server
 from classroom.run.attend import TICK, Room, attend
+from classroom.run.clock import Clock
 from classroom.run.closing import Closing, spelled
 from classroom.run.connected import Connected
 from classroom.run.desk import Desk
 from classroom.run.ending import finish, put_back
 from classroom.run.heard import Heard
 from classroom.run.house import WAITS, House
+from classroom.run.state_file import StateFile
 from classroom.run.taking import Left, taken
 from classroom.run.teller import Teller, is_private
 from classroom.run.typed import HELP, HUNG, LEAVE, NOW, Terminal, Typed, read_lines
@@ -53,6 +59,8 @@ class Running:
     stand_in: float | None = None  # seconds after which the house plays
     looks: str | None = None  # The token of the page's address to look at, where it had one before.
     played: list[str] = field(default_factory=list)  # for whom the house plays at once
+    ends: datetime | None = None  # when the lesson ends
+    anonymous: bool = False  # Whether the pages show numbers in place of names.
     door: str | None = None  # The folder of the door that leads here.
     typed: Typed = field(default_factory=queue.SimpleQueue)
     pages: projector.Pages | None = None
@@ -65,7 +73,17 @@ class Running:
         play = self.hands.server_port if self.hands else self.play
         return Record(str(self.lab_file.resolve()), it.port, it.desk, page, spelled(self.close), self.until,
                       Process.of(os.getpid()), it.process, play, stand_in=self.stand_in, looks=looks, played=self.played,
+                      ends=self.ends.isoformat() if self.ends else None, anonymous=self.anonymous,
                       door=self.door)
+
+    @cached_property
+    def names(self) -> ShownNames:
+        """Returns the names that its pages show."""
+        return ShownNames.of(self.lab, self.anonymous)
+
+    def is_in_class(self) -> bool:
+        """Whether it is the run of one network of a class, whose desk holds the other end of its input."""
+        return is_class(self.folder.absolute().parent)
 
     def keep(self, **other: Any) -> None:
         """Changes something of the record in its folder, where there is one."""
@@ -97,6 +115,11 @@ def open_desk(it: server.Server, run: Running) -> Desk:
     desk.heard = Heard(run.folder / record.FOLDER, run.lab) if recorded else None
     if run.lab.held() and it.hosted:
         desk.house = House(run.lab, it.port, run.stand_in, run.tell, run.played, lambda names: run.keep(played=names))
+    desk.names = run.names
+    desk.clock = Clock(run.ends, datetime.now()) if run.ends else None
+    if run.is_in_class():
+        state = StateFile(run.folder, run.names)
+        desk.keep_state = lambda: state.keep(desk)
     if run.goes_on:
         desk.catch_up()
     if desk.heard and it.child is not None:
@@ -114,11 +137,11 @@ def show(pages: projector.Pages, desk: Desk, tell: Teller, typed: bool) -> None:
     watch = desk.watched()
 
     def act() -> None:
-        """Tells the address to act at, to who may act; else that it is told at a terminal alone."""
+        """Prints the address to act at for who may act; for others that it is printed only at a terminal."""
         if is_private(typed):
             tell.alone(f"page to act {pages.address_to_act}")
         else:
-            tell("page to act: its address is told at a terminal alone")
+            tell("page to act: its address is printed only at a terminal")
 
     def renew() -> None:
         """Changes the address to act at, and tells it."""
@@ -128,7 +151,7 @@ def show(pages: projector.Pages, desk: Desk, tell: Teller, typed: bool) -> None:
     desk.another_page = renew
     tell(f"page {pages.address}")
     act()
-    tell.also.append(lambda line: watch.present.put(line=line))
+    tell.also.append(lambda line: watch.present.put(line=desk.names.line(line)))
     pages.show(watch.present, tell)
 
 
@@ -141,8 +164,15 @@ def listen(run: Running) -> None:
     if at_terminal:
         run.terminal = Terminal([*(str(node.id) for node in run.lab.nodes), *run.lab.without_house().students])
         run.tell.around = run.terminal.around
-    read = run.terminal.read if run.terminal else read_lines
-    threading.Thread(target=read, args=[run.typed.put], daemon=True).start()
+    threading.Thread(target=read_typed, args=[run], daemon=True).start()
+
+
+def read_typed(run: Running) -> None:
+    """Takes lines until there are no more. A run of a class loses its desk with the process that holds the desk of the
+    class."""
+    (run.terminal.read if run.terminal else read_lines)(run.typed.put)
+    if run.terminal is None and run.is_in_class():
+        run.typed.put(HUNG)
 
 
 def obey_signals(typed: Typed) -> None:
@@ -241,7 +271,7 @@ def to_the_end(run: Running, start: Callable[[], server.Server]) -> int:
     """Holds the desk of a server that is started or found, and leaves marks and page in the folder."""
     try:
         if run.page is not None:
-            run.pages = projector.open_pages(run.page, run.title(), run.lab, run.typed, run.looks)
+            run.pages = projector.open_pages(run.page, run.title(), run.names.lab(run.lab), run.typed, run.looks)
         if run.play is not None:
             run.hands = by_hand.open_hands(run.play, run.title(), run.lab)
         obey_signals(run.typed)
@@ -249,7 +279,7 @@ def to_the_end(run: Running, start: Callable[[], server.Server]) -> int:
         if status is None:
             return FAILED
         run.keep(ended=status != FAILED)
-        return finish(run.folder, run.tell) or status
+        return finish(run.folder, run.tell, run.is_in_class()) or status
     finally:
         for it in (run.hands, run.pages):
             if it is not None:

@@ -61,9 +61,10 @@ class House:
 
     def told(self) -> str:
         """For whom the house plays, as a line."""
-        names = ", ".join(name for name in self.students if name in self.played) or "nobody"
-        late = f", and each node that has waited for {self.seconds:g} seconds" if self.seconds is not None else ""
-        return f"the house plays for {names}{late}{f'; {WAITS}' if self.waits() else ''}"
+        names = ", ".join(name for name in self.students if name in self.played)
+        late = f"each node that has waited for {self.seconds:g} seconds" if self.seconds is not None else ""
+        whom = " and ".join(filter(None, (f"for {names}" if names else "", late)))
+        return f"the house plays {whom or 'for nobody'}{f'; {WAITS}' if self.waits() else ''}"
 
     def waits(self) -> bool:
         """Whether the house would play by itself, and doesn't yet: nobody has come who could have played."""

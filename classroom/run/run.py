@@ -7,10 +7,12 @@ from pathlib import Path
 
 from classroom.client import NoSlip, port_of
 from classroom.core import lab as labs
+from classroom.core.classes import is_class
 from classroom.core.counts import seconds
 from classroom.core.folders import Record, going, new_folder, of_folder
 from classroom.core.program import CLASS, Fault
-from classroom.run import closing, house, letting, server
+from classroom.run import class_again, closing, house, letting, server
+from classroom.run.clock import end_of, hour
 from classroom.run.daemons import FORMS
 from classroom.run.holding import Running, to_the_end
 from classroom.run.several import side_by_side
@@ -39,6 +41,8 @@ def add_desk_words(words: argparse.ArgumentParser) -> None:
     words.add_argument("--stand-in", type=seconds_with_unit, metavar="20s",
                        help="let the house ask for a node that has been privileged so long without its student's move, from when a first "
                             "student has greeted")
+    words.add_argument("--ends", type=hour, metavar="HH:MM", help="end the run at that time of the day; warnings come before it")
+    words.add_argument("--anonymous", action="store_true", help="show numbers in place of names on the pages for the projector")
     words.add_argument("--until", choices=["stable"], help="end the run where no node is privileged")
     words.add_argument("--page", type=port, nargs="?", const=4780, metavar="PORT",
                        help="serve a page of the run, for the projector, at that port or the next free one (4780)")
@@ -49,8 +53,9 @@ def add_desk_words(words: argparse.ArgumentParser) -> None:
 
 def add_words(words: argparse.ArgumentParser) -> None:
     """The words of `run`."""
-    words.add_argument("labs", nargs="*", metavar="LAB", help="several run side by side, at a port each")
-    words.add_argument("--resume", metavar="FOLDER", help="go on with the run of a folder, whose server has ended")
+    words.add_argument("labs", nargs="*", metavar="LAB", help="several are the networks of one class: a port each, one desk, one folder")
+    words.add_argument("--rooms", metavar="ROOM,..", help="with several labs: the room of each, for the table at the start and the page")
+    words.add_argument("--resume", metavar="FOLDER", help="go on with the run or the class of a folder, whose server has ended")
     words.add_argument("--again", action="store_true",
                        help="with --resume: open a run again that was ended, too; its audit, page and marks are made anew")
     words.add_argument("--port", type=port, default=4711, help="the students' port, or else the next that is free (4711)")
@@ -75,7 +80,7 @@ def one(words: argparse.Namespace) -> int:
     (folder / "lab.toml").touch(0o600)  # It has keys.
     (folder / "lab.toml").write_bytes(lab_file.read_bytes())
     run = Running(folder, lab_file, lab, words.close or CLOSING, words.until, words.page, words.typed, Teller(folder),
-                  words.play, by_number=words.serve, stand_in=words.stand_in)
+                  words.play, by_number=words.serve, stand_in=words.stand_in, ends=end_of(words.ends), anonymous=words.anonymous)
     try:
         with letting.door(words, [lab_file], run.tell) as run.door:
             return to_the_end(run, lambda: begin(run, words.port))
@@ -96,6 +101,8 @@ def may_stand_in(words: argparse.Namespace, lab: labs.Lab, file: Path) -> None:
 def resumed(words: argparse.Namespace) -> int:
     """Goes on with a folder's run: its lab, journal, ports, page and way of closing, where no words say another."""
     folder = Path(words.resume)
+    if is_class(folder):
+        return class_again.held_again(words, folder)
     lab_file, _ = of_folder(folder)
     record = Record.read(folder) or Record.lacking(folder, words.port)
     if record.goes_on():
@@ -107,7 +114,7 @@ def resumed(words: argparse.Namespace) -> int:
     run = Running(folder, Path(record.lab), lab, words.close or closing.kept(folder, record),
                   words.until or record.until, words.page or record.page, words.typed, Teller(folder),
                   words.play or record.play, goes_on=True, stand_in=words.stand_in or record.stand_in,
-                  looks=record.looks, played=record.played)
+                  looks=record.looks, played=record.played, ends=end_of(words.ends, record.ends), anonymous=words.anonymous or record.anonymous)
     before = record
     with letting.door(words, [run.lab_file], run.tell, before.door) as run.door:
         return to_the_end(run, lambda: begin(run, before.port, before))
@@ -151,6 +158,8 @@ def run(words: argparse.Namespace) -> int:
         raise Fault("run: a LAB or several, or --resume FOLDER")
     if words.again and not words.resume:
         raise Fault("run: --again is for --resume FOLDER")
+    if words.rooms and len(words.labs) < 2:
+        raise Fault("run: --rooms is for several labs")
     if words.door is not None and words.play is None:
         words.play = PLAY  # The slips lead there.
     if words.resume:

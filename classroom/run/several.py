@@ -1,146 +1,353 @@
-"""Several labs at once, each in a run of its own."""
+"""A class of several networks: a process for each network, and one desk for all of them."""
 from __future__ import annotations
 
 import argparse
+import os
 import queue
-import re
 import signal
-import subprocess
 import sys
 import threading
+import time
+from collections.abc import Callable, Sequence
+from dataclasses import replace
+from datetime import datetime
 from pathlib import Path
 
 from classroom.core import lab as labs
-from classroom.core.program import TOP, Fault
-from classroom.run import letting
+from classroom.core.class_state import DOWN, ENDED, RUNS, STARTS, ClassState
+from classroom.core.classes import Class, Network, begun, title
+from classroom.core.counts import plural
+from classroom.core.folders import Process
+from classroom.core.printable import printable
+from classroom.core.program import CLASS, Fault
+from classroom.core.statuses import FAILED, WARNED
+from classroom.pages import hall
+from classroom.run import addressed, letting, server
+from classroom.run.clock import Clock, end_of
 from classroom.run.closing import spelled
+from classroom.run.member import Member, News
+from classroom.run.network_table import now_table, start_table
 from classroom.run.teller import is_private
-from classroom.run.typed import EOF, HELP, Terminal, read_lines
+from classroom.run.typed import EOF, Terminal, helped, read_lines
 
 SIGNALS = (signal.SIGINT, signal.SIGTERM)
-Child = subprocess.Popen[str]
-
-
-def started(words: argparse.Namespace, index: int, door: str | None) -> Child:
-    """Starts the run of one lab, in a process of its own and at ports of its own; a door may lead to it."""
-    more = ["--until", words.until] if words.until else []
-    more += ["--page", str(words.page + index)] if words.page is not None else []
-    more += ["--play", str(words.play + index)] if words.play is not None else []
-    more += ["--door-at", door] if door is not None else []
-    more += ["--beside"] if words.beside else []
-    more += ["--serve"] if words.serve else []
-    more += ["--close", spelled(words.close)] if words.close else []
-    more += ["--stand-in", f"{words.stand_in:g}"] if words.stand_in is not None else []
-    return subprocess.Popen(
-        [sys.executable, TOP / "class", "run", words.labs[index], "--port", str(words.port + index), "--typed",
-         "--into", words.into, *more],
-        stdin=subprocess.PIPE, stdout=subprocess.PIPE, stderr=subprocess.STDOUT, text=True, start_new_session=True,
-    )
+TICK = 0.2  # seconds between two looks at the clock and at the states of the networks
+REMIND = 60.0  # seconds after which an alarm that stays is printed again
+SHOWN = 0.5  # seconds between two looks at the states for the page
 
 
 class Several:
-    """The runs, numbered from 1."""
+    """The desk of a class. All that happens is done in one thread, which takes it from the news."""
 
-    def __init__(self, words: argparse.Namespace, door: str | None = None) -> None:
-        self.labs = [Path(lab) for lab in words.labs]
-        self.names = [lab.stem for lab in self.labs]
-        self.typed = words.typed
-        self.children = [started(words, index, door) for index in range(len(words.labs))]
+    def __init__(self, folder: Path, members: list[Member], news: News, is_typed: bool, clock: Clock | None = None) -> None:
+        self.folder, self.members, self.news, self.is_typed, self.clock = folder, members, news, is_typed, clock
+        self.names = [member.name for member in members]
         self.terminal: Terminal | None = None
-        self.turn = threading.Lock()
+        self.hall: hall.Hall | None = None
+        self.lines: list[str] = []
+        self.is_told = False  # Whether the table was printed.
+        self.is_left = False  # Whether another process takes the desks.
+        self.reminded = self.looked = time.monotonic()
 
-    def say(self, line: str) -> None:
-        """Prints a line."""
-        with self.turn:
+    def say(self, line: str, private: bool = False) -> None:
+        """Prints a line. A private one isn't shown on the page."""
+        line = printable(line)
+        if not private:
+            self.lines = [*self.lines, line][-hall.LISTED:]
+        try:
+            print(self.terminal.around(line + "\n") if self.terminal else line + "\n", end="", flush=True)
+        except OSError:
+            pass  # The terminal went away; each run keeps its lines.
+
+    def hear(self, member: Member, line: str) -> None:
+        """Takes a line of a network's process."""
+        is_private_line = line.startswith("page to act http")
+        if member.takes(line) and (not is_private_line or is_private(self.is_typed)):
+            self.say(f"{member.name}: {line}", is_private_line)
+
+    def has_ended(self, member: Member) -> None:
+        """Takes the end of a network's process."""
+        member.has_ended()
+        if member.status == DOWN and not self.is_left:
+            self.say(self.alarm(member))
+        self.prompt()
+
+    def alarm(self, member: Member) -> str:
+        """Returns the line of an alarm."""
+        return f"ALARM {member.name} is down: {member.alarm}"
+
+    def down(self) -> list[Member]:
+        """Returns the networks that are down."""
+        return [member for member in self.members if member.status == DOWN]
+
+    def prompt(self) -> None:
+        """Shows in the terminal's prompt which networks are down."""
+        if self.terminal is not None:
+            names = ", ".join(member.name for member in self.down())
+            self.terminal.prompt = f"{names} down> " if names else Terminal.PROMPT
+
+    def typed(self, line: str) -> None:
+        """Does a line that was typed."""
+        if line == EOF:
+            return self.say("to end the class type end, to end one network end 2")
+        try:
+            indices, rest = addressed.addressed(line, self.names)
+        except ValueError as error:
+            return self.say(f"not understood: {error}")
+        word = rest.split()[0] if rest.split() else ""
+        if word == addressed.HELP:
+            return self.say(help_text())
+        if word == addressed.NETWORKS:
+            return self.say(now_table([member.shown() for member in self.members]))
+        for index in indices:
+            self.ask(self.members[index], word, rest, len(indices) == 1)
+
+    def ask(self, member: Member, word: str, line: str, is_alone: bool) -> None:
+        """Does a line for one network. If it is for this network alone, the line says what can't be done."""
+        if word == addressed.RESUME:
+            if member.status == DOWN:
+                member.start(self.hear, self.has_ended)
+                self.prompt()
+            elif is_alone:
+                self.say(f"{member.name}: it isn't down")
+        elif word == addressed.END and member.status == DOWN:
             try:
-                print(self.terminal.around(line) if self.terminal else line, end="", flush=True)
-            except OSError:
-                pass  # The terminal went away; each run keeps its lines.
+                self.say(f"{member.name}: {member.give_up()}")
+            except ValueError as error:
+                self.say(f"{member.name}: no: {error}")
+            self.prompt()
+        elif not member.send(line) and is_alone:
+            self.say(f"{member.name}: no: {'it has ended' if member.status == ENDED else member.alarm or 'it is starting'}")
 
-    def follow(self, index: int) -> None:
-        """Shows a run's lines with the lab's name before them, but neither the words that can be typed nor, to who may
-        not act, the page's address to act at."""
-        hidden = ("words: ",) if is_private(self.typed) else ("words: ", "page to act http")
-        for line in self.children[index].stdout or ():
-            if not line.startswith(hidden):
-                self.say(f"{self.names[index]}: {line}")
-
-    def hand_on(self, line: str) -> None:
-        """Hands a line to the run whose number stands before it, or to all."""
-        numbered = re.fullmatch(r"\s*(?:(\d+)\s*:)?\s*(.*?)\s*", line)
-        if line == EOF or numbered is None:
-            return self.say("to end a run type end\n")
-        number = int(numbered[1]) if numbered[1] else 0
-        if number > len(self.children):
-            return self.say(f"not understood; runs are {self.listed()}\n")
-        for child in self.children[number - 1:number] if number else self.children:
-            try:
-                assert child.stdin is not None
-                child.stdin.write(numbered[2] + "\n")
-                child.stdin.flush()
-            except OSError:
-                pass  # It has ended.
-
-    def listed(self) -> str:
-        """The runs with their numbers."""
-        return ", ".join(f"{number}: {name}" for number, name in enumerate(self.names, 1))
-
-    def nodes(self) -> list[str]:
-        """The identifiers of all labs that can be read."""
-        found: set[int] = set()
-        for lab in self.labs:
-            try:
-                found |= {node.id for node in labs.read(lab).nodes}
-            except Fault:
-                pass  # Its run says why.
-        return list(map(str, sorted(found)))
+    def act(self, line: str) -> None:
+        """Does a line of the page to act at. The page asks before an end, so that one line is enough."""
+        try:
+            indices, rest = addressed.addressed(line, self.names)
+        except ValueError:
+            return  # The page names networks that are there; another program may name others.
+        for index in indices:
+            if rest == addressed.END and self.members[index].status in (STARTS, RUNS):
+                self.members[index].terminate()
+            else:
+                self.ask(self.members[index], rest.split()[0], rest, len(indices) == 1)
 
     def listen(self) -> None:
-        """Takes what is typed."""
-        self.say(f"words, each after the number of its run ({self.listed()}), or for all: {HELP}\n")
+        """Takes what is typed from now on."""
         if sys.stdin.isatty():
-            self.terminal = Terminal(self.nodes())
+            self.terminal = Terminal([*self.names, *self.nodes()])
         read = self.terminal.read if self.terminal else read_lines
-        threading.Thread(target=read, args=[self.hand_on], daemon=True).start()
+        put: Callable[[str], None] = lambda line: self.news.put(lambda: self.typed(line))
+        threading.Thread(target=read, args=[put], daemon=True).start()
 
-    def wait(self) -> int:
-        """Waits for all of them; gives the greatest status."""
-        followers = [threading.Thread(target=self.follow, args=[index]) for index in range(len(self.children))]
-        for follower in followers:
-            follower.start()
-        status = max(child.wait() for child in self.children)
-        for follower in followers:
-            follower.join()
+    def nodes(self) -> list[str]:
+        """Returns the identifiers of all nodes."""
+        return [str(node) for node in sorted({node.id for member in self.members for node in member.lab.nodes})]
+
+    def tell_table(self) -> None:
+        """Prints the table once each network has begun, or is down."""
+        if self.is_told or any(member.status == STARTS for member in self.members):
+            return
+        self.is_told = True
+        self.say(f"class of {plural(len(self.members), 'network')}; folder {self.folder}")
+        play = [member.facts.get("play_from", member.facts.get("play", "")) for member in self.members]
+        for line in start_table([member.shown() for member in self.members], play):
+            self.say(line)
+        if self.hall is not None:
+            self.say(f"page for all {self.hall.address}")
+            if is_private(self.is_typed):
+                self.say(f"page for all to act {self.hall.address_to_act}", private=True)
+        if self.clock is not None:
+            self.say(self.clock.told())
+        if self.is_typed:
+            self.say(f"words: {addressed.HOW}; networks, resume, help, end")
+
+    def tick(self) -> None:
+        """Does what is due by the clock: warnings, the end, alarms that stay, and the page."""
+        self.tell_table()
+        now = time.monotonic()
+        self.look_at_clock()
+        if now - self.reminded >= REMIND:
+            self.reminded = now
+            for member in self.down():
+                self.say(self.alarm(member))
+        if self.hall is not None and now - self.looked >= SHOWN:
+            self.looked = now
+            self.hall.show(self.state(False), self.state(True))
+
+    def look_at_clock(self) -> None:
+        """Warns before the end of the lesson, and ends all networks when it has come."""
+        if self.clock is None:
+            return
+        if warning := self.clock.warning(datetime.now()):
+            self.say(warning)
+        if not self.clock.is_over(datetime.now()):
+            return
+        self.say(self.clock.over())
+        self.clock = None
+        for member in self.members:
+            member.terminate()
+        for member in self.down():
+            self.ask(member, addressed.END, addressed.END, False)
+
+    def state(self, acts: bool, ended: bool = False) -> ClassState:
+        """Returns what the page for all shows."""
+        return ClassState(title(self.folder), [member.shown(acts) for member in self.members], self.lines, ended)
+
+    def goes_on(self) -> bool:
+        """Whether a network runs, or is down and may be resumed by somebody."""
+        can_be_told = self.is_typed or self.hall is not None
+        return any(member.status in (STARTS, RUNS) or member.status == DOWN and can_be_told for member in self.members)
+
+    def attend(self) -> int:
+        """Holds the desk until each network has ended. Returns the exit status."""
+        while self.goes_on() and not self.is_left:
+            try:
+                self.news.get(timeout=TICK)()
+            except queue.Empty:
+                pass
+            self.tick()
         if self.terminal is not None:
             self.terminal.leave()
-        return status
+        if self.hall is not None:
+            self.hall.stop(self.state(False, True), self.state(True, True))
+        if self.is_left:
+            self.say("another process takes the desks")
+            return FAILED
+        self.say(f"the class is ended; all of it is in {self.folder}: {CLASS} mark {self.folder} tells the marks")
+        return max(member.code for member in self.members)
+
+    def end(self) -> None:
+        """Ends the run of each network."""
+        for member in self.members:
+            member.terminate()
+        self.is_typed = False
+        for member in self.down():
+            member.code = member.code or WARNED
+
+    def leave(self) -> None:
+        """Leaves the desks to another process, once the processes of all networks have left them."""
+        self.is_left = True
+        for member in self.members:
+            member.leave()
+        for member in self.members:
+            if member.child is not None:
+                member.child.wait()
+
+    def hung(self) -> None:
+        """Goes on without the terminal."""
+        found = Class.read(self.folder)
+        if found is not None:
+            replace(found, left=True).write(self.folder)
+
+    def obey_signals(self) -> None:
+        """Puts what a signal asks for among the news."""
+        for number in SIGNALS:
+            signal.signal(number, lambda *_: self.news.put(self.end))
+        signal.signal(signal.SIGUSR1, lambda *_: self.news.put(self.leave))
+        signal.signal(signal.SIGHUP, lambda *_: self.news.put(self.hung))
+
+
+def help_text() -> str:
+    """Returns all words with what they do, those of the class's desk first."""
+    wide = max(map(len, addressed.OWN))
+    own = "\n".join(f"  {form:{wide}}  {what}" for form, what in addressed.OWN.items())
+    return f"{addressed.HOW}\n{own}\n{helped()}"
+
+
+def desk_words(words: argparse.Namespace) -> list[str]:
+    """Returns the words of a desk that each network's run gets."""
+    more = ["--until", words.until] if words.until else []
+    more += ["--close", spelled(words.close)] if words.close else []
+    more += ["--stand-in", f"{words.stand_in:g}"] if words.stand_in is not None else []
+    more += ["--ends", words.ends] if words.ends else []
+    more += ["--anonymous"] if words.anonymous else []
+    return more
+
+
+def words_of(words: argparse.Namespace, index: int) -> list[str]:
+    """Returns the words of a network's run: its ports follow those of the network before it."""
+    more = desk_words(words)
+    more += ["--port", str(words.port + index)] if getattr(words, "port", None) is not None else []
+    more += ["--serve"] if getattr(words, "serve", False) else []
+    more += ["--page", str(words.page + 1 + index)] if words.page is not None else []
+    more += ["--play", str(words.play + index)] if words.play is not None else []
+    return more
+
+
+def members_of(folder: Path, networks: Sequence[Network], words: argparse.Namespace, news: News) -> list[Member]:
+    """Returns the networks of a class, none of which has begun."""
+    found = []
+    for index, network in enumerate(networks):
+        own = folder / network.name
+        lab = labs.read(own / "lab.toml" if (own / "lab.toml").is_file() else Path(network.lab))
+        found.append(Member(index + 1, network, own, lab.without_house(), words_of(words, index), news))
+    return found
+
+
+def networks_of(words: argparse.Namespace) -> list[Network]:
+    """Returns the networks that the labs of the command line make. A lab that the program refuses is a fault."""
+    rooms = [room.strip() for room in words.rooms.split(",")] if words.rooms else []
+    if rooms and len(rooms) != len(words.labs):
+        raise Fault(f"--rooms names {plural(len(rooms), 'room')} for {len(words.labs)} networks")
+    found = [Network(Path(lab).stem, rooms[index] if rooms else "", str(Path(lab).resolve())) for index, lab in enumerate(words.labs)]
+    names = [network.name for network in found]
+    for name in names:
+        if names.count(name) > 1:
+            raise Fault(f"two labs are called {name}: rename one")
+        if name.isdecimal() or name == addressed.EVERY:
+            raise Fault(f"a lab of a class can't be called {name}: rename it")
+    return found
+
+
+def wants_ports(words: argparse.Namespace, count: int) -> None:
+    """Raises a fault if there aren't as many ports as networks."""
+    if max(words.port, words.page or 0, words.play or 0) + count + 1 > 65536:
+        raise Fault(f"{count} labs need a port each, up to 65535")
+
+
+def held(folder: Path, members: list[Member], news: News, words: argparse.Namespace, first: Callable[[Several], None]) -> int:
+    """Holds the desk of a class, whose networks `first` starts, to its end."""
+    typed = words.typed or sys.stdin is not None and sys.stdin.isatty()
+    kept = Class.read(folder)
+    end = end_of(words.ends, kept.ends if kept else None)
+    several = Several(folder, members, news, typed, Clock(end, datetime.now()) if end else None)
+    if words.page is not None:
+        several.hall = hall.opened(words.page, title(folder), lambda line: news.put(lambda: several.act(line)),
+                                   several.state(False), kept.looks if kept else None)
+    files = [Path(member.network.lab) for member in members]
+    with letting.door(with_door(words), files, several.say, kept.door if kept else None) as door:
+        for member in members:
+            member.more += ["--door-at", door] if door is not None else []
+        Class([member.network for member in members], Process.of(os.getpid()), page=several.hall.server_port if several.hall else None,
+              looks=several.hall.looks if several.hall else None, ends=end.isoformat() if end else None, door=door).write(folder)
+        several.obey_signals()
+        first(several)
+        if typed:
+            several.listen()
+        return several.attend()
+
+
+def with_door(words: argparse.Namespace) -> argparse.Namespace:
+    """Returns the words with those for a door, which `attach` doesn't have: the door of before is opened again."""
+    return argparse.Namespace(**{"door": None, "door_at": None, "certificate": None, **vars(words)})
 
 
 def side_by_side(words: argparse.Namespace) -> int:
-    """Runs several labs at once; a signal that ends this ends them all."""
+    """Runs several labs at once. A signal that ends this ends them all."""
     typed = words.typed or sys.stdin is not None and sys.stdin.isatty()
     if words.close is not None and words.close.kind == "by-hand" and not typed:
         raise Fault("several labs are closed by time: --close every:SECONDS or when-idle:SECONDS; or by what is typed: --typed")
-    if words.port + len(words.labs) > 65536 or max(words.page or 0, words.play or 0) + len(words.labs) > 65536:
-        raise Fault(f"{len(words.labs)} labs need a port each, up to 65535")
-    with letting.door(words, map(Path, words.labs), lambda line: print(line, flush=True)) as door:
-        return attended(Several(words, door), typed)
+    wants_ports(words, len(words.labs))
+    server.ready(words.serve)
+    networks, news = networks_of(words), News()
+    members = members_of(Path(), networks, words, news)  # A lab that is refused is told before anything is made.
+    folder = begun(Path(words.into), networks)
+    for member in members:
+        member.folder = folder / member.name
 
+    def start(several: Several) -> None:
+        """Starts each network."""
+        for member in members:
+            member.start(several.hear, several.has_ended)
 
-def attended(several: Several, typed: bool) -> int:
-    """Attends to runs that have been started, until all have ended."""
-    running: queue.SimpleQueue[Child] = queue.SimpleQueue()
-    for child in several.children:
-        running.put(child)
-
-    def end(*_: object) -> None:
-        """Ends each run once: a second signal could meet one that is about to exit."""
-        while not running.empty():
-            running.get().terminate()
-
-    for number in SIGNALS:
-        signal.signal(number, end)
-    signal.signal(signal.SIGHUP, lambda *_: None)  # The runs go on without a terminal.
-    if typed:
-        several.listen()
-    return several.wait()
+    return held(folder, members, news, words, start)

@@ -49,6 +49,7 @@ class Terminal:
         import readline  # Here alone: it writes to a terminal as it is loaded.
 
         self.words, self.readline = words, readline
+        self.prompt = self.PROMPT
         self.reads = False
         self.before = termios.tcgetattr(sys.stdin)
         readline.set_completer_delims(" ")
@@ -58,20 +59,20 @@ class Terminal:
     def complete(self, text: str, state: int) -> str | None:
         """Of the words that begin so the one at that index, from 0; None after the last."""
         before = self.readline.get_line_buffer()[:self.readline.get_begidx()]
-        first = re.fullmatch(r"\s*(\d+\s*:\s*)?", before) is not None  # A run's number may stand before it.
+        first = re.fullmatch(r"\s*(\d+\s+|\S+\s*:\s*)?", before) is not None  # A network may stand before it.
         found = [f"{word} " for word in (WORDS if first else self.words) if word.startswith(text)]
         return found[state] if state < len(found) else None
 
     def around(self, line: str) -> str:
         """A line with what clears the one that is typed before it, and shows that again."""
-        return f"\r\x1b[K{line}{self.PROMPT}{self.readline.get_line_buffer()}" if self.reads else line
+        return f"\r\x1b[K{line}{self.prompt}{self.readline.get_line_buffer()}" if self.reads else line
 
     def read(self, put: Callable[[str], None]) -> None:
         """Puts each line that is typed, until the terminal goes away."""
         while True:
             self.reads = True
             try:
-                put(input(self.PROMPT))
+                put(input(self.prompt))
             except EOFError:
                 try:
                     termios.tcgetattr(sys.stdin)

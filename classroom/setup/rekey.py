@@ -8,6 +8,7 @@ import secrets
 from pathlib import Path
 
 from classroom.client import NoSlip, Slip
+from classroom.core import classes
 from classroom.core import lab as labs
 from classroom.core.folders import Record, of_folder
 from classroom.core.program import CLASS, Fault
@@ -18,7 +19,7 @@ FIRST_PORT = 4711
 
 def add_words(words: argparse.ArgumentParser) -> None:
     """The words of `key`."""
-    words.add_argument("lab", metavar="LAB", help="the lab's file, or the folder of a run of it")
+    words.add_argument("lab", metavar="LAB", help="the lab's file, or the folder of a run of it or of its class")
     words.add_argument("name", metavar="NAME", help="the student's name in the lab")
     words.set_defaults(work=rekey)
 
@@ -64,6 +65,7 @@ def files_of(word: str) -> tuple[list[Path], Path, Record | None]:
 
 def rekey(words: argparse.Namespace) -> int:
     """Changes the key where it stands: in the lab, in a run's copy of it, and on the slips."""
+    words.lab = str(classes.run_of(Path(words.lab), words.name))
     files, own, record = files_of(words.lab)
     labs.read(files[0])
     key, name = secrets.token_hex(new.KEY_BYTES), words.name

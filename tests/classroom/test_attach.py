@@ -28,7 +28,7 @@ class Attach(Cycle):
         going.type("close")
         going.until("^configuration 1: 4 ")
         going.type("fault 1 2 true")
-        going.until("^configuration 2: fault 1 2 true")
+        going.until("^configuration 2: fault at node 1: p 2, m true")
         going.process.kill()
         going.process.wait()
         self.assertTrue(Process.of(server).lives())
@@ -48,7 +48,7 @@ class Attach(Cycle):
         going = self.killed()
         again = Going(self, None, "attach", going.folder)
         self.assertEqual((again.port, again.folder), (going.port, going.folder))
-        self.assertIn("gone on from configuration 2, events 3 of 1000", again.lines)
+        self.assertIn("the class goes on at configuration 2, events 3 of 1000", again.lines)
         self.assertFalse(any(line.startswith("configuration ") for line in again.lines), again.lines)
         with Client(again.port, "gus", KEYS["gus"]) as gus:
             gus.move(gus.look(1))

@@ -145,7 +145,7 @@ class Broken(Cycle):
             self.assertEqual(kept.read_bytes().count(b"\n"), 3)
             kept.replace(going.folder / "journal")
             again = Going(self, None, "run", "--resume", going.folder)
-            self.assertIn("gone on from configuration 3, events 3 of 1000", again.lines)
+            self.assertIn("the class goes on at configuration 3, events 3 of 1000", again.lines)
             self.assertEqual(again.ended(), 0, again.lines)
 
     def remove(self, journal: Path) -> None:

@@ -94,7 +94,7 @@ class Words(Cycle):
             going.until("^connected: gus$")
             going.type("who")
             going.until(r"^connected: 1 of \d+ seats: gus$")
-            going.until("^no move was granted yet to hana, ines, jonas$")
+            going.until("^without a granted move so far: hana, ines, jonas$")
             going.type("report")
             going.until(r"^configuration 0, not stable: .*; events 1 of \d+$")
             going.type("help")
@@ -141,13 +141,14 @@ class Words(Cycle):
         with process.stdout:
             for line in process.stdout:
                 told.append(line)
-                if ": page http" in line and sum(": page http" in each for each in told) == 2:
+                if line.startswith("words: "):
                     process.stdin.write("2: fault 1 null true\n9: close\n")
-                if "lab-2: configuration 1: fault 1 - true" in line:
+                if "lab-2: configuration 1: fault at node 1: p null, m true" in line:
                     process.stdin.write("end\nend\n")
         self.assertEqual(process.wait(LIMIT), 0, told)
-        self.assertIn("not understood; runs are 1: lab-1, 2: lab-2\n", told)
+        self.assertIn("not understood: there is no network 9; there are 1 lab-1, 2 lab-2\n", told)
         self.assertFalse(any(line.startswith("lab-1: configuration 1: ") for line in told))
+        self.assertEqual([bool(re.match(r"\d  lab-\d  28\d\d\d +3 +15 +http://127.0.0.1:282\d\d/", line)) for line in told if line[:1].isdigit()], [True, True])
 
 
 class InATerminal(Cycle):
@@ -155,8 +156,8 @@ class InATerminal(Cycle):
 
     def test_editing_history_completion_and_the_end_of_input(self) -> None:
         terminal = InTerminal(self)
-        terminal.type(b"fau\t1 2 true\n", b"fault 1 2 true; ")
-        terminal.type(b"\x1b[A\n", b"configuration 2: fault 1 2 true; ")
+        terminal.type(b"fau\t1 2 true\n", b"fault at node 1: p 2, m true; ")
+        terminal.type(b"\x1b[A\n", b"configuration 2: fault at node 1: p 2, m true; ")
         terminal.type(b"clossse\x1b[D\x7f\x7f\n", b"no: empty")
         terminal.type(b"\x04", b"to end the run type end")
         terminal.type(b"end\n", b"end once more ends the run")
@@ -191,7 +192,7 @@ class Late(Cycle):
         self.until(lambda: "the desk is held again" in lines)
         typed.put("link 1 3")
         self.until(lambda: any("link 1 3" in line for line in lines))
-        self.assertTrue(any("configuration 1: fault 1 2 true" in line for line in lines), lines)
+        self.assertTrue(any("configuration 1: fault at node 1: p 2, m true" in line for line in lines), lines)
         typed.put(NOW)
         holding.join(LIMIT)
         desk.known.journal.close()
@@ -236,7 +237,7 @@ class Late(Cycle):
                 run.send_signal(signal.SIGTERM)
                 self.assertEqual(run.wait(LIMIT), 0)
             text = told.read_text(encoding="utf-8")
-            self.assertIn("\npage to act: its address is told at a terminal alone\n", text)
+            self.assertIn("\npage to act: its address is printed only at a terminal\n", text)
             self.assertEqual(text.count("http://"), 1, text)
 
     def test_the_address_to_look_at_stays_and_where_it_acts_does_not(self) -> None:

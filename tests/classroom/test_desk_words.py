@@ -36,7 +36,7 @@ ASKED: dict[str, dict[str, object]] = {
 TOLD = {
     "report": "configuration 0, not stable: privileged 4 (update); events 0 of ",
     "wait": "waiting for 4 (gus): update",
-    "who": "no move was granted yet to ",
+    "who": "without a granted move so far: ",
     "play gus": "no node has a second owner who could play for gus: ",
     "stop gus": "no node has a second owner who could play for gus: ",
     "every 5": "steps are closed every:5",

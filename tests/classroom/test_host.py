@@ -95,7 +95,7 @@ class Hosted(Cycle):
             self.assertEqual(program.close().moved, (4,))
         going.until("^configuration 1: 4 \\(gus\\) update")
         going.type("fault 1 2 true")
-        going.until("^configuration 2: fault 1 2 true")
+        going.until("^configuration 2: fault at node 1: p 2, m true")
         going.type("end\nend")
         self.ended(going)
 
@@ -123,7 +123,7 @@ class Hosted(Cycle):
 
     def test_an_interrupt_in_a_terminal(self) -> None:
         terminal = InTerminal(self)
-        terminal.type(b"fault 1 2 true\n", b"fault 1 2 true;")
+        terminal.type(b"fault 1 2 true\n", b"fault at node 1: p 2, m true;")
         terminal.type(b"\x03", b"all of it is in ")
         self.assertEqual(terminal.process.wait(LIMIT), 0)
         os.close(terminal.ours)

@@ -138,7 +138,7 @@ class Standing(InRoom):
             self.bot(going, name)
         going.until("^stable (again )?after ")
         going.type("who")
-        going.until("^the house plays for nobody, and each node that has waited for 0.5 seconds$")
+        going.until("^the house plays each node that has waited for 0.5 seconds$")
         going.type("shake all 7")
         going.until("^stable again after ")
         going.type("end")
@@ -172,7 +172,7 @@ class Standing(InRoom):
             going.until("^connected: teacher$")  # Who is no student.
         time.sleep(1)
         going.type("who")
-        going.until("^the house plays for nobody, and each node that has waited for 0.2 seconds; the house waits for a first student$")
+        going.until("^the house plays each node that has waited for 0.2 seconds; the house waits for a first student$")
         self.assertEqual((going.folder / "journal").read_bytes(), b"")
         self.greet(going)
         self.assertEqual(going.ends(), 0, going.lines)
@@ -245,7 +245,7 @@ class Standing(InRoom):
         os.kill(going.server(), 9)
         self.assertEqual(going.ends(), 4, going.lines)
         again = Going(self, None, "run", "--resume", going.folder, "--daemon", "synchronous")
-        self.assertIn("the house plays for gus-roy, and each node that has waited for 0.3 seconds; the house waits for a first student",
+        self.assertIn("the house plays for gus-roy and each node that has waited for 0.3 seconds; the house waits for a first student",
                       again.lines)
         self.assertIn("the house waits for a first student", again.lines)  # Everyone greets again.
         self.greet(again)

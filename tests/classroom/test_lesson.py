@@ -95,11 +95,11 @@ class Lesson(InRoom):
         self.assertEqual((done.returncode, done.stderr), (2, "bot.py: name and key don't match: take both from your slip\n"))
         going.until("^configuration ")
         going.type("fault 1 2 true")
-        going.until("fault 1 2 true")
+        going.until("fault at node 1: p 2, m true")
         bots += self.bots(list(LATE))
         going.until("^connected: ")
         going.type("fault 6 null true")
-        going.until("fault 6 - true")
+        going.until("fault at node 6: p null, m true")
         going.until("^configuration ")
         os.kill(going.server(), signal.SIGKILL)
         self.assertEqual(going.ends(), 4, going.lines)
@@ -125,7 +125,7 @@ class Lesson(InRoom):
     def second_half(self, folder: Path) -> None:
         """Goes on in a terminal, which is closed; the desk is taken, and all end where the network is stable."""
         terminal = InTerminal(self, "run", "--resume", folder)
-        terminal.type(b"fault 3 null true\n", b": fault 3 - true; ")
+        terminal.type(b"fault 3 null true\n", b": fault at node 3: p null, m true; ")
         bots = self.bots(list(self.lab.students))
         os.close(terminal.ours)
         self.told(folder, f"the terminal went away, and the run goes on: {CLASS} attach {folder} takes it")
@@ -144,7 +144,7 @@ class Lesson(InRoom):
             self.assertLess(time.monotonic(), end)
             time.sleep(0.1)
         going.type("fault 5 null true")
-        going.until("fault 5 - true")
+        going.until("fault at node 5: p null, m true")
         going.until("; stable, ")
         going.type("end")
         self.assertEqual(going.ends(), 0, going.lines)
@@ -171,7 +171,7 @@ class Lesson(InRoom):
         self.assertGreater(min(int(row["applied"]) for row in rows), 0)
         kept = (folder / "run.txt").read_text(encoding="utf-8").splitlines()
         self.assertTrue(all(re.match(r"\d\d:\d\d ", line) for line in kept), kept)
-        for line in ("fault 1 2 true", "fault 6 - true", "fault 3 - true"):
+        for line in ("fault at node 1: p 2, m true", "fault at node 6: p null, m true", "fault at node 3: p null, m true"):
             self.assertTrue(any(line in each for each in kept), line)
 
 

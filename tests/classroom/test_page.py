@@ -156,7 +156,7 @@ class Live(InRoom):
         self.find("freeze")
         before = shown(self.driver)
         self.going.type("fault 1 7 true")
-        self.going.until("fault 1 7 true")
+        self.going.until("fault at node 1: p 7, m true")
         until(self.driver, lambda driver: driver.execute_script("return live.row.number") == 2)
         self.assertEqual(shown(self.driver), before)
         self.find("freeze")

@@ -121,7 +121,7 @@ class Resume(Cycle):
                 before = (going.folder / "journal").read_bytes()
                 again = Going(self, None, "run", "--resume", going.folder)
                 self.assertEqual((again.port, again.folder), (going.port, going.folder))
-                self.assertTrue(any(re.match(r"gone on from configuration \d+, events \d+ of 1000$", line) for line in again.lines), again.lines)
+                self.assertTrue(any(re.match(r"the class goes on at configuration \d+, events \d+ of 1000$", line) for line in again.lines), again.lines)
                 for name in KEYS:  # And of who hadn't, another bot comes.
                     self.bot(again, name)
                 self.assertEqual(again.ends(), 0, again.lines)
@@ -154,7 +154,7 @@ class Resume(Cycle):
             again: list[str | Path] = ["attach", folder] if kind == "run" else ["run", "--resume", folder]
             going = Going(self, None, *again)
             server = server if kind == "run" else going.server()
-            self.assertTrue(any(line.startswith("gone on from configuration ") for line in going.lines), going.lines)
+            self.assertTrue(any(line.startswith("the class goes on at configuration ") for line in going.lines), going.lines)
         players = Players(going.port, disturbs=False)
         going.type("fault 1 2 true")  # The last kill may have left it stable.
         going.until("; stable, ")
@@ -184,7 +184,7 @@ class Resume(Cycle):
         events = (going.folder / "journal").read_bytes().count(b"\n")
         self.assertGreater(events, 80)
         again = Going(self, None, "run", "--resume", going.folder, "--close", "every:0.2")
-        self.assertIn(f"gone on from configuration {events}, events {events} of 1000", again.lines)
+        self.assertIn(f"the class goes on at configuration {events}, events {events} of 1000", again.lines)
         for name in KEYS:
             self.bot(again, name)
         again.until("; stable, ")
@@ -244,7 +244,7 @@ class Resume(Cycle):
         kept.write_text(kept.read_text(encoding="utf-8").replace("events = 2\n", "events = 100\n"), encoding="utf-8")
         again = Going(self, None, "run", "--resume", going.folder, "--again", "--close", "by-hand")
         again.type("fault 1 2 true")
-        again.until("^configuration 2: fault 1 2 true; .*; events 3 of 100$")
+        again.until("^configuration 2: fault at node 1: p 2, m true; .*; events 3 of 100$")
         self.assertEqual(again.ended(), 0, again.lines)
         self.assertEqual(self.whole(going.folder), 3)
 
@@ -260,7 +260,7 @@ class Resume(Cycle):
                          (1, "", f"class: {folder}: this run was ended; --again opens it again, and makes its audit, page and marks anew\n"))
         self.assertEqual({file.name: file.read_bytes() for file in folder.iterdir() if file.is_file()}, before)
         again = Going(self, None, "run", "--resume", folder, "--again")
-        self.assertIn("gone on from configuration 1, events 1 of 1000", again.lines)
+        self.assertIn("the class goes on at configuration 1, events 1 of 1000", again.lines)
         os.kill(again.server(), signal.SIGKILL)
         self.assertEqual(again.ends(), 4, again.lines)
         again = Going(self, None, "run", "--resume", folder)  # It is open, and its server died.
@@ -282,7 +282,7 @@ class Resume(Cycle):
         self.assertIn("another lab", done.stderr)
         kept.write_text(text, encoding="utf-8")
         again = Going(self, None, "run", "--resume", going.folder)
-        self.assertIn("gone on from configuration 1, events 1 of 1000", again.lines)
+        self.assertIn("the class goes on at configuration 1, events 1 of 1000", again.lines)
         self.assertRegex(words("run", "--resume", going.folder).stderr, f"its run goes on: {CLASS} attach ")
         self.assertEqual(again.ended(), 0, again.lines)
         self.assertEqual(call("audit", kept, going.folder / "journal").status, 0)

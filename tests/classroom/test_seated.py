@@ -88,7 +88,7 @@ class Seated(Cycle):
         """A run that was killed after a fault, and its record; its server lives."""
         going = Going(self, CYCLE, "--close", "by-hand")
         going.type("fault 1 2 true")
-        going.until("^configuration 1: fault 1 2 true")
+        going.until("^configuration 1: fault at node 1: p 2, m true")
         record = Record.read(going.folder)
         assert record is not None
         self.addCleanup(self.end, record.server)
@@ -123,7 +123,7 @@ class Seated(Cycle):
             time.sleep(0.01)
         again = Going(self, None, "run", "--resume", going.folder, "--close", "by-hand", MML_HOST=self.relayed("seated"))
         self.assertEqual(self.told(), '{"ok":"hello","who":"gus"}\n')
-        self.assertIn("gone on from configuration 1, events 1 of 1000", again.lines)
+        self.assertIn("the class goes on at configuration 1, events 1 of 1000", again.lines)
         self.goes_on(again, 1)
 
     def test_a_student_before_attach(self) -> None:

@@ -55,7 +55,7 @@ class AfterACrash(Cycle):
         going.type("break")
         going.until("^the registers of 7 nodes were set$")
         for _ in range(2):
-            while not going.lines[-1].startswith("configuration ") or ": fault " in going.lines[-1]:
+            while not going.lines[-1].startswith("configuration ") or " fault" in going.lines[-1]:
                 going.type("close")
                 going.until("^(configuration .*;|no: empty)")
             going.lines.append("")

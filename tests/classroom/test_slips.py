@@ -295,7 +295,7 @@ class Talking(Cycle):
         words_of: tuple[str, ...] = (str(going.port), "gus", "-")
         said = call(*BOT, *words_of, "4", "0.5", key=KEYS["gus"])
         self.assertEqual((said.returncode, said.stderr), (0, ""))
-        self.assertIn("Move(at=0, place=1, node=4, rule='update')", said.stdout)
+        self.assertIn("node 4: update granted in configuration 0, as event 1", said.stdout)
         said = call(*BY_HAND, *words_of, typed='{"do":"bye"}\n', key=KEYS["gus"])
         self.assertEqual((said.returncode, said.stdout.splitlines()[0]), (0, '{"ok":"hello","who":"gus"}'))
         for command in BOTS:
@@ -310,7 +310,7 @@ class Talking(Cycle):
         slip = self.slip(going.port, "gus").read_text(encoding="utf-8")
         said = call(*BOT, "-", "0.5", slip=slip)
         self.assertEqual((said.returncode, said.stderr), (0, ""))
-        self.assertIn("Move(at=0, place=1, node=4, rule='update')", said.stdout)
+        self.assertIn("node 4: update granted in configuration 0, as event 1", said.stdout)
         said = call(*BY_HAND, "-", typed='{"do":"bye"}\n', slip=slip)
         self.assertEqual((said.returncode, said.stdout.splitlines()[0]), (0, '{"ok":"hello","who":"gus"}'))
         for command in BOTS:

@@ -4,8 +4,9 @@
 
 Records that are written by hand, each reason to refuse one, one byte hurt at each position of a short record,
 and the records of drawn runs of many clients: as they came, hurt, cut, beside another journal, and with an entry
-that can't have been said, of each kind that a lax verifier would let pass. Then a host records classes, one of which is killed, and one meets a full disk. With a number, only that seed's run
-is verified, and its files are left in the working folder.
+that can't have been said, of each kind that a lax verifier would let pass. Then a host records classes, one of
+which is killed, and one meets a full disk. With a number, only that seed's run is verified, and its files are left
+in the working folder.
 """
 import os
 import re

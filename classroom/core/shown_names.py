@@ -1,0 +1,74 @@
+"""The names that pages show for students: short ones from the class list, or numbers alone."""
+from __future__ import annotations
+
+import re
+from collections import Counter
+from collections.abc import Mapping
+from dataclasses import replace
+
+from classroom.core.journal import Event
+from classroom.core.lab import Lab
+from classroom.core.printable import printable
+
+MOST = 24  # characters of a name that is shown
+
+
+def short(written: str) -> str:
+    """Returns a name as the class knows it: `Zoë M.` for `Zoë Müller`, or for `Müller, Zoë`."""
+    last, comma, first = written.partition(",")
+    words = f"{first} {last}".split() if comma else written.split()
+    whole = " ".join(words) if len(words) < 2 else f"{words[0]} {words[-1][0]}."
+    return printable(whole)[:MOST]
+
+
+def display_names(lab: Lab) -> dict[str, str]:
+    """Returns what is shown for each student: the short form of the name in the class list, with a number behind it if
+    several students share it. A student without a written name keeps the name in the lab."""
+    found = {name: short(lab.people[name].written) if name in lab.people and lab.people[name].written != name else name
+             for name in lab.students}
+    count = Counter(found.values())
+    number: Counter[str] = Counter()
+    for name, shown in found.items():
+        if count[shown] > 1 and shown != name:
+            number[shown] += 1
+            found[name] = f"{shown} {number[shown]}"
+    return found
+
+
+def numbers(lab: Lab) -> dict[str, str]:
+    """Returns a number for each student, in the order of the lab."""
+    return {name: f"#{number}" for number, name in enumerate(lab.students, 1)}
+
+
+class ShownNames:
+    """Replaces the names of a lab's students by those that are shown."""
+
+    def __init__(self, names: Mapping[str, str]) -> None:
+        self.names = {name: shown for name, shown in names.items() if name != shown}
+        longest = sorted((re.escape(name) for name in self.names), key=len, reverse=True)
+        self.pattern = re.compile(rf"(?<![\w-])(?:{'|'.join(longest)})(?![\w-])") if longest else None
+
+    @staticmethod
+    def of(lab: Lab, anonymous: bool) -> ShownNames:
+        """Returns the names that the pages of a lab show."""
+        students = lab.without_house()
+        return ShownNames(numbers(students) if anonymous else display_names(students))
+
+    def name(self, name: str) -> str:
+        """Returns what is shown for a student."""
+        return self.names.get(name, name)
+
+    def line(self, line: str) -> str:
+        """Returns a line in which each name is replaced."""
+        return self.pattern.sub(lambda found: self.names[found[0]], line) if self.pattern else line
+
+    def event(self, event: Event) -> Event:
+        """Returns an event in which the student's name is replaced."""
+        if event.student is None or event.student not in self.names:
+            return event
+        return replace(event, words=(event.words[0], self.names[event.student], *event.words[2:]))
+
+    def lab(self, lab: Lab) -> Lab:
+        """Returns a lab in which each name is replaced."""
+        nodes = [replace(node, owners=[self.name(owner) for owner in node.owners]) for node in lab.nodes]
+        return replace(lab, students={self.name(name): key for name, key in lab.students.items()}, nodes=nodes, people={})

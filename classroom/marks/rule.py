@@ -1,0 +1,344 @@
+"""A rule by which marks become a grade: lines `name = expression` over the columns of the marks, as a teacher writes them.
+
+An expression has numbers, texts in quotes, the names of columns and of earlier lines, `+ - * /`, `< <= > >= == !=`, `and`, `or`,
+`not`, parentheses, `min(..)`, `max(..)`, `round(..)`, and `A if CONDITION else B`. Numbers are exact fractions. A value that isn't
+known, since no record has it, is unknown wherever the result depends on it.
+"""
+from __future__ import annotations
+
+import re
+from collections.abc import Callable, Mapping, Sequence
+from dataclasses import dataclass
+from fractions import Fraction
+from pathlib import Path
+
+from classroom.core import plain
+from classroom.core.printable import guarded
+from classroom.core.program import Fault
+
+Value = Fraction | bool | str | None  # None is unknown
+Row = Mapping[str, Value]
+Expression = Callable[[Row], Value]
+MOST_BYTES, MOST_LINES, MOST_DEPTH, MOST_DIGITS = 1 << 16, 100, 50, 12
+TOKEN = re.compile(r"\s*(?:(?P<number>\d+(?:\.\d+)?)|(?P<name>[A-Za-z_]\w*)|(?P<text>\"[^\"\n]*\"|'[^'\n]*')|(?P<sign><=|>=|==|!=|[-+*/()<>,=]))",
+                   re.ASCII)
+UNKNOWN = "-"
+KEYWORDS = ("and", "or", "not", "if", "else", "true", "false")
+FUNCTIONS: dict[str, Callable[[list[Fraction]], Fraction]] = {"min": min, "max": max, "round": lambda it: Fraction(round(it[0]))}
+
+
+class Wrong(Exception):
+    """What is wrong with a line."""
+
+
+@dataclass(frozen=True)
+class Line:
+    """A line of a rule."""
+
+    name: str
+    number: int
+    expression: Expression
+
+
+@dataclass(frozen=True)
+class Rule:
+    """The lines of a rule, in their order."""
+
+    path: Path
+    lines: list[Line]
+
+    @property
+    def names(self) -> list[str]:
+        """Returns the names of the lines."""
+        return [line.name for line in self.lines]
+
+    def values(self, row: Row) -> list[str]:
+        """Returns the value of each line for a row of marks, as texts; `-` is one that isn't known."""
+        known, found = dict(row), []
+        for line in self.lines:
+            try:
+                known[line.name] = line.expression(known)
+            except Wrong as wrong:
+                raise Fault(f"{self.path}: line {line.number}: {wrong}") from None
+            found.append(told(known[line.name]))
+        return found
+
+    def cells(self, row: Row) -> list[str]:
+        """Returns the values as a table's cells; no cell is a spreadsheet's formula."""
+        return [value if value == UNKNOWN else guarded(value) for value in self.values(row)]
+
+
+def told(value: Value) -> str:
+    """Returns a value as a text: a number with three decimals at most."""
+    if value is None:
+        return UNKNOWN
+    if isinstance(value, bool):
+        return "yes" if value else "no"
+    if isinstance(value, str):
+        return value
+    return f"{float(value):.3f}".rstrip("0").rstrip(".") if value.denominator != 1 else str(value.numerator)
+
+
+def read(path: Path, columns: Sequence[str]) -> Rule:
+    """Returns the rule of a file, whose expressions may name these columns."""
+    try:
+        lines = plain.read(path, MOST_BYTES).decode("utf-8-sig").splitlines()
+    except UnicodeDecodeError:
+        raise Fault(f"{path}: the bytes aren't UTF-8") from None
+    return parsed(path, lines, columns)
+
+
+def parsed(path: Path, lines: Sequence[str], columns: Sequence[str]) -> Rule:
+    """Returns the rule that these lines are."""
+    known, found = list(columns), list[Line]()
+    for number, text in enumerate(lines, 1):
+        try:
+            tokens = tokens_of(text)
+            if not tokens:
+                continue
+            line = line_of(tokens, number, known)
+        except Wrong as wrong:
+            raise Fault(f"{path}: line {number}: {wrong}: {text.strip()}") from None
+        known.append(line.name)
+        found.append(line)
+    if not 1 <= len(found) <= MOST_LINES:
+        raise Fault(f"{path}: a rule has 1 to {MOST_LINES} lines, as: pass = applied >= 3")
+    return Rule(path, found)
+
+
+def line_of(tokens: list[tuple[str, str]], number: int, known: Sequence[str]) -> Line:
+    """Returns the line that these tokens are, after these names."""
+    if len(tokens) < 3 or tokens[0][0] != "name" or tokens[1] != ("sign", "="):
+        raise Wrong("it isn't NAME = EXPRESSION")
+    name = tokens[0][1]
+    if name in known or name in KEYWORDS or name in FUNCTIONS:
+        raise Wrong(f"{name} is a column, an earlier line or a word of rules already")
+    parser = Parser(tokens[2:], known)
+    expression = parser.choice()
+    if parser.tokens:
+        raise Wrong(f"{parser.tokens[0][1]} isn't expected here")
+    return Line(name, number, expression)
+
+
+def tokens_of(text: str) -> list[tuple[str, str]]:
+    """Returns the kinds and texts of a line's tokens; what stands behind `#` is a comment."""
+    found, at = list[tuple[str, str]](), 0
+    while text[at:].strip() and not text[at:].lstrip().startswith("#"):
+        token = TOKEN.match(text, at)
+        if token is None:
+            raise Wrong(f"{text[at:].lstrip()[0]} is no part of a rule")
+        kind = str(token.lastgroup)
+        if kind == "number" and len(token[kind]) > MOST_DIGITS:
+            raise Wrong(f"{token[kind]} has more than {MOST_DIGITS} digits")
+        found.append((kind, token[kind]))
+        at = token.end()
+    return found
+
+
+class Parser:
+    """Reads an expression from its tokens, by descent: a choice, `or`, `and`, `not`, a comparison, sums, products, signs."""
+
+    def __init__(self, tokens: list[tuple[str, str]], names: Sequence[str]) -> None:
+        self.tokens, self.names, self.depth = tokens, names, 0
+
+    def takes(self, *texts: str) -> str:
+        """Takes the next token if it is one of these, and returns it; else returns nothing."""
+        if self.tokens and self.tokens[0][0] != "text" and self.tokens[0][1] in texts:
+            return self.tokens.pop(0)[1]
+        return ""
+
+    def wants(self, text: str) -> None:
+        """Takes the next token, which has to be this one."""
+        if not self.takes(text):
+            raise Wrong(f"{text} is expected {f'before {self.tokens[0][1]}' if self.tokens else 'at the end'}")
+
+    def choice(self) -> Expression:
+        """Reads `A if CONDITION else B`, or what binds more."""
+        self.depth += 1
+        if self.depth > MOST_DEPTH:
+            raise Wrong(f"it is nested more than {MOST_DEPTH} deep")
+        first = self.joined("or")
+        if self.takes("if"):
+            condition = self.joined("or")
+            self.wants("else")
+            other = self.choice()
+            first = chosen(condition, first, other)
+        self.depth -= 1
+        return first
+
+    def joined(self, word: str) -> Expression:
+        """Reads what `or` joins, or what `and` joins."""
+        def part() -> Expression:
+            """Reads one of them."""
+            return self.joined("and") if word == "or" else self.negated()
+
+        found = part()
+        while self.takes(word):
+            found = both(found, part(), word == "or")
+        return found
+
+    def negated(self) -> Expression:
+        """Reads `not A`, or a comparison."""
+        count = 0
+        while self.takes("not"):
+            count += 1
+        inner = self.compared()
+        return inner if count == 0 else negation(inner, count % 2 == 1)
+
+    def compared(self) -> Expression:
+        """Reads `A < B`, or a sum."""
+        left = self.summed()
+        sign = self.takes("<", "<=", ">", ">=", "==", "!=")
+        found = comparison(sign, left, self.summed()) if sign else left
+        if sign and self.takes("<", "<=", ">", ">=", "==", "!="):
+            raise Wrong("one comparison at a time: a < b and b < c")
+        return found
+
+    def summed(self) -> Expression:
+        """Reads a sum."""
+        found = self.product()
+        while sign := self.takes("+", "-"):
+            found = arithmetic(sign, found, self.product())
+        return found
+
+    def product(self) -> Expression:
+        """Reads a product."""
+        found = self.signed()
+        while sign := self.takes("*", "/"):
+            found = arithmetic(sign, found, self.signed())
+        return found
+
+    def signed(self) -> Expression:
+        """Reads `-A`, or a single value."""
+        count = 0
+        while self.takes("-"):
+            count += 1
+        value = self.single()
+        return value if count % 2 == 0 else arithmetic("-", constant(Fraction(0)), value)
+
+    def single(self) -> Expression:
+        """Reads a number, a text, a name, a call, or an expression in parentheses."""
+        if not self.tokens:
+            raise Wrong("it ends too early")
+        if self.takes("("):
+            found = self.choice()
+            self.wants(")")
+            return found
+        kind, text = self.tokens.pop(0)
+        if kind == "number":
+            return constant(Fraction(text))
+        if kind == "text":
+            return constant(text[1:-1])
+        if text in ("true", "false"):
+            return constant(text == "true")
+        if kind != "name" or text in KEYWORDS:
+            raise Wrong(f"{text} isn't expected here")
+        return self.call(text) if text in FUNCTIONS else self.named(text)
+
+    def call(self, name: str) -> Expression:
+        """Reads what a function takes."""
+        self.wants("(")
+        given = [self.choice()]
+        while self.takes(","):
+            given.append(self.choice())
+        self.wants(")")
+        if name == "round" and len(given) > 1:
+            raise Wrong("round takes one number")
+        return called(name, given)
+
+    def named(self, name: str) -> Expression:
+        """Returns the value of a column or of an earlier line."""
+        if name not in self.names:
+            raise Wrong(f"no column {name}; mark --columns prints them")
+        return lambda row: row[name]
+
+
+def constant(value: Value) -> Expression:
+    """Returns an expression with this value."""
+    return lambda row: value
+
+
+def number(value: Value) -> Fraction:
+    """Returns a value that has to be a number."""
+    if isinstance(value, (bool, str)) or value is None:
+        raise Wrong(f"{told(value)} is no number")
+    return value
+
+
+def truth(value: Value) -> bool | None:
+    """Returns a value that has to be yes or no, or unknown."""
+    if value is not None and not isinstance(value, bool):
+        raise Wrong(f"{told(value)} is neither yes nor no; a comparison is, as: applied >= 1")
+    return value
+
+
+def chosen(condition: Expression, first: Expression, other: Expression) -> Expression:
+    """Returns the first where the condition holds, else the other."""
+    def value(row: Row) -> Value:
+        """Returns the value."""
+        holds = truth(condition(row))
+        return None if holds is None else first(row) if holds else other(row)
+
+    return value
+
+
+def both(left: Expression, right: Expression, is_or: bool) -> Expression:
+    """Returns `left or right`, else `left and right`. It is known if one side decides it."""
+    def value(row: Row) -> Value:
+        """Returns the value."""
+        sides = truth(left(row)), truth(right(row))
+        return is_or if is_or in sides else None if None in sides else not is_or
+
+    return value
+
+
+def negation(inner: Expression, is_negated: bool) -> Expression:
+    """Returns whether the inner one doesn't hold, or if it isn't negated whether it does."""
+    def value(row: Row) -> Value:
+        """Returns the value."""
+        holds = truth(inner(row))
+        return None if holds is None else holds != is_negated
+
+    return value
+
+
+def comparison(sign: str, left: Expression, right: Expression) -> Expression:
+    """Returns whether the comparison holds. Texts are equal or not; the other signs compare numbers."""
+    def value(row: Row) -> Value:
+        """Returns the value."""
+        one, other = left(row), right(row)
+        if one is None or other is None:
+            return None
+        if sign in ("==", "!="):
+            if isinstance(one, bool) != isinstance(other, bool) or isinstance(one, str) != isinstance(other, str):
+                raise Wrong(f"{told(one)} and {told(other)} can't be compared")
+            return (one == other) == (sign == "==")
+        a, b = number(one), number(other)
+        return {"<": a < b, "<=": a <= b, ">": a > b, ">=": a >= b}[sign]
+
+    return value
+
+
+def arithmetic(sign: str, left: Expression, right: Expression) -> Expression:
+    """Returns the sum, difference, product or quotient."""
+    def value(row: Row) -> Value:
+        """Returns the value."""
+        one, other = left(row), right(row)
+        if one is None or other is None:
+            return None
+        a, b = number(one), number(other)
+        if sign == "/" and b == 0:
+            raise Wrong("a division by 0")
+        return a + b if sign == "+" else a - b if sign == "-" else a * b if sign == "*" else a / b
+
+    return value
+
+
+def called(name: str, given: Sequence[Expression]) -> Expression:
+    """Returns what a function gives for its values."""
+    def value(row: Row) -> Value:
+        """Returns the value."""
+        values = [each(row) for each in given]
+        return None if None in values else FUNCTIONS[name]([number(each) for each in values])
+
+    return value

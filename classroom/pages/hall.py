@@ -1,0 +1,160 @@
+"""The page for all networks of a class: what each is like, who is missing, and which is down; a click opens one.
+
+The page has two addresses: one to look at, and one to act at. Below each of them the server answers
+
+- `` (nothing more): the page, `hall.html` with `hall.css` and `hall.js` inside
+- `state`: the state of the class as a JSON object (`classroom.core.class_state` documents it)
+- `events`: server-sent events; each `data` is such an object, sent whenever something has changed, and one comment line if
+  nothing has changed for ten seconds
+- `act`, by POST and at the address to act alone: one line, as `2: close`, `all: shake 3`, `maths-2: end` or `3: resume`. The word is
+  one of ACTS, with its values; the network before it is a number, a name or `all`
+
+The address to act at is another one for each class, and no other page knows it.
+"""
+from __future__ import annotations
+
+import hmac
+import json
+import re
+import secrets
+import threading
+from collections.abc import Callable
+from html import escape
+
+from classroom.core.class_state import ClassState
+from classroom.pages.page import FOLDER, data_element, hashed
+from classroom.pages.web import Asked, Web
+from classroom.pages.web import opened as web_opened
+
+LISTED = 25  # lines that the page shows
+STILL_HERE = 10.0  # seconds without news after which a page is told that there are none
+LAST_WORD = 2.0  # seconds in which pages may learn that the class is over
+MOST_BYTES = 200  # of a line that the page sends
+ACTS = ("close", "shake", "resume", "end")
+LINE = re.compile(r"[^\s:]+: (?:close|resume|end|shake (?:\d{1,3}|all))")
+
+
+class Hall(Web):
+    """Serves the page for all networks of a class."""
+
+    def __init__(self, port: int, title: str, act: Callable[[str], None], state: ClassState, looks: str | None = None) -> None:
+        super().__init__(port, Page, title)
+        self.act = act
+        self.looks, self.acts = looks or secrets.token_urlsafe(16), secrets.token_urlsafe(16)
+        self.turn = threading.Condition()
+        self.texts = {self.looks: text(state), self.acts: text(state)}
+        self.version, self.ended, self.told = 1, False, 0
+
+    @property
+    def address(self) -> str:
+        """Returns the address to look at."""
+        return f"http://127.0.0.1:{self.server_port}/{self.looks}/"
+
+    @property
+    def address_to_act(self) -> str:
+        """Returns the address to act at, which the teacher alone opens."""
+        return f"http://127.0.0.1:{self.server_port}/{self.acts}/"
+
+    def show(self, looks: ClassState, acts: ClassState) -> None:
+        """Shows this state from now on. The page to act at links to the pages to act at."""
+        texts = {self.looks: text(looks), self.acts: text(acts)}
+        with self.turn:
+            if texts != self.texts:
+                self.texts, self.version = texts, self.version + 1
+                self.turn.notify_all()
+
+    def after(self, version: int, seconds: float) -> tuple[int, bool]:
+        """Waits until there is a later version, or for so many seconds. Returns the version, and whether it is the last."""
+        with self.turn:
+            self.turn.wait_for(lambda: self.version != version, seconds)
+            return self.version, self.ended
+
+    def stop(self, looks: ClassState, acts: ClassState) -> None:
+        """Tells the pages that the class is over, and closes the port."""
+        self.ended = True
+        self.show(looks, acts)
+        with self.turn:
+            self.turn.notify_all()
+            self.turn.wait_for(lambda: self.told == 0, LAST_WORD)
+        self.close()
+
+    def count(self, more: int) -> None:
+        """Notes that a page begins to receive the news, by 1, or ends, by -1."""
+        with self.turn:
+            self.told += more
+            self.turn.notify_all()
+
+
+class Page(Asked):
+    """One request of a page."""
+
+    server: Hall
+
+    def asked(self) -> tuple[str, str]:
+        """Returns the token if it is one of the two, and what is asked for below it; else two empty texts."""
+        beginning, slash, rest = self.path[1:].partition("/")
+        known = [token for token in (self.server.looks, self.server.acts) if hmac.compare_digest(beginning.encode(), token.encode())]
+        return (known[0], rest) if known and slash else ("", "")
+
+    def do_GET(self) -> None:
+        """Answers with the page, the state or the news."""
+        token, asked = self.asked()
+        if self.is_elsewhere():
+            return
+        if not token or asked not in ("", "state", "events"):
+            return self.head(404)
+        if asked == "state":
+            return self.answer(200, "application/json", self.server.texts[token].encode())
+        if asked == "events":
+            self.head(200, "text/event-stream", None)
+            self.server.count(1)
+            try:
+                return self.tell(token)
+            finally:
+                self.server.count(-1)
+        page, policy = hall_page(self.server.title, self.server.texts[token], token == self.server.acts)
+        self.answer(200, "text/html; charset=utf-8", page.encode(), policy)
+
+    def do_POST(self) -> None:
+        """Takes a line of the teacher's."""
+        if self.is_elsewhere():
+            return
+        body = self.body(MOST_BYTES) if self.asked() == (self.server.acts, "act") else None
+        if body is None:
+            return self.head(404)
+        line = body.decode("utf-8", errors="replace")
+        if not LINE.fullmatch(line):
+            return self.head(400)
+        self.server.act(line)
+        self.head(204)
+
+    def tell(self, token: str) -> None:
+        """Sends the state, and again whenever it has changed, until the class or the page ends."""
+        version, ended = 0, False
+        while not ended:
+            before = version
+            version, ended = self.server.after(version, STILL_HERE)
+            news = ": no news" if version == before else f"data: {self.server.texts[token]}"
+            self.wfile.write(f"{news}\n\n".encode())
+
+
+def text(state: ClassState) -> str:
+    """Returns a state as the text that a page receives."""
+    return json.dumps(state.table(), separators=(",", ":"))
+
+
+def hall_page(title: str, state: str, acts: bool) -> tuple[str, str]:
+    """Returns the page, and the policy that lets its own style and program alone be used."""
+    style, program = ((FOLDER / f"hall.{kind}").read_text("utf-8") for kind in ("css", "js"))
+    head, *rest = (FOLDER / "hall.html").read_text("utf-8").split("{{")
+    parts = {"TITLE": escape(title), "STYLE": style, "PROGRAM": program, "DATA": data_element(state), "ACTS": "acts" if acts else "looks"}
+    page = head + "".join(parts[piece.split("}}", 1)[0]] + piece.split("}}", 1)[1] for piece in rest)
+    return page, f"style-src {hashed(style)}; script-src {hashed(program)}"
+
+
+def opened(port: int, title: str, act: Callable[[str], None], state: ClassState, looks: str | None = None) -> Hall:
+    """Returns the server at a port or at the next that is free, which answers from now on. A class that goes on keeps the token
+    of the address to look at."""
+    it = web_opened(port, lambda number: Hall(number, title, act, state, looks))
+    it.open()
+    return it

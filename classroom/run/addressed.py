@@ -1,0 +1,55 @@
+"""Lines that are typed at the desk of a class of several networks: which networks a line is for, and what it asks there."""
+from __future__ import annotations
+
+import re
+from collections.abc import Sequence
+
+from classroom.core.desk_words import WORDS
+
+EVERY = "all"
+NETWORKS, RESUME, END, HELP = "networks", "resume", "end", "help"
+OWN = {
+    NETWORKS: "the table of all networks, with the state of each",
+    f"{RESUME} NETWORK": "go on with a network whose server or desk is gone",
+    f"{END} NETWORK": "end a network; of one that is down, give it up",
+}
+BARE = {word for word, it in WORDS.items() if not it.form} | {RESUME}  # the words that may have the network behind them
+HOW = "a network's number or name stands before a word (2 shake 3, maths-2: close) or behind a word without values (close 2); " \
+      "all, or no network, is for every one"
+
+
+def listed(names: Sequence[str]) -> str:
+    """Returns the networks with their numbers, as a text."""
+    return ", ".join(f"{number} {name}" for number, name in enumerate(names, 1))
+
+
+def target(word: str, names: Sequence[str]) -> list[int] | None:
+    """Returns the indices of the networks that a word names by number, by name or as `all`, or None if it names none."""
+    if word == EVERY:
+        return list(range(len(names)))
+    if word in names:
+        return [names.index(word)]
+    return [int(word) - 1] if re.fullmatch(r"\d{1,9}", word, re.ASCII) and 1 <= int(word) <= len(names) else None
+
+
+def addressed(line: str, names: Sequence[str]) -> tuple[list[int], str]:
+    """Returns the indices of the networks that a line is for, and what it asks there. Raises `ValueError` if it names a
+    network that isn't there."""
+    words = line.split()
+    before = re.fullmatch(r"\s*(\S+?)\s*:\s*(.*?)\s*", line)
+    if before and before[1] not in WORDS:
+        return wanted(before[1], names), before[2]
+    first = words[0] if words else ""
+    if first not in WORDS and (re.match(r"\d", first) or target(first, names) is not None):
+        return wanted(first, names), " ".join(words[1:])
+    if len(words) == 2 and first in BARE:
+        return wanted(words[1], names), first
+    return wanted(EVERY, names), line.strip()
+
+
+def wanted(word: str, names: Sequence[str]) -> list[int]:
+    """Returns the indices of the networks that a word names. Raises `ValueError` if it names none."""
+    found = target(word, names)
+    if found is None:
+        raise ValueError(f"there is no network {word}; there are {listed(names)}")
+    return found

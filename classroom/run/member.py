@@ -1,0 +1,199 @@
+"""One network of a class: the process that holds its desk, what that has printed, and what is wrong with it."""
+from __future__ import annotations
+
+import os
+import queue
+import re
+import signal
+import subprocess
+import sys
+import threading
+from collections.abc import Callable
+from dataclasses import dataclass, field, replace
+from functools import partial
+from pathlib import Path
+from typing import Any
+
+from classroom.core import class_state
+from classroom.core.class_state import DOWN, ENDED, RUNS, STARTS, NetworkState
+from classroom.core.classes import Network
+from classroom.core.folders import Record
+from classroom.core.lab import Lab
+from classroom.core.program import TOP
+from classroom.core.statuses import FAILED
+
+Child = subprocess.Popen[str]
+News = queue.SimpleQueue[Callable[[], None]]
+READY = "words: "
+# What a run prints while it starts, by what the class's table has of it.
+FACTS = {
+    "port": re.compile(r"port (\d+), .*"), "page": re.compile(r"page (http\S+)"), "act": re.compile(r"page to act (http\S+)"),
+    "play": re.compile(r"page to play (http\S+)"), "play_from": re.compile(r"page to play from elsewhere (http\S+)"),
+    "look_from": re.compile(r"page to look at from elsewhere (http\S+)"),
+}
+TOLD_IN_TABLE = ("slips: ", "desk ", READY, "page to act")
+DIED = re.compile(r"the server has ended.*|the server: .*|nothing more is granted: .*|class: .*")
+LEFT_OUT = re.compile(r"to go on: .*|the lesson .*|it is \d\d:\d\d: .*")  # The class's desk says that itself, once.
+
+
+def environment() -> dict[str, str]:
+    """Returns the environment of a run's process: its lines come at once."""
+    return {**os.environ, "PYTHONUNBUFFERED": "1"}
+
+
+@dataclass
+class Member:
+    """A network of a class with its process."""
+
+    number: int
+    network: Network
+    folder: Path
+    lab: Lab  # without the house
+    more: list[str]  # The words that its run is started with.
+    news: News
+    child: Child | None = None
+    facts: dict[str, str] = field(default_factory=dict)  # what its process said while it started
+    wanted: set[str] = field(default_factory=set)  # what it says before it has started
+    status: str = STARTS
+    alarm: str = ""
+    code: int = 0  # The exit status of its last process.
+    why: str = ""  # What its process said of its end.
+    begun: bool = False  # Whether its process has said that it takes words.
+    has_desk: bool = False  # Whether a process ever held its desk.
+
+    @property
+    def name(self) -> str:
+        """Returns the network's name."""
+        return self.network.name
+
+    def start(self, hear: Callable[[Member, str], None], ended: Callable[[Member], None]) -> None:
+        """Starts the process that holds the desk: a new run, one that goes on, or one that takes the desk of a server that
+        is still there. What it prints is put among the news, line by line, and so is its end."""
+        record = Record.read(self.folder)
+        if record is None:
+            words = ["run", self.network.lab, "--into", str(self.folder.parent), "--beside", *self.more]
+        elif record.server.lives():
+            words = ["attach", str(self.folder), *self.kept("--door-at")]
+        else:
+            words = ["run", "--resume", str(self.folder), *self.kept(), *(["--again"] if record.ended else [])]
+        self.status, self.alarm, self.why, self.begun, self.facts = STARTS, "", "", False, {}
+        self.wanted = wanted(self.more, record)
+        self.child = subprocess.Popen(
+            [sys.executable, TOP / "class", *words, "--typed"], stdin=subprocess.PIPE, stdout=subprocess.PIPE,
+            stderr=subprocess.STDOUT, text=True, start_new_session=True, env=environment(),
+        )
+        threading.Thread(target=self.follow, args=[self.child, hear, ended], daemon=True).start()
+
+    def kept(self, *but: str) -> list[str]:
+        """Returns the words for a run that goes on: but for its port, which it keeps, and for others with a value."""
+        words = list(self.more)
+        for word in ("--port", "--into", *but):
+            if word in words:
+                at = words.index(word)
+                del words[at:at + 2]
+        return [word for word in words if word not in ("--serve", "--beside")]
+
+    def follow(self, child: Child, hear: Callable[[Member, str], None], ended: Callable[[Member], None]) -> None:
+        """Puts each line that the process prints among the news, and its end."""
+        assert child.stdout is not None
+        for line in child.stdout:
+            self.news.put(partial(hear, self, line.rstrip("\n")))
+        child.wait()
+        self.news.put(partial(ended, self))
+
+    def takes(self, line: str) -> bool:
+        """Notes a line that the process printed. Returns whether the class's desk shows it."""
+        fact, value = fact_in(line)
+        is_new = fact != "" and fact not in self.facts
+        if fact:
+            self.facts[fact] = value
+        self.why = line if DIED.fullmatch(line) else self.why
+        self.begun = self.has_desk = self.begun or line.startswith(READY)
+        if self.status == STARTS and self.begun and self.wanted <= self.facts.keys():
+            self.status = RUNS
+        if self.status == STARTS or is_new or line.startswith(READY):
+            return not (fact or line.startswith(TOLD_IN_TABLE))
+        return not LEFT_OUT.fullmatch(line)
+
+    def send(self, line: str) -> bool:
+        """Sends a line to the process. Returns whether it takes one."""
+        try:
+            assert self.child is not None and self.child.stdin is not None
+            self.child.stdin.write(line + "\n")
+            self.child.stdin.flush()
+        except (AssertionError, OSError, ValueError):
+            return False
+        return True
+
+    def has_ended(self) -> None:
+        """Notes that its process has ended: the run too, or else it is down, which is an alarm."""
+        assert self.child is not None
+        self.code = self.child.returncode
+        for pipe in (self.child.stdin, self.child.stdout):
+            if pipe is not None:
+                try:
+                    pipe.close()
+                except OSError:
+                    pass
+        record = Record.read(self.folder)
+        if record is not None and record.ended and not record.goes_on():
+            self.status = ENDED
+            return
+        self.status = DOWN
+        if record is not None and record.server.lives():
+            what = "its desk is gone, and its server goes on"
+        else:
+            what = self.why or f"its process has ended, {told_status(self.code)}"
+        remedy = f"resume {self.number} goes on with it" if record is not None or not self.has_desk else ""
+        self.alarm = f"{what}; {remedy}, end {self.number} gives it up"
+
+    def give_up(self) -> str:
+        """Gives up a network that is down, and returns the line that says so. Raises `ValueError` if its server goes on."""
+        record = Record.read(self.folder)
+        if record is not None and record.server.lives():
+            raise ValueError(f"its server goes on: resume {self.number} takes its desk, then end {self.number} ends it")
+        if record is not None:
+            replace(record, ended=True).write(self.folder)
+        self.status, self.alarm, self.code = ENDED, "", FAILED
+        return f"given up; what it left is in {self.folder}"
+
+    def terminate(self) -> None:
+        """Ends its run by a signal, if its process goes on."""
+        if self.child is not None and self.child.poll() is None:
+            self.child.send_signal(signal.SIGTERM)
+
+    def leave(self) -> None:
+        """Has its process leave the desk to another one."""
+        if self.child is not None and self.child.poll() is None:
+            self.child.send_signal(signal.SIGUSR1)
+
+    def shown(self, acts: bool = False) -> NetworkState:
+        """Returns what the page for all shows of it."""
+        port = int(self.facts["port"]) if "port" in self.facts else None
+        page = self.facts.get("act" if acts else "page", "") if self.status in (STARTS, RUNS) else ""
+        return NetworkState(self.number, self.name, self.network.room, port, page, self.lab.sessions - 1, len(self.lab.students),
+                            self.status, self.alarm, self.state())
+
+    def state(self) -> dict[str, Any] | None:
+        """Returns the state that its run wrote last."""
+        return class_state.read(self.folder)
+
+
+def fact_in(line: str) -> tuple[str, str]:
+    """Returns what a line tells that the table has, and its value; else two empty texts."""
+    for fact, pattern in FACTS.items():
+        if found := pattern.fullmatch(line):
+            return fact, found[1]
+    return "", ""
+
+
+def wanted(words: list[str], record: Record | None) -> set[str]:
+    """Returns what a run that is started with these words says before it has started."""
+    found = {"port"} | ({"play_from"} if "--door-at" in words else set())
+    found |= {"page", "act"} if "--page" in words or record is not None and record.page is not None else set()
+    return found | ({"play"} if "--play" in words or record is not None and record.play is not None else set())
+
+
+def told_status(code: int) -> str:
+    """Returns how a process ended, as a text."""
+    return f"status {code}" if code >= 0 else f"by {signal.Signals(-code).name}"

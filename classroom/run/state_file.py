@@ -1,0 +1,69 @@
+"""The state of a network of a class, which its run writes for the desk and the page of the class."""
+from __future__ import annotations
+
+import time
+from pathlib import Path
+from typing import Any
+
+from classroom.core import bounds, class_state
+from classroom.core.shown_names import ShownNames
+from classroom.run.closing import spelled
+from classroom.run.desk import Desk
+
+PAUSE = 1.0  # seconds between two writings
+
+
+class StateFile:
+    """Keeps `state.json` in the folder of a run up to date (`classroom.core.class_state`)."""
+
+    def __init__(self, folder: Path, names: ShownNames) -> None:
+        self.folder, self.names = folder, names
+        self.due = 0.0
+        self.written: dict[str, Any] | None = None
+
+    def keep(self, desk: Desk) -> None:
+        """Writes the state if it has changed, once a second at most."""
+        now = time.monotonic()
+        if now < self.due:
+            return
+        self.due = now + PAUSE
+        state = self.of(desk)
+        if state != self.written:
+            class_state.write(self.folder, state)
+            self.written = state
+
+    def of(self, desk: Desk) -> dict[str, Any]:
+        """Returns the state of the network whose desk this is."""
+        known, lab = desk.known, desk.announcer.shown
+        links = sorted(tuple(sorted(link)) for link in desk.announcer.comeback.links)
+        most = bounds.told(len(lab.nodes), len(links))
+        report = known.report
+        return {
+            "configuration": report.at, "stable": report.stable, "privileged": [list(each) for each in report.privileged],
+            "pairs": [list(pair) for pair in report.pairs], "open": len(report.open), "moves": known.book.since,
+            "most": most.moves if most else None, "events": known.count, "limit": desk.lab.events,
+            "closing": spelled(desk.closing), "waiting": self.waiting(desk), "missing": self.missing(desk),
+            "idle": [self.names.name(name) for name in known.book.idle], "links": [list(link) for link in links],
+            "nodes": nodes(desk),
+        }
+
+    def waiting(self, desk: Desk) -> list[dict[str, Any]]:
+        """Returns the nodes for which the class waits, with their owners."""
+        owners = desk.announcer.shown.owners
+        return [{"node": node, "owners": [self.names.name(name) for name in owners(node)], "rule": rule}
+                for node, rule in desk.known.waiting()]
+
+    def missing(self, desk: Desk) -> list[str]:
+        """Returns the students with a node who have no connection; none where no record says who has one."""
+        if desk.heard is None:
+            return []
+        lab, there = desk.announcer.shown, desk.heard.connected()
+        return [self.names.name(name) for name in lab.students if lab.nodes_of(name) and not there[name]]
+
+
+def nodes(desk: Desk) -> list[list[Any]]:
+    """Returns each node with its registers and the rule of its chosen move, if a page watches them."""
+    if desk.watch is None:
+        return []
+    state = desk.watch.state
+    return [[node, state.pointers[node], state.ms[node], state.chosen.get(node)] for node in sorted(state.pointers)]

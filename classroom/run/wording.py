@@ -1,0 +1,47 @@
+"""How events are worded at the desk: one line each, and one line with a count for many of a kind."""
+from __future__ import annotations
+
+from collections import Counter
+from collections.abc import Sequence
+
+from classroom.core.counts import plural
+from classroom.core.journal import Event
+
+MOST_MOVES = 6  # moves of a step that are told one by one
+MOST_NODES = 6  # nodes that are named of many
+KINDS = {"fault": "fault", "link": "link", "cut": "cut"}
+
+
+def moves(moved: Sequence[tuple[int, str, str]]) -> str:
+    """Returns the moves of a step, or if they are many how many there are of each rule."""
+    if len(moved) <= MOST_MOVES:
+        return ", ".join(f"{node} ({name}) {rule}" for node, name, rule in moved)
+    count = Counter(rule for _, _, rule in moved)
+    return f"{plural(len(moved), 'move')}, {', '.join(f'{number} {rule}' for rule, number in count.most_common())}"
+
+
+def edit(event: Event) -> str:
+    """Returns what an event did that isn't a step."""
+    if event.kind != "fault":
+        return " ".join(event.words)
+    _, node, p, m = event.words
+    return f"fault at node {node}: p {'null' if p == '-' else p}, m {m}"
+
+
+def edits(events: Sequence[Event]) -> str:
+    """Returns what several events of one kind did, with their number."""
+    nodes = sorted({node for event in events for node in event.nodes})
+    return f"{plural(len(events), KINDS[events[0].kind])} at {named(nodes)}"
+
+
+def named(nodes: Sequence[int]) -> str:
+    """Returns the nodes, or if they are many the first of them and how many more there are."""
+    shown = ", ".join(map(str, nodes[:MOST_NODES]))
+    more = len(nodes) - MOST_NODES
+    return f"nodes {shown} and {more} more" if more > 0 else f"node{'s' if len(nodes) > 1 else ''} {shown}"
+
+
+def some(texts: Sequence[str], most: int, what: str) -> str:
+    """Returns the texts, or if they are more than `most` the first of them, and how many more of `what` there are."""
+    more = len(texts) - most
+    return ", ".join(texts[:most]) + (f", and {plural(more, f'more {what}')}" if more > 0 else "")

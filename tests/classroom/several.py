@@ -1,0 +1,90 @@
+"""A class of several networks whose desk is typed at, for the tests."""
+from __future__ import annotations
+
+import json
+import os
+import re
+import signal
+import subprocess
+import sys
+from pathlib import Path
+from typing import Any
+
+from classroom.core.class_state import read as state_of
+from classroom.core.folders import Record
+from classroom.core.program import TOP
+from tests.classroom.help import LIMIT, Going, InRoom, a_port, words
+
+NAMES = ("Zoë Müller", "José García", "Lukas Schmidt", "Lukas Schmidt", "Ana Lima", "Ben Roy", "Cyd Sol", "Dora Em")
+
+
+class GoingClass(Going):
+    """The desk of a class that is going on; its lines are read one by one."""
+
+    def __init__(self, test: InRoom, *more: str | Path, **environment: str) -> None:
+        self.lines: list[str] = []
+        self.process = subprocess.Popen(
+            [sys.executable, TOP / "class", *more, "--typed"], stdin=subprocess.PIPE, stdout=subprocess.PIPE,
+            stderr=subprocess.STDOUT, text=True, env={**os.environ, **environment},
+        )
+        test.addCleanup(self.close)
+        test.addCleanup(self.end_servers)
+        told = re.search(r"^class of \d+ networks?; folder (.*)$", self.until("^class of "))
+        assert told is not None
+        self.folder = Path(told[1])
+        self.until("^words: ")
+
+    def record(self, name: str) -> Record:
+        """Returns what the folder of a network keeps."""
+        record = Record.read(self.folder / name)
+        assert record is not None
+        return record
+
+    def kill(self, name: str) -> None:
+        """Kills the server of a network."""
+        os.kill(self.record(name).server.number, signal.SIGKILL)
+
+    def state(self, name: str) -> dict[str, Any]:
+        """Returns the state that a network's run wrote last."""
+        return state_of(self.folder / name) or {}
+
+    def marks(self, name: str) -> dict[str, int]:
+        """Returns what the marks of a network's run say of it."""
+        run: dict[str, int] = json.loads((self.folder / name / "marks.json").read_text(encoding="utf-8"))["runs"][0]
+        return run
+
+    def end_servers(self) -> None:
+        """Ends what is left of its servers and of the processes that hold their desks."""
+        if self.process.poll() is None:
+            self.process.kill()
+        for folder in self.folder.iterdir() if hasattr(self, "folder") else ():
+            record = Record.read(folder)
+            for it in (record.run, record.server) if record is not None else ():
+                if it.lives():
+                    os.kill(it.number, signal.SIGKILL)
+
+
+class Classes(InRoom):
+    """Tests over the two networks of a class of eight."""
+
+    def setUp(self) -> None:
+        super().setUp()
+        students = self.file("names.txt", "\n".join(NAMES) + "\n")
+        made = words("new", self.room / "maths.toml", "--students", students, "--groups", "2", "--start", "random", "--seed", "5")
+        self.assertEqual(made.returncode, 0, made.stderr)
+        self.labs = [self.room / "maths-1.toml", self.room / "maths-2.toml"]
+
+    def begin(self, *more: str | Path) -> GoingClass:
+        """Returns the desk of a class that begins."""
+        return GoingClass(self, "run", *self.labs, "--into", self.room / "runs", "--port", str(a_port()), *more)
+
+    def bot(self, desk: GoingClass, network: str, name: str) -> subprocess.Popen[bytes]:
+        """Starts the bot of a student."""
+        number = network.rpartition("-")[2]
+        text = (self.room / f"maths-{number}-slips" / f"{name}.slip").read_text(encoding="utf-8")
+        slip = self.file(f"{name}.{network}.slip", re.sub(r"(?m)^port \d+$", f"port {desk.record(network).port}", text))
+        bot = subprocess.Popen([sys.executable, TOP / "examples/bot.py", slip], stdin=subprocess.DEVNULL, stdout=subprocess.DEVNULL,
+                               stderr=subprocess.DEVNULL)
+        self.addCleanup(bot.wait, LIMIT)
+        self.addCleanup(bot.kill)
+        return bot

@@ -1,0 +1,132 @@
+"""The end of a lesson by the clock, and names as pages show them."""
+from __future__ import annotations
+
+import argparse
+import re
+import unittest
+from datetime import datetime, timedelta
+
+from classroom.core.journal import Event
+from classroom.core.lab import Lab, Node
+from classroom.core.lists import Person
+from classroom.core.program import host
+from classroom.core.shown_names import ShownNames, display_names, short
+from classroom.run import wording
+from classroom.run.clock import Clock, hour, kept, next_time
+from tests.classroom.help import CYCLE, Cycle, Going, words
+
+NOW = datetime(2026, 11, 24, 10, 2, 30)
+
+
+class Clocks(unittest.TestCase):
+    """Times of the day, and warnings."""
+
+    def test_the_next_time(self) -> None:
+        self.assertEqual(next_time("10:45", NOW), datetime(2026, 11, 24, 10, 45))
+        self.assertEqual(next_time("00:30", datetime(2026, 11, 24, 23, 0)), datetime(2026, 11, 25, 0, 30))
+        with self.assertRaisesRegex(ValueError, "^--ends 09:45: it is 10:02 already$"):
+            next_time("09:45", NOW)
+        self.assertEqual((hour("9:05"), hour("23:59")), ("09:05", "23:59"))
+        for word in ("24:00", "10:60", "10", "10:5", "x", "10:45:00"):
+            with self.assertRaises(argparse.ArgumentTypeError):
+                hour(word)
+
+    def test_a_run_that_goes_on_keeps_an_end_that_is_to_come(self) -> None:
+        self.assertEqual(kept("2026-11-24T10:45:00", NOW), datetime(2026, 11, 24, 10, 45))
+        for text in ("2026-11-24T10:00:00", "2026-11-24T10:45:00+00:00", "x", "", None):
+            self.assertIsNone(kept(text, NOW))
+
+    def test_warnings_come_once_and_in_time(self) -> None:
+        clock = Clock(datetime(2026, 11, 24, 10, 45), NOW)
+        told = [(minute, clock.warning(datetime(2026, 11, 24, 10, minute))) for minute in range(2, 46)]
+        self.assertEqual([(minute, line) for minute, line in told if line], [
+            (35, "the lesson ends at 10:45, in 10 minutes"), (40, "the lesson ends at 10:45, in 5 minutes"),
+            (44, "the lesson ends at 10:45, in 1 minute")])
+        self.assertTrue(clock.is_over(datetime(2026, 11, 24, 10, 45)))
+        late = Clock(datetime(2026, 11, 24, 10, 45), datetime(2026, 11, 24, 10, 41))
+        self.assertEqual(late.warning(datetime(2026, 11, 24, 10, 41, 1)), "")
+        self.assertEqual(late.warning(datetime(2026, 11, 24, 10, 44, 30)), "the lesson ends at 10:45, in 1 minute")
+
+
+@unittest.skipUnless(host(), "not tried: no host is built")
+class Ends(Cycle):
+    """A run that ends by the clock."""
+
+    def test_it_warns_and_ends(self) -> None:
+        end = (datetime.now() + timedelta(seconds=90)).replace(second=0)
+        end += timedelta(minutes=(end - datetime.now()) < timedelta(seconds=30))
+        going = Going(self, CYCLE, "--close", "by-hand", "--ends", f"{end:%H:%M}")
+        going.until(f"^it is {end:%H:%M}: the lesson is over$")
+        self.assertEqual(going.ends(), 0, going.lines)
+        self.assertGreaterEqual(datetime.now(), end)
+        self.whole(going.folder)
+
+    def test_a_time_that_is_over(self) -> None:
+        before = datetime.now() - timedelta(minutes=5)
+        done = words("run", CYCLE, "--into", self.room / "runs", "--ends", f"{before:%H:%M}")
+        self.assertEqual(done.returncode, 1)
+        self.assertRegex(done.stderr, rf"^class: --ends {before:%H:%M}: it is \d\d:\d\d already\n$")
+        self.assertFalse((self.room / "runs").exists())
+
+
+class Names(unittest.TestCase):
+    """Names on pages."""
+
+    def lab(self) -> Lab:
+        """Returns a lab of six students."""
+        written = {"zoe-mueller": "Zoë Müller", "lukas-schmidt-1": "Lukas Schmidt", "lukas-schmidt-2": "Schmidt, Lukas", "ana": "ana",
+                   "plato": "Plato", "jean-le-bon": "Jean Marie  Le Bon"}
+        nodes = [Node(1, ["zoe-mueller"]), Node(2, ["lukas-schmidt-2", "ana"])]
+        return Lab(9, 2, ("tess", "chalk"), dict.fromkeys(written, "key"), nodes, [(1, 2)], {name: Person(it) for name, it in written.items()})
+
+    def test_short_names(self) -> None:
+        for written, wanted in (("Zoë Müller", "Zoë M."), ("Müller, Zoë", "Zoë M."), ("Plato", "Plato"), ("李 小龙", "李 小."), ("", ""),
+                                ("Anna-Lena von der Heide", "Anna-Lena H.")):
+            self.assertEqual(short(written), wanted)
+        self.assertEqual(display_names(self.lab()), {
+            "zoe-mueller": "Zoë M.", "lukas-schmidt-1": "Lukas S. 1", "lukas-schmidt-2": "Lukas S. 2", "ana": "ana", "plato": "Plato",
+            "jean-le-bon": "Jean B."})
+
+    def test_lines_events_and_labs(self) -> None:
+        names = ShownNames.of(self.lab(), False)
+        self.assertEqual(names.line("waiting for 1 (zoe-mueller): update, 2 (lukas-schmidt-2 and ana)"),
+                         "waiting for 1 (Zoë M.): update, 2 (Lukas S. 2 and ana)")
+        self.assertEqual(names.line("zoe-mueller-2 and xzoe-mueller"), "zoe-mueller-2 and xzoe-mueller")
+        event = Event(4, 2, ("grant", "zoe-mueller", "1", "update"))
+        self.assertEqual(names.event(event).words, ("grant", "Zoë M.", "1", "update"))
+        self.assertEqual((names.event(event).nodes, names.event(Event(5, 2, ("close",))).words), ((1,), ("close",)))
+        shown = names.lab(self.lab())
+        self.assertEqual((shown.owners(2), shown.nodes_of("Zoë M.")), (["Lukas S. 2", "ana"], [1]))
+
+    def test_numbers_alone(self) -> None:
+        names = ShownNames.of(self.lab(), True)
+        line = names.line("zoe-mueller lukas-schmidt-1 lukas-schmidt-2 ana plato jean-le-bon")
+        self.assertEqual(line, "#1 #2 #3 #4 #5 #6")
+        self.assertEqual(names.lab(self.lab()).owners(2), ["#3", "#4"])
+
+
+class Wording(unittest.TestCase):
+    """Many of a kind are one line."""
+
+    def test_moves_of_a_step(self) -> None:
+        moved = [(node, f"s{node}", "update" if node % 3 else "marriage") for node in range(1, 56)]
+        self.assertEqual(wording.moves(moved[:2]), "1 (s1) update, 2 (s2) update")
+        self.assertEqual(wording.moves(moved), "55 moves, 37 update, 18 marriage")
+        self.assertEqual(len(re.findall(r"\(s\d", wording.moves(moved[:6]))), 6)
+
+    def test_faults_links_and_cuts(self) -> None:
+        faults = [Event(node, node - 1, ("fault", str(node), "-", "true")) for node in range(1, 65)]
+        self.assertEqual(wording.edit(faults[11]), "fault at node 12: p null, m true")
+        self.assertEqual(wording.edit(Event(1, 0, ("fault", "12", "4", "false"))), "fault at node 12: p 4, m false")
+        self.assertEqual(wording.edits(faults), "64 faults at nodes 1, 2, 3, 4, 5, 6 and 58 more")
+        self.assertEqual(wording.edits(faults[:2]), "2 faults at nodes 1, 2")
+        self.assertEqual(wording.edit(Event(1, 0, ("link", "1", "2"))), "link 1 2")
+
+    def test_some_of_many(self) -> None:
+        self.assertEqual(wording.some(["a", "b"], 2, "node"), "a, b")
+        self.assertEqual(wording.some(["a", "b", "c"], 2, "node"), "a, b, and 1 more node")
+        self.assertEqual(wording.some(["a", "b", "c", "d"], 2, "node"), "a, b, and 2 more nodes")
+
+
+if __name__ == "__main__":
+    unittest.main()

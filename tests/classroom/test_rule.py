@@ -1,0 +1,134 @@
+"""Rules by which marks become a grade: what they give, their errors, and their columns in each form of the marks."""
+from __future__ import annotations
+
+import csv
+import io
+import json
+import unittest
+from fractions import Fraction
+from pathlib import Path
+
+from classroom.core.program import Fault
+from classroom.marks import columns
+from classroom.marks.rule import MOST_DEPTH, MOST_LINES, Value, parsed
+from tests.classroom.help import EXAMPLES, InRoom, words
+from tests.classroom.runs import journal_of
+
+ROW: dict[str, Value] = {"applied": Fraction(7), "nodes": Fraction(2), "student": "ana", "clause4": None, "whole": True}
+
+
+def value(expression: str) -> str:
+    """Returns what an expression gives for the row above."""
+    return parsed(Path("rule"), [f"x = {expression}"], list(ROW)).values(ROW)[0]
+
+
+class Expressions(unittest.TestCase):
+    """What expressions give."""
+
+    def test_values(self) -> None:
+        for expression, wanted in (
+            ("1 + 2 * 3", "7"), ("(1 + 2) * 3", "9"), ("7 - 2 - 1", "4"), ("8 / 4 / 2", "1"), ("1 / 3", "0.333"), ("-2 * -3", "6"), ("- - 2", "2"),
+            ("0.1 + 0.2 == 0.3", "yes"), ("applied / nodes", "3.5"), ("applied >= 7", "yes"), ("applied > 7", "no"), ("applied < 7.5", "yes"),
+            ("applied <= 6", "no"), ("applied != 7", "no"), ("student == 'ana'", "yes"), ('student != "ana"', "no"), ("true", "yes"),
+            ("not false", "yes"), ("not not false", "no"), ("not applied > 7", "yes"), ("1 < 2 and 2 < 3 or false", "yes"),
+            ("true or true and false", "yes"), ("(true or true) and false", "no"), ("'A' if applied >= 7 else 'B'", "A"),
+            ("'A' if applied > 9 else 'B' if applied > 6 else 'C'", "B"), ("min(applied, 3, 5)", "3"), ("max(1, applied)", "7"),
+            ("round(7 / 2)", "4"), ("round(-applied / 3)", "-2"), ("min(10, 2 * applied)", "10"), ("1 # a comment", "1"), ("whole == true", "yes"),
+        ):
+            self.assertEqual(value(expression), wanted, expression)
+
+    def test_what_is_not_known(self) -> None:
+        for expression, wanted in (
+            ("clause4", "-"), ("clause4 + 1", "-"), ("clause4 <= 5", "-"), ("clause4 <= 5 and false", "no"), ("false and clause4 <= 5", "no"),
+            ("clause4 <= 5 and true", "-"), ("clause4 <= 5 or true", "yes"), ("true or clause4 <= 5", "yes"), ("false or clause4 <= 5", "-"),
+            ("not clause4 > 5", "-"), ("'A' if clause4 <= 5 else 'B'", "-"), ("min(clause4, 1)", "-"), ("0 * clause4", "-"),
+            ("'A' if applied > 9 and clause4 <= 5 else 'B'", "B"),
+        ):
+            self.assertEqual(value(expression), wanted, expression)
+
+    def test_later_lines_use_earlier_ones(self) -> None:
+        rule = parsed(Path("rule"), ["# a rule", "", "pass = applied >= 3", "points = 5 if pass else 0", "more = points * nodes"], list(ROW))
+        self.assertEqual((rule.names, rule.values(ROW)), (["pass", "points", "more"], ["yes", "5", "10"]))
+
+    def test_each_error_is_a_line(self) -> None:
+        deep = "(" * (MOST_DEPTH + 1) + "1" + ")" * (MOST_DEPTH + 1)
+        for text, error in (
+            ("pass", "it isn't NAME = EXPRESSION"), ("= 1", "it isn't NAME = EXPRESSION"), ("pass =", "it isn't NAME = EXPRESSION"),
+            ("1 = 2", "it isn't NAME = EXPRESSION"), ("pass == 1", "it isn't NAME = EXPRESSION"), ("x = 1 +", "it ends too early"),
+            ("x = (1", ") is expected at the end"), ("x = (1 2", ") is expected before 2"), ("x = 1 2", "2 isn't expected here"),
+            ("x = and", "and isn't expected here"), ("x = )", ") isn't expected here"), ("x = 1 if true", "else is expected at the end"),
+            ("x = aplied", "no column aplied; mark --columns prints them"), ("applied = 1", "applied is a column, an earlier line or a word of rules already"),
+            ("min = 1", "min is a column, an earlier line or a word of rules already"), ("x = 1 < 2 < 3", "one comparison at a time: a < b and b < c"),
+            ("x = __import__('os')", "no column __import__; mark --columns prints them"), ("x = applied.real", ". is no part of a rule"),
+            ("x = 1 ** 2", "* isn't expected here"), ("x = [1]", "[ is no part of a rule"), ("x = 'a", "' is no part of a rule"),
+            ("x = 1234567890123", "1234567890123 has more than 12 digits"), ("x = round(1, 2)", "round takes one number"),
+            ("x = min()", ") isn't expected here"), (f"x = {deep}", f"it is nested more than {MOST_DEPTH} deep"),
+            ("x = e\u0301", "e\u0301"[1] + " is no part of a rule"),
+        ):
+            with self.assertRaises(Fault) as fault:
+                parsed(Path("rule"), ["", text], list(ROW))
+            self.assertTrue(str(fault.exception).startswith(f"rule: line 2: {error}: "), (text, str(fault.exception)))
+        several: list[list[str]] = [[], ["# none"], [f"x{number} = 1" for number in range(MOST_LINES + 1)]]
+        for lines in several:
+            with self.assertRaisesRegex(Fault, f"^rule: a rule has 1 to {MOST_LINES} lines"):
+                parsed(Path("rule"), lines, [])
+
+    def test_each_fault_of_a_value_is_a_line(self) -> None:
+        for expression, error in (
+            ("applied / 0", "a division by 0"), ("1 / (nodes - 2)", "a division by 0"), ("student + 1", "ana is no number"),
+            ("true + 1", "yes is no number"), ("applied and true", "7 is neither yes nor no; a comparison is, as: applied >= 1"),
+            ("1 if applied else 2", "7 is neither yes nor no; a comparison is, as: applied >= 1"), ("student == 1", "ana and 1 can't be compared"),
+            ("true == 1", "yes and 1 can't be compared"), ("student < 'b'", "ana is no number"),
+            ("not 1", "1 is neither yes nor no; a comparison is, as: applied >= 1"),
+        ):
+            with self.assertRaises(Fault) as fault:
+                value(expression)
+            self.assertEqual(str(fault.exception), f"rule: line 1: {error}", expression)
+
+
+class InMarks(InRoom):
+    """Rules in the forms of the marks."""
+
+    def setUp(self) -> None:
+        super().setUp()
+        self.lab = EXAMPLES / "cycle.toml"
+        self.journal = journal_of(self.lab, EXAMPLES / "cycle-run.script", self.room / "cycle.journal")
+        self.rule = self.file("rule.txt", "pass = applied_per_node >= 2 and guard_denials <= 5\nenough = applied_per_node >= 2\n"
+                                          "points = min(3, applied) * nodes\nwhere = network\n")
+
+    def test_each_form_has_its_columns(self) -> None:
+        rows = list(csv.DictReader(io.StringIO(words("mark", "--csv", "--rule", self.rule, self.lab, self.journal).stdout)))
+        wanted = {"gus": ("2", "no", "no", "6"), "hana": ("2", "-", "yes", "6"), "ines": ("2", "-", "yes", "6"), "jonas": ("1", "-", "yes", "3")}
+        self.assertEqual({row["student"]: (row["nodes"], row["pass"], row["enough"], row["points"]) for row in rows}, wanted)
+        self.assertEqual({row["network"] for row in rows} | {row["where"] for row in rows}, {"cycle"})
+        run, = json.loads(words("mark", "--json", "--rule", self.rule, self.lab, self.journal).stdout)["runs"]
+        self.assertEqual(run["students"]["hana"]["rule"], {"pass": "-", "enough": "yes", "points": "6", "where": "cycle"})
+        self.assertEqual((run["students"]["hana"]["guard_denials"], run["students"]["hana"]["nodes"]), (None, 2))
+        said = words("mark", "--rule", self.rule, self.lab, self.journal).stdout
+        self.assertRegex(said, r"(?m)^ +student +granted .* +guard denials +malformed +nodes +pass +enough +points +where$")
+
+    def test_totals_are_ruled_over_all_runs(self) -> None:
+        done = words("mark", "--total", "--rule", self.rule, self.lab, self.journal, self.journal)
+        self.assertEqual(done.returncode, 0, done.stderr)
+        rows = {row["student"]: row for row in csv.DictReader(io.StringIO(done.stdout))}
+        self.assertEqual((rows["gus"]["applied"], rows["gus"]["nodes"], rows["gus"]["enough"], rows["gus"]["points"]), ("6", "4", "no", "12"))
+        first = self.file("first.txt", "early = first <= 3\n")
+        self.assertIn("no column first; mark --columns prints them", words("mark", "--total", "--rule", first, self.lab, self.journal).stderr)
+        self.assertEqual(words("mark", "--csv", "--rule", first, self.lab, self.journal).returncode, 0)
+        roster = self.file("names.csv", "name\ngus\nhana\nines\njonas\nnobody else\n")
+        listed = list(csv.reader(io.StringIO(words("mark", "--roster", roster, "--rule", self.rule, self.lab, self.journal).stdout)))
+        self.assertEqual(listed[0][-5:], ["network", "pass", "enough", "points", "where"])
+        self.assertEqual(len({len(row) for row in listed}), 1)
+
+    def test_each_column_is_explained(self) -> None:
+        said = words("mark", "--columns").stdout
+        names = [line.split("  ")[0] for line in said.splitlines()]
+        heads = csv.reader(io.StringIO(words("mark", "--csv", self.lab, self.journal).stdout)).__next__()
+        totals = csv.reader(io.StringIO(words("mark", "--total", self.lab, self.journal).stdout)).__next__()
+        self.assertLessEqual({*heads, *totals} - {"id"}, {*names})
+        self.assertLessEqual({*columns.for_rules(True), *columns.for_rules(False)}, {*names})
+        self.assertEqual(words("mark").stderr, "class: mark: the folders of runs or of classes, or a lab and its journals\n")
+
+
+if __name__ == "__main__":
+    unittest.main()

@@ -1,0 +1,212 @@
+"""A class of several networks: one desk, one folder, a killed host that others don't notice, and its words."""
+from __future__ import annotations
+
+import json
+import os
+import re
+import signal
+import time
+import unittest
+from pathlib import Path
+
+from classroom.client import Client
+from classroom.core import lab as labs
+from classroom.core.class_state import NetworkState
+from classroom.core.classes import Class, name_of
+from classroom.core.program import host
+from classroom.run.addressed import addressed
+from classroom.run.network_table import now_table, start_table
+from tests.classroom.help import LIMIT, words
+from tests.classroom.several import Classes, GoingClass
+
+NAMES = ["maths-1", "maths-2", "close"]
+
+
+class Lines(unittest.TestCase):
+    """Lines that are typed at the desk of a class, and tables that it prints."""
+
+    def test_which_networks_a_line_is_for(self) -> None:
+        every = [0, 1, 2]
+        for line, indices, rest in (
+            ("2 close", [1], "close"), ("2: close", [1], "close"), ("2:close", [1], "close"), ("maths-2 close", [1], "close"),
+            ("maths-2: fault 4 - true", [1], "fault 4 - true"), ("all close", every, "close"), ("all: shake all", every, "shake all"),
+            ("close", every, "close"), ("close 2", [1], "close"), ("close all", every, "close"), ("close maths-1", [0], "close"),
+            ("end 3", [2], "end"), ("resume 1", [0], "resume"), ("close: end", every, "close: end"), ("shake all", every, "shake all"),
+            ("shake 3", every, "shake 3"), ("1 shake 3 7", [0], "shake 3 7"), ("daemon every:2", every, "daemon every:2"),
+            ("", every, ""), ("  2 :  report ", [1], "report"), ("report close", [2], "report"),
+        ):
+            self.assertEqual(addressed(line, NAMES), (indices, rest), line)
+        for line, name in (("4 close", "4"), ("0: close", "0"), ("maths-9: close", "maths-9"), ("end 7", "7"), ("resume zoe", "zoe")):
+            with self.assertRaisesRegex(ValueError, f"^there is no network {name}; there are 1 maths-1, 2 maths-2, 3 close$"):
+                addressed(line, NAMES)
+
+    def test_tables(self) -> None:
+        one = NetworkState(1, "maths-1", "A 104", 4711, "http://127.0.0.1:4781/x/", 15, 11, "runs", "", {
+            "configuration": 12, "stable": False, "privileged": [[4, "update"]], "moves": 5, "most": 35, "events": 20, "limit": 100,
+            "missing": ["Ana L.", "Ben R.", "Cyd S.", "Dora E."]})
+        two = NetworkState(10, "maths-10", "", None, "", 15, 9, "down", "its server has ended")
+        self.assertEqual(start_table([one, two], ["", ""]), [
+            "    network   room   port  students  seats  page",
+            " 1  maths-1   A 104  4711  11        15     http://127.0.0.1:4781/x/",
+            "10  maths-10  -      -     9         15     -",
+        ])
+        self.assertEqual(now_table([one, two]).split("\n"), [
+            "    network   room   status        configuration  moves            events     missing",
+            " 1  maths-1   A 104  1 privileged  12             5 of at most 35  20 of 100  4 students: Ana L., Ben R., Cyd S. and 1 more",
+            "10  maths-10  -      DOWN          -              -                -          -",
+        ])
+
+    def test_the_name_of_a_class(self) -> None:
+        for stems, name in (("maths-1 maths-2", "maths"), ("maths-10 maths-11", "maths"), ("a b", "class"), ("one one-2", "one"),
+                            ("year2026-1 year2026-2", "year2026")):
+            self.assertEqual(name_of([Path(f"{stem}.toml") for stem in stems.split()]), name)
+
+
+@unittest.skipUnless(host(), "not tried: no host is built")
+class OneDesk(Classes):
+    """Two networks at one desk."""
+
+    def test_a_killed_host_is_an_alarm_until_it_is_resumed(self) -> None:
+        desk = self.begin("--rooms", "A 104, B 7", "--close", "by-hand")
+        self.table(desk)
+        desk.kill("maths-2")
+        desk.until(r"^ALARM maths-2 is down: the server has ended, by SIGKILL; resume 2 goes on with it, end 2 gives it up$")
+        desk.type("networks")
+        desk.until(r"^1  maths-1  A 104  \d+ privileged|^1  maths-1  A 104  stable")
+        desk.until(r"^2  maths-2  B 7    DOWN ")
+        desk.type("1 shake all 3")
+        desk.until("^maths-1: configuration 4: 4 faults at nodes 1, 2, 3, 4; ")
+        desk.type("2 close")
+        desk.until("^maths-2: no: the server has ended, by SIGKILL; resume 2")
+        before = len(desk.lines)
+        desk.type("resume 2")
+        desk.until("^maths-2: the class goes on at configuration 0, ")
+        desk.type("maths-2: fault 1 null true")
+        desk.until("^maths-2: configuration 1: ")
+        self.assertFalse([line for line in desk.lines[before:] if line.startswith("maths-1: ") or "ALARM" in line])
+        desk.type("resume 2")
+        desk.until("^maths-2: it isn't down$")
+        desk.type("9: close")
+        desk.until("^not understood: there is no network 9; there are 1 maths-1, 2 maths-2$")
+        desk.type("end all\nend")
+        desk.until(f"^the class is ended; all of it is in {desk.folder}: .* mark .* tells the marks$")
+        self.assertEqual(desk.ends(), 0, desk.lines)
+        self.assertEqual((desk.marks("maths-1")["faults"], desk.marks("maths-2")["faults"]), (4, 1))
+        self.taken_as_a_whole(desk)
+
+    def table(self, desk: GoingClass) -> None:
+        """Wants the table at the start, and no line of a network before it."""
+        rows = [line.split() for line in desk.lines if re.match(r"\d  ", line)]
+        self.assertEqual(rows, [["1", "maths-1", "A", "104", str(desk.record("maths-1").port), "4", "15"],
+                                ["2", "maths-2", "B", "7", str(desk.record("maths-2").port), "4", "15"]])
+        self.assertLess(len(desk.lines), 10, desk.lines)
+
+    def taken_as_a_whole(self, desk: GoingClass) -> None:
+        """Wants that the words which take a run's folder take that of the class."""
+        done = words("mark", "--csv", *(self.room / "runs").glob("*-maths"))
+        self.assertEqual(done.returncode, 0, done.stderr)
+        self.assertEqual(done.stdout.count(str(desk.folder / "maths-1/journal")), 4)
+        self.assertEqual(done.stdout.count(str(desk.folder / "maths-2/journal")), 4)
+        said = words("history", desk.folder, "jose-garcia")
+        self.assertEqual((said.returncode, said.stderr), (0, ""))
+        self.assertIn("event 1: ", said.stdout)
+        self.assertIn("name one: ", words("history", desk.folder, "teacher").stderr)
+        self.assertIn("no network of this class has a student zoe", words("history", desk.folder, "zoe").stderr)
+        before = labs.read(desk.folder / "maths-2/lab.toml").students
+        self.assertEqual(words("key", desk.folder, "jose-garcia").returncode, 0)
+        after = labs.read(desk.folder / "maths-2/lab.toml").students
+        self.assertEqual([name for name in before if before[name] != after[name]], ["jose-garcia"])
+
+    def test_a_host_that_is_given_up(self) -> None:
+        desk = self.begin("--close", "by-hand")
+        desk.kill("maths-1")
+        desk.until("^ALARM maths-1 is down: ")
+        desk.type("end 1")
+        desk.until(f"^maths-1: given up; what it left is in {desk.folder / 'maths-1'}$")
+        desk.type("end 2\nend 2")
+        self.assertEqual(desk.ends(), 4, desk.lines)
+        said = [words("mark", desk.folder / name).stdout for name in ("maths-1", "maths-2")]
+        wanted = "its server is running or was killed, so its last entries may be missing, through no fault of a student\n"
+        self.assertEqual([wanted in text for text in said], [True, False], said)
+        again = words("run", "--resume", desk.folder)
+        self.assertEqual((again.returncode, again.stderr), (1, f"class: {desk.folder}: each run of this class was ended; run --resume "
+                                                               "FOLDER --again opens them again\n"))
+
+    def test_a_desk_that_was_killed_is_taken(self) -> None:
+        desk = self.begin("--close", "by-hand")
+        servers = [desk.record(name).server for name in ("maths-1", "maths-2")]
+        desk.process.kill()
+        desk.process.wait(LIMIT)
+        desk.kill("maths-2")
+        self.wait_for(lambda: not desk.record("maths-2").goes_on())
+        again = GoingClass(self, "attach", desk.folder)
+        self.assertEqual([line for line in again.lines if "ALARM" in line],
+                         ["ALARM maths-2 is down: its server has ended; resume 2 goes on with it, end 2 gives it up"])
+        self.assertEqual(again.record("maths-1").server, servers[0])
+        held = words("attach", desk.folder)
+        self.assertEqual((held.returncode, held.stderr), (1, f"class: {desk.folder}: process {again.process.pid} holds its desks\n"))
+        again.type("resume 2\n1 fault 1 null true")
+        again.until_each("^maths-2: the class goes on at ", "^maths-1: configuration 1: ")
+        again.process.send_signal(signal.SIGTERM)
+        self.assertEqual(again.ends(), 0, again.lines)
+        self.assertEqual(again.marks("maths-1")["faults"], 1)
+
+    def wait_for(self, holds: object) -> None:
+        """Waits until a condition holds."""
+        assert callable(holds)
+        end = time.monotonic() + LIMIT
+        while not holds():
+            self.assertLess(time.monotonic(), end)
+            time.sleep(0.05)
+
+    def test_the_state_of_each_network(self) -> None:
+        desk = self.begin("--close", "by-hand", "--anonymous")
+        self.wait_for(lambda: desk.state("maths-1").get("missing") == ["#1", "#2", "#3", "#4"])
+        lab = labs.read(self.labs[0])
+        with Client(desk.record("maths-1").port, "ana-lima", lab.students["ana-lima"]) as ana:
+            self.wait_for(lambda: desk.state("maths-1")["missing"] == ["#1", "#2", "#4"])
+            look = next(look for look in map(ana.look, lab.nodes_of("ana-lima")))
+            desk.type(f"1 fault {look.node} null true")
+            self.wait_for(lambda: desk.state("maths-1")["configuration"] == 1)
+            state = desk.state("maths-1")
+            self.assertEqual((state["events"], state["limit"], state["moves"], state["closing"]), (1, 100000, 0, "by-hand"))
+            self.assertIn({"node": look.node, "owners": ["#3"], "rule": dict(state["privileged"])[look.node]}, state["waiting"])
+        desk.type("end\nend")
+        self.assertEqual(desk.ends(), 0, desk.lines)
+
+    def test_what_is_no_class(self) -> None:
+        other = self.room / "more"
+        other.mkdir()
+        (other / "maths-1.toml").write_bytes(self.labs[0].read_bytes())
+        cases: tuple[tuple[list[str | Path], str], ...] = (
+            ([*self.labs, "--rooms", "A"], "--rooms names 1 room for 2 networks"),
+            ([self.labs[0], "--rooms", "A"], "run: --rooms is for several labs"),
+            ([self.labs[0], other / "maths-1.toml"], "two labs are called maths-1: rename one"),
+            ([self.labs[0], self.room / "none.toml"], f"{self.room / 'none.toml'}: No such file or directory"),
+        )
+        for given, error in cases:
+            done = words("run", *given, "--into", self.room / "runs")
+            self.assertEqual(done.stderr, f"class: {error}\n")
+        self.assertFalse((self.room / "runs").exists())
+        folder = self.room / "broken"
+        folder.mkdir()
+        for text in ("{}", "[]", "x", json.dumps({"networks": [{"name": "..", "room": "", "lab": ""}], "desk": {"number": 1, "start": ""}})):
+            self.file("broken/class.json", text)
+            done = words("mark", folder)
+            self.assertEqual((done.returncode, done.stderr), (4, f"class: {folder / 'class.json'}: it doesn't name the networks of a class\n"))
+
+    def test_the_folder_is_kept(self) -> None:
+        desk = self.begin("--close", "by-hand")
+        kept = Class.read(desk.folder)
+        assert kept is not None
+        self.assertEqual([network.name for network in kept.networks], ["maths-1", "maths-2"])
+        self.assertEqual(kept.desk.number, desk.process.pid)
+        self.assertEqual(desk.folder.stat().st_mode & 0o777, 0o700)
+        second = words("run", self.labs[1], "--into", self.room / "runs")
+        self.assertIn(f"a run of {self.labs[1]} goes on at port {desk.record('maths-2').port}, folder {desk.folder / 'maths-2'}", second.stderr)
+        os.kill(desk.process.pid, signal.SIGINT)
+        self.assertEqual(desk.ends(), 0, desk.lines)
+
+
+if __name__ == "__main__":
+    unittest.main()
