@@ -174,7 +174,7 @@ class Builds(InClone):
         self.assertEqual(sorted(runs[4:]), ["low left mml_server", "low left right mml_host"])
 
     def test_nothing_is_kept(self) -> None:
-        """Where the machine keeps nothing, one run proves all, and not one for each crate all that is below it."""
+        """If the machine keeps nothing, one run proves all, and not one for each crate all that is below it."""
         self.set("lacks", "the store cannot be used, so nothing is kept: the next run, and the merge, prove all again")
         done = self.call("./mml", "build")
         self.assertEqual(done.returncode, 0, done.stderr)

@@ -54,7 +54,7 @@ class Model(unittest.TestCase):
 
 
 class Called(unittest.TestCase):
-    """Calls of the model, in a folder where it stands with the examples alone."""
+    """Calls of the model, in a folder that has it and the examples alone."""
 
     def setUp(self) -> None:
         room = tempfile.TemporaryDirectory()

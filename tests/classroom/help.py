@@ -185,7 +185,7 @@ class Rows:
         self.bytes = bytes(str(self.answer.headers), "utf-8")
 
     def next(self) -> dict[str, Any]:
-        """The next line that tells something."""
+        """Returns the next line that isn't empty."""
         while True:
             line = self.answer.readline()
             self.bytes += line

@@ -1,4 +1,4 @@
-"""`client.py` as a module: what is told before a line is sent, what comes after bye, and the schemas of lines."""
+"""`client.py` as a module: what it says before a line is sent, what comes after bye, and the schemas of lines."""
 from __future__ import annotations
 
 import json
@@ -12,7 +12,7 @@ from classroom.core.program import TOP
 from tests.classroom import schemas
 from tests.classroom.help import LIMIT
 
-# Lines as beginners write them, each with what is told.
+# Lines as beginners write them, each with what the client says.
 HURT = (
     ("{'do':'look','node':4}",
      'not JSON at byte 2 (JSON wants double quotes)'),

@@ -65,7 +65,7 @@ class Lines:
 
 
 class Page(BaseHTTPRequestHandler):
-    """A page's server, which tells what it was asked."""
+    """A page's server, which answers with what it was asked."""
 
     def log_message(self, *_: object) -> None:
         """Nothing is printed."""
@@ -240,7 +240,7 @@ class Tunnels(AtDoor):
 
     @contextmanager
     def tunnel(self, slip: Path, *more: str) -> Iterator[str]:
-        """A tunnel, once it has told its line."""
+        """A tunnel, once it has printed its line."""
         with subprocess.Popen([sys.executable, CLIENT, "--tunnel", slip, *more], stdout=subprocess.PIPE, stderr=subprocess.PIPE, text=True) as it:
             try:
                 assert it.stdout is not None

@@ -121,7 +121,7 @@ class Hostile(Disputed):
                 shutil.rmtree(folder)
 
     def test_a_class_goes_on_beside_a_record_that_is_none(self) -> None:
-        """Where the record's lab or its beginning is no plain file, it is kept as it is, and another one is begun."""
+        """If the record's lab or its beginning is no plain file, it is kept as it is, and another one is begun."""
         it = host()
         assert it is not None
         for name, spoil in (("lab", pipe), ("lab", endless), ("begun", pipe), ("begun", endless)):

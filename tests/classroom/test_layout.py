@@ -18,7 +18,7 @@ FAMILIES = ("path", "cycle", "star", "tree", "complete", "grid:4x3", "grid:3x7",
             "random:15:60", "crowd")
 NAMES = ("zoe-mueller", "jonas-ek", "ana", "gus-roy", "ida-bergstroem", "tim", "eva-sol", "bo-dahl", "kim-vo", "pia-rot", "leo-wolf", "uma-das",
          "kai-ness", "nora-lind", "jean-baptiste-lamarck")
-SECONDS = 5  # of a processor for a network of 256 nodes, where this machine takes one and a half
+SECONDS = 5  # of a processor for a network of 256 nodes; this machine takes one and a half
 
 
 def network(word: str, size: int = 15) -> tuple[list[int], Links]:

@@ -164,7 +164,7 @@ class Live(InRoom):
         self.end()
 
     def test_the_end_is_asked_about(self) -> None:
-        """One click ends nothing; the question is answered by a key or a click, and the run ends where it isn't stable too."""
+        """One click ends nothing; the question is answered by a key or a click, and the run ends even if it isn't stable."""
         self.begin()
         menu = self.driver.find_element("css selector", ".acts summary")
         for answer in ("go-on", "do-end"):

@@ -1,4 +1,4 @@
-"""Pictures outside a browser: drawings and charts as `rsvg-convert` renders them, told by how many of their points have a
+"""Pictures outside a browser: drawings and charts as `rsvg-convert` renders them, compared by how many of their points have a
 colour."""
 from __future__ import annotations
 
@@ -22,7 +22,7 @@ BYTES = {2: 3, 6: 4}  # of a point by the kind of PNG: red, green, blue, and per
 
 
 def unfiltered(kind: int, row: bytes, above: bytes, step: int) -> bytes:
-    """A row's bytes, by how a PNG tells them: from what stands to the left, `step` bytes before, and above."""
+    """A row's bytes, as a PNG has them: from what stands to the left, `step` bytes before, and above."""
     if kind == 0:
         return row
     if kind == 2:

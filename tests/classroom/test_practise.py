@@ -64,7 +64,7 @@ class Practise(InRoom):
         self.assertRegex(done.stdout, r"\nyou: \d+ moves \(update, marriage, seduction, abandonment\), \d+ denials?( \(.*\))?\n$")
 
     def test_a_page_to_play_by(self) -> None:
-        """What the page's server is told and asks is what a program would; the class ends where the page played it to its end."""
+        """The page's server asks what a program would, and gets the same answers. The class ends when the page played it to its end."""
         self.assertIn("--page is for who plays by hand", self.practises(EXAMPLES / "bot.py", "--page").stderr)
         going = subprocess.Popen(
             [sys.executable, TOP / "class", "practise", "--page", "--family", "path", "--nodes", "2", "--node", "1,2", "--start", "clean",

@@ -26,7 +26,7 @@ return [...document.querySelectorAll('body *')].filter((it) => own(it) && isSeen
   return [parseFloat(getComputedStyle(it).fontSize) * scale, it.textContent.trim().slice(0, 30)];
 });
 """
-# Where the events of the step that is shown are, and the list that they are in.
+# The places of the events of the step that is shown, and of the list that they are in.
 CURRENT = """
 const list = document.getElementById('events').getBoundingClientRect(), row = document.querySelector('#events [aria-current]').getBoundingClientRect();
 return [row.top, row.bottom, list.top, list.bottom, innerHeight];
@@ -38,7 +38,7 @@ return [...document.querySelectorAll('#drawing .node')].map((it) => [Number(it.d
 """
 WITNESSES = "return [...document.querySelectorAll('.witnesses text')].map((it) => it.textContent).sort()"
 DRAWN_OPEN = "return [...document.querySelectorAll('g.open path')].map((it) => (it.getAttribute('d').match(/M/g) || []).length)"
-# The most that a picture can have to tell: at each node the longest rule, chosen.
+# The most that a picture can have to show: at each node the longest rule, chosen.
 FULLEST = """
 const { drawing, run } = player, longest = drawing.data.rules.reduce((best, rule, at, all) => (rule.length > all[best].length ? at : best), 0);
 const state = run.state.copy();

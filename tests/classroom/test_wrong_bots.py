@@ -1,4 +1,4 @@
-"""`./class grade` among bots with one mistake each: each fails the case that finds it, and is told what to change; right ones
+"""`./class grade` among bots with one mistake each: each fails the case that finds it, and a line says what to change; right ones
 in several styles pass."""
 from __future__ import annotations
 
@@ -25,7 +25,7 @@ AT_ONCE = 8  # mostly they wait
 SECONDS = 12.0
 GUARD = r"denied as guard, clause 4: .*; the plain model, which decides nothing, adds: {part}; a right bot would send "
 HANGS = r"(isn't stable after|didn't ask for \w+ at \d+, which is privileged,|isn't taken up after).* {rule}"
-# Of each bot the case of `small` that finds its mistake, and what is told.
+# Of each bot the case of `small` that finds its mistake, and what is said of it.
 FOUND = {
     "never-updates": ("complete-4", HANGS.format(rule="update") + '.*a right bot would send {"at":\\d+,"do":"move","node":\\d+,"rule":"update"}'),
     "never-abandons": ("complete-4", HANGS.format(rule="")),

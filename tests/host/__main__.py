@@ -173,7 +173,7 @@ def ends_after(caller: Caller, begun: float, piece: bytes, every: float, left: l
 
 
 def deadlines(room: Path) -> None:
-    """Who doesn't greet stays for ten seconds, at the desk for five, whatever is said, and is told why it is ended."""
+    """Who doesn't greet stays for ten seconds, at the desk for five, whatever is said, and reads why it is ended."""
     lab = lab_of(room, 16)
     with Host(lab, 0, 0) as host:
         early = let_in(host.port, hello("cyd"))[0]

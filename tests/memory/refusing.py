@@ -22,7 +22,7 @@ Use = Callable[[dict[str, str]], Tried]
 
 
 def memories(replies: list[bytes]) -> int:
-    """How many of these replies tell out of memory."""
+    """Returns how many of these replies say that memory is out."""
     return sum(reply.endswith(b'{"refuse":"memory"}\n') for reply in replies)
 
 
@@ -39,13 +39,13 @@ def whole(words: list[str], given: bytes = b"", program: Path = PROGRAM) -> Use:
 
 
 def refuse_all(name: str, use: Use, library: Preloaded) -> str:
-    """Makes all runs of a use, and tells how many refusals they met."""
+    """Makes all runs of a use, and returns how many refusals they met."""
     met, told = 0, 0
     for variable, at_most in (("REFUSE", 1), ("REFUSE_FROM", MOST)):
         for nth in range(1, MOST):
             tried = use(library.variables({variable: str(nth)}))
             refused = library.counts()[1]
-            fault = tried.fault or ("more than one reply tells it" if tried.memories > at_most else "")
+            fault = tried.fault or ("more than one reply says it" if tried.memories > at_most else "")
             if fault:
                 fail(f"{name}, {variable}={nth}: {fault}: {tried.ended}")
             if refused == 0:

@@ -472,7 +472,7 @@ def journals(room: Path) -> None:
 def limits_of_files(room: Path) -> None:
     """Where the journal may not grow further, events are refused, and the host goes on; started by `./mml` too."""
     lab = lab_of(room, 4)
-    # Where a soft limit and a hard one differ, the soft one is what counts.
+    # If a soft limit and a hard one differ, the soft one is what counts.
     for name, limit, start in (("program", "-f", 'exec "$@"'), ("soft", "-S -f", 'exec "$@"'), ("mml", "-f", 'shift && exec "$0" "$@"')):
         words = ["bash", "-c", f"ulimit {limit} 1 && {start}", str(TOP / "mml")]
         with Host(lab, 0, 0, room / f"{name}.journal", before=words) as host:

@@ -23,7 +23,7 @@ def padded(line: bytes, size: int) -> bytes:
 
 
 def longest_lines(room: Path) -> None:
-    """A line of 4,096 bytes is answered, first or later, in one piece or two, and isn't told as too long when the
+    """A line of 4,096 bytes is answered, first or later, in one piece or two, and isn't called too long when the
     connection ends later; one of a byte more is too long."""
     with Host(lab_of(room, 4), 0, 0) as host:
         longest, longer = padded(look("ana"), MOST), padded(look("ana"), MOST + 1)
@@ -33,18 +33,18 @@ def longest_lines(room: Path) -> None:
         time.sleep(0.1)
         said += [ana.ask(longest[2000:]), ana.ask(longest + longest), ana.line(), ana.ask(look("ana"))]
         if [b'"ok"' in line for line in said] != [True] * 6:
-            fail(f"outsiders: lines of {MOST} bytes are told {said}")
+            fail(f"outsiders: lines of {MOST} bytes read {said}")
         for first in (b"", hello("ben")):
             caller = called(host.port)
             if first:
                 caller.ask(first)
             caller.send(longer)
             if (found := (caller.line(), caller.line())) != (LONG, b""):
-                fail(f"outsiders: a line of {MOST + 1} bytes is told {found}")
+                fail(f"outsiders: a line of {MOST + 1} bytes reads {found}")
             caller.close()
         ended = host.dismissed(let_in(host.desk, hello("tess"))[0])
         if ended != Ended(0, NONE, b"") or (found := (ana.line(), ana.line())) != (OVER, b""):
-            fail(f"outsiders: who sent lines of {MOST} bytes is told {found} at the end, which is {ended}")
+            fail(f"outsiders: who sent lines of {MOST} bytes reads {found} at the end, which is {ended}")
 
 
 def guess(host: Host, count: int) -> None:
@@ -53,13 +53,13 @@ def guess(host: Host, count: int) -> None:
         caller, reply = let_in(host.port, WRONG)
         said = [reply] + [caller.ask(WRONG) for _ in range(min(count, 3) - 1)]
         if said != [UNKNOWN] * len(said):
-            fail(f"outsiders: who guesses is told {said}")
+            fail(f"outsiders: who guesses reads {said}")
         count -= len(said)
         caller.close()
 
 
 def told_guesses(room: Path) -> None:
-    """A host tells of guesses when there are thirty, and then at ten times as many."""
+    """A host reports guesses when there are thirty, and then at ten times as many."""
     with Host(lab_of(room, 4), 0, 0) as host:
         assert host.process.stderr is not None
         made = 0
@@ -95,11 +95,11 @@ def no_busy_loop(room: Path) -> None:
         waits_between(host, library, PAUSE, "with no descriptor left")
         resource.prlimit(host.process.pid, resource.RLIMIT_NOFILE, (4096, 4096))
         if any(caller.line() != BUSY for caller in kept):
-            fail("outsiders: who came while there was no descriptor isn't told that there is no seat")
+            fail("outsiders: who came while there was no descriptor doesn't read that there is no seat")
         begun, before = time.monotonic(), library.counts()[0]
         for _ in range(3):
             if (said := Caller(host.port).line()) != BUSY:
-                fail(f"outsiders: who comes to a full port is told {said!r}")
+                fail(f"outsiders: who comes to a full port reads {said!r}")
         tries, seconds = library.counts()[0] - before, time.monotonic() - begun
         if not 0 < tries < 2 * seconds / SHORT + 20:
             fail(f"outsiders: while somebody waits for a seat a host accepts {tries} times in {seconds:.1f} seconds")

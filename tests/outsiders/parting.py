@@ -1,4 +1,4 @@
-"""What those are told who wait for a seat, or have left one, and who of them comes first. The hosts' clock goes slower, so
+"""What those read who wait for a seat, or have left one, and who of them comes first. The hosts' clock goes slower, so
 that what lasts for some milliseconds is seen on a slow machine too."""
 import select
 import time
@@ -46,18 +46,18 @@ def guessing(host: Host) -> list[Caller]:
 
 
 def denied_in_turn(room: Path) -> None:
-    """Who leaves before the turn of its denial is told the denial later, and then that there is no seat."""
+    """A connection that leaves before the turn of its denial reads the denial later, and then that there is no seat."""
     with Host(lab_of(room, 3), 0, 0, variables=slowed(room)) as host:
         teacher = let_in(host.desk, hello("tess"))[0]
         callers = guessing(host)
         said = [(caller.line(), caller.line()) for caller in callers[:-1]]
         if said != [(UNKNOWN, BUSY)] * (GUESSES - 1) or callers[-1].line() != UNKNOWN:
-            fail(f"outsiders: who guesses and leaves for another is told {said}")
+            fail(f"outsiders: who guesses and leaves for another reads {said}")
         ended(host, teacher)
 
 
 def over_for_all(room: Path) -> None:
-    """At the class's end who is still owed a denial is told that it is over, and so is who waits for a seat."""
+    """At the class's end whoever is still owed a denial reads that it is over, and so does whoever waits for a seat."""
     variables = slowed(room)
     with Host(lab_of(room, 3), 0, 0, variables=variables) as host:
         teacher = let_in(host.desk, hello("tess"))[0]
@@ -78,7 +78,7 @@ def over_for_all(room: Path) -> None:
         ended(host, teacher)
         said = [(caller.line(), caller.line()) for caller in [*held, *waiting]]
         if said != [(OVER, b"")] * 7:
-            fail(f"outsiders: at the class's end those who wait for a seat are told {said[2:]}")
+            fail(f"outsiders: at the class's end those who wait for a seat read {said[2:]}")
 
 
 def first_to_speak(room: Path) -> None:
@@ -92,13 +92,13 @@ def first_to_speak(room: Path) -> None:
         speaker.send(hello("cyd"))
         ana.ask(BYE)
         if b'"ok":"hello"' not in (said := speaker.line()) or b'"ok":"look"' not in speaker.ask(look("cyd")):
-            fail(f"outsiders: who has sent a line and waits is told {said!r}")
+            fail(f"outsiders: who has sent a line and waits reads {said!r}")
         if select.select([silent.socket], [], [], 0)[0]:
-            fail(f"outsiders: who waits in silence is told {silent.line()!r} before another has the seat")
+            fail(f"outsiders: who waits in silence reads {silent.line()!r} before another has the seat")
         ben.ask(BYE)
         silent.send(hello("ana"))
         if b'"ok":"hello"' not in (said := silent.line()):
-            fail(f"outsiders: who waited in silence is told {said!r}")
+            fail(f"outsiders: who waited in silence reads {said!r}")
         ended(host, teacher)
 
 

@@ -69,7 +69,7 @@ def told(port: int, lines: list[bytes], parts: list[bytes] | None) -> list[bytes
 
 
 def replies_by(lab: Path, split: Split | None) -> tuple[list[bytes], list[bytes], bytes]:
-    """What a student and then the teacher are told, and what the host writes at its end."""
+    """What a student and then the teacher read, and what the host writes at its end."""
     with Host(lab, 0, 0) as host:
         student = told(host.port, STUDENTS, split(STUDENTS) if split else None)
         teacher = told(host.desk, TEACHERS, split(TEACHERS) if split else None)
@@ -85,11 +85,11 @@ def lines_in_segments(room: Path) -> None:
     wanted = replies_by(lab, None)
     for lines, replies in ((STUDENTS, wanted[0]), (TEACHERS, wanted[1])):
         if len(replies) != len(lines) or replies[-1] != BID:
-            fail(f"outsiders: {len(lines)} whole lines are told {replies}")
+            fail(f"outsiders: {len(lines)} whole lines are answered {replies}")
     with ThreadPoolExecutor(SIDE_BY_SIDE) as pool:
         for way, found in zip(ways(), pool.map(lambda way: replies_by(lab, way.split), ways())):
             if found != wanted:
-                fail(f"outsiders: lines sent {way.name} are told {found}, not {wanted}")
+                fail(f"outsiders: lines sent {way.name} are answered {found}, not {wanted}")
 
 
 TESTS = [lines_in_segments]

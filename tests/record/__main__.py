@@ -270,7 +270,7 @@ def other_files(files: Files, lab: Lab) -> None:
 
 
 def most_held(files: Files) -> int:
-    """The most kB of memory that the program had where it has come to its line, for which the pipe has no room yet."""
+    """The most kB of memory that the program had when it came to its line, for which the pipe has no room yet."""
     call: list[str | Path] = [HOST, "verify", files.lab, files.journal, files.folder]
     reader, writer = os.pipe()
     os.set_blocking(writer, False)

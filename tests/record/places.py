@@ -1,4 +1,4 @@
-"""Where a record may be begun: what stands there else stays as it is, under its name."""
+"""The folders in which a record may be begun: what else is there stays as it is, under its name."""
 import os
 from pathlib import Path
 
@@ -90,7 +90,7 @@ def old_records_give_way(room: Path) -> None:
 
 
 def failures_rename_nothing(room: Path) -> None:
-    """Where the files of a record can't be made, or the journal can't be begun, the older record keeps its name."""
+    """If the files of a record can't be made, or the journal can't be begun, the older record keeps its name."""
     lab, here = lab_of(room, SEATS), filled(room / "failing")
     takes(here, lab, here / "record")
     (here / "empty").mkdir()
@@ -107,7 +107,7 @@ def failures_rename_nothing(room: Path) -> None:
                 fail(f"record: an empty folder isn't left where {told} is told")
     if {name: it for name, it in listed(here).items() if name in inodes and name != "empty"} != {
             name: it for name, it in inodes.items() if name != "empty"}:
-        fail("record: where a host fails, an older record is changed")
+        fail("record: if a host fails, an older record is changed")
 
 
 TESTS = (other_folders_stay, old_records_give_way, failures_rename_nothing)

@@ -156,7 +156,7 @@ def failed_sync(room: Path) -> None:
 
 
 def failed_sync_after_a_resume(room: Path) -> None:
-    """So where a class goes on, whether or not a torn line was taken off: the file is cut to its whole lines."""
+    """So when a class goes on, whether or not a torn line was taken off: the file is cut to its whole lines."""
     library = Preloaded("resume/power.c", room, "POWER_COUNTS")
     lab, journal = lab_of(room, 4), room / "journal"
     for torn in (b"", b"3 1 gr"):
@@ -167,9 +167,9 @@ def failed_sync_after_a_resume(room: Path) -> None:
             said = tess.ask(BREAK), tess.ask(BREAK)
             ended = host.dismissed(tess)
         if place_of(line) != 2 or said != (refusal_of("journal"),) * 2 or library.counts()[1] != 2:
-            fail(f"resume: where the first sync after a resume fails: {line!r}, {said}, {library.counts()[1]} syncs")
+            fail(f"resume: when the first sync after a resume fails: {line!r}, {said}, {library.counts()[1]} syncs")
         if (ended.status, ended.out) != (4, b"") or not ended.error.endswith(FAULT.error) or journal.read_bytes() != FIRST:
-            fail(f"resume: where the first sync after a resume fails it ends with {ended}, and leaves {journal.read_bytes()!r}")
+            fail(f"resume: when the first sync after a resume fails it ends with {ended}, and leaves {journal.read_bytes()!r}")
     goes_on(lab, journal, b"resumed at place 2, configuration 1, 0 chosen\n", NO_COPY, "after a sync that failed after a resume")
 
 
@@ -304,7 +304,7 @@ def other_labs(room: Path) -> None:
 
 
 def copies_through_links(room: Path) -> None:
-    """The copy of a lab is looked for beside the journal's file, also where a link leads to that."""
+    """The copy of a lab is looked for beside the journal's file, also if a link leads to that."""
     lab, folder = lab_of(room, 4), room / "class"
     folder.mkdir()
     with Host(lab, 0, 0, folder / "journal") as host:
@@ -314,7 +314,7 @@ def copies_through_links(room: Path) -> None:
     link.symlink_to(folder / "journal")
     other.write_text(lab.read_text(encoding="utf-8").replace('owner = "cyd"', 'owner = "ben"'), encoding="utf-8")
     shutil.copy(other, room / "link.lab")
-    refused(other, link, OTHER, "another lab, where a link leads to the journal")
+    refused(other, link, OTHER, "another lab, if a link leads to the journal")
     goes_on(lab, link, b"resumed at place 1, configuration 0, 1 chosen\n", b"", "a link, and a copy beside the journal")
 
 

@@ -46,13 +46,13 @@ class Changes:
 
 
 def plays(host: Host, changes: Changes, journal: Path) -> tuple[Caller, Caller]:
-    """A move and its step, each of which is synced once it is told."""
+    """A move and its step, each of which is synced once it is answered."""
     ana, tess = let_in(host.port, hello("ana"))[0], let_in(host.desk, hello("tess"))[0]
     for who, line in ((ana, MOVE), (tess, CLOSE)):
         if b'"place":' not in who.ask(line):
             fail("resume: where changes are kept nothing is granted")
         if str(journal) in changes.unsynced():
-            fail("resume: an event is told whose line isn't synced")
+            fail("resume: an event is answered whose line isn't synced")
     return ana, tess
 
 
@@ -95,7 +95,7 @@ def last_words_are_synced(room: Path) -> None:
 
 
 def resumes_are_synced(room: Path) -> None:
-    """So where a class goes on, of whose journal and record what is torn is taken off."""
+    """So when a class goes on, of whose journal and record what is torn is taken off."""
     changes, lab, folder = Changes(room), lab_of(room, 4), room / "class"
     folder.mkdir()
     journal, record = folder / "journal", folder / "record"
@@ -116,7 +116,7 @@ def resumes_are_synced(room: Path) -> None:
             fail(f"resume: what is torn isn't taken off where changes are kept: {kept}")
         ended = leaves(host, *plays(host, changes, journal))
     if (ended.status, ended.out) != (DONE.status, DONE.out):
-        fail(f"resume: where a class goes on and changes are kept it ends with {ended}")
+        fail(f"resume: when a class goes on and changes are kept it ends with {ended}")
     changes.none_left("at the end of a class that went on")
 
 

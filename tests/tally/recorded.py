@@ -65,7 +65,7 @@ class Files:
 
 
 def with_record(tally: str) -> str:
-    """Returns the tally with what is printed of the record where it belongs."""
+    """Returns the tally with what is printed of the record in its place."""
     front, bounds, end = tally.partition("bounds ")
     return front + TOLD + bounds + end + WHOLE
 

@@ -1,4 +1,4 @@
-"""Where a build proves: in small repositories with the sources of a crate and of those below it.
+"""The folders in which a build proves: small repositories with the sources of a crate and of those below it.
 
 `rt ci` proves in one from nothing what no earlier run on this machine proved, as it does at the top of a clone, and
 leaves programs and libraries there. It sees no file of the clone that may be edited meanwhile, and the clone keeps
@@ -53,7 +53,7 @@ class Room:
 
 
 def homes() -> list[Path]:
-    """Returns where the repositories may stand, and then where temporary files do. Git's own folder is on the clone's
+    """Returns the folder for the repositories, and then that of temporary files. Git's own folder is on the clone's
     disk, and no check looks into it; libraries take gigabytes, which may be more than the system has for temporary
     files."""
     git, temporary = TOP / ".git", Path(tempfile.gettempdir())

@@ -1,6 +1,6 @@
 """Proves crates by runs of `rt ci`, and puts what they make into the clone.
 
-One run over all crates first takes what this machine has proved before. It is ended where it would prove: alone in its
+One run over all crates first takes what this machine has proved before. It is ended when it would prove: alone in its
 repository a crate is proved by several processes, and else mostly by one, while the crates above it wait. So each of
 the others has a run of its own, over what the runs before it kept. The crate that the longest chain waits for has all
 processors, and goes before the others.
@@ -24,7 +24,7 @@ MEMORY = 4_000_000_000  # bytes that have to be free for one more proof side by 
 
 
 def asked() -> int:
-    """Returns how many processes `rt` is told to prove by, each a crate; 0 if it chooses."""
+    """Returns by how many processes `rt` is to prove, each a crate; 0 if it chooses."""
     number = os.environ.get("RT_JOBS", "")
     return int(number) if number.isdigit() else 0
 

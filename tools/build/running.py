@@ -53,7 +53,7 @@ def end_with_parent() -> None:
 def begin_later() -> None:
     """As above, for a process that leaves others the processors that they want.
 
-    Where the system shares processors by session, only what is written for the session counts between two of them.
+    If the system shares processors by session, only what is written for the session counts between two of them.
     """
     end_with_parent()
     os.nice(LATER)

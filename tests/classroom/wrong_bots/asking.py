@@ -8,7 +8,7 @@ from tests.classroom.wrong_bots.base import PAUSE, Bot
 
 
 class AsksWhateverIsShown(Bot):
-    """Asks for an update where no rule is enabled."""
+    """Asks for an update if no rule is enabled."""
 
     def rule(self, look: Look) -> Rule | None:
         return super().rule(look) or "update"
@@ -57,7 +57,7 @@ class RepeatsTheLine(Bot):
 
 
 class TakesTheNumberOfADenial(Bot):
-    """Asks again under the number that `stale` tells, without a look."""
+    """Asks again under the number in `stale`, without a look."""
 
     def denied(self, denied: Denied, look: Look, rule: Rule) -> bool:
         if denied.name != "stale" or denied.at is None:
@@ -66,7 +66,7 @@ class TakesTheNumberOfADenial(Bot):
 
 
 class TakesTheNewestNumber(Bot):
-    """Asks under the newest number that any look told, whatever the look at this node told."""
+    """Asks under the newest number of any look, whatever the number of the look at this node was."""
 
     def turn(self) -> None:
         looks = [self.me.look(node) for node in self.slip.nodes]
@@ -129,7 +129,7 @@ class LeavesTheMarriedAlone(Bot):
 
 
 class TakesTheEldestNumber(Bot):
-    """Asks under the number that its first look told."""
+    """Asks under the number of its first look."""
 
     def at(self, look: Look) -> None:
         first = self.__dict__.setdefault("first", look.at)

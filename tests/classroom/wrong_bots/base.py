@@ -32,7 +32,7 @@ class Bot:
                 self.me = self.again(lost)
 
     def enter(self) -> Client:
-        """Greets; where no seat is free, again a second later."""
+        """Greets; if no seat is free, again a second later."""
         return enter(self.slip)
 
     def again(self, lost: Closed | Refused) -> Client:

@@ -143,7 +143,7 @@ class LeavesOutItsOwn(Bot):
 
 
 class RemembersTheNeighbours(Bot):
-    """Believes for ever what its first look at a node told of the neighbours."""
+    """Believes for ever what its first look at a node showed of the neighbours."""
 
     def at(self, look: Look) -> None:
         first = self.__dict__.setdefault("first", {}).setdefault(look.node, look)
