@@ -75,13 +75,14 @@ def one(words: argparse.Namespace) -> int:
     server.ready(words.serve)
     lab = labs.read(lab_file)
     may_stand_in(words, lab, lab_file)
+    ends = end_of(words.ends)
     if not words.beside:
         refuse_beside(into, lab_file)
     folder = new_folder(into, lab_file)
     (folder / "lab.toml").touch(0o600)  # It has keys.
     (folder / "lab.toml").write_bytes(lab_file.read_bytes())
     run = Running(folder, lab_file, lab, words.close or CLOSING, words.until, words.page, words.typed, Teller(folder),
-                  words.play, by_number=words.serve, stand_in=words.stand_in, ends=end_of(words.ends), anonymous=words.anonymous)
+                  words.play, by_number=words.serve, stand_in=words.stand_in, ends=ends, anonymous=words.anonymous)
     try:
         with letting.door(words, [lab_file], run.tell) as run.door:
             return to_the_end(run, lambda: begin(run, words.port))

@@ -340,8 +340,9 @@ def side_by_side(words: argparse.Namespace) -> int:
         raise Fault("several labs are closed by time: --close every:SECONDS or when-idle:SECONDS; or by what is typed: --typed")
     wants_ports(words, len(words.labs))
     server.ready(words.serve)
+    end_of(words.ends)  # A time that is over ends this before anything is made, as does a lab that is refused.
     networks, news = networks_of(words), News()
-    members = members_of(Path(), networks, words, news)  # A lab that is refused ends this before anything is made.
+    members = members_of(Path(), networks, words, news)
     folder = begun(Path(words.into), networks)
     for member in members:
         member.folder = folder / member.name

@@ -9,6 +9,7 @@ from dataclasses import dataclass
 from classroom.core import lab as labs
 from classroom.core.counts import plural
 from classroom.core.lists import Person
+from classroom.core.printable import printable
 from classroom.core.program import Fault
 
 SEATS = labs.MOST_SESSIONS - 1  # of students in a network
@@ -83,6 +84,7 @@ def table(labs_of: dict[str, labs.Lab], rooms: dict[str, str]) -> Iterator[str]:
             person = made.people.get(name, Person(name))
             nodes = ", ".join(map(str, shown.nodes_of(name))) or "none"
             lines.append([f"{person.written}{f' ({person.id})' if person.id else ''}", name, network, *([rooms[network]] if has_rooms else []), nodes])
-    wide = [max(map(len, column)) for column in zip(*lines, strict=True)]
-    for line in lines:
+    cells = [[*map(printable, line)] for line in lines]
+    wide = [max(map(len, column)) for column in zip(*cells, strict=True)]
+    for line in cells:
         yield "  ".join(cell.ljust(width) for cell, width in zip(line, wide, strict=True)).rstrip()

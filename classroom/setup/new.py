@@ -16,7 +16,6 @@ from pathlib import Path
 from classroom.core import lab as labs
 from classroom.core import bounds, lists, networks
 from classroom.core.lists import Person
-from classroom.core.printable import printable
 from classroom.core.program import CLASS, Fault, call, program
 from classroom.door import certificate
 from classroom.setup import dealing, handing, keys, names, printed, shaking, slips
@@ -170,7 +169,7 @@ def told(words: argparse.Namespace, made: list[Made], ways: list[Way], everybody
         print(f"note: {printed.NO_SQUARE}")
     print()
     for line in dealing.table({way.network: it.lab for it, way in zip(made, ways, strict=True)}, {way.network: way.room for way in ways}):
-        print(printable(line))
+        print(line)
 
 
 def next_words(words: argparse.Namespace, made: list[Made], merge: Path) -> str:

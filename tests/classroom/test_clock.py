@@ -13,7 +13,7 @@ from classroom.core.program import host
 from classroom.core.shown_names import ShownNames, display_names, short
 from classroom.run import wording
 from classroom.run.clock import Clock, hour, kept, next_time
-from tests.classroom.help import CYCLE, Cycle, Going, words
+from tests.classroom.help import CYCLE, EXAMPLES, Cycle, Going, words
 
 NOW = datetime(2026, 11, 24, 10, 2, 30)
 
@@ -53,7 +53,7 @@ class Ends(Cycle):
     """A run that ends by the clock."""
 
     def test_it_warns_and_ends(self) -> None:
-        end = (datetime.now() + timedelta(seconds=90)).replace(second=0)
+        end = (datetime.now() + timedelta(seconds=90)).replace(second=0, microsecond=0)
         end += timedelta(minutes=(end - datetime.now()) < timedelta(seconds=30))
         going = Going(self, CYCLE, "--close", "by-hand", "--ends", f"{end:%H:%M}")
         going.until(f"^it is {end:%H:%M}: the lesson is over$")
@@ -63,10 +63,11 @@ class Ends(Cycle):
 
     def test_a_time_that_is_over(self) -> None:
         before = datetime.now() - timedelta(minutes=5)
-        done = words("run", CYCLE, "--into", self.room / "runs", "--ends", f"{before:%H:%M}")
-        self.assertEqual(done.returncode, 1)
-        self.assertRegex(done.stderr, rf"^class: --ends {before:%H:%M}: it is \d\d:\d\d already\n$")
-        self.assertFalse((self.room / "runs").exists())
+        for labs in ([CYCLE], [CYCLE, EXAMPLES / "shared.toml"]):
+            done = words("run", *labs, "--close", "every:1", "--into", self.room / "runs", "--ends", f"{before:%H:%M}")
+            self.assertEqual(done.returncode, 1)
+            self.assertRegex(done.stderr, rf"^class: --ends {before:%H:%M}: it is \d\d:\d\d already\n$")
+            self.assertFalse((self.room / "runs").exists())
 
 
 class Names(unittest.TestCase):
