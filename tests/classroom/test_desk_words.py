@@ -46,6 +46,7 @@ TOLD = {
     "shake all": "the registers of 7 nodes were set",
     "break": "the registers of 7 nodes were set",
     "page": "there is no page: --page",
+    "key gus": "another key is for a host: without --serve",
     "help": "  close ",
     "end": "not stable, 1 privileged: end once more ends the run all the same",
 }

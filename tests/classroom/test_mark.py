@@ -98,7 +98,8 @@ class Mark(InRoom):
         run, = self.marks(self.file("lab.toml", GOOD.replace(*PAIR)), self.file("journal", ""))
         none = {"update": 0, "marriage": 0, "seduction": 0, "abandonment": 0}
         self.assertEqual(run["students"]["jonas"],
-                         {"granted": none, "applied": none, "steps": 0, "first": None, "last": None, "shared": 0, **dict.fromkeys(DENIED), "whole": False})
+                         {"granted": none, "applied": none, "steps": 0, "first": None, "last": None, "shared": 0, "whole": False, "nodes": 2, "network": "lab",
+                          **dict.fromkeys((*DENIED, "access_denials", "stale_denials", "chosen_denials", "guard_denials"))})
 
     def test_a_long_run(self) -> None:
         lab = self.file("lab.toml", GOOD.replace(*PAIR).replace("events = 1000", "events = 100000"))
@@ -148,16 +149,16 @@ class Mark(InRoom):
         self.assertEqual((done.returncode, done.stderr), (0, ""))
         self.assertEqual(done.stdout.splitlines(), [
             "Student;SIS User ID;Section;granted;applied;update;marriage;seduction;abandonment;steps;shared;runs;"
-            "clause1;clause2;clause3;clause4;malformed;recorded",
-            "Points Possible;;;;;;;;;;;;;;;;;", "Müller, Zoë;s1;A;2;1;0;0;1;0;1;0;2;0;0;0;0;0;0",
-            "Ben;s2;B;1;1;0;1;0;0;1;0;2;0;0;0;0;0;0",
-            "Eva;s3;B;0;0;0;0;0;0;0;0;2;0;0;0;0;0;0",
+            "clause1;clause2;clause3;clause4;malformed;recorded;nodes;network",
+            "Points Possible;;;;;;;;;;;;;;;;;;;", "Müller, Zoë;s1;A;2;1;0;0;1;0;1;0;2;0;0;0;0;0;0;2;lab",
+            "Ben;s2;B;1;1;0;1;0;0;1;0;2;0;0;0;0;0;0;2;lab",
+            "Eva;s3;B;0;0;0;0;0;0;0;0;2;0;0;0;0;0;0;2;lab",
         ])
         shorter = self.file("shorter.csv", "Name,ID\nZoë M.,s1\nBen,s2\nNew,s9\n")
         done = words("mark", lab, one, "--roster", shorter)
         self.assertEqual((done.returncode, done.stderr), (5, f"class: {shorter} has no Eva\n"))
         self.assertEqual([line.split(",")[:3] for line in done.stdout.splitlines()[1:]], [["Zoë M.", "s1", "1"], ["Ben", "s2", "1"], ["New", "s9", "0"]])
-        self.assertEqual(words("mark", lab, one, two, "--total").stdout.splitlines()[1], '"Müller, Zoë",s1,2,1,0,0,1,0,1,0,2,0,0,0,0,0,0')
+        self.assertEqual(words("mark", lab, one, two, "--total").stdout.splitlines()[1], '"Müller, Zoë",s1,2,1,0,0,1,0,1,0,2,0,0,0,0,0,0,2,lab')
 
     def recorded(self) -> Path:
         """A run's folder with a record: a hello that is denied, then a move that is granted, and a close."""
@@ -205,7 +206,9 @@ class Mark(InRoom):
         lab = self.room / "lab.toml"
         made = words("new", lab, "--students", students, "--family", "path")
         self.assertEqual(made.returncode, 0, made.stderr)
-        self.assertIn("Zoë\\xa0Müller (s\\u200d0) is ", made.stdout)
+        table = made.stdout.split("\n\n")[1].split("\n")
+        self.assertRegex(table[1], r"^Zoë\\xa0Müller \(s\\u200d0\) +zoe-mueller +lab +1$")
+        self.assertEqual({line.index("lab ") for line in table[1:]}, {table[0].index("network ")})
         self.assertTrue(all(map(str.isprintable, lab.read_text(encoding="utf-8").split("\n"))))
         people = labs.read(lab).people
         self.assertEqual([person.written for person in people.values()], [name.strip() for name in names])

@@ -131,7 +131,8 @@ class Practise(InRoom):
     def test_a_program_that_never_connects_is_told_from_one_that_is_silent(self) -> None:
         done = self.practises(f"python3 {FAULTY} pretends", "--timeout", "1")
         self.assertEqual(done.returncode, 5, done.stdout + done.stderr)
-        self.assertRegex(done.stdout, r"(?m)^it hangs: the class waits for \d \(you\): .*; you: it never connected to port \d+$")
+        self.assertRegex(done.stdout, r"(?m)^it hangs: the class waits for \d \(you\): .*; you: it never connected to port \d+; "
+                                      r'the plain model, which decides nothing, adds: a right bot would send {"at":1?\d,"do":"move",.*}$')
         self.assertTrue(done.stdout.endswith("\nyou: 0 moves, 0 denials; never asked: update, marriage, seduction, abandonment\n"), done.stdout)
 
     def test_no_program_goes_on_while_record_and_page_are_made(self) -> None:
