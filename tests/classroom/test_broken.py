@@ -37,10 +37,10 @@ class Broken(Cycle):
         return self.file(name, re.sub(r"(?m)^sessions = \d+", f"sessions = {sessions}", text))
 
     def test_kills_of_the_server_at_ten_moments(self) -> None:
-        def typed(line: str) -> Callable[[Going], None]:
+        def typed(line: str, told: str) -> Callable[[Going], None]:
             def act(going: Going) -> None:
                 going.type(line)
-                going.until("^configuration .*: (release|\\d+ \\()" if line.split()[0] in ("release", "close") else re.escape(line))
+                going.until(f"^configuration \\d+: {told}")
             return act
 
         def move(name: str, node: int) -> Callable[[Going], None]:
@@ -49,8 +49,9 @@ class Broken(Cycle):
                     student.move(student.look(node))
             return act
 
-        acts = [move("gus", 4), move("ines", 3), typed("release 3"), typed("close"), typed("fault 1 2 true"), typed("link 1 3"),
-                move("jonas", 7), typed("cut 1 3"), typed("link 2 4")]
+        acts = [move("gus", 4), move("ines", 3), typed("release 3", "release 3"), typed("close", r"\d+ \("),
+                typed("fault 1 2 true", "fault at node 1: p 2, m true"), typed("link 1 3", "link 1 3"), move("jonas", 7),
+                typed("cut 1 3", "cut 1 3"), typed("link 2 4", "link 2 4")]
         for moment in range(10):
             with self.subTest(moment=moment):
                 going = Going(self, self.lab("cycle.toml", 16), "--close", "by-hand", "--beside")

@@ -85,7 +85,8 @@ class Release(InRoom):
         (self.room / "bin").mkdir()
         for name in ("mml", "mml_host"):
             self.file(f"bin/{name}", "#!/bin/sh\necho started\nexit 1\n").chmod(0o755)
-        lab = TOP / "examples/cycle.toml"
+        (self.room / "examples").mkdir()
+        lab = Path(shutil.copy(TOP / "examples/cycle.toml", self.room / "examples"))
         asked: tuple[list[str | Path], ...] = (["run", lab], ["demo"], ["check", lab], ["mark", lab, lab], ["practise"])
         own = {name: value for name, value in os.environ.items() if name not in ("MML_PROGRAM", "MML_HOST")}
         for wanted, here in (("2.999", r"2\.\d+"), ("3.0", r"2\.\d+")):
