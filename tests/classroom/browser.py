@@ -99,9 +99,11 @@ def told(state: State, frame: Frame) -> Shown:
 
 
 # Each text that is seen, in its colour over what lies behind it. On paper no background of HTML is printed. Behind
-# a text of the drawing is the ground that surrounds its letters, but for those that stand in a disc or a frame.
+# a text of the drawing is the ground that surrounds its letters, but for those that stand in a disc or a frame. A colour that
+# is changing little by little is taken as it will be.
 TEXTS = """
 const onPaper = arguments[0];
+for (const change of document.getAnimations()) change.finish();
 const colour = (text) => (text.match(/[\\d.]+/g) || []).map(Number);
 const isSeen = ([, , , alpha]) => alpha === undefined || alpha > 0;
 const paper = (element) => {

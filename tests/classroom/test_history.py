@@ -23,6 +23,7 @@ from tests.classroom.help import CYCLE, KEYS, Cycle, Going, words
 
 MOVE = b'{"do":"move","node":4,"rule":"update","at":%d}\n'
 EVIL = b'\x1b[2J\xff=1+1 {"key":"heron-31"}\n'
+UNENDED = "its server is running or was killed, so its last entries may be missing, through no fault of a student"
 UNKNOWN = '{"clause":2,"deny":"unknown","text":"name and key do not match"}'
 STALE = '{"at":1,"clause":2,"deny":"stale","text":"this is not the current configuration"}'
 GUARD = '{"clause":4,"deny":"guard","text":"the guard of this rule does not hold"}'
@@ -136,7 +137,7 @@ class Told(Disputed):
         going = self.disputed()
         now = self.history(going.folder)
         verdict = host_call("verify", going.folder / "lab.toml", going.folder / "journal", going.folder / "record").output.partition("\n")[0]
-        self.assertIn(f"{verdict}: the server hasn't ended", now.splitlines()[0])
+        self.assertTrue(now.splitlines()[0].endswith(f"/record: {verdict}: {UNENDED}"), now)
         self.assertFalse(json.loads(words("mark", going.folder, "--json").stdout)["runs"][0]["whole"])
         folder = self.ended(going)
         first, _, rest = self.history(folder).partition("\n")
@@ -268,7 +269,7 @@ class Verified(Disputed):
         self.assertIn("verify: place 1: granted in no record", done.stderr)
         output = folder / "server.txt"
         output.write_text(output.read_text(encoding="utf-8").partition("done: ")[0], encoding="utf-8")
-        self.assertIn(", not whole: the server hasn't ended", self.history(folder))
+        self.assertIn(f", not whole: {UNENDED}\n", self.history(folder))
 
     def test_a_class_whose_server_died(self) -> None:
         going = self.disputed()

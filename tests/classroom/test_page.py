@@ -286,7 +286,7 @@ class Live(InRoom):
                 self.assertNotIn(token.encode(), text)
         self.assertEqual(self.ask("POST", "/act", "close", Host=host), (404, b""))
         self.assertEqual(self.ask("POST", "/x/act", "fault 1 2 true", Host=host), (404, b""))
-        for words in ("end", "dance", "report", "close\nend", "", "é" * 200):
+        for words in ("ends", "who", "key gus", "daemon synchronous", "dance", "report", "close\nend", "", "é" * 200):
             self.assertIn(self.ask("POST", f"{parts.path}act", words.encode("utf-8"), Host=host)[0], (400, 404), words)
         self.assertEqual(self.end().joinpath("journal").read_bytes(), b"")
 
