@@ -89,7 +89,7 @@ class Disks(InRoom):
         self.assertRegex(done.stderr, f"^class: {disk}/2.*-practise: No space left on device; --into names another folder$")
 
     def test_a_bot_without_room_of_its_own_is_not_tried(self) -> None:
-        told = argparse.Namespace(timeout=20.0, memory=512, at_once=2)
+        told = argparse.Namespace(timeout=20.0, memory=512, own_rule=False, at_once=2)
         plan = suites.SMALL[0]
         case = suites.planned(plan, 1, plan.daemon)
         with unittest.mock.patch.object(Path, "write_text", side_effect=OSError(28, "No space left on device", "/tmp/slip")):
