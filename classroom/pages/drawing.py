@@ -192,7 +192,7 @@ class Drawing:
         rules = ("", *RULES)
         return {
             "width": layout.field.width, "height": layout.field.height, "kind": self.kind, "words": form.words, "tiny": self.tiny,
-            "measures": self.measures, "widths": [[form.pill_width(rule, it) for it in (False, True)] for rule in rules],
+            "measures": self.measures, "corner": self.view.corner, "widths": [[form.pill_width(rule, it) for it in (False, True)] for rule in rules],
             "points": [layout.points[node.id] for node in self.lab.nodes],
             "labels": [[label.text, ANCHORS.index(label.anchor), label.x, label.name_y, label.pill_y]
                        for node in self.lab.nodes if (label := self.view.labels.get(node.id)) is not None],

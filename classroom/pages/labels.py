@@ -26,6 +26,7 @@ SIDEWAYS = 0.3  # the cosine or sine from which a label stands beside a node, or
 ANGLES = (1, -1, 3, -3, 0, 4, 2, -2, 0.5, -0.5, 3.5, -3.5, 1.5, 2.5, -1.5, -2.5)  # eighths of a turn, in order
 GAP = 2.0  # between a label and anything else
 LEAST = 13.0  # the size of the smallest letters
+CORNER = (0.5, -1.15)  # in radii, from a node's middle: the middle of its rule's frame, where it has no label
 FULL = "✓ "  # before the rule of a move that is chosen
 
 
@@ -147,7 +148,7 @@ class Label:
 
 @dataclass(frozen=True)
 class View:
-    """A layout with its labels; a node without a label has the letter of its rule at its upper right."""
+    """A layout with its labels; a node without a label has the letter of its rule at its upper edge, on the right."""
 
     layout: Layout
     form: Form
@@ -160,10 +161,15 @@ class View:
         plain = BARE.size if wide("8" * digits, BARE.size, True) <= 1.95 * radius else 0.0
         return round(max(plain, 0.92 * radius), 1)
 
+    @property
+    def corner(self) -> Point:
+        """The middle of a rule's frame, from the middle of a node without a label."""
+        return round(CORNER[0] * self.layout.radius, 2), round(CORNER[1] * self.layout.radius, 2)
+
     def pill_at(self, node: int, width: float) -> Point:
         """Returns the middle of the frame of a node's rule, from the node's middle."""
-        label, radius = self.labels.get(node), self.layout.radius
-        return (radius, -radius) if label is None else (label.pill_x(width), label.pill_y)
+        label = self.labels.get(node)
+        return self.corner if label is None else (label.pill_x(width), label.pill_y)
 
 
 def view_of(owners: dict[int, list[str]], links: list[tuple[int, int]], field: Field) -> View:

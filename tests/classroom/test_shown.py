@@ -58,6 +58,11 @@ for (const node of document.querySelectorAll('#drawing .node')) {
 }
 return found;
 """
+# Whether the picture is the one for a window of that width.
+FOR_WINDOW = """
+const {drawing, data} = window.player || window.live;
+return drawing.view === data.views[innerWidth < 500 ? 1 : 0];
+"""
 SIZES = """
 const box = (it) => { const {left, top, right, bottom} = it.getBoundingClientRect(); return [left, top, right, bottom]; };
 const root = document.documentElement, legend = document.querySelector('.legend'), drawing = document.getElementById('drawing');
@@ -229,7 +234,7 @@ class Sizes(Played):
             for size in (LAPTOP, PHONE):
                 with self.subTest(seed=seed, family=family, size=size):
                     resize(self.driver, size)
-                    until(self.driver, lambda driver: driver.execute_script("return player.drawing.view === player.data.views[innerWidth < 500 ? 1 : 0]"))
+                    until(self.driver, lambda driver: driver.execute_script(FOR_WINDOW))
                     self.driver.execute_script(FULLEST)
                     found = self.driver.execute_script(BOXES)
                     self.assertEqual(len(found), 14 * (3 if size == LAPTOP else 2))
@@ -285,14 +290,12 @@ class Sizes(Played):
 
     def fits(self, has_controls: bool) -> None:
         """Whether the page that is open fits in each window."""
-        resize(self.driver, PHONE)
-        found = self.driver.execute_script(SIZES)
+        found = self.sized(PHONE)
         self.assertLessEqual((found["wide"], found["high"]), PHONE)
         self.assertGreater(found["scale"], 0.8)
         self.can_be_read(PHONE)
         for size in (LAPTOP, WIDER, PROJECTOR):
-            resize(self.driver, size)
-            found = self.driver.execute_script(SIZES)
+            found = self.sized(size)
             self.assertLessEqual((found["wide"], found["high"]), size)
             self.can_be_read(size)
             for name in ("legend", "picture", "controls", "chart"):
@@ -300,7 +303,14 @@ class Sizes(Played):
                 self.assertTrue(0 <= left < right <= size[0] and 0 <= top < bottom <= size[1], (size, name, found))
             self.assertLessEqual(found["hidden"], 1, (size, found))
         self.assertGreaterEqual(found["scale"], 1.3)
-        self.assertLess(found["controls"][3] - found["controls"][1], 130 if has_controls else 60)
+        self.assertLess(found["controls"][3] - found["controls"][1], 130 if has_controls else 70)
+
+    def sized(self, size: tuple[int, int]) -> dict[str, Any]:
+        """What is where in a window of that size, once the picture that is meant for it is shown."""
+        resize(self.driver, size)
+        until(self.driver, lambda driver: driver.execute_script(FOR_WINDOW))
+        found: dict[str, Any] = self.driver.execute_script(SIZES)
+        return found
 
     def whole_screen(self) -> None:
         """The key f, and the same again."""
