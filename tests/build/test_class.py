@@ -8,8 +8,8 @@ import subprocess
 
 from tests.build.clone import TOP, InClone
 
-# A program that takes every lab, but for those whose name has a 2 at the end.
-PROGRAM = '#!/bin/sh\n[ "${2%-2.toml}" = "$2" ] || { echo "lab fault: 3" >&2; exit 2; }\necho "ok: 4 nodes, 4 students"\n'
+# A program that takes every lab, but for those that have a student called refused.
+PROGRAM = '#!/bin/sh\n! grep -q refused "$2" || { echo "lab fault: 3" >&2; exit 2; }\necho "ok: 4 nodes, 4 students"\n'
 WORDS = ("maths.toml", "--students", "names.txt")
 FIRST = ("maths.toml", "maths-slips.html", "maths-slips", "maths-slips.csv", "maths-teacher.slip")
 
@@ -96,7 +96,7 @@ class SetsUp(InClone):
 
     def test_all_labs_or_none(self) -> None:
         """If one of several labs isn't taken, none is left."""
-        (self.clone / "names.txt").write_text("".join(f"student{number}\n" for number in range(8)), encoding="utf-8")
+        (self.clone / "names.txt").write_text("".join(f"student{number}\n" for number in range(7)) + "refused\n", encoding="utf-8")
         done = self.new("--groups", "2")
         self.assertEqual((done.returncode, done.stdout, self.made()), (2, "", []))
         self.assertIn("this would be no lab: lab fault: 3", done.stderr)
