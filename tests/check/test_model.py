@@ -15,7 +15,7 @@ from model.policy import DENIALS
 from tools.check.parts import TOP
 
 MODULES = sorted((TOP / "model").glob("*.py"))
-MOST_LINES = 1400
+MOST_LINES = 1600
 
 
 class Model(unittest.TestCase):
