@@ -2,7 +2,7 @@
 
     python3 -B -m tests.classroom.lines      writes the table anew
 
-Each line is a text of the program's source, in which `{}` stands for a value. A change of a line is a change of the table, where it
+Each line is a text of the program's source, in which `{}` stands for a value. A change of a line is a change of the table, in which it
 is read by itself.
 """
 from __future__ import annotations

@@ -126,7 +126,7 @@ def killed_and_resumed(room: Path) -> None:
 
 
 def torn_entries(room: Path) -> None:
-    """An entry at the end of a seat's file that isn't whole is taken off where the class goes on, which is told: a line
+    """An entry at the end of a seat's file that isn't whole is taken off when the class goes on, and reported: a line
     without its reply, a part of either, and no more than that."""
     lab, journal, record = lab_of(room, SEATS), room / "torn.journal", room / "torn"
     with Host(lab, 0, 0, journal, record) as host:
