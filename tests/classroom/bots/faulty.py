@@ -35,9 +35,20 @@ def ask(me: Client, look: Look) -> bool:
     return True
 
 
+def entered() -> Client:
+    """Returns a connection that was let in; where all seats are taken it comes again."""
+    while True:
+        try:
+            return Client.of(SLIP)
+        except Refused as refused:
+            if refused.word != "busy":
+                raise
+            time.sleep(1)
+
+
 def loop(wants: Callable[[Client, Look], None], pause: float = PAUSE) -> None:
     """Looks at its nodes again and again; `wants` does what there is to do at one."""
-    with Client.of(SLIP) as me:
+    with entered() as me:
         while True:
             for node in SLIP.nodes:
                 wants(me, me.look(node))
@@ -113,7 +124,7 @@ def needs_order(me: Client, look: Look) -> None:
 
 def hangs() -> None:
     """It says hello, and then nothing."""
-    with Client.of(SLIP):
+    with entered():
         time.sleep(1000)
 
 
