@@ -36,6 +36,11 @@ function told(network) {
   return network.state.stable ? "stable" : `${network.state.privileged.length} privileged`;
 }
 
+/** Returns a number with what is counted. */
+function counted(number, word) {
+  return `${number} ${word}${number === 1 ? "" : "s"}`;
+}
+
 /** Returns who is missing, as a text. */
 function missing(state) {
   const names = state.missing;
@@ -54,8 +59,8 @@ function card(network) {
   it.append(head, made("p", told(network), "state"));
   if (network.alarm) it.append(made("p", network.alarm, "alarm"));
   if (state) {
-    it.append(made("p", `${state.pairs.length} pairs, ${state.open} open links, configuration ${state.configuration}`));
-    it.append(made("p", state.most === null ? `${state.moves} moves` : `${state.moves} of at most ${state.most} moves`, "moves"));
+    it.append(made("p", `${counted(state.pairs.length, "pair")}, ${counted(state.open, "open link")}, configuration ${state.configuration}`));
+    it.append(made("p", state.most === null ? counted(state.moves, "move") : `${state.moves} of at most ${state.most} moves`, "moves"));
     const bar = made("progress");
     Object.assign(bar, {max: state.most || 1, value: state.moves});
     bar.setAttribute("aria-label", "moves");

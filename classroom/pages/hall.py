@@ -2,7 +2,7 @@
 
 The page has two addresses: one to look at, and one to act at. Below each of them the server answers
 
-- `` (nothing more): the page, `hall.html` with `hall.css` and `hall.js` inside
+- `` (nothing more): the page, `hall.html` with `drawing.css`, `hall.css` and `hall.js` inside
 - `state`: the state of the class as a JSON object (`classroom.core.class_state` documents it)
 - `events`: server-sent events; each `data` is such an object, sent whenever something has changed, and one comment line if
   nothing has changed for ten seconds
@@ -19,10 +19,9 @@ import re
 import secrets
 import threading
 from collections.abc import Callable
-from html import escape
 
 from classroom.core.class_state import ClassState
-from classroom.pages.page import FOLDER, data_element, hashed
+from classroom.pages.page import assembled, data_element
 from classroom.pages.web import Asked, Web
 from classroom.pages.web import opened as web_opened
 
@@ -145,11 +144,8 @@ def text(state: ClassState) -> str:
 
 def hall_page(title: str, state: str, acts: bool) -> tuple[str, str]:
     """Returns the page, and the policy that lets its own style and program alone be used."""
-    style, program = ((FOLDER / f"hall.{kind}").read_text("utf-8") for kind in ("css", "js"))
-    head, *rest = (FOLDER / "hall.html").read_text("utf-8").split("{{")
-    parts = {"TITLE": escape(title), "STYLE": style, "PROGRAM": program, "DATA": data_element(state), "ACTS": "acts" if acts else "looks"}
-    page = head + "".join(parts[piece.split("}}", 1)[0]] + piece.split("}}", 1)[1] for piece in rest)
-    return page, f"style-src {hashed(style)}; script-src {hashed(program)}"
+    parts = {"TITLE": title, "DATA": data_element(state), "ACTS": "acts" if acts else "looks"}
+    return assembled("hall", parts, "", ("drawing.css", "hall.css"), ("hall.js",))
 
 
 def opened(port: int, title: str, act: Callable[[str], None], state: ClassState, looks: str | None = None) -> Hall:

@@ -20,6 +20,7 @@ from selenium.webdriver.support.wait import WebDriverWait
 
 from classroom.core.program import TOP
 from classroom.pages.frames import Frame, State
+from tests.classroom.contrast import LEAST, contrast
 from tests.classroom.help import LIMIT
 
 STARTS = 5  # of a browser, until one is there in time
@@ -132,20 +133,6 @@ return found;
 """
 
 
-def luminance(colour: list[float]) -> float:
-    """How light a colour is, as WCAG 2 counts it."""
-    parts = [part / 255 for part in colour]
-    red, green, blue = (part / 12.92 if part <= 0.04045 else ((part + 0.055) / 1.055) ** 2.4 for part in parts)
-    lightness: float = 0.2126 * red + 0.7152 * green + 0.0722 * blue
-    return lightness
-
-
-def contrast(front: list[float], back: list[float]) -> float:
-    """The contrast of two colours, from 1 to 21."""
-    darker, lighter = sorted((luminance(front), luminance(back)))
-    return (lighter + 0.05) / (darker + 0.05)
-
-
 def show_as(driver: Any, theme: str = "light", media: str = "") -> None:
     """Shows pages as for a reader who has set this theme, on a screen or on paper."""
     setting = {"media": media, "features": [{"name": "prefers-color-scheme", "value": theme}]}
@@ -156,7 +143,7 @@ def pale(driver: Any, on_paper: bool = False) -> tuple[int, list[tuple[str, floa
     """How many texts a page shows, and those whose contrast is under 4.5 to 1."""
     texts = driver.execute_script(TEXTS, on_paper)
     told = [(text, contrast(front, back)) for text, front, back in texts]
-    return len(told), [(text, ratio) for text, ratio in told if ratio < 4.5]
+    return len(told), [(text, ratio) for text, ratio in told if ratio < LEAST]
 
 
 class Played(unittest.TestCase):
