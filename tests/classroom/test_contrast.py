@@ -1,0 +1,69 @@
+"""The contrast of each text of a page or a picture over what lies behind it, computed from the palette in both themes."""
+from __future__ import annotations
+
+import re
+import unittest
+
+from classroom.pages import colours
+from tests.classroom.contrast import LEAST, contrast
+
+PAGES = ("page.css", "by_hand.css", "hall.css")
+RULE = re.compile(r"(?P<chosen>[^{}]+)\{(?P<set>[^{}]*)\}")
+COLOUR = re.compile(r"(?:^|[\s;])color: var\(--([a-z]+)\)")
+BACKGROUND = re.compile(r"(?:^|[\s;])background: var\(--([a-z]+)\)")
+FILL = re.compile(r"(?:^|[\s;])fill: var\(--([a-z]+)\)")
+GROUNDS = ("ground", "panel", "rule")  # what a text of a page may lie over, where its own rule sets nothing
+# The texts of a drawing: in which colours they are, and over which.
+DRAWN = {
+    ("ink", "ground"), ("ink", "wedtint"), ("ground", "quiet"), ("onwed", "wed"), ("quiet", "ground"), ("can", "cantint"), ("oncan", "can"),
+    ("hit", "ground"), ("can", "ground"),
+}
+TEXTS = re.compile(r"\btext\b|\.identifier|\.owner|\.mark")
+
+
+def of_a_page(name: str) -> set[tuple[str, str]]:
+    """Returns the colours of the texts of HTML that a style sets, each with what is behind it."""
+    found = {("ink", ground) for ground in GROUNDS}
+    for rule in RULE.finditer((colours.STYLE.parent / name).read_text("utf-8")):
+        front, back, fill = COLOUR.search(rule["set"]), BACKGROUND.search(rule["set"]), FILL.search(rule["set"])
+        if front is not None:
+            found |= {(front[1], ground) for ground in ([back[1]] if back is not None else GROUNDS if front[1] == "quiet" else GROUNDS[:2])}
+        if fill is not None and TEXTS.search(rule["chosen"]):
+            found.add((fill[1], "ground"))
+    return found
+
+
+class Palette(unittest.TestCase):
+    """Needs no browser: what it computes holds for each of them."""
+
+    def readable(self, pairs: set[tuple[str, str]]) -> None:
+        """Wants the contrast of a text in both themes."""
+        for theme in colours.THEMES:
+            for front, back in sorted(pairs):
+                one, other = ([float(int(colours.value(f"--{name}", theme)[at:at + 2], 16)) for at in (1, 3, 5)] for name in (front, back))
+                with self.subTest(theme=theme, front=front, back=back):
+                    self.assertGreaterEqual(contrast(one, other), LEAST)
+
+    def test_texts_of_pages(self) -> None:
+        for name in PAGES:
+            self.readable(of_a_page(name))
+
+    def test_texts_of_drawings(self) -> None:
+        self.readable(DRAWN)
+
+    def test_each_colour_of_a_drawing_s_texts_is_known(self) -> None:
+        fills = {fill[1] for rule in RULE.finditer(colours.parts()[1]) if TEXTS.search(rule["chosen"]) and (fill := FILL.search(rule["set"])) is not None}
+        self.assertEqual(fills, {front for front, _ in DRAWN})
+
+    def test_every_page_s_style_is_looked_at(self) -> None:
+        self.assertEqual({file.name for file in colours.STYLE.parent.glob("*.css")}, {*PAGES, colours.STYLE.name})
+
+    def test_colours_that_are_alike(self) -> None:
+        black, white, grey = [0.0] * 3, [255.0] * 3, [119.0] * 3
+        self.assertAlmostEqual(contrast(black, white), 21.0)
+        self.assertLess(contrast(grey, white), LEAST)
+        self.assertAlmostEqual(contrast(grey, grey), 1.0)
+
+
+if __name__ == "__main__":
+    unittest.main()
