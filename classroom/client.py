@@ -6,15 +6,14 @@
         if look.rule is not None and look.chosen is None:
             me.move(look)
 
-By hand: python3 client.py SLIP, or client.py PORT NAME KEYFILE, either with --log FILE. It greets; then what is typed
-is sent, and what comes is shown. SLIP - is the environment's CENDUWA_SLIP, KEYFILE - its CENDUWA_KEY.
-
-From elsewhere: a slip that names a door is taken through it, and python3 client.py --tunnel SLIP opens the slip's port
-on this machine for programs in any language: it leads through the door.
+By hand: python3 client.py SLIP, or client.py PORT NAME KEYFILE, either with --log FILE. It greets; then what is typed is sent, and what
+comes is shown. SLIP - is the environment's CENDUWA_SLIP, KEYFILE - its CENDUWA_KEY. A slip that names a door is taken through it, and
+python3 client.py --tunnel SLIP opens the slip's port on this machine for programs in any language: it leads through the door.
 """
 from __future__ import annotations
 
 import difflib
+import hashlib
 import json
 import os
 import re
@@ -24,24 +23,52 @@ import time
 from collections.abc import Callable, Iterable
 from dataclasses import dataclass
 from pathlib import Path
-from types import TracebackType
 from typing import Any, Literal
 
 Rule = Literal["update", "marriage", "seduction", "abandonment"]
 KEY, SLIP = "CENDUWA_KEY", "CENDUWA_SLIP"  # of the environment: others can't read it as they can a process's words
+# What a class's server says last where it ends a connection, in words.
+LAST = {
+    "late": "a hello has to be granted within ten seconds, and the next line to come within ten minutes",
+    "long": "a line has at most 4096 bytes",
+    "over": "the class is over",
+}
+# Why a program stops, with its exit status; 0 is the run's end, 1 wrong words, 4 no server.
+LOST, LOST_SO = 7, "the connection was lost: start again"
+STOPS = {
+    "unknown": (2, "name and key don't match: take both from your slip"),
+    "not-owner": (3, "a node isn't yours: correct the nodes by your slip"),
+    "hidden": (3, "a node isn't shown to you: correct the nodes by your slip"),
+    "not-teacher": (3, "this is the teacher's alone"),
+    "malformed": (3, "the server takes a line for no request: correct the program"),
+    "busy": (5, "all seats were taken for a minute: come again later"),
+    "full": (6, "nothing is granted any longer: tell your teacher"),
+    "journal": (6, "nothing is granted any longer: tell your teacher"),
+}
+# The keys of each request with what they have to be.
+NODE = "a number"
+KEYS: dict[str, dict[str, str]] = {
+    "hello": {"name": "a string", "key": "a string"}, "bye": {}, "see": {"node": NODE}, "look": {"node": NODE},
+    "move": {"node": NODE, "at": NODE, "rule": "a rule"}, "close": {}, "report": {}, "release": {"node": NODE},
+    "fault": {"node": NODE, "p": "a number or null", "m": "true or false"}, "link": {"a": NODE, "b": NODE}, "cut": {"a": NODE, "b": NODE},
+}
+RULES = ("update", "marriage", "seduction", "abandonment")
+MOST, DEEPEST = 4096, 127  # bytes of a line; objects and lists in one another
+DEEP = f"nested deeper than {DEEPEST}"
+# Words that are often written for those of JSON.
+INSTEAD = {"none": "null", "nil": "null", "null": "null", "undefined": "null", "true": "true", "yes": "true", "false": "false", "no": "false"}
 
 
 class Denied(Exception):
-    """A clause doesn't hold: its number, its name for programs, its text for people."""
+    """A clause doesn't hold: its number, its name for programs (also as `word`), its text for people."""
 
     def __init__(self, clause: int, name: str, text: str, at: int | None = None) -> None:
         super().__init__(f"{name}: {text}")
-        self.clause, self.name, self.text, self.at = clause, name, text, at
+        self.clause, self.name, self.word, self.text, self.at = clause, name, name, text, at
 
 
 class Refused(Exception):
-    """A line is refused, by this word: `malformed`, `full`, `journal`, `memory`, or `busy` where no seat was free, or a
-    newcomer needed this one."""
+    """A line is refused, by this word: `malformed`, `full`, `journal`, `memory`, or `busy`: no seat was free, or a newcomer needed this one."""
 
     def __init__(self, word: str) -> None:
         super().__init__("busy: all seats are taken; come again later" if word == "busy" else word)
@@ -58,14 +85,6 @@ class Malformed(Refused):
 
 class Closed(Exception):
     """The connection has ended, or an answer didn't come in time."""
-
-
-# What a class's server says last where it ends a connection, in words.
-LAST = {
-    "late": "a hello has to be granted within ten seconds, and the next line to come within ten minutes",
-    "long": "a line has at most 4096 bytes",
-    "over": "the class is over",
-}
 
 
 class Over(Closed):
@@ -99,7 +118,6 @@ class Moving(Exception):
 @dataclass(frozen=True)
 class Near:
     """A node's registers."""
-
     node: int
     p: int | None
     m: bool
@@ -108,14 +126,12 @@ class Near:
 @dataclass(frozen=True)
 class See(Near):
     """A node's registers, and the configuration's number."""
-
     at: int
 
 
 @dataclass(frozen=True)
 class Look(See):
     """What a node may read, its enabled rule, and its chosen move."""
-
     rule: Rule | None
     chosen: Rule | None
     near: tuple[Near, ...]
@@ -124,7 +140,6 @@ class Look(See):
 @dataclass(frozen=True)
 class Move:
     """A move that was granted."""
-
     at: int
     place: int
     node: int
@@ -138,7 +153,6 @@ class Move:
 @dataclass(frozen=True)
 class Close:
     """A step that was closed, and who moved."""
-
     at: int
     place: int
     moved: tuple[int, ...]
@@ -147,7 +161,6 @@ class Close:
 @dataclass(frozen=True)
 class Edit:
     """A fault, a link, a cut or a release; a release drops one move."""
-
     at: int
     place: int
     dropped: int
@@ -156,7 +169,6 @@ class Edit:
 @dataclass(frozen=True)
 class Report:
     """The state of the matching."""
-
     at: int
     stable: bool
     pairs: tuple[tuple[int, int], ...]
@@ -167,9 +179,7 @@ class Report:
 
 @dataclass(frozen=True)
 class Slip:
-    """What a student's sheet says. As a file it has a line each: `port 4711`, `name ana`, `key ..`, `nodes 1,4`. A door,
-    `class.example:4700`, takes the network's name, and is known by its certificate's SHA-256."""
-
+    """What a student's sheet says: as a file a line each. A door takes the network's name, and is known by its certificate's SHA-256."""
     port: int
     name: str
     key: str
@@ -181,11 +191,9 @@ class Slip:
     @staticmethod
     def read(path: str | Path) -> Slip:
         """The slip of a file, or for `-` that of the environment."""
-        text = of_environment(SLIP) if str(path) == "-" else text_of(path)
-        lines = [line.split(None, 1) for line in text.splitlines() if not line.startswith("#")]
+        lines = [line.split(None, 1) for line in text_of(path, SLIP).splitlines() if not line.startswith("#")]
         it = {words[0]: words[1].strip() for words in lines if len(words) == 2}
-        missing = [word for word in ("port", "name", "key") if word not in it]
-        if missing:
+        if missing := [word for word in ("port", "name", "key") if word not in it]:
             raise NoSlip(f"{path}: no line `{missing[0]} ..`, so it is no slip")
         door, network, fingerprint = (it.get(word, "") for word in ("door", "network", "fingerprint"))
         if door and not (door_of(door) and network and re.fullmatch("[0-9a-f]{64}", fingerprint)):
@@ -200,32 +208,26 @@ class Slip:
         if len(words) < 3:
             raise NoSlip("SLIP, or PORT NAME KEYFILE NODE,..")
         nodes = words[3:4] if words[3:4] and re.fullmatch(r"[\d,]*", words[3]) else []
-        slip = Slip(port_of(words[0]), words[1], key_of(words[2]), nodes_of(*nodes))
-        return slip, words[3 + len(nodes):]
+        return Slip(port_of(words[0]), words[1], key_of(words[2]), nodes_of(*nodes)), words[3 + len(nodes):]
 
 
-def text_of(path: str | Path) -> str:
-    """The text of a file."""
+def text_of(path: str | Path, variable: str = "") -> str:
+    """The text of a file; where a variable is named, `-` is what the environment has there."""
+    if variable and str(path) == "-":
+        if variable not in os.environ:
+            raise NoSlip(f"the environment has no {variable}")
+        return os.environ[variable]
     try:
         return Path(path).read_text(encoding="utf-8-sig")
     except (OSError, UnicodeDecodeError) as error:
         raise NoSlip(f"{path}: {getattr(error, 'strerror', None) or error}") from None
 
 
-def of_environment(name: str) -> str:
-    """What the environment has under a name."""
-    if name not in os.environ:
-        raise NoSlip(f"the environment has no {name}")
-    return os.environ[name]
-
-
 def key_of(word: str) -> str:
     """The key of a file, which has it alone or is a slip; of `-` that of the environment."""
-    if word == "-":
-        return of_environment(KEY)
-    text = text_of(word)
-    found = re.search(r"^key\s+(.+)$", text, re.MULTILINE)
-    return found[1] if found else text.strip()
+    text = text_of(word, KEY)
+    found = word != "-" and re.search(r"^key\s+(.+)$", text, re.MULTILINE)
+    return found[1] if found else text if word == "-" else text.strip()
 
 
 def port_of(word: str) -> int:
@@ -253,15 +255,8 @@ def nodes_of(word: str = "") -> tuple[int, ...]:
 
 def want_certificate(certificate: bytes | None, slip: Slip) -> None:
     """Raises NoDoor unless a certificate is the one whose fingerprint a slip has."""
-    import hashlib
-
     if hashlib.sha256(certificate or b"").hexdigest() != slip.fingerprint:
         raise NoDoor(f"the certificate of the door at {slip.door} isn't the slip's, so nothing was sent")
-
-
-def no_door(slip: Slip, error: Exception) -> NoServer:
-    """The error to raise where there is no way through a door."""
-    return error if isinstance(error, NoDoor) else NoServer(f"no door at {slip.door}: {error}")
 
 
 def tls() -> Any:
@@ -273,36 +268,32 @@ def tls() -> Any:
     return it
 
 
-def through_door(slip: Slip, limit: float) -> socket.socket:
-    """A connection through the slip's door, whose certificate is the slip's. A door that has no room ends the handshake,
-    which counts as `busy`."""
+def connected(port: int, limit: float, slip: Slip | None = None, host: str = "127.0.0.1") -> socket.socket:
+    """A connection to a server's port, or through a slip's door, whose certificate is the slip's. One without room ends it: that is `busy`."""
     it: Any = None
     try:
+        if slip is None or not slip.door:
+            return socket.create_connection((host, port), timeout=limit)
         it = socket.create_connection(door_of(slip.door), timeout=limit)
         it = tls().wrap_socket(it, server_hostname=slip.network)
         want_certificate(it.getpeercert(True), slip)
+        return it  # type: ignore[no-any-return]
     except (OSError, NoDoor) as error:
-        if it is None:
-            raise no_door(slip, error) from None
-        it.close()
-        has_no_room = isinstance(error, ConnectionError) or type(error).__name__ == "SSLEOFError"
-        raise Refused("busy") if has_no_room else no_door(slip, error) from None
-    return it  # type: ignore[no-any-return]
+        if it is not None:
+            it.close()
+            if isinstance(error, ConnectionError) or type(error).__name__ == "SSLEOFError":
+                raise Refused("busy") from None
+        where = f"door at {slip.door}" if slip and slip.door else f"server at port {port}"
+        raise error if isinstance(error, NoDoor) else NoServer(f"no {where}: {error}") from None
 
 
 class Client:
     """A connection that has said hello. Not for several threads at once."""
 
-    def __init__(self, port: int, name: str, key: str, host: str = "127.0.0.1", limit: float = 30.0,
-                 connection: socket.socket | None = None) -> None:
-        """`limit` is how many seconds an answer may take. `connection` is an open connection to the port, if there is
-        one already."""
-        self.name, self.port, self.limit = name, port, limit
-        try:
-            self._socket = connection or socket.create_connection((host, port), timeout=limit)
-        except OSError as error:
-            raise NoServer(f"no server at port {port}: {error}") from None
-        self._rest, self._ended = b"", False
+    def __init__(self, port: int, name: str, key: str, host: str = "127.0.0.1", limit: float = 30.0, connection: socket.socket | None = None) -> None:
+        """`limit` is how many seconds an answer may take. `connection` is an open one to the port, if there is one already."""
+        self.name, self.port, self.limit, self._rest, self._ended = name, port, limit, b"", False
+        self._socket = connection or connected(port, limit, host=host)
         try:
             self.ask(do="hello", name=name, key=key)
         except BaseException as error:
@@ -317,12 +308,11 @@ class Client:
     @staticmethod
     def of(slip: Slip, limit: float = 30.0) -> Client:
         """A connection as a slip says that was read."""
-        return Client(slip.port, slip.name, slip.key, limit=limit, connection=through_door(slip, limit) if slip.door else None)
+        return Client(slip.port, slip.name, slip.key, limit=limit, connection=connected(slip.port, limit, slip))
 
     def own_port(self) -> int:
         """The port of this end."""
-        port: int = self._socket.getsockname()[1]
-        return port
+        return int(self._socket.getsockname()[1])
 
     def hang_up(self) -> None:
         """Ends the connection without a word."""
@@ -332,7 +322,7 @@ class Client:
     def __enter__(self) -> Client:
         return self
 
-    def __exit__(self, kind: type[BaseException] | None, error: BaseException | None, trace: TracebackType | None) -> None:
+    def __exit__(self, kind: type[BaseException] | None, *error: object) -> None:
         try:
             if kind is None and not self._ended:
                 self.bye()
@@ -345,15 +335,12 @@ class Client:
         """The next line, within the time limit."""
         end = time.monotonic() + self.limit
         while b"\n" not in self._rest:
-            left = end - time.monotonic()
             try:
-                self._socket.settimeout(max(left, 0.001))
+                self._socket.settimeout(max(end - time.monotonic(), 0.001))
                 more = self._socket.recv(65536)
-            except TimeoutError:
-                self._socket.close()
-                raise Silent(f"no answer in {self.limit} seconds") from None
             except OSError as error:
-                raise Silent(str(error)) from None
+                self._socket.close()
+                raise Silent(f"no answer in {self.limit} seconds" if isinstance(error, TimeoutError) else str(error)) from None
             if not more:
                 raise Silent("the server has closed the connection")
             self._rest += more
@@ -361,8 +348,7 @@ class Client:
         return line
 
     def ask(self, **request: object) -> dict[str, Any]:
-        """Sends a request, and returns its reply as it came, if it was answered by `ok`. Raises Malformed before a line
-        that is no request is sent, and Denied, Refused or Closed after its reply."""
+        """Returns the reply `ok` to a request as it came; raises Malformed before it sends, or Denied, Refused or Closed after the reply."""
         if self._ended:
             raise Closed("this connection has ended: greet again by another Client")
         line = line_of(request)
@@ -401,8 +387,7 @@ class Client:
         raise Moving(f"{tries} times a step was closed between two looks")
 
     def move(self, look: Look, rule: Rule | None = None, partner: int | None = None) -> Move:
-        """Asks for a move at the node and number of a look: its enabled rule, or the one that you name.
-        A marriage without a partner is asked with the highest neighbour that points at the node."""
+        """Asks for a look's enabled rule, or the one that you name. A marriage is with your partner, or the highest who points at the node."""
         if rule is None and look.rule is None:
             raise Malformed(f"no rule is enabled at {look.node} by this look: there is nothing to ask")
         request: dict[str, object] = {"do": "move", "node": look.node, "at": look.at, "rule": rule or look.rule}
@@ -441,8 +426,7 @@ class Client:
         return self._edit(do="release", node=node)
 
     def _edit(self, **request: object) -> Edit:
-        """Asks for a fault, a link, a cut or a release. The reply to a release doesn't say how many moves were dropped:
-        it is one."""
+        """Asks for a fault, a link, a cut or a release. The reply to a release doesn't say how many moves it dropped: one."""
         it = self.ask(**request)
         return Edit(it["at"], it["place"], it.get("dropped", 1))
 
@@ -454,8 +438,7 @@ class Client:
 
 
 def no_server(port: int, error: BaseException) -> NoServer | None:
-    """The error to raise instead of one that a hello met, where that shows that no class's server is at the port; None
-    where it doesn't."""
+    """The error to raise instead of one that a hello met, if no class's server is at the port; None if one may be."""
     if isinstance(error, NotReply):
         return NoServer(f"at port {port} is another program: it answers {error}")
     return NoServer(f"no server at port {port} answers a hello: {error}") if isinstance(error, Silent) else None
@@ -483,27 +466,11 @@ def reply_of(line: bytes) -> dict[str, Any]:
     return reply
 
 
-# Why a program stops, with its exit status; 0 is the run's end, 1 wrong words, 4 no server.
-LOST, LOST_SO = 7, "the connection was lost: start again"
-STOPS = {
-    "unknown": (2, "name and key don't match: take both from your slip"),
-    "not-owner": (3, "a node isn't yours: correct the nodes by your slip"),
-    "hidden": (3, "a node isn't shown to you: correct the nodes by your slip"),
-    "not-teacher": (3, "this is the teacher's alone"),
-    "malformed": (3, "the server takes a line for no request: correct the program"),
-    "busy": (5, "all seats were taken for a minute: come again later"),
-    "full": (6, "nothing is granted any longer: tell your teacher"),
-    "journal": (6, "nothing is granted any longer: tell your teacher"),
-}
-
-
 def stop(error: Exception) -> tuple[int, str]:
     """The status and the sentence by which a program ends."""
-    word = error.name if isinstance(error, Denied) else error.word if isinstance(error, Refused) else ""
-    if isinstance(error, Malformed):
-        return STOPS["malformed"][0], str(error)
-    if word in STOPS:
-        return STOPS[word]
+    if isinstance(error, Denied | Refused) and error.word in STOPS:
+        status, sentence = STOPS[error.word]
+        return status, str(error) if isinstance(error, Malformed) else sentence
     if isinstance(error, NoSlip):
         return 1, str(error)
     if isinstance(error, NoServer):
@@ -514,20 +481,8 @@ def stop(error: Exception) -> tuple[int, str]:
 
 
 def goes_on(error: Denied | Refused) -> bool:
-    """Whether a bot looks again after this denial or refusal: a right bot meets it too, or memory was short. Else it
-    stops."""
-    return (error.name if isinstance(error, Denied) else error.word) not in STOPS
-
-
-def seconds_of(words: list[str]) -> float:
-    """How long a bot waits for something new, by the word that may stand last; for ever without one."""
-    try:
-        seconds = float(words[0]) if words else float("inf")
-    except ValueError:
-        seconds = -1.0
-    if len(words) > 1 or not seconds >= 0:
-        raise NoSlip(f"{' '.join(words)}: no number of seconds")
-    return seconds
+    """Whether a bot looks again after this: a right bot meets it too, or memory was short. Else it stops."""
+    return error.word not in STOPS
 
 
 def enter(slip: Slip, patience: float = 60.0) -> Client:
@@ -543,26 +498,21 @@ def enter(slip: Slip, patience: float = 60.0) -> Client:
 
 
 def again(slip: Slip, lost: Closed | Refused, patience: float = 60.0) -> Client:
-    """Greets again after a connection was lost, each second for so many seconds, while no seat is free or no server is
-    there. Where that is in vain it raises `lost`; that the class is over, or any other refusal, it raises at once."""
+    """Greets again after a connection was lost, each second for so many seconds, while no seat is free or no server is there.
+    Then it raises `lost`; that the class is over, or any other refusal, it raises at once."""
     end = time.monotonic() + patience
     while not isinstance(lost, Over) and time.monotonic() < end:
         time.sleep(1)
         try:
             return Client.of(slip)
-        except (Over, NoDoor):
-            raise
-        except Closed:
-            pass
-        except Refused as refused:
-            if refused.word != "busy":
+        except (Closed, Refused) as error:
+            if isinstance(error, Over | NoDoor) or isinstance(error, Refused) and error.word != "busy":
                 raise
     raise lost
 
 
 def run(program: Callable[[list[str]], None], usage: str) -> None:
-    """Runs a program with the words of the command line; without any, or where help is asked for, tells the usage. An
-    error ends it with a line and an exit status."""
+    """Runs a program with the command line's words, or tells the usage. An error ends it with a line and an exit status."""
     words = sys.argv[1:]
     if not words or words[0] in ("-h", "--help"):
         print(usage, file=sys.stderr)
@@ -580,50 +530,30 @@ def run(program: Callable[[list[str]], None], usage: str) -> None:
         sys.exit(130)
 
 
-# The keys of each request with what they have to be.
-NODE = "a number"
-KEYS: dict[str, dict[str, str]] = {
-    "hello": {"name": "a string", "key": "a string"}, "bye": {}, "see": {"node": NODE}, "look": {"node": NODE},
-    "move": {"node": NODE, "at": NODE, "rule": "a rule"}, "close": {}, "report": {}, "release": {"node": NODE},
-    "fault": {"node": NODE, "p": "a number or null", "m": "true or false"},
-    "link": {"a": NODE, "b": NODE}, "cut": {"a": NODE, "b": NODE},
-}
-RULES = ("update", "marriage", "seduction", "abandonment")
-MOST, DEEPEST = 4096, 127  # bytes of a line; objects and lists in one another
-DEEP = f"nested deeper than {DEEPEST}"
-
-
 def is_a(kind: str, value: object) -> bool:
     """Whether a value is of that kind."""
-    number = isinstance(value, int) and not isinstance(value, bool) and 0 <= value < 2**64
+    number = type(value) is int and 0 <= value < 2**64
     return {"a number": number, "a number or null": number or value is None, "a string": isinstance(value, str),
             "true or false": isinstance(value, bool), "a rule": value in RULES}[kind]
 
 
 def said(value: object) -> str:
-    """What a value of the wrong kind is, in a word or two. An integer that no request has, below 0 or from 2^64 on, is
-    told as out of range."""
-    if is_a(NODE, value):
-        return NODE
-    kinds = {bool: "true or false", str: "a string", type(None): "null", dict: "an object", list: "a list",
-             float: "no whole number"}
-    return kinds.get(type(value), "out of range")
+    """What a value of the wrong kind is, in a word or two. An integer below 0 or from 2^64 on is out of range."""
+    kinds = {bool: "true or false", str: "a string", type(None): "null", dict: "an object", list: "a list", float: "no whole number"}
+    return NODE if is_a(NODE, value) else kinds.get(type(value), "out of range")
 
 
 def wrong(line: str) -> str | None:
-    """What is wrong with a line as a request, for which the server has a word alone; also that a key stands twice, of
-    which the server takes the last. None where there is nothing to tell."""
+    """What is wrong with a line as a request, also that a key stands twice; None where there is nothing to tell."""
     if len(sent(line)) >= MOST:
         return f"more than {MOST} bytes: the server ends the connection"
     if line.startswith("\ufeff"):
         return "a byte order mark at its beginning"
     if "\n" in line or "\r" in line:
         return "several lines: a request is one"
-    foreign = next((at for at, char in enumerate(line) if "\ud800" <= char <= "\udfff"), None)
-    if foreign is not None:
-        return f"not UTF-8 at byte {byte(line, foreign)}"
-    doubled: list[str] = []
-    strange: list[str] = []
+    if foreign := re.search("[\ud800-\udfff]", line):
+        return f"not UTF-8 at byte {len(sent(line[:foreign.start()])) + 1}"
+    doubled, strange = list[str](), list[str]()
 
     def once(pairs: list[tuple[str, Any]]) -> dict[str, Any]:
         """An object's values; of a name that stands twice the last one, and the name is noted."""
@@ -636,16 +566,12 @@ def wrong(line: str) -> str | None:
     except json.JSONDecodeError as error:
         if error.pos >= len(line.rstrip()) and line.strip():
             return "not JSON: it isn't closed at its end, and a request is one line"
-        return f"not JSON at byte {byte(line, error.pos)}{mend(line, error)}"
+        return f"not JSON at byte {len(sent(line[:error.pos])) + 1}{mend(line, error)}"
     except RecursionError:
         return DEEP
     if strange:
         return f"not JSON: {strange[0]} is no number"
     return wrong_value(asked) or wrong_keys(asked) or (f"{doubled[0]} stands twice, and the last counts" if doubled else None)
-
-
-# Words that are often written for those of JSON.
-INSTEAD = {"none": "null", "nil": "null", "null": "null", "undefined": "null", "true": "true", "yes": "true", "false": "false", "no": "false"}
 
 
 def mend(line: str, error: json.JSONDecodeError) -> str:
@@ -674,10 +600,10 @@ def mend(line: str, error: json.JSONDecodeError) -> str:
     return next((f" ({text})" for holds, text in rows if holds), "")
 
 
-def meant(word: str, known: Iterable[str]) -> str | None:
-    """Returns the known word that is most like another one, or None if none is."""
+def meant(word: str, known: Iterable[str]) -> str:
+    """Asks in parentheses for the known word that is most like another one; returns nothing if none is."""
     found = difflib.get_close_matches(word.lower(), list(known), 1, 0.6)
-    return found[0] if found else None
+    return f" (did you mean {found[0]}?)" if found else ""
 
 
 def mend_value(kind: str, value: object) -> str:
@@ -686,14 +612,12 @@ def mend_value(kind: str, value: object) -> str:
     if isinstance(value, list) and len(value) == 1 and is_a(kind, value[0]):
         return f" (write {json.dumps(value[0])}, without brackets)"
     if kind == "a rule":
-        near = meant(text, RULES)
-        return f" (did you mean {near}?)" if near else ""
+        return meant(text, RULES)
     if "number" in kind and isinstance(value, float) and value.is_integer():
         return f" (write {int(value)}, without a point)"
-    if "number" in kind and text.isascii() and text.isdecimal() or text in ("null", "true", "false"):
-        return f" (write {text}, without quotes)"
-    if text.lower() in INSTEAD and kind not in (NODE, "a string"):
-        return f" (write {INSTEAD[text.lower()]}, without quotes)"
+    word = text if kind == NODE else INSTEAD.get(text.lower(), text)
+    if "number" in kind and word.isascii() and word.isdecimal() or word in ("null", "true", "false"):
+        return f" (write {word}, without quotes)"
     if kind == "true or false" and value in (0, 1):
         return f" (write {str(value == 1).lower()})"
     return f' (write "{value}", in double quotes)' if kind == "a string" and is_a(NODE, value) else ""
@@ -712,14 +636,8 @@ def sent(line: str) -> bytes:
     return line.encode(errors="surrogateescape")
 
 
-def byte(line: str, at: int) -> int:
-    """Which byte stands at an index of a line, from 1."""
-    return len(sent(line[:at])) + 1
-
-
 def whole(text: str) -> int | float:
-    """The integer of a text. One with a sign is -1, since each of them is out of range; one past the greatest double is
-    infinite."""
+    """The integer of a text: -1 for any with a sign, since they are out of range; infinite past the greatest double."""
     return -1 if text.startswith("-") else int(text) if float(text) < float("inf") else float("inf")
 
 
@@ -745,8 +663,7 @@ def wrong_keys(asked: object) -> str | None:
         return f'missing "do"{mend_key("do", asked)}'
     word = asked["do"]
     if not isinstance(word, str) or word not in KEYS:
-        near = meant(word, KEYS) if isinstance(word, str) else None
-        return f"unknown do: {word}" + (f" (did you mean {near}?)" if near else "")
+        return f"unknown do: {word}{meant(word, KEYS) if isinstance(word, str) else ''}"
     keys = KEYS[word] | ({"with": NODE} if asked.get("rule") == "marriage" and word == "move" else {})
     for key, kind in keys.items():
         if key not in asked:
@@ -761,27 +678,19 @@ class ByHand:
     """A conversation by hand."""
 
     def __init__(self, slip: Slip | None, port: int, log: Path | None, limit: float = 30.0) -> None:
-        self.log, self.port = log, port
-        self.since = time.monotonic()
-        self.greeted = False
-        self.ended = False
-        try:
-            self.connection = through_door(slip, limit) if slip and slip.door else socket.create_connection(("127.0.0.1", port))
-        except OSError as error:
-            raise NoServer(f"no server at port {port}: {error}") from None
+        self.log, self.port, self.since, self.greeted, self.ended = log, port, time.monotonic(), False, False
+        self.connection = connected(port, limit, slip)
         self.answers = self.connection.makefile("rb")
         if slip is not None:
-            self.connection.settimeout(limit)
             self.send(json.dumps({"do": "hello", "name": slip.name, "key": slip.key}), typed=False)
-            self.connection.settimeout(None)
+        self.connection.settimeout(None)
 
     def keep(self, line: str) -> None:
         """Adds a line to the log, as long as that can be written."""
-        if self.log is None:
-            return
         try:
-            with self.log.open("a", encoding="utf-8", errors="surrogateescape") as it:
-                it.write(f"{time.strftime('%H:%M:%S')} {line}\n")
+            if self.log is not None:
+                with self.log.open("a", encoding="utf-8", errors="surrogateescape") as it:
+                    it.write(f"{time.strftime('%H:%M:%S')} {line}\n")
         except OSError as error:
             self.note(f"{self.log}: {error.strerror}: no more is kept there")
             self.log = None
@@ -791,10 +700,8 @@ class ByHand:
         print(f"client: {text}", file=sys.stderr, flush=True)
 
     def send(self, line: str, typed: bool = True) -> None:
-        """Sends a line, and shows what answers it; of one that was typed it is told before what is wrong with it. A key
-        isn't kept in the log."""
-        note = wrong(line) if typed else None
-        if note:
+        """Sends a line, and shows what answers it; before, what is wrong with it if it was typed. The log has no key."""
+        if typed and (note := wrong(line)):
             self.note(note)
             self.keep(f"! {note}")
         self.keep("> " + re.sub(r'("key" *: *)"[^"]*"', r'\1".."', line))
@@ -804,37 +711,28 @@ class ByHand:
             answer = self.answers.readline().decode(errors="replace").rstrip("\n")
         except OSError:
             answer = ""
-        last = self.last(answer) if answer else self.why(line, waited)
-        if last is not None:
-            answer = f"the server has closed the connection: {last}"
+        if why := self.why(line, answer, waited):
+            answer = f"the server has closed the connection: {why}"
         print(answer, flush=True)
         self.keep(f"< {answer}")
         self.ended = '"ok":"bye"' in answer or "closed the connection" in answer or '"refuse":"busy"' in answer
         self.greeted = self.greeted or '"ok":"hello"' in answer
 
-    def last(self, answer: str) -> str | None:
-        """Why the connection ended, where the server says it by this answer; None where it doesn't. An answer that is
-        no reply is raised as an error."""
+    def why(self, line: str, answer: str, waited: float) -> str | None:
+        """Why the connection ended by this answer to a line, or without one, `waited` seconds after the line before; None where it goes on.
+        An answer that is no reply is raised as an error; without any, and before a hello was granted, NoServer may be."""
         try:
-            return LAST.get(reply_of(answer.encode()).get("refuse", ""))
+            if answer:
+                return LAST.get(reply_of(answer.encode()).get("refuse", ""))
         except NotReply as error:
             raise (no_server(self.port, error) if not self.greeted else None) or error from None
-
-    def why(self, line: str, waited: float) -> str:
-        """Why the connection ended without an answer to a line, as far as that can be known here; `waited` is how many
-        seconds before it no line was sent. Before a hello was granted it may raise NoServer."""
         if len(sent(line)) >= MOST:
-            return f"a line has at most {MOST} bytes"
-        if not self.greeted and waited >= 10:
-            return "the first line came later than ten seconds"
-        if not self.greeted:
+            return LAST["long"]
+        if not self.greeted and waited < 10:
             raise NoServer(f"no server at port {self.port} answers a hello")
-        if waited >= 600:
-            return "no line came for ten minutes"
-        return "the class is over, or it was cut off"
-
-
-LINGER = 5.0  # seconds for which replies are waited for after a program has ended its side
+        if not self.greeted:
+            return "the first line came later than ten seconds"
+        return "no line came for ten minutes" if waited >= 600 else "the class is over, or it was cut off"
 
 
 async def carry(reader: Any, writer: Any) -> None:
@@ -848,29 +746,21 @@ async def tunnel(slip: Slip, port: int) -> None:
     """Leads each connection to a port of this machine through the slip's door, for ever."""
     import asyncio
 
-    async def opened() -> tuple[Any, Any]:
-        """Both ends of a connection through the door."""
-        try:
-            far = await asyncio.open_connection(*door_of(slip.door), ssl=tls(), server_hostname=slip.network)
-            want_certificate(far[1].get_extra_info("ssl_object").getpeercert(True), slip)
-            return far
-        except (OSError, NoDoor) as error:
-            raise no_door(slip, error) from None
-
     async def lead(reader: Any, writer: Any) -> None:
-        """Leads one connection there."""
+        """Leads one connection there. Once a program has ended its side, replies are waited for a little."""
         try:
-            far, near = await opened()
+            far, near = await asyncio.open_connection(*door_of(slip.door), ssl=tls(), server_hostname=slip.network)
+            want_certificate(near.get_extra_info("ssl_object").getpeercert(True), slip)
             both = asyncio.ensure_future(carry(reader, near)), asyncio.ensure_future(carry(far, writer))
             await asyncio.wait(both, return_when=asyncio.FIRST_COMPLETED)
-            await asyncio.wait(both[1:], timeout=LINGER)
+            await asyncio.wait(both[1:], timeout=5.0)
             await asyncio.gather(*(it for it in both if it.cancel() or it.done()), return_exceptions=True)
             near.close()
-        except NoServer as error:
-            print(f"client: {error}", file=sys.stderr, flush=True)
+        except (OSError, NoDoor) as error:
+            print(f"client: no way through the door at {slip.door}: {error}", file=sys.stderr, flush=True)
         writer.close()
 
-    (await opened())[1].close()
+    connected(port, 30.0, slip).close()
     try:
         server = await asyncio.start_server(lead, "127.0.0.1", port)
     except OSError as error:

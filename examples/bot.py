@@ -7,7 +7,7 @@ import time
 from pathlib import Path
 
 sys.path.append(str(Path(__file__).resolve().parent.parent / "classroom"))
-from client import Client, Closed, Denied, NoSlip, Refused, Slip, again, enter, goes_on, run, seconds_of
+from client import Client, Closed, Denied, NoSlip, Refused, Slip, again, enter, goes_on, run
 
 
 def ask(me: Client, nodes: tuple[int, ...], patience: float) -> None:
@@ -26,6 +26,17 @@ def ask(me: Client, nodes: tuple[int, ...], patience: float) -> None:
                 if not goes_on(no):
                     raise
         time.sleep(0.1)
+
+
+def seconds_of(words: list[str]) -> float:
+    """How long a bot waits for something new, by the word that may stand last; for ever without one."""
+    try:
+        seconds = float(words[0]) if words else float("inf")
+    except ValueError:
+        seconds = -1.0
+    if len(words) > 1 or not seconds >= 0:
+        raise NoSlip(f"{' '.join(words)}: no number of seconds")
+    return seconds
 
 
 def play(words: list[str]) -> None:
