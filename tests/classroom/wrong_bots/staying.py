@@ -14,7 +14,7 @@ class EndsWhenStable(Bot):
 
     def loop(self) -> None:
         calm = 0
-        while calm < 10:
+        while calm < 4:
             looks = [self.me.look(node) for node in self.slip.nodes]
             for look in looks:
                 self.at(look)
