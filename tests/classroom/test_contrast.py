@@ -1,4 +1,4 @@
-"""The contrast of each text of a page or a picture over what lies behind it, computed from the palette in both themes."""
+"""The contrast of each text of a page or a picture over its background, computed from the palette in both themes."""
 from __future__ import annotations
 
 import re
@@ -22,7 +22,7 @@ TEXTS = re.compile(r"\btext\b|\.identifier|\.owner|\.mark")
 
 
 def of_a_page(name: str) -> set[tuple[str, str]]:
-    """Returns the colours of the texts of HTML that a style sets, each with what is behind it."""
+    """Returns the colours of the texts of HTML that a style sets, each with its background."""
     found = {("ink", ground) for ground in GROUNDS}
     for rule in RULE.finditer((colours.STYLE.parent / name).read_text("utf-8")):
         front, back, fill = COLOUR.search(rule["set"]), BACKGROUND.search(rule["set"]), FILL.search(rule["set"])
