@@ -113,10 +113,14 @@ class Routes:
         return record if record is not None and not record.ended and record.goes_on() else None
 
     def named(self, name: str | None) -> str:
-        """Returns the network of a name, or for any other name the only one that there is, if there is one alone."""
+        """Returns the network of a name. A host's name, or none, leads to the only network, if there is one alone; the name of a network
+        that isn't there leads nowhere, since others of its class may be about to begin."""
         if name not in self.networks:
             self.look()
-        return name if name in self.networks else next(iter(self.networks)) if len(self.networks) == 1 else ""
+        if name in self.networks:
+            return name
+        is_host = not name or name == "localhost" or name in self.hosts() or NAME.fullmatch(name) is None
+        return next(iter(self.networks)) if is_host and len(self.networks) == 1 else ""
 
     def hosts(self) -> set[str]:
         """Returns the names of hosts that the slips have."""

@@ -177,6 +177,15 @@ class Bots(AtDoor):
             it.sendall(b'{"do":"bye"}\n')
             self.assertEqual(json.loads(it.makefile("rb").readline()), {"ok": "bye", "by": "maths"})
 
+    def test_a_network_that_is_about_to_begin_has_no_other_s_place(self) -> None:
+        seen = self.lines("maths-1").taken
+        with self.assertRaises(NoServer):
+            Client.of(self.slip("maths-2"))
+        self.assertEqual(seen, [])
+        self.lines("maths-2")
+        with Client.of(self.slip("maths-2")) as me:
+            self.assertEqual(me.ask(do="look", node=1)["by"], "maths-2")
+
     def test_a_certificate_that_is_not_the_slip_s(self) -> None:
         seen = self.lines("maths").taken
         other = self.slip("maths", "0" * 64)

@@ -86,19 +86,21 @@ class Far(InRoom):
         with self.crowd([Path(row["file"]) for row in rows]):
             assert run.stdout is not None and run.stdin is not None
             self.wait(lambda: len(set(self.greeted())) == 44)
-            records = [json.loads(file.read_text(encoding="utf-8")) for file in sorted((self.room / "runs").glob("*/run.json"))]
+            runs = sorted((self.room / "runs").glob("*-maths/maths-*"))
+            self.assertEqual([folder.name for folder in runs], [lab.stem for lab in labs])
+            records = [json.loads((folder / "run.json").read_text(encoding="utf-8")) for folder in runs]
             self.assertTrue(self.reaches(self.students, self.port))
             for record in records:
                 self.assertTrue(all(not self.reaches(self.students, record[kind]) for kind in ("port", "desk", "page", "play")), record)
             for record, lab in zip(records, labs, strict=True):
                 self.assertEqual(self.gets(f"/{lab.stem}/")[0], 200)
                 self.assertEqual(self.gets(f"/{lab.stem}/look/{record['looks']}/")[0], 200)
-            self.wait(lambda: all("; stable, " in file.read_text(encoding="utf-8") for file in (self.room / "runs").glob("*/run.txt")))
+            self.wait(lambda: all("; stable, " in (folder / "run.txt").read_text(encoding="utf-8") for folder in runs))
             run.stdin.write("end\n")
             run.stdin.flush()
             output = run.communicate(timeout=LIMIT)[0]
         self.assertEqual(run.returncode, 0, output)
-        marks = [json.loads(file.read_text(encoding="utf-8"))["runs"][0] for file in sorted((self.room / "runs").glob("*/marks.json"))]
+        marks = [json.loads(file.read_text(encoding="utf-8"))["runs"][0] for file in (folder / "marks.json" for folder in runs)]
         self.assertEqual(sum(len(it["students"]) for it in marks), 44)
         self.assertTrue(all(it["stable"] for it in marks))
         self.assertFalse(self.reaches(self.students, self.port))
