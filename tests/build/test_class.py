@@ -56,8 +56,8 @@ class SetsUp(InClone):
         """Each word builds the programs before it does anything: where that fails, it does nothing."""
         self.set("fails", "low")
         before = sorted(self.clone.rglob("*"))
-        for words in (("new", *WORDS), ("check", "it.toml"), ("run", "it.toml"), ("attach", "it"), ("slips", "it.toml"), ("key", "it.toml", "ana"), ("mark", "it"),
-                      ("history", "it", "ana"), ("play", "it"), ("practise", "true"), ("grade", "true"), ("experiment",), ("demo",)):
+        for words in (("new", *WORDS), ("check", "it.toml"), ("run", "it.toml"), ("attach", "it"), ("slips", "it.toml"), ("key", "it.toml", "ana"),
+                      ("mark", "it"), ("history", "it", "ana"), ("play", "it"), ("practise", "true"), ("grade", "true"), ("experiment",), ("demo",)):
             done = self.call("./class", *words)
             self.assertEqual((done.returncode, done.stdout), (1, ""), words)
             self.assertIn("\nmml: the build failed, see ", done.stderr, words)

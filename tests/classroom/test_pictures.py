@@ -95,7 +95,7 @@ class Pictures(InRoom):
     def test_a_configuration(self) -> None:
         lab = EXAMPLES / "cycle.toml"
         journal = journal_of(lab, EXAMPLES / "cycle-run.script", self.room / "journal")
-        for theme, more in ((colours.LIGHT, []), (colours.DARK, ["--dark"])):
+        for theme, more in ((colours.LIGHT, ()), (colours.DARK, ("--dark",))):
             self.has(self.drawn(lab, journal, "9", *more), "--hair", "--quiet", "--wed", "--wedtint", "--point", "--can", "--oncan", "--ink", theme=theme)
 
     def test_several_configurations(self) -> None:

@@ -22,7 +22,7 @@ def main() -> None:
     if rt is None:
         sys.exit("rt is not on the path")
     found = twice(len(os.sched_getaffinity(0)))
-    os.sched_getaffinity = lambda _: found  # type: ignore[assignment]
+    os.sched_getaffinity = lambda _: found
     sys.argv[0] = rt
     runpy.run_path(rt, run_name="__main__")
 
