@@ -114,7 +114,7 @@ class OfAClass(Classes):
         self.assertEqual(ask(f"{acts}act", "maths-9: close")[0], 204)
         self.assertEqual(ask(f"{acts}act", "2: shake all")[0], 204)
         desk.until("^maths-2: the registers of 4 nodes were set$")
-        self.until_state(looks, lambda it: it["networks"][1]["state"]["configuration"] == 4)
+        self.until_state(looks, lambda it: (it["networks"][1]["state"] or {}).get("configuration") == 4)
         state = json.loads(ask(f"{looks}state")[1])["networks"][1]["state"]
         self.assertEqual((len(state["nodes"]), len(state["missing"])), (4, 4))
         desk.kill("maths-1")
