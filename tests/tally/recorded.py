@@ -88,8 +88,8 @@ def by_hand(room: Path, document: str) -> int:
             b'{"clause":1,"deny":"greeted","text":"this connection has a name already"}', b'{"ok":"hello","who":"ana"}'),
          wanted.replace("denied ana 2 ", "denied ana 1 ")),
         ("a cut", text + b"1 2 !\n1 2 .\n", wanted.replace("record 3 21 whole", "record 4 21 cut").replace(WHOLE, "whole\n")),
-        ("a pause", text + b"1 2 -\n1 2 + 3\n1 2 .\n", wanted.replace("record 3 21 whole", "record 4 21 cut")),
-        ("a pause for ana", text.replace(b'1 2 > {"do":"bye"}', b'1 2 -\n1 2 + 1\n1 2 .\n1 2 > {"do":"bye"}'),
+        ("a pause", text + b"1 1 -\n1 1 + 3\n1 1 .\n", wanted.replace("record 3 21 whole", "record 4 21 cut")),
+        ("a pause for ana", text.replace(b'1 1 > {"do":"bye"}', b'1 1 -\n1 1 + 1\n1 1 .\n1 1 > {"do":"bye"}'),
          wanted.replace("record 3 21 whole", "record 4 21 cut").replace(WHOLE, "whole tess ben\n")),
         ("another clause", text.replace(b'"clause":4', b'"clause":3'), "verify: seat 1, line 5: not the reply of the rules at place 0"),
     )
