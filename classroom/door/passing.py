@@ -104,6 +104,7 @@ class Passing:
         async with asyncio.timeout(ASKING):
             head, rest = await self.head(first)
             asked = Asked.read(head)
+            self.door.routes.look()
             asked.wants_host(self.door.hosts | self.door.routes.hosts() | {own.removeprefix("::ffff:")}, self.door.port)
             name, path = asked.network()
             record = self.door.routes.record(name)
