@@ -17,7 +17,7 @@ from classroom.run.following import Follower, News
 
 MOST_TOLD = 0.9  # of the limit of events, from which on what is left is told
 MOST_WAITING = 8  # nodes that are named while the class waits for more
-LOOKS, PAUSE = 10, 0.1  # how often it is looked what the server says of the journal, and seconds between
+LOOKS, PAUSE = 30, 0.1  # how often it is looked what the server says of the journal, and seconds between
 
 
 def listed(report: Report) -> str:
