@@ -390,7 +390,7 @@ class Crowds(AtDoor):
             self.addCleanup(it.close)
         for _ in range(5):
             with Client.of(self.slip("maths")) as me:
-                me.ask(do="look")
+                me.ask(do="look", node=1)
         begun = time.monotonic()
         for it in slow:
             try:
@@ -414,7 +414,7 @@ class Crowds(AtDoor):
         while True:  # While they are there one may be turned away; a client comes again.
             try:
                 with Client.of(self.slip("maths")) as me:
-                    self.assertEqual(me.ask(do="look")["by"], "maths")
+                    self.assertEqual(me.ask(do="look", node=1)["by"], "maths")
                 break
             except (Refused, NoServer):
                 self.assertLess(time.monotonic(), end)
