@@ -18,7 +18,7 @@ FAMILIES = ("path", "cycle", "star", "tree", "complete", "grid:4x3", "grid:3x7",
             "random:15:60", "crowd")
 NAMES = ("zoe-mueller", "jonas-ek", "ana", "gus-roy", "ida-bergstroem", "tim", "eva-sol", "bo-dahl", "kim-vo", "pia-rot", "leo-wolf", "uma-das",
          "kai-ness", "nora-lind", "jean-baptiste-lamarck")
-SECONDS = 5  # of a processor for a network of 256 nodes; this machine takes one and a half
+SECONDS = 60  # of a processor for a network of 256 nodes, at most; this machine takes one and a half, and a slower one ten times as long
 
 
 def network(word: str, size: int = 15) -> tuple[list[int], Links]:
@@ -141,16 +141,18 @@ class Shapes(unittest.TestCase):
                 self.assertEqual(tangles(layout.points, links, layout.radius), 0)
 
     def test_large_networks_in_time(self) -> None:
+        took: list[float] = []
         for word in ("random:256:300", "random:256:1000", "grid:16x16", "tree", "path", "cycle"):
             nodes, links = network(word, 256)
             start = time.process_time()
             layout = lay_out(nodes, links)
-            self.assertLess(time.process_time() - start, SECONDS, word)
+            took.append(time.process_time() - start)
+            self.assertLess(took[-1], SECONDS, word)
             self.assertGreater(layout.nearest, 2 * layout.radius, word)
         start = time.process_time()
         lay_out(nodes, links, TALL)
         lay_out(*network("random:256:300"), TALL)
-        self.assertLess(time.process_time() - start, SECONDS / 10)
+        self.assertLess(time.process_time() - start, max(took) / 2)
 
 
 class Springs(unittest.TestCase):
