@@ -3,11 +3,14 @@
     python3 -B -m tools.plant [PLANT..]                     builds the host's program with each in turn, and runs its test
     python3 -B -m tools.plant --prove [PLANT..]             asks the prover about those that name their function
     python3 -B -m tools.plant --build TO [PLANT..]          builds the program once with all of these, and puts it there
+    python3 -B -m tools.plant --draw N [--seed S] [CRATE..] draws so many small bugs, one a function, and asks the prover about them
     python3 -B -m tools.plant --list                        says which there are
 
 A PLANT is CRATE or CRATE/NAME. A plant is seen if its test fails over the program that has it; that the test passes
 otherwise is what `./check` shows. Such a program isn't proved: its build takes two minutes, and no library that `rt` leaves.
-The prover is asked by one check a crate, over the libraries that `rt ci` or `rt check` left.
+The prover is asked by one check a crate, over the libraries that `rt ci` or `rt check` left. A drawn bug is the same for the
+same seed and sources. If the prover lets one through, a person says whether it changes anything, whether a test sees it, or
+which clause is missing.
 """
 from __future__ import annotations
 
@@ -20,12 +23,14 @@ from collections import Counter
 from pathlib import Path
 
 from tools.plant.building import build
+from tools.plant.drawing import NO_PROGRAM, ask_all, draw
 from tools.plant.plants import Plant, PlantFault, plants_of
 from tools.plant.proving import LET_THROUGH, REFUSED, UNDECIDED, prove_all
 from tools.wrong.libraries import LibraryFault, Tree, tree_at
 
 TOP = Path(__file__).resolve().parents[2]
 PROGRAM = "mml_host"
+TESTS = ("mml_tests", "mml_fakes")  # how the names of crates begin that are tests
 LIMIT = 900.0  # seconds of a test
 LAST = 300  # characters of what a test says last
 
@@ -36,6 +41,8 @@ def words() -> argparse.Namespace:
     parser.add_argument("plants", nargs="*", metavar="PLANT", help="try these alone")
     parser.add_argument("--prove", action="store_true", help="ask the prover, and run no test")
     parser.add_argument("--build", type=Path, metavar="TO", help="build the program with all of them, and try nothing")
+    parser.add_argument("--draw", type=int, metavar="N", help="draw so many bugs from the crates named, or from all that are no tests, and ask the prover")
+    parser.add_argument("--seed", type=int, default=1, metavar="S", help="which bugs are drawn (1)")
     parser.add_argument("--list", action="store_true", help="say which there are")
     return parser.parse_args()
 
@@ -86,11 +93,26 @@ def try_proofs(tree: Tree, plants: list[Plant]) -> int:
     return 1 if counts[LET_THROUGH] + counts[UNDECIDED] else 0
 
 
+def try_drawn(tree: Tree, crates: list[str], number: int, seed: int) -> int:
+    """Draws plants, says what the prover says of each; returns the status."""
+    if unknown := [crate for crate in crates if crate not in tree.uses]:
+        raise PlantFault(f"{unknown[0]}: there is no such crate")
+    counts = Counter[str]()
+    for plant, verdict in ask_all(tree, draw(tree, crates or [crate for crate in tree.uses if not crate.startswith(TESTS)], number, seed)):
+        counts[verdict] += 1
+        pair = plant.edit.pairs[0]
+        print(f"{verdict}: {plant.crate}::{plant.function}: {pair.old.strip()} -> {pair.new.strip()}", flush=True)
+    print(", ".join(f"{counts[verdict]} {verdict}" for verdict in (REFUSED, LET_THROUGH, UNDECIDED, NO_PROGRAM)))
+    return 1 if counts[LET_THROUGH] + counts[UNDECIDED] else 0
+
+
 def main() -> int:
     """Does what the words ask for."""
     asked = words()
     try:
         tree = tree_at(TOP)
+        if asked.draw is not None:
+            return try_drawn(tree, asked.plants, asked.draw, asked.seed)
         every = all_plants(tree)
         if asked.list:
             print("\n".join(" ".join(filter(None, (f"{it.name}:", it.function, it.module, it.test))) for it in every))

@@ -1,0 +1,87 @@
+"""The bodies of a crate's functions, as lines of its files: contracts, definitions and tests aren't among them."""
+from __future__ import annotations
+
+import re
+from collections.abc import Iterator
+from dataclasses import dataclass
+from pathlib import Path
+
+FUNCTION = re.compile(r"(?P<indent> *)(?:pub(?:\(\w+\))? )?(?:const )?fn (?P<name>\w+)")
+IMPL = re.compile(r"impl(?:<.*?>)? (?P<what>.*) \{")
+GENERICS = re.compile(r"<[^<>]*>")
+
+
+@dataclass(frozen=True)
+class Body:
+    """A function, by its path below its crate, and the lines of its file, from 0, between its braces."""
+
+    file: str
+    function: str
+    first: int
+    end: int
+
+
+def module_of(file: str) -> str:
+    """Returns the path of a file's module below its crate, with `::` after it; nothing for the crate's root."""
+    path = file.removeprefix("src/").removesuffix(".rt")
+    return "" if path in ("lib", "main") else path.replace("/", "::") + "::"
+
+
+def type_of(what: str) -> str:
+    """Returns the name that the prover gives an `impl`: the type's, and the trait's after it if there is one."""
+    while GENERICS.search(what):
+        what = GENERICS.sub("", what)
+    first, _, second = what.partition(" for ")
+    names = [part.strip().split("::")[-1].lstrip("&").split(" ")[-1] for part in (second, first) if part]
+    return "".join(names)
+
+
+def header_end(lines: list[str], start: int, indent: str) -> int | None:
+    """Returns the line of the brace that opens the body of the function that begins at a line, if it has one."""
+    if lines[start].endswith("{"):
+        return start
+    for number in range(start + 1, len(lines)):
+        line = lines[number]
+        if line.strip() and not line.startswith(indent + " "):
+            if line == indent + "{" or line.startswith(indent + ")") and line.endswith(" {"):
+                return number
+            if not line.startswith(indent + ")"):
+                return None
+    return None
+
+
+def impl_header(lines: list[str], start: int) -> str:
+    """Returns the header of an `impl` on one line."""
+    header = lines[start]
+    for line in lines[start + 1 :]:
+        if header.endswith("{"):
+            break
+        header += line.strip() if header.endswith("<") else f" {line.strip()}"
+    return header.replace(", >", ">")
+
+
+def bodies_of_file(file: str, lines: list[str]) -> Iterator[Body]:
+    """Returns the bodies of a file's functions, but for its tests."""
+    owner, number = "", 0
+    while number < len(lines):
+        line = lines[number]
+        if line.startswith("impl"):
+            found = IMPL.match(impl_header(lines, number))
+            owner = type_of(found["what"]) + "::" if found else ""
+        elif line.startswith("}"):
+            owner = ""
+        elif (found := FUNCTION.match(line)) and (brace := header_end(lines, number, found["indent"])) is not None:
+            end = next((at for at in range(brace + 1, len(lines)) if lines[at] == found["indent"] + "}"), brace)
+            if lines[number - 1].strip() != "#[test]":
+                yield Body(file, f"{module_of(file)}{owner}{found['name']}", brace + 1, end)
+            number = max(number, end)
+        number += 1
+
+
+def bodies_of(folder: Path) -> list[Body]:
+    """Returns the bodies of a crate's functions, file by file."""
+    found: list[Body] = []
+    for path in sorted((folder / "src").rglob("*.rt")):
+        file = path.relative_to(folder).as_posix()
+        found += bodies_of_file(file, path.read_text(encoding="utf-8").splitlines())
+    return found

@@ -1,0 +1,133 @@
+"""Draws plants: one small change in each of many functions, the same for the same seed, and asks the prover about them."""
+from __future__ import annotations
+
+import random
+import re
+import shutil
+import tempfile
+from collections.abc import Iterator
+from dataclasses import replace
+from pathlib import Path
+
+from tools.plant.bodies import Body, bodies_of
+from tools.plant.changes import changes_of, variants_of
+from tools.plant.plants import Plant, PlantFault
+from tools.plant.proving import ANY, verdict
+from tools.wrong.checks import Running, copy_crate, try_round
+from tools.wrong.edits import Edit, Pair, Refusal, Round, apply_edit
+from tools.wrong.libraries import Tree, check_words
+from tools.wrong.outputs import Told, read_output
+from tools.wrong.saved import find_name, hand_on
+
+NO_PROGRAM = "no program"
+AT = re.compile(r"(?:\./)?(src/\S+?):(\d+):\d+: error")
+
+
+def candidates(body: Body, lines: list[str], variants: dict[str, list[str]]) -> list[tuple[str, str]]:
+    """Returns the changes of a body: a line that its file has once, and its replacement."""
+    once = [line for line in lines[body.first : body.end] if line.strip() and lines.count(line) == 1 and "\n".join(lines).count(line) == 1]
+    return [(line, changed) for line in once for changed in changes_of(line, variants)]
+
+
+def drawn_in(crate: str, folder: Path, chance: random.Random) -> list[Plant]:
+    """Returns a plant for each function of a crate that can be changed, in a drawn order."""
+    texts = {body.file: (folder / body.file).read_text(encoding="utf-8") for body in bodies_of(folder)}
+    variants = {name: kinds for text in texts.values() for name, kinds in variants_of(text).items()}
+    plants = []
+    for body in bodies_of(folder):
+        if found := candidates(body, texts[body.file].splitlines(), variants):
+            old, new = chance.choice(found)
+            name = f"{body.function.replace('::', '_')}.edit"
+            plants.append(Plant(crate, Edit(name, (), (Pair(body.file, old, new),)), body.function))
+    chance.shuffle(plants)
+    return plants
+
+
+def draw(tree: Tree, crates: list[str], number: int, seed: int) -> list[Plant]:
+    """Returns plants of crates, at most so many in all, as evenly over their functions as can be."""
+    chance = random.Random(seed)
+    every = [plant for crate in crates for plant in drawn_in(crate, tree.folder(crate), chance)]
+    chosen = {id(plant) for plant in chance.sample(every, min(number, len(every)))}
+    return [plant for plant in every if id(plant) in chosen]
+
+
+def culprits(plants: list[Plant], texts: dict[str, str], errors: list[str]) -> list[Plant]:
+    """Returns the plants in whose functions the first errors stand; all, if none can be told apart."""
+    places = {(found[1], int(found[2]) - 1) for error in errors if (found := AT.match(error))}
+    guilty = []
+    for plant in plants:
+        pair = plant.edit.pairs[0]
+        lines = texts[pair.file].splitlines()
+        if pair.new and any(lines[number : number + 1] == [pair.new] for file, number in places if file == pair.file):
+            guilty.append(plant)
+    return guilty or plants
+
+
+def sift(tree: Tree, crate: str, plants: list[Plant], running: Running) -> Iterator[tuple[Plant, bool]]:
+    """Returns each plant of a crate, and whether the crate is a program with it, as far as names and types say."""
+    todo = [plants]
+    while todo:
+        tried = todo.pop()
+        texts: dict[str, str] = {}
+        for plant in tried:
+            texts = apply_edit(plant.edit, texts, tree.folder(crate))
+        errors = read_output(crate, look(tree, crate, texts, running)).errors
+        if not errors:
+            yield from ((plant, True) for plant in tried)
+        elif len(tried) == 1:
+            yield tried[0], False
+        else:
+            guilty = culprits(tried, texts, errors)
+            if guilty == tried:
+                todo += [tried[: len(tried) // 2], tried[len(tried) // 2 :]]
+            else:
+                yield from ((plant, False) for plant in guilty)
+                todo.append([plant for plant in tried if plant not in guilty])
+
+
+def look(tree: Tree, crate: str, texts: dict[str, str], running: Running) -> str:
+    """Returns what a check of names and types alone prints, over a copy of a crate with other texts."""
+    with tempfile.TemporaryDirectory(prefix="mml-plant-") as room:
+        copy, kept = Path(room) / "copy", Path(room) / "kept"
+        kept.mkdir()
+        copy_crate(tree.folder(crate), copy, texts)
+        try:
+            return running.run([*check_words(tree, crate, set(), kept), "--only", ""], copy).output
+        finally:
+            shutil.rmtree(copy, ignore_errors=True)
+
+
+def asked(tree: Tree, crate: str, plants: list[Plant], kept: str, running: Running) -> Iterator[tuple[Plant, str]]:
+    """Returns the verdict on each drawn plant of a crate, by one check of names and types and one proof in all, if no plant hinders another."""
+    if missing := tree.missing(crate):
+        raise PlantFault(f"{crate}: not built, which `rt ci` or `rt check` does: {', '.join(dict.fromkeys(missing))}")
+    sifted = [*sift(tree, crate, plants, running)]
+    yield from ((plant, NO_PROGRAM) for plant, is_program in sifted if not is_program)
+    todo = [[plant for plant, is_program in sifted if is_program]]
+    while todo:
+        if not (tried := todo.pop()):
+            continue
+        told = proved(tree, crate, tried, kept, running)
+        if told.ending is None and len(tried) > 1:
+            todo += [tried[: len(tried) // 2], tried[len(tried) // 2 :]]
+        else:
+            yield from ((plant, verdict(plant.function, told)) for plant in tried)
+
+
+def proved(tree: Tree, crate: str, plants: list[Plant], kept: str, running: Running) -> Told:
+    """Returns what the prover says of the functions of a crate that have these plants, all in one copy."""
+    edits = [replace(plant.edit, wanted=(Refusal(plant.function, ANY),)) for plant in plants]
+    texts: dict[str, str] = {}
+    for edit in edits:
+        texts = apply_edit(edit, texts, tree.folder(crate))
+    with tempfile.TemporaryDirectory(prefix="mml-plant-") as room:
+        if kept:
+            hand_on(tree.library(crate), Path(room) / "kept" / kept)
+        return read_output(crate, try_round(tree, crate, Round(edits, texts), Path(room), running).output)
+
+
+def ask_all(tree: Tree, plants: list[Plant]) -> Iterator[tuple[Plant, str]]:
+    """Returns the verdict on each drawn plant, crate by crate."""
+    running, kept = Running(), find_name(tree)
+    for crate in dict.fromkeys(plant.crate for plant in plants):
+        yield from asked(tree, crate, [plant for plant in plants if plant.crate == crate], kept, running)
