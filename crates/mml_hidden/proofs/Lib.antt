@@ -5,3 +5,4 @@ pub mod SightLemmas
 pub mod GrantsLemmas
 pub mod MishapsLemmas
 pub mod SessionsLemmas
+pub mod CoalitionsLemmas

@@ -64,7 +64,7 @@ pub record TurnsAlike (lab : LabValue) (s : ℕ) (one two : Outcome) : Type 0 wh
   pub greeted : one.state.greeted ≡ two.state.greeted
   pub halted : one.state.halted ≡ two.state.halted
 
-either_both : (P : Outcome → Outcome → Type 0) (b c : Bool) (p q one two : Outcome) → b ≡ c → P p q → P one two → P (cond b p one) (cond c q two)
+pub either_both : (P : Outcome → Outcome → Type 0) (b c : Bool) (p q one two : Outcome) → b ≡ c → P p q → P one two → P (cond b p one) (cond c q two)
 either_both P b c p q one two e x y = grind (arith, nat_tests, false≢true)
 
 module _ (lab : LabValue) (s : ℕ) (st : State) (v : World) (es : List Event) (first : IsWorldOf lab.ids st.world) (second : IsWorldOf lab.ids v)
@@ -97,7 +97,7 @@ module _ (lab : LabValue) (s : ℕ) (st : State) (v : World) (es : List Event) (
       → TurnsAlike lab s (answer_to lab st k asked) (answer_to lab su k asked)
   answer_alike k asked h = grind (arith, nat_tests, greeted_alike)
 
-  plain_alike : (k : ℕ) (line : List ℕ) → is_hers s (known_on st k) ≡ true → TurnsAlike lab s (plain_turn lab st k line) (plain_turn lab su k line)
+  pub plain_alike : (k : ℕ) (line : List ℕ) → is_hers s (known_on st k) ≡ true → TurnsAlike lab s (plain_turn lab st k line) (plain_turn lab su k line)
   unfolding plain_turn
   plain_alike k line h = answer_alike k (request_in line) h
 
@@ -149,10 +149,10 @@ net_turn lab n later st k line = refl
 net_turn lab n sink_failed st k line = refl
 
 module _ (lab other : LabValue) (t : AreTwins lab other) (s : ℕ) (st su : State) (a : StatesAlike lab s st su) (m : Mishap) (k : ℕ) (line : List ℕ) where
-  abbrev su_here : State
+  abbrev pub su_here : State
   su_here = record { world = su.world; events = su.events; greeted = st.greeted; halted = st.halted }
 
-  same_turn : turn m lab su_here k line ≡ turn m other su k line
+  pub same_turn : turn m lab su_here k line ≡ turn m other su k line
   same_turn = grind (arith, nat_tests, net_turn)
 
   alike_here : is_hers s (known_on st k) ≡ true → TurnsAlike lab s (turn m lab st k line) (turn m other su k line)

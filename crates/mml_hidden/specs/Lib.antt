@@ -4,3 +4,4 @@ pub mod Scripted
 pub mod Sight
 pub mod Mishaps
 pub mod Sessions
+pub mod Coalitions

@@ -26,6 +26,7 @@ ghost use Rattle.mml_session.specs.Turns.{Standing, Run as SessionRun};
 ghost use Rattle.mml_hidden.specs.Sessions.{AreToldAlike};
 ghost use Rattle.mml_hidden.specs.Sight.{ShowsTheSame, MoveAlike, IsUntouched, IsOutOfSight};
 ghost use Rattle.mml_hidden.specs.Twins.{AreTwins, BeginAlike, StatesAlike, is_hers};
+ghost use Rattle.mml_hidden.specs.Coalitions.{AlikeFor, StatesAlikeFor, StayAlikeFor, AreTheirsThroughout, BeginAlikeFor, RunAlikeFor, is_theirs};
 
 /// In worlds that are alike for a student each command of hers has the same reply, so the same bytes,
 /// and the worlds afterwards are alike again.
@@ -216,4 +217,53 @@ pub fn hidden_values_change_no_session()
         (two : SessionRun other su lines qs fin) → IsLab lab → IsLab other → AreTwins lab other →
         st.known ≡ su.known → AreToldAlike lab other s st su lines rs qs end fin one two →
         map (reply_line lab.ids lab.roster) rs ≡ map (reply_line other.ids other.roster) qs }
+{}
+
+/// Students who put together what they are shown learn nothing that none of them may see. In worlds that are alike for
+/// each member of a coalition a command of a member has the same reply, and the worlds afterwards are alike for each member.
+/// So it is with each turn on a connection that is a member's, or nobody's yet, and with all that is written on such
+/// connections, whatever mishaps befall the lines. A coalition has a member.
+pub fn coalitions_learn_nothing_hidden()
+    ensures reply { (ids : List ℕ) (r : RosterValue) (limit : ℕ) (is_halted : Bool) (w v : World)
+        (members : ℕ → Bool) (s : ℕ) (c : Command) → IsWorldOf ids w → IsWorldOf ids v →
+        AlikeFor r members w v → members s ≡ true →
+        reply_to ids r limit is_halted w (who.Student s) c
+        ≡ reply_to ids r limit is_halted v (who.Student s) c }
+    ensures afterwards { (ids : List ℕ) (r : RosterValue) (limit : ℕ) (is_halted : Bool)
+        (w v : World) (members : ℕ → Bool) (s : ℕ) (c : Command) → IsWorldOf ids w →
+        IsWorldOf ids v → AlikeFor r members w v → members s ≡ true →
+        AlikeFor r members (world_left ids r limit is_halted w (who.Student s) c)
+        (world_left ids r limit is_halted v (who.Student s) c) }
+    ensures turn { (lab other : LabValue) (members : ℕ → Bool) (one : ℕ) (st su : State)
+        (mishap : Mishap) (k : ℕ) (line : List ℕ) → AreTwins lab other → members one ≡ true →
+        StatesAlikeFor lab members st su → is_theirs members (known_on st k) ≡ true →
+        (reply_line lab.ids lab.roster (turn mishap lab st k line).reply
+        ≡ reply_line other.ids other.roster (turn mishap other su k line).reply)
+        × StatesAlikeFor lab members (turn mishap lab st k line).state
+        (turn mishap other su k line).state }
+    ensures connections { (lab other : LabValue) (members some : ℕ → Bool) (one : ℕ)
+        (st su : State) (bs : List BefallenLine) → AreTwins lab other → members one ≡ true →
+        StatesAlikeFor lab members st su → StayAlikeFor lab other members st su bs →
+        AreTheirsThroughout lab members some st bs →
+        (written_on_any lab some (lines_in bs) (replies_with lab st bs)
+        ≡ written_on_any other some (lines_in bs) (replies_with other su bs))
+        × StatesAlikeFor lab members (end_with lab st bs) (end_with other su bs) }
+    ensures transcripts { (lab other : LabValue) (members some : ℕ → Bool) (one : ℕ)
+        (t : Transcript lab) (u : Transcript other) (bs : List BefallenLine) →
+        members one ≡ true → RunAlikeFor lab other members some t u bs →
+        written_on_any lab some t.lines t.replies ≡ written_on_any other some u.lines u.replies }
+{}
+
+/// Two networks begin alike for each member of a coalition if they differ only in the registers of a node that is visible to
+/// none of them, or only in a link between two nodes that none of them owns.
+pub fn labs_may_differ_out_of_a_coalitions_sight()
+    ensures registers { (n : Network) (r : RosterValue) (members : ℕ → Bool) (i : ℕ)
+        (regs : Regs) → IsNetwork n →
+        ((s : ℕ) → members s ≡ true → ¬ IsVisible r (configuration_of n) (who.Student s) i) →
+        AlikeFor r members (opening_of n) (opening_of (with_registers n i regs)) }
+    ensures link { (n : Network) (r : RosterValue) (members : ℕ → Bool) (a b : ℕ) → IsNetwork n →
+        a < length n.registers → b < length n.registers →
+        ((s : ℕ) → members s ≡ true →
+        (owns r (who.Student s) a ≡ false) × (owns r (who.Student s) b ≡ false)) →
+        AlikeFor r members (opening_of n) (opening_of (with_link n a b)) }
 {}
