@@ -19,7 +19,7 @@ from tests.common.lines import (
 )
 from tests.common.preload import LIMIT, PROGRAM, TOP, Ended, Preloaded, Server, fail
 from tests.common.side_by_side import Test, try_all
-from tests.outsiders import byes, crowded, edges, parting, segments, strangers
+from tests.outsiders import byes, contested, crowded, edges, parting, segments, strangers
 
 NONE = Ended(0, b"done: 0 events, configuration 0\n", b"")
 FAULT = Ended(4, b"", b"journal fault\n")
@@ -545,7 +545,7 @@ TESTS: list[Test] = [
     never_reads, ten_minutes, silent_ones, guessed_keys, refused_threads, comes_again, one_of_many, a_third, nobody_behind, journals,
     limits_of_files, few, small_stacks,
     three_hellos, a_web_form, words_at_the_end, asks_after_the_bye,
-    *byes.TESTS, *crowded.TESTS, *segments.TESTS, *strangers.TESTS, *parting.TESTS, *edges.TESTS,
+    *byes.TESTS, *contested.TESTS, *crowded.TESTS, *segments.TESTS, *strangers.TESTS, *parting.TESTS, *edges.TESTS,
 ]
 
 

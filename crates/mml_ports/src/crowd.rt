@@ -136,35 +136,33 @@ impl Crowd {
         self.is_wanted.load(Ordering::SeqCst)
     }
 
-    /// Sends away the first of those who haven't greeted that has had its time, if a newcomer waits for a seat and they
-    /// have their share of the seats. Whoever was just answered calls it, so that a seat is free at once.
+    /// Sends away the first of those who haven't greeted that has had its time, if a newcomer waits for a seat that they
+    /// keep from it. Whoever was just answered calls it, so that a seat is free at once.
     pub fn make_room<Rt: Wait + Clock>(&self, rt: &Rt) {
         if self.is_wanted()
             && let Ok(now) = Instant::now(rt)
         {
             let mut guests = self.guests.lock(rt);
-            let _is_full = self.let_stranger_go_if_full(rt, &mut guests, now);
+            self.let_stranger_go(rt, &mut guests, now);
         }
     }
 
-    // Whether those who haven't greeted have their share: a third of the seats, or one if that is more. Then the first
-    // of them who has had its time, if there is one, is sent away.
-    fn let_stranger_go_if_full<Rt: Wait>(
-        &self,
-        rt: &Rt,
-        guests: &mut Vec<Guest>,
-        now: Instant,
-    ) -> bool {
-        let share = (self.seats / STRANGERS).max(1);
-        if count_strangers(guests) < share {
-            return false;
-        }
-        if let Some(at) = first_who_may_go(guests, now)
+    // Returns whether those who haven't greeted have their share: a third of the seats, or one if that is more.
+    fn is_share_taken(&self, guests: &Vec<Guest>) -> bool {
+        count_strangers(guests) >= (self.seats / STRANGERS).max(1)
+    }
+
+    // Sends away the first of those who haven't greeted that has had its time, if they have their share, or if no seat is
+    // free and nobody is leaving one. Few strangers may hold the last seats beside those who have greeted: without the
+    // second case they would keep them until their deadlines.
+    fn let_stranger_go<Rt: Wait>(&self, rt: &Rt, guests: &mut Vec<Guest>, now: Instant) {
+        let is_full = guests.len() >= self.seats && !is_one_leaving(guests);
+        if (is_full || self.is_share_taken(guests))
+            && let Some(at) = first_who_may_go(guests, now)
             && let Some(guest) = guests.get_mut(at)
         {
             guest.send_away(rt);
         }
-        true
     }
 
     /// Whether a guest is leaving, or one who has left is still owed a denial, or the time to take it.
@@ -174,19 +172,19 @@ impl Crowd {
         is_leaving || !self.partings.is_empty(rt)
     }
 
-    /// Whether there is a seat for a newcomer: one is free, and those who haven't greeted don't have their share. If
-    /// these have their share, the first of them who has had its time is sent away. If no seat is free, and seats have
-    /// been waited for, by this newcomer or others before it, for a moment of the time `wanted`, the last of a name that
+    /// Returns whether there is a seat for a newcomer: one is free, and those who haven't greeted don't have their share.
+    /// If there is none, the first of these who has had its time is sent away, unless a seat is being left already. If they
+    /// don't have their share, and newcomers have waited for as long as `wanted`, a moment or more, the last of a name that
     /// has too many seats is sent away, unless a guest is leaving.
     pub fn finds_room<Rt: Wait>(&self, rt: &Rt, now: Instant, wanted: Duration) -> bool {
         let mut guests = self.guests.lock(rt);
-        if self.let_stranger_go_if_full(rt, &mut guests, now) {
-            return false;
-        }
-        if guests.len() < self.seats {
+        let is_share_taken = self.is_share_taken(&guests);
+        if !is_share_taken && guests.len() < self.seats {
             return true;
         }
-        if wanted >= Duration::from_millis(MOMENT)
+        self.let_stranger_go(rt, &mut guests, now);
+        if !is_share_taken
+            && wanted >= Duration::from_millis(MOMENT)
             && !is_one_leaving(&guests)
             && let Some(at) = one_too_many(&guests)
             && let Some(guest) = guests.get_mut(at)

@@ -2,7 +2,7 @@
 use crate::connection::SharedConnection;
 use crate::crowd::Crowd;
 use crate::end_reason::EndReason;
-use crate::shared_socket::SharedSocket;
+use crate::shared_socket::{Heard, SharedSocket};
 use crate::socket_reader::{Incoming, SocketReader};
 use crate::socket_writer::{ReplyWriter, SocketCutOff, WRITE_LIMIT};
 use crate::state::HostState;
@@ -41,8 +41,8 @@ struct Newcomer<'a, Rt> {
     since: Instant,
     // Whether a look at what has come doesn't wait, as it is from the first look on.
     is_looked_at: bool,
-    // Whether a line was seen to have come.
-    has_spoken: bool,
+    // What was seen to have come.
+    heard: Heard,
 }
 
 impl<'a, Rt: Clock + Wait + Eprint> Newcomer<'a, Rt> {
@@ -53,21 +53,26 @@ impl<'a, Rt: Clock + Wait + Eprint> Newcomer<'a, Rt> {
         newcomer.writer.hang_up();
     }
 
-    // Looks whether a line has come from the newcomer, and returns that.
-    fn look_for_line(&mut self) -> bool {
-        let SharedConnection { rt, socket, .. } = &self.connection;
+    // Looks at what has come from the newcomer, unless a line was seen before, and returns it.
+    fn hear(&mut self) -> Heard {
+        let SharedConnection {
+            rt,
+            alloc,
+            socket,
+            ..
+        } = &self.connection;
         if !self.is_looked_at {
             self.is_looked_at = socket.set_waiting(*rt, false);
         }
-        if self.is_looked_at && !self.has_spoken {
-            self.has_spoken = socket.has_line(*rt);
+        if self.is_looked_at && self.heard == Heard::Nothing {
+            self.heard = socket.hear(*rt, *alloc);
         }
-        self.has_spoken
+        self.heard
     }
 
-    // Whether no line has come from the newcomer, though it has had `SILENCE` for that.
-    fn is_silent(&mut self, now: Instant) -> bool {
-        now.duration_since(self.since) >= Duration::from_millis(SILENCE) && !self.look_for_line()
+    // Whether the newcomer has had `SILENCE` for its first line.
+    fn had_time(&self, now: Instant) -> bool {
+        now.duration_since(self.since) >= Duration::from_millis(SILENCE)
     }
 }
 
@@ -154,7 +159,7 @@ impl<'a, Rt: Clock + Wait + Eprint> Port<'a, Rt> {
             connection,
             since,
             is_looked_at: false,
-            has_spoken: false,
+            heard: Heard::Nothing,
         })
     }
 
@@ -170,11 +175,11 @@ impl<'a, Rt: Clock + Wait + Eprint> Port<'a, Rt> {
         }
     }
 
-    // Puts one who has come behind those who wait for a seat. If too many wait one of them is turned away: the first who
-    // is silent, if there is one, else the first of all. Without memory the newcomer is.
+    // Puts one who has come behind those who wait for a seat. If too many wait one of them is turned away. Without memory
+    // the newcomer is.
     fn queue(&mut self, newcomer: Newcomer<'a, Rt>) {
         if self.waiting.len() >= WAITING {
-            let index = self.first_silent(newcomer.since);
+            let index = self.first_to_drop(newcomer.since);
             if let Some(dropped) = self.waiting.remove(index) {
                 dropped.turn_away(EndReason::Busy);
             }
@@ -215,29 +220,40 @@ impl<'a, Rt: Clock + Wait + Eprint> Port<'a, Rt> {
         None
     }
 
-    // The index of the first of those who wait that is silent; that of the first of all if none is.
-    fn first_silent(&mut self, now: Instant) -> usize {
+    // Returns the index of the one to turn away of those who wait: the first from whom no line has come in time, else the
+    // first who hasn't sent a hello, else the first of all.
+    fn first_to_drop(&mut self, now: Instant) -> usize {
+        let mut first_without_hello = None;
         for index in 0..self.waiting.len() {
-            if let Some(newcomer) = self.waiting.get_mut(index)
-                && newcomer.is_silent(now)
-            {
-                return index;
+            if let Some(newcomer) = self.waiting.get_mut(index) {
+                let heard = newcomer.hear();
+                if heard == Heard::Nothing && newcomer.had_time(now) {
+                    return index;
+                }
+                if heard != Heard::Hello && first_without_hello.is_none() {
+                    first_without_hello = Some(index);
+                }
             }
         }
-        0
+        first_without_hello.unwrap_or(0)
     }
 
-    // The index of the first of those who wait from whom a line has come; that of the first of all if there is no such
-    // one.
+    // Returns the index of the one to serve next of those who wait: the first who has sent a hello, else the first from
+    // whom a line has come, else the first of all.
     fn first_to_speak(&mut self) -> usize {
+        let mut first_with_line = None;
         for index in 0..self.waiting.len() {
-            if let Some(newcomer) = self.waiting.get_mut(index)
-                && newcomer.look_for_line()
-            {
-                return index;
+            if let Some(newcomer) = self.waiting.get_mut(index) {
+                let heard = newcomer.hear();
+                if heard == Heard::Hello {
+                    return index;
+                }
+                if heard == Heard::Line && first_with_line.is_none() {
+                    first_with_line = Some(index);
+                }
             }
         }
-        0
+        first_with_line.unwrap_or(0)
     }
 
     // Takes the first to speak out of those who wait, to be served from now on; none where nobody waits.
@@ -256,7 +272,7 @@ impl<'a, Rt: Clock + Wait + Eprint> Port<'a, Rt> {
             connection,
             since: _,
             is_looked_at,
-            has_spoken: _,
+            heard: _,
         } = first;
         if is_looked_at {
             let _is_waiting = connection.socket.set_waiting(self.rt, true);

@@ -1,5 +1,7 @@
 //! A connection's socket: one descriptor, which its reader, its writer and what cuts it off share.
 use crate::end_reason::EndReason;
+use mml_codec::{Request, read_request};
+use std::alloc::Global;
 use std::net::{Shutdown, TcpStream};
 use std::sync::atomic::{AtomicBool, AtomicU64, Ordering};
 use std::sync::{Condvar, CondvarTimeouts, Mutex, RwLock, Wait};
@@ -10,6 +12,17 @@ const DENIALS: u64 = 3;
 
 // How many bytes are looked at of what a newcomer has sent.
 const GLANCE: usize = 512;
+
+/// What has come from a newcomer.
+#[derive(Clone, Copy, PartialEq, Eq)]
+pub(crate) enum Heard {
+    /// No whole line.
+    Nothing,
+    /// A line that is no hello.
+    Line,
+    /// A hello, whose name and key nobody has looked at.
+    Hello,
+}
 
 /// A socket, until it is given back, and what the threads that share it note of its connection. Once it was given back,
 /// each read and each write fails.
@@ -68,9 +81,8 @@ impl SharedSocket {
         *self.end_reason.lock(rt)
     }
 
-    /// Sets whether reads and writes wait; whether a whole line has come may be asked only while they don't. Returns
-    /// whether they are set so: false if the socket was given back, or the system refuses it. Only before the connection
-    /// is served.
+    /// Sets whether reads and writes wait; what has come may be looked at only while they don't. Returns whether they are
+    /// set so: false if the socket was given back, or the system refuses it. Only before the connection is served.
     pub(crate) fn set_waiting<Rt: Wait>(&self, rt: &Rt, is_waiting: bool) -> bool {
         let stream = self.stream.read(rt);
         match &*stream {
@@ -79,13 +91,13 @@ impl SharedSocket {
         }
     }
 
-    /// Whether a whole line stands in the first 512 bytes that have come, which are left to be read; false if the socket
-    /// was given back, or can't be looked at. Reads are set not to wait.
-    pub(crate) fn has_line<Rt: Wait>(&self, rt: &Rt) -> bool {
+    /// Returns what stands in the first 512 bytes that have come, which are left to be read; nothing if the socket was
+    /// given back, or can't be looked at. Reads are set not to wait.
+    pub(crate) fn hear<Rt: Wait>(&self, rt: &Rt, alloc: Global) -> Heard {
         let stream = self.stream.read(rt);
         match &*stream {
-            Some(stream) => has_line(stream),
-            None => false,
+            Some(stream) => heard_at(stream, alloc),
+            None => Heard::Nothing,
         }
     }
 
@@ -157,12 +169,19 @@ impl SharedSocket {
     }
 }
 
-// Whether a newline stands in the first 512 bytes that have come at a socket whose reads don't wait; they are left
-// there. False too if the system refuses the look.
-fn has_line(stream: &TcpStream) -> bool {
+// Returns what stands in the first 512 bytes that have come at a socket whose reads don't wait; they are left there.
+// Nothing too if the system refuses the look. Without memory a hello counts as a line.
+fn heard_at(stream: &TcpStream, alloc: Global) -> Heard {
     let mut seen = [0; GLANCE];
-    match stream.peek(&mut seen) {
-        Ok(count) => seen[..count.min(GLANCE)].contains(&b'\n'),
-        Err(_) => false,
+    let Ok(count) = stream.peek(&mut seen) else {
+        return Heard::Nothing;
+    };
+    let come = &seen[..count.min(GLANCE)];
+    let Some(end) = come.iter().position(|byte| *byte == b'\n') else {
+        return Heard::Nothing;
+    };
+    match read_request(alloc, &come[..end]) {
+        Ok(Request::Hello { .. }) => Heard::Hello,
+        _ => Heard::Line,
     }
 }

@@ -1,0 +1,87 @@
+"""Who gets the last seats of a port whose other seats have students who have greeted."""
+import select
+import time
+from pathlib import Path
+
+from tests.common.hosting import Caller, Host, lab_of, let_in
+from tests.common.lines import BYE, LATE, MALFORMED, NODES, UNKNOWN, WRONG, hello, look
+from tests.common.preload import fail
+from tests.common.side_by_side import Test
+from tests.outsiders.crowded import AGAIN, HELLOS, RATE, SETTLED, SLOWER, WAIT, alive, greeted_within, nine_in_ten
+from tests.outsiders.load import Outsiders
+from tests.outsiders.parting import ended, slowed, taken
+
+OWN = 4  # seats that a name keeps
+SEATS = OWN * len(NODES) + 1  # of the students' port: one is left
+SEATED = 0.5  # seconds in which a stranger has got that seat
+
+
+def students(host: Host) -> list[tuple[str, Caller]]:
+    """Students who have greeted, on all seats but one."""
+    return [(name, let_in(host.port, hello(name))[0]) for name in NODES for _ in range(OWN)]
+
+
+def want_all(host: Host, seated: list[tuple[str, Caller]]) -> None:
+    """Wants that students have their seats still, and that the teacher's bye ends the host."""
+    for name in NODES:
+        if len(alive([caller for owner, caller in seated if owner == name], name)) != OWN:
+            fail(f"outsiders: beside strangers on the last seat {name} loses one")
+    ended(host, let_in(host.desk, hello("tess"))[0])
+
+
+def the_last_seat(room: Path) -> None:
+    """A stranger on the last free seat leaves for somebody who has a key, though strangers have less than a third of the
+    seats."""
+    with Host(lab_of(room, SEATS + 1), 0, 0) as host:
+        seated = students(host)
+        for line in (b"", b'{"do":"hel', b"{}\n", WRONG):
+            stranger = Caller(host.port)
+            stranger.send(line)
+            time.sleep(SEATED)
+            newcomer, reply = let_in(host.port, hello("tess"))
+            if b'"ok":"hello"' not in reply:
+                fail(f"outsiders: who comes to the last seat reads {reply!r}")
+            said = [*iter(stranger.line, b"")]
+            if said[:-1] not in ([], [MALFORMED], [UNKNOWN]) or said[-1:] == [LATE]:
+                fail(f"outsiders: after {line!r} a stranger on the last seat reads {said}")
+            if newcomer.ask(BYE) == b"" or newcomer.line() != b"":
+                fail("outsiders: who has got the last seat loses it")
+            newcomer.close()
+            stranger.close()
+        want_all(host, seated)
+
+
+def a_hello_first(room: Path) -> None:
+    """Of those who wait for a seat who has sent a hello gets it, though another line came before."""
+    with Host(lab_of(room, 3), 0, 0, variables=slowed(room)) as host:
+        teacher = let_in(host.desk, hello("tess"))[0]
+        ana, ben = (let_in(host.port, hello(name))[0] for name in ("ana", "ben"))
+        files = host.files()
+        other = Caller(host.port)
+        other.send(b"{}\n")
+        taken(host, files, 1)
+        speaker = Caller(host.port)
+        speaker.send(hello("cyd"))
+        taken(host, files, 2)
+        ana.ask(BYE)
+        if b'"ok":"hello"' not in (said := speaker.line()) or b'"ok":"look"' not in speaker.ask(look("cyd")):
+            fail(f"outsiders: who has sent a hello and waits reads {said!r}")
+        if select.select([other.socket], [], [], 0)[0]:
+            fail(f"outsiders: who has sent another line reads {other.line()!r} before a hello is answered")
+        ben.ask(BYE)
+        if (said := other.line()) != MALFORMED:
+            fail(f"outsiders: who has sent another line and waits reads {said!r}")
+        ended(host, teacher)
+
+
+def a_flooded_seat(room: Path) -> None:
+    """Beside outsiders who all want the last seat, who has a key gets it."""
+    with Host(lab_of(room, SEATS + 1), 0, 0) as host:
+        seated = students(host)
+        quiet = max(greeted_within(host.port, "tess", SETTLED) for _ in range(HELLOS))
+        with Outsiders("all", RATE, [host.port]):
+            nine_in_ten(host.port, "tess", SLOWER * WAIT + AGAIN * quiet, "mixed")
+        want_all(host, seated)
+
+
+TESTS: list[Test] = [the_last_seat, a_hello_first, a_flooded_seat]
