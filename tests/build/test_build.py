@@ -33,7 +33,9 @@ class Estimates(unittest.TestCase):
             self.assertEqual(progress.next(), [])
             progress.note(crate, False, 0.0)
         progress = Progress(USES, SECONDS, 2)
-        self.assertEqual((progress.next(), progress.is_first("a")), (["b", "a"], False))
+        self.assertEqual((progress.next(), progress.is_first("b"), progress.is_first("a")), (["b", "a"], True, False))
+        nearly = Progress(USES, {**SECONDS, "a": 65.0}, 2)
+        self.assertEqual((nearly.longest["a"], nearly.is_first("b"), nearly.is_first("a")), (120.0, True, True))
 
     def test_what_is_left(self) -> None:
         """Independent proofs run side by side, as many as there are processors."""

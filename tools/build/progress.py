@@ -9,6 +9,7 @@ import math
 from tools.build.crates import Uses
 
 TRUST = 120.0  # seconds of work that have to be measured before they weigh as much as the table does
+NEAR = 0.9  # of the longest chain's time: a chain that is nearly as long is as urgent
 OVERRUN = 0.1  # of the time that a proof has taken is expected once more if it takes longer than the table says
 
 
@@ -42,8 +43,8 @@ class Progress:
         return self.ready(self.proved, {*self.begun})[:max(self.at_once - len(self.begun), 0)]
 
     def is_first(self, crate: str) -> bool:
-        """Returns whether the longest chain of all that is left begins with this crate."""
-        return all(self.longest[crate] >= self.longest[it] for it in self.crates if it not in self.proved)
+        """Returns whether a chain begins with this crate that is the longest of all that is left, or nearly as long."""
+        return all(self.longest[crate] >= NEAR * self.longest[it] for it in self.crates if it not in self.proved)
 
     def note(self, crate: str, is_kept: bool, now: float) -> None:
         """Notes that a crate is proved, now or, if it is kept, by an earlier run."""

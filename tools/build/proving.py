@@ -2,8 +2,8 @@
 
 One run over all crates first takes what this machine has proved before. It is ended when it would prove: alone in its
 repository a crate is proved by several processes, and else mostly by one, while the crates above it wait. So each of
-the others has a run of its own, over what the runs before it kept. The crate that the longest chain waits for has all
-processors, and goes before the others.
+the others has a run of its own, over what the runs before it kept. A crate that the longest chain waits for, or one
+nearly as long, has all processors, and goes before the others.
 """
 from __future__ import annotations
 
