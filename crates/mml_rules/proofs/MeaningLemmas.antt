@@ -1,9 +1,9 @@
 -- Each test of the rules is true exactly where the fact that it stands for holds.
-use Rattle.std.proofs.Common.{◌≡◌, ◌↔◌, ℕ, ◌<◌, Bool, true, not, ◌&&◌, inl, inr, nat_lt, Option, None, Some, is_some, is_none, refl, ap, arith}
+use Rattle.std.proofs.Common.{◌≡◌, ◌↔◌, ◌≢◌, ℕ, ◌<◌, Bool, true, not, ◌&&◌, inl, inr, nat_lt, Option, None, Some, is_some, is_none, refl, ap, arith}
 use Rattle.std.specs.Bool.{beq}
 use Rattle.std.proofs.lemmas.Bool.{and_parts, and_from, or_cases, or_left, or_right, not-true, false_from_ne_true, both_ways, false≢true, lt-ltb, ltb-true, cases_order}
 use Rattle.mml_rules.specs.{declared.rule.Rule.Rule, Configuration.Configuration, Configuration.IsLawful, Configuration.holds}
-use Rattle.mml_rules.specs.Rules.{is_married, has_suitor, is_candidate, greatest_candidate, m_is_right, points_in_vain, guard, is_privileged}
+use Rattle.mml_rules.specs.Rules.{is_married, has_suitor, is_candidate, greatest_candidate, m_is_right, points_in_vain, guard, effect, is_privileged}
 use Rattle.mml_rules.specs.Meaning.{IsMarried, IsMRight, HasSuitor, IsCandidate, IsGreatestCandidate, PointsInVain, MayApply}
 use Rattle.mml_ids.proofs.SearchLemmas.{same_bool, some_below-find, some_below-at, greatest_below-some, greatest_below-none, greatest_above, greatest_is}
 use Rattle.mml_rules.proofs.{ConfigurationLemmas.holds-true, ConfigurationLemmas.holds-from, EnabledKindLemmas.guard-kind, EnabledKindLemmas.kind-guard}
@@ -133,6 +133,13 @@ guard-to c i r l h = grind (arith, both_ways, not-true, right-back, and_parts, i
 
 guard-back : (c : Configuration) (i : ℕ) (r : Rule) → IsLawful c → MayApply c i r → guard c i r ≡ true
 guard-back c i r l h = grind (arith, false_from_ne_true, right-to, and_from, right-back, null-none, holds-from, suitor-to, some-back, vain-back)
+
+-- only an update writes m
+pub effect_keeps_m : (c : Configuration) (i : ℕ) (r : Rule) → r ≢ Rule.Update → (effect c i r).m ≡ c.m i
+effect_keeps_m c i Rule.Update other = absurd (other refl)
+effect_keeps_m c i (Rule.Marriage j) other = refl
+effect_keeps_m c i Rule.Seduction other = refl
+effect_keeps_m c i Rule.Abandonment other = refl
 
 -- a rule's guard holds exactly where the rule may be applied
 pub guard-means : (c : Configuration) (i : ℕ) (r : Rule) → IsLawful c → (guard c i r ≡ true) ↔ MayApply c i r
