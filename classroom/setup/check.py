@@ -67,7 +67,7 @@ def standing(text: str, error: str) -> tuple[int | None, str]:
     if table is None:
         return None, ""
     wanted = {"no such owner": ("owner", "owners"), "owner stands twice": ("owners",), "p is not a neighbour": ("p",),
-            "name stands twice": ("name",)}.get(fault_text, ("id",) if kind == "node" else ())
+              "name stands twice": ("name",)}.get(fault_text, ("id",) if kind == "node" else ())
     line = next((table.keys[key] for key in wanted if key in table.keys), table.line)
     return line, identifier(text, table) if kind == "node" else ""
 

@@ -78,13 +78,14 @@ class Check(InRoom):
     def test_keys_of_words(self) -> None:
         drawn = "amber-lilac-tonic-42"
         self.assertAlmostEqual(bits(drawn), 36 + math.log2(100))
-        for key, told in ((drawn, None), ("ant-ant-ant-11", None), ("amber-lilac-tonic-gravel", None), ("amber-lilac-tonic-4", "39 bits at most: guessed in 261 years"),
-                          ("amber-lilac-42", "31 bits at most: guessed in 233 days"), ("amber", "12 bits at most: guessed in 49 seconds"),
-                          ("1111-1111-1111-1111", "38 bits at most: guessed in 105 years"),
-                          ("Amber-lilac", "48 bits at most: guessed in 77930 years")):
+        cases = ((drawn, ""), ("ant-ant-ant-11", ""), ("amber-lilac-tonic-gravel", ""),
+                 ("amber-lilac-tonic-4", "39 bits at most: guessed in 261 years"), ("amber-lilac-42", "31 bits at most: guessed in 233 days"),
+                 ("amber", "12 bits at most: guessed in 49 seconds"), ("1111-1111-1111-1111", "38 bits at most: guessed in 105 years"),
+                 ("Amber-lilac", "48 bits at most: guessed in 77930 years"))
+        for key, warning in cases:
             lab = labs.Lab(1000, 4, ("tess", "0f3b5a7c9d1e2f48a6b8c0d2e4f61357"), {"ana": key}, [], [])
-            warned = list(key_warnings(lab))
-            self.assertEqual([f"ana's key has {told} or sooner" in line for line in warned], [True] if told else [], (key, warned))
+            warned = [line.partition(" or sooner")[0] for line in key_warnings(lab)]
+            self.assertEqual(warned, [f"ana's key has {warning}"] if warning else [], key)
 
     def test_letters_of_no_kind(self) -> None:
         for key, least in (("äöüßéèêàâçñøåæœłżźčš", 100), ("шифр из восьми слов", 80), ("äÄ1!" * 8, 95),
