@@ -41,7 +41,8 @@ class Slips(InRoom):
         folder = self.room / "path"
         shutil.rmtree(folder, ignore_errors=True)
         folder.mkdir()
-        for name, text in {"openssl": None, **programs}.items():
+        every: dict[str, str | None] = {"openssl": None, **programs}
+        for name, text in every.items():
             if text is None:
                 (folder / name).symlink_to(shutil.which(name) or name)
             else:
