@@ -383,6 +383,20 @@ class Pages(AtDoor):
             self.assertEqual(self.asks(path)[0], 404, path)
         self.assertEqual(self.asks("/maths/look/look-token/act", method="POST")[0], 404)
 
+    def test_the_page_for_all_networks(self) -> None:
+        self.assertEqual(self.asks("/all/look/all-token/")[0], 404)
+        routes.announce_all(self.door.folder, self.page, "all-token")
+        for path in ("", "state", "events"):
+            self.assertEqual(json.loads(self.asks(f"/all/look/all-token/{path}")[1])["asked"], f"GET /all-token/{path}")
+        for path in ("/all/", "/all/look/other/", "/all/act-token/act"):
+            self.assertEqual(self.asks(path)[0], 404, path)
+        self.assertEqual(self.asks("/all/look/all-token/act", method="POST")[0], 404)
+        it = self.raw("all")
+        it.sendall(b'{"do":"see"}\n')
+        self.assertEqual(it.recv(100), b"")
+        (self.door.folder / routes.HALL).write_text('{"port": 99999, "looks": 1}', encoding="utf-8")
+        self.assertEqual(self.asks("/all/look/all-token/")[0], 404)
+
     def test_hosts(self) -> None:
         for host, status in ((f"class.example:{self.door.port}", 200), (f"localhost:{self.door.port}", 200), ("class.example", 421),
                              (f"evil.example:{self.door.port}", 421), ("127.0.0.1:1", 421), ("", 200)):
