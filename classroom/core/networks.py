@@ -4,6 +4,7 @@ from __future__ import annotations
 import itertools
 import random
 import re
+from collections import deque
 from collections.abc import Iterable
 from pathlib import Path
 
@@ -23,6 +24,18 @@ def neighbours(nodes: Iterable[int], links: Iterable[tuple[int, int]]) -> dict[i
             near[a].append(b)
             near[b].append(a)
     return near
+
+
+def steps_from(start: int, near: dict[int, list[int]]) -> dict[int, int]:
+    """Returns how many links lead from a node to each that can be reached."""
+    steps, queue = {start: 0}, deque([start])
+    while queue:
+        here = queue.popleft()
+        for other in near[here]:
+            if other not in steps:
+                steps[other] = steps[here] + 1
+                queue.append(other)
+    return steps
 
 
 def random_links(count: int, links: int, chance: random.Random) -> Links:

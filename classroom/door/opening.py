@@ -16,7 +16,7 @@ from classroom.core.folders import Process
 from classroom.core.program import TOP, Fault
 from classroom.core.statuses import FAILED
 from classroom.door import certificate
-from classroom.door.routes import NETWORK, Kept, announce, network
+from classroom.door.routes import Kept, announce, forget, network
 
 BACKLOG = 256
 TIMES = 5  # that a door is opened again
@@ -104,8 +104,7 @@ def opened(place: Place, into: Path, file: Path, tell: Callable[[str], None]) ->
     folder = (into / FOLDER.format(listener.getsockname()[1])).resolve()
     try:
         folder.mkdir(0o700, parents=True, exist_ok=True)
-        for old in folder.glob(f"*{NETWORK}"):
-            old.unlink()
+        forget(folder)
         Kept(place.address, place.port, str(file.resolve()), Process(0, "")).write(folder)
     except OSError as error:
         listener.close()

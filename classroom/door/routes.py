@@ -14,6 +14,7 @@ from classroom.core.folders import RECORD, Process, Record
 from classroom.core.program import Fault
 
 DOOR, NETWORK = "door.json", ".network"
+ALL, HALL = "all", "all.json"  # what the page for all networks is asked for by, and the file that leads there
 NEW = 60.0  # seconds in which a run that was announced has to begin
 MOST_NAME = 32
 NAME = re.compile(r"[a-z][a-z0-9-]{0,31}")
@@ -81,6 +82,28 @@ def announce(folder: Path, name: str, run: Path, hosts: list[str]) -> None:
     put(folder / f"{name}{NETWORK}", {"folder": str(run.resolve()), "hosts": hosts})
 
 
+def announce_all(folder: Path, port: int, looks: str) -> None:
+    """Leads a door to the page for all networks, which this process serves, at the token of its address to look at."""
+    put(folder / HALL, {"port": port, "looks": looks, "process": asdict(Process.of(os.getpid()))})
+
+
+def page_for_all(folder: Path) -> Record | None:
+    """Returns the record of a run that has the page for all networks and nothing else; None if no process serves that page."""
+    try:
+        it = json.loads(plain.read(folder / HALL, plain.MOST_KEPT))
+        desk = Process(**it["process"])
+        record = Record("", 0, 0, it["port"], "", None, desk, desk, looks=it["looks"])
+        return record if record.is_sound() and record.goes_on() else None
+    except (Fault, ValueError, KeyError, TypeError, RecursionError):
+        return None
+
+
+def forget(folder: Path) -> None:
+    """Removes all that leads a door anywhere."""
+    for file in (*folder.glob(f"*{NETWORK}"), folder / HALL):
+        file.unlink(missing_ok=True)
+
+
 @dataclass
 class Routes:
     """The networks of a door's folder, read again when a file has changed."""
@@ -95,12 +118,12 @@ class Routes:
         self.networks = {it.name: it for it in found if it is not None and NAME.fullmatch(it.name)}
 
     def record(self, name: str) -> Record | None:
-        """Returns the ports of a network, if its run goes on."""
+        """Returns the ports of a network, if its run goes on; of all networks their page."""
         if name not in self.networks:
             self.look()
         network = self.networks.get(name)
         if network is None:
-            return None
+            return page_for_all(self.folder) if name == ALL else None
         try:
             stat = os.stat(network.folder / RECORD)
         except OSError:

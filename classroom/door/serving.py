@@ -20,7 +20,7 @@ from classroom.core.folders import Process
 from classroom.door.bounds import Bounds, origin
 from classroom.door.certificate import context
 from classroom.door.passing import Door, served
-from classroom.door.routes import DOOR, NETWORK, Kept, Routes
+from classroom.door.routes import DOOR, Kept, Routes, forget
 
 LOOK = 0.5  # seconds between two looks at which networks there are
 PATIENCE = 10.0  # seconds that a door stays open after its last network has ended
@@ -107,8 +107,7 @@ def serve(folder: Path, listener: socket.socket) -> None:
     with asyncio.Runner() as runner:
         runner.get_loop().set_exception_handler(lambda *_: None)  # A connection's errors are its own.
         runner.run(Serving(listener, door).keep())
-    for file in folder.glob(f"*{NETWORK}"):
-        file.unlink(missing_ok=True)
+    forget(folder)
 
 
 if __name__ == "__main__":

@@ -16,7 +16,8 @@ from classroom.core import plain
 from classroom.core.printable import guarded
 from classroom.core.program import Fault
 
-Value = Fraction | bool | str | None  # None is unknown
+Known = Fraction | bool | str
+Value = Known | None  # None is unknown
 Row = Mapping[str, Value]
 Expression = Callable[[Row], Value]
 MOST_BYTES, MOST_LINES, MOST_DEPTH, MOST_DIGITS = 1 << 16, 100, 50, 12
@@ -302,13 +303,20 @@ def negation(inner: Expression, is_negated: bool) -> Expression:
     return value
 
 
-def comparison(sign: str, left: Expression, right: Expression) -> Expression:
-    """Returns whether the comparison holds. Texts are equal or not; the other signs compare numbers."""
+def of_two(left: Expression, right: Expression, made: Callable[[Known, Known], Known]) -> Expression:
+    """Returns what is made of two values; it isn't known if one of them isn't."""
     def value(row: Row) -> Value:
         """Returns the value."""
         one, other = left(row), right(row)
-        if one is None or other is None:
-            return None
+        return None if one is None or other is None else made(one, other)
+
+    return value
+
+
+def comparison(sign: str, left: Expression, right: Expression) -> Expression:
+    """Returns whether the comparison holds. Texts are equal or not; the other signs compare numbers."""
+    def holds(one: Known, other: Known) -> bool:
+        """Returns whether it holds of two values."""
         if sign in ("==", "!="):
             if isinstance(one, bool) != isinstance(other, bool) or isinstance(one, str) != isinstance(other, str):
                 raise Wrong(f"{shown(one)} and {shown(other)} can't be compared")
@@ -316,22 +324,19 @@ def comparison(sign: str, left: Expression, right: Expression) -> Expression:
         a, b = number(one), number(other)
         return {"<": a < b, "<=": a <= b, ">": a > b, ">=": a >= b}[sign]
 
-    return value
+    return of_two(left, right, holds)
 
 
 def arithmetic(sign: str, left: Expression, right: Expression) -> Expression:
     """Returns the sum, difference, product or quotient."""
-    def value(row: Row) -> Value:
-        """Returns the value."""
-        one, other = left(row), right(row)
-        if one is None or other is None:
-            return None
+    def result(one: Known, other: Known) -> Fraction:
+        """Returns it of two values."""
         a, b = number(one), number(other)
         if sign == "/" and b == 0:
             raise Wrong("a division by 0")
         return a + b if sign == "+" else a - b if sign == "-" else a * b if sign == "*" else a / b
 
-    return value
+    return of_two(left, right, result)
 
 
 def called(name: str, given: Sequence[Expression]) -> Expression:

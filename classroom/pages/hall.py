@@ -13,46 +13,31 @@ The address to act at is another one for each class, and no other page knows it.
 """
 from __future__ import annotations
 
-import hmac
 import json
 import re
-import secrets
 import threading
 from collections.abc import Callable
 
 from classroom.core.class_state import ClassState
 from classroom.pages.page import assembled, data_element
-from classroom.pages.web import Asked, Web
+from classroom.pages.two_addresses import STILL_HERE, AtAddress, TwoAddresses
 from classroom.pages.web import opened as web_opened
 
 LISTED = 25  # lines that the page shows
-STILL_HERE = 10.0  # seconds without news after which a comment line is sent
 LAST_WORD = 2.0  # seconds in which pages may learn that the class is over
-MOST_BYTES = 200  # of a line that the page sends
 ACTS = ("close", "shake", "resume", "end")
 LINE = re.compile(r"[^\s:]+: (?:close|resume|end|shake (?:\d{1,3}|all))")
 
 
-class Hall(Web):
+class Hall(TwoAddresses):
     """Serves the page for all networks of a class."""
 
     def __init__(self, port: int, title: str, act: Callable[[str], None], state: ClassState, looks: str | None = None) -> None:
-        super().__init__(port, Page, title)
+        super().__init__(port, Page, title, looks)
         self.act = act
-        self.looks, self.acts = looks or secrets.token_urlsafe(16), secrets.token_urlsafe(16)
         self.turn = threading.Condition()
         self.texts = {self.looks: text(state), self.acts: text(state)}
-        self.version, self.ended, self.told = 1, False, 0
-
-    @property
-    def address(self) -> str:
-        """Returns the address to look at."""
-        return f"http://127.0.0.1:{self.server_port}/{self.looks}/"
-
-    @property
-    def address_to_act(self) -> str:
-        """Returns the address to act at, which the teacher alone opens."""
-        return f"http://127.0.0.1:{self.server_port}/{self.acts}/"
+        self.version, self.ended = 1, False
 
     def show(self, looks: ClassState, acts: ClassState) -> None:
         """Shows this state from now on. The page to act at links to the pages to act at."""
@@ -74,26 +59,13 @@ class Hall(Web):
         self.show(looks, acts)
         with self.turn:
             self.turn.notify_all()
-            self.turn.wait_for(lambda: self.told == 0, LAST_WORD)
-        self.close()
-
-    def count(self, more: int) -> None:
-        """Notes that a page begins to receive the news, by 1, or ends, by -1."""
-        with self.turn:
-            self.told += more
-            self.turn.notify_all()
+        self.close_after(LAST_WORD)
 
 
-class Page(Asked):
+class Page(AtAddress):
     """One request of a page."""
 
     server: Hall
-
-    def asked(self) -> tuple[str, str]:
-        """Returns the token if it is one of the two, and what is asked for below it; else two empty texts."""
-        beginning, slash, rest = self.path[1:].partition("/")
-        known = [token for token in (self.server.looks, self.server.acts) if hmac.compare_digest(beginning.encode(), token.encode())]
-        return (known[0], rest) if known and slash else ("", "")
 
     def do_GET(self) -> None:
         """Answers with the page, the state or the news."""
@@ -106,26 +78,17 @@ class Page(Asked):
             return self.answer(200, "application/json", self.server.texts[token].encode())
         if asked == "events":
             self.head(200, "text/event-stream", None)
-            self.server.count(1)
-            try:
+            with self.server.receives():
                 return self.tell(token)
-            finally:
-                self.server.count(-1)
         page, policy = hall_page(self.server.title, self.server.texts[token], token == self.server.acts)
         self.answer(200, "text/html; charset=utf-8", page.encode(), policy)
 
-    def do_POST(self) -> None:
-        """Takes a line of the teacher's."""
-        if self.is_elsewhere():
-            return
-        body = self.body(MOST_BYTES) if self.asked() == (self.server.acts, "act") else None
-        if body is None:
-            return self.head(404)
-        line = body.decode("utf-8", errors="replace")
-        if not LINE.fullmatch(line):
-            return self.head(400)
-        self.server.act(line)
-        self.head(204)
+    def takes(self, line: str) -> bool:
+        """Does a line of the teacher's, if it is one of the page's."""
+        is_known = LINE.fullmatch(line) is not None
+        if is_known:
+            self.server.act(line)
+        return is_known
 
     def tell(self, token: str) -> None:
         """Sends the state, and again whenever it has changed, until the class or the page ends."""

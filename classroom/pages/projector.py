@@ -5,10 +5,8 @@ slow gets fewer and larger pieces, and nobody waits for it.
 """
 from __future__ import annotations
 
-import hmac
 import json
 import queue
-import secrets
 from collections.abc import Callable
 from typing import Any
 
@@ -17,40 +15,27 @@ from classroom.core.lab import Lab
 from classroom.pages.drawing import drawing_of
 from classroom.pages.frames import Frame
 from classroom.pages.page import Frames, live_page
+from classroom.pages.two_addresses import STILL_HERE, AtAddress, TwoAddresses, new_token
 from classroom.pages.watch import Now, Present
-from classroom.pages.web import Asked, Web, opened
+from classroom.pages.web import opened
 
 LISTED = 25  # events and lines that a page is told of at once
-STILL_HERE = 10.0  # seconds without news after which a page is told that there are none
 LAST_WORD = 5.0  # seconds in which the pages may learn that the run is over
-MOST_BYTES = 200  # of what a page asks for
 
 
-class Pages(Web):
+class Pages(TwoAddresses):
     """Serves the pages of one run. An address has a token: one to look at, and one to act at, which may be changed for
     another."""
 
     def __init__(self, port: int, title: str, lab: Lab, typed: queue.SimpleQueue[str], looks: str | None = None) -> None:
-        super().__init__(port, Page, title)
+        super().__init__(port, Page, title, looks)
         self.lab, self.typed = lab, typed
-        self.looks, self.acts = looks or secrets.token_urlsafe(16), secrets.token_urlsafe(16)
         self.drawing = drawing_of(lab.without_house(), lab.links)
         self.present: Present | None = None
-        self.told = 0  # how many pages are told the news
-
-    @property
-    def address(self) -> str:
-        """What the projector shows."""
-        return f"http://127.0.0.1:{self.server_port}/{self.looks}/"
-
-    @property
-    def address_to_act(self) -> str:
-        """What the teacher alone opens."""
-        return f"http://127.0.0.1:{self.server_port}/{self.acts}/"
 
     def renew(self) -> None:
         """From now on another address acts, and the one before neither acts nor shows anything."""
-        self.acts = secrets.token_urlsafe(16)
+        self.acts = new_token()
         if self.present is not None:
             self.present.put()
 
@@ -63,27 +48,13 @@ class Pages(Web):
         """Tells the pages that the run is over, and lets go of the port."""
         if self.present is not None:
             self.present.put(ended=True)
-            with self.present.turn:
-                self.present.turn.wait_for(lambda: self.told == 0, LAST_WORD)
-        self.close()
-
-    def count(self, present: Present, more: int) -> None:
-        """Notes that a page begins to be told the news, by 1, or ends, by -1."""
-        with present.turn:
-            self.told += more
-            present.turn.notify_all()
+        self.close_after(LAST_WORD)
 
 
-class Page(Asked):
+class Page(AtAddress):
     """One request of a page."""
 
     server: Pages
-
-    def asked(self) -> tuple[str, str]:
-        """The token, where it is one of the two, and what is asked for below it; else both are empty."""
-        beginning, slash, rest = self.path[1:].partition("/")
-        known = [token for token in (self.server.looks, self.server.acts) if hmac.compare_digest(beginning.encode(), token.encode())]
-        return (known[0], rest) if known and slash else ("", "")
 
     def do_GET(self) -> None:
         """The page, or its news."""
@@ -94,27 +65,18 @@ class Page(Asked):
             return self.head(404)
         if asked == "events":
             self.head(200, "text/event-stream", None)
-            self.server.count(present, 1)
-            try:
+            with self.server.receives():
                 return self.tell(present, token)
-            finally:
-                self.server.count(present, -1)
         page, policy = live_page(self.server.title, self.server.drawing, present.now.state, token == self.server.acts)
         self.answer(200, "text/html; charset=utf-8", page.encode(), policy)
 
-    def do_POST(self) -> None:
-        """A line of the teacher's, as it could be typed."""
-        if self.is_elsewhere():
-            return
-        body = self.body(MOST_BYTES) if self.asked() == (self.server.acts, "act") else None
-        if body is None:
-            return self.head(404)
-        line = body.decode("utf-8", errors="replace")
+    def takes(self, line: str) -> bool:
+        """Takes a line of the teacher's as if it were typed, if it is one of the page's."""
         word = WORDS.get(line.partition(" ")[0])
         if word is None or not word.is_on_page or not line.isprintable():
-            return self.head(400)
+            return False
         self.server.typed.put(line)
-        self.head(204)
+        return True
 
     def tell(self, present: Present, token: str) -> None:
         """Sends the present, and then what has changed, until the run, the page or its token ends."""

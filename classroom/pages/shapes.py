@@ -6,13 +6,12 @@ from __future__ import annotations
 
 import math
 from bisect import bisect_left
-from collections import deque
 from collections.abc import Iterator
 from dataclasses import dataclass
 from functools import lru_cache
 from itertools import accumulate, pairwise
 
-from classroom.core.networks import Links, neighbours
+from classroom.core.networks import Links, neighbours, steps_from
 from classroom.pages.springs import Point, by_springs, stretched
 
 TURNS = 1200  # parts of an ellipse by which it is measured
@@ -68,18 +67,6 @@ def plain_shape(near: Near, aspect: float) -> Shape | None:
         hub = nodes[degrees.index(count - 1)]
         return Shape("star", ellipse([node for node in nodes if node != hub], aspect, HUB_ROOM) | {hub: (0.0, 0.0)})
     return None
-
-
-def steps_from(start: int, near: Near) -> dict[int, int]:
-    """Returns how many links lead from a node to each that can be reached."""
-    steps, queue = {start: 0}, deque([start])
-    while queue:
-        here = queue.popleft()
-        for other in near[here]:
-            if other not in steps:
-                steps[other] = steps[here] + 1
-                queue.append(other)
-    return steps
 
 
 def is_joined(near: Near) -> bool:

@@ -8,13 +8,12 @@ lot: the same network has the same drawing.
 from __future__ import annotations
 
 import math
-from collections import deque
 from collections.abc import Iterable, Iterator, Sequence
 from functools import lru_cache
 from itertools import combinations, product
 from operator import mul
 
-from classroom.core.networks import Links, neighbours
+from classroom.core.networks import Links, neighbours, steps_from
 
 FEW_NODES = 80  # up to which each node is pulled by each other one
 PIVOTS = 40  # by which each node is pulled in a larger network
@@ -120,16 +119,7 @@ def stretched(points: dict[int, Point], aspect: float) -> dict[int, Point]:
 def distances(nodes: Sequence[int], links: Iterable[tuple[int, int]]) -> Rows:
     """How many links part each two nodes; where no path joins them, one more than the longest path has."""
     near = neighbours(nodes, links)
-    found = []
-    for node in nodes:
-        steps, queue = {node: 0}, deque([node])
-        while queue:
-            here = queue.popleft()
-            for other in near[here]:
-                if other not in steps:
-                    steps[other] = steps[here] + 1
-                    queue.append(other)
-        found.append(steps)
+    found = [steps_from(node, near) for node in nodes]
     longest = max(max(steps.values()) for steps in found)
     return [[float(steps.get(node, longest + 1)) for node in nodes] for steps in found]
 

@@ -14,6 +14,7 @@ OWN = {
     f"{END} NETWORK": "end a network; of one that is down, give it up",
 }
 BARE = {word for word, it in WORDS.items() if not it.form} | {RESUME}  # the words that the network may follow
+NAMING = {word for word, it in WORDS.items() if it.form == "NAME"}  # the words for one student
 HOW = "a network's number or name stands before a word (2 shake 3, maths-2: close) or after a word without values (close 2); " \
       "all, or no network, is for every one"
 

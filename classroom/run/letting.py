@@ -10,7 +10,7 @@ from classroom.client import door_of
 from classroom.core.program import CLASS
 from classroom.door import certificate, opening
 from classroom.door.opening import Place
-from classroom.door.routes import Kept, network
+from classroom.door.routes import ALL, Kept, announce_all, network
 
 WHERE = "[ADDRESS:]PORT"
 
@@ -61,11 +61,27 @@ def lead(folder: str | None, lab: Path, run: Path) -> None:
 
 def told(folder: str | None, lab: Path, looks: str | None) -> Iterator[str]:
     """Yields the addresses by which a door leads to the pages of a run, if there is a door."""
-    kept = Kept.read(Path(folder)) if folder is not None else None
-    if kept is None:
+    place = place_of(folder, lab)
+    if place is None:
         return
-    hosts = [door_of(slip.door)[0] for slip in opening.slips_of(lab) if slip.door]
-    place = Place(next(iter(hosts), kept.address or opening.here()), kept.port)
     yield f"page to play from elsewhere https://{place.told()}/{network(lab)}/"
     if looks is not None:
         yield f"page to look at from elsewhere https://{place.told()}/{network(lab)}/look/{looks}/"
+
+
+def place_of(folder: str | None, lab: Path) -> Place | None:
+    """Returns where a door is, if there is one, by the name that the slips beside a lab have for it."""
+    kept = Kept.read(Path(folder)) if folder is not None else None
+    if kept is None:
+        return None
+    hosts = [door_of(slip.door)[0] for slip in opening.slips_of(lab) if slip.door]
+    return Place(next(iter(hosts), kept.address or opening.here()), kept.port)
+
+
+def page_for_all(folder: str | None, lab: Path, port: int, looks: str) -> str:
+    """Leads a door, if there is one, to the page for all networks. Returns the address of that page there, or nothing."""
+    place = place_of(folder, lab)
+    if folder is None or place is None:
+        return ""
+    announce_all(Path(folder), port, looks)
+    return f"https://{place.told()}/{ALL}/look/{looks}/"

@@ -167,10 +167,14 @@ class Member:
         if self.child is not None and self.child.poll() is None:
             self.child.send_signal(signal.SIGUSR1)
 
+    def page(self, acts: bool) -> str:
+        """Returns the address of its page: to act, on this machine; to look at, through the door if there is one."""
+        return self.facts.get("act", "") if acts else self.facts.get("look_from", self.facts.get("page", ""))
+
     def shown(self, acts: bool = False) -> NetworkState:
         """Returns what the page for all shows of it."""
         port = int(self.facts["port"]) if "port" in self.facts else None
-        page = self.facts.get("act" if acts else "page", "") if self.status in (STARTS, RUNS) else ""
+        page = self.page(acts) if self.status in (STARTS, RUNS) else ""
         return NetworkState(self.number, self.name, self.network.room, port, page, self.lab.sessions - 1, len(self.lab.students),
                             self.status, self.alarm, self.state())
 
@@ -190,7 +194,8 @@ def fact_in(line: str) -> tuple[str, str]:
 def wanted(words: list[str], record: Record | None) -> set[str]:
     """Returns what a run that is started with these words says before it has started."""
     found = {"port"} | ({"play_from"} if "--door-at" in words else set())
-    found |= {"page", "act"} if "--page" in words or record is not None and record.page is not None else set()
+    if "--page" in words or record is not None and record.page is not None:
+        found |= {"page", "act"} | ({"look_from"} if "--door-at" in words else set())
     return found | ({"play"} if "--play" in words or record is not None and record.play is not None else set())
 
 

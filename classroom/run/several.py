@@ -29,6 +29,7 @@ from classroom.run.member import Member, News
 from classroom.run.network_table import now_table, start_table
 from classroom.run.teller import is_private
 from classroom.run.typed import EOF, Terminal, helped, read_lines
+from classroom.setup.slips import Way
 
 SIGNALS = (signal.SIGINT, signal.SIGTERM)
 TICK = 0.2  # seconds between two looks at the clock and at the states of the networks
@@ -44,6 +45,7 @@ class Several:
         self.names = [member.name for member in members]
         self.terminal: Terminal | None = None
         self.hall: hall.Hall | None = None
+        self.from_elsewhere = ""  # the address of the page for all through the door
         self.lines: list[str] = []
         self.is_told = False  # Whether the table was printed.
         self.is_left = False  # Whether another process takes the desks.
@@ -94,13 +96,23 @@ class Several:
             indices, rest = addressed.addressed(line, self.names)
         except ValueError as error:
             return self.say(f"not understood: {error}")
-        word = rest.split()[0] if rest.split() else ""
+        word, *values = rest.split() or [""]
         if word == addressed.HELP:
             return self.say(help_text())
         if word == addressed.NETWORKS:
             return self.say(now_table([member.shown() for member in self.members]))
+        if word in addressed.NAMING and len(values) == 1 and len(indices) > 1:
+            indices = self.with_student(values[0], indices)
         for index in indices:
             self.ask(self.members[index], word, rest, len(indices) == 1)
+
+    def with_student(self, name: str, indices: list[int]) -> list[int]:
+        """Returns the one network among these that has a student of that name; none if that isn't one, which is said."""
+        found = [index for index in indices if name in self.members[index].lab.students]
+        if len(found) != 1:
+            there = ", ".join(self.names[index] for index in found)
+            self.say(f"{name} is in several networks: name one of {there}" if found else f"no student {name} in this class")
+        return found if len(found) == 1 else []
 
     def ask(self, member: Member, word: str, line: str, is_alone: bool) -> None:
         """Does a line for one network. If it is for this network alone, the line says what can't be done."""
@@ -155,6 +167,8 @@ class Several:
         if self.hall is not None:
             self.hall.show(self.state(False), self.state(True))  # Who opens it sees all networks at once.
             self.say(f"page for all {self.hall.address}")
+            if self.from_elsewhere:
+                self.say(f"page for all from elsewhere {self.from_elsewhere}")
             if is_private(self.is_typed):
                 self.say(f"page for all to act {self.hall.address_to_act}", private=True)
         if self.clock is not None:
@@ -287,10 +301,10 @@ def members_of(folder: Path, networks: Sequence[Network], words: argparse.Namesp
 
 def networks_of(words: argparse.Namespace) -> list[Network]:
     """Returns the networks that the labs of the command line make. A lab that the program refuses is a fault."""
-    rooms = [room.strip() for room in words.rooms.split(",")] if words.rooms else []
-    if rooms and len(rooms) != len(words.labs):
+    rooms = [room.strip() for room in words.rooms.split(",")] if words.rooms else [*map(room_of, words.labs)]
+    if words.rooms and len(rooms) != len(words.labs):
         raise Fault(f"--rooms names {plural(len(rooms), 'room')} for {len(words.labs)} networks")
-    found = [Network(Path(lab).stem, rooms[index] if rooms else "", str(Path(lab).resolve())) for index, lab in enumerate(words.labs)]
+    found = [Network(Path(lab).stem, rooms[index], str(Path(lab).resolve())) for index, lab in enumerate(words.labs)]
     names = [network.name for network in found]
     for name in names:
         if names.count(name) > 1:
@@ -298,6 +312,12 @@ def networks_of(words: argparse.Namespace) -> list[Network]:
         if name.isdecimal() or name == addressed.EVERY:
             raise Fault(f"a lab of a class can't be called {name}: rename it")
     return found
+
+
+def room_of(lab: str) -> str:
+    """Returns the room that the slips of a lab name, or nothing."""
+    way = Way.read(Path(lab))
+    return way.room if way is not None else ""
 
 
 def wants_ports(words: argparse.Namespace, count: int) -> None:
@@ -319,6 +339,8 @@ def held(folder: Path, members: list[Member], news: News, words: argparse.Namesp
     with letting.door(with_door(words), files, several.say, kept.door if kept else None) as door:
         for member in members:
             member.more += ["--door-at", door] if door is not None else []
+        if several.hall is not None:
+            several.from_elsewhere = letting.page_for_all(door, files[0], several.hall.server_port, several.hall.looks)
         Class([member.network for member in members], Process.of(os.getpid()), page=several.hall.server_port if several.hall else None,
               looks=several.hall.looks if several.hall else None, ends=end.isoformat() if end else None, door=door).write(folder)
         several.obey_signals()

@@ -16,7 +16,7 @@ from classroom.core import bounds, networks
 from classroom.core.printable import printable
 from classroom.core.program import TOP, Answer, Fault, call
 from classroom.core.statuses import WARNED
-from classroom.setup import positions
+from classroom.setup import keys, positions
 
 KNOWN = {
     "": ("events", "sessions", "teacher", "student", "node", "links"),
@@ -25,8 +25,8 @@ KNOWN = {
     "node": ("id", "owner", "owners", "p", "m"),
 }
 MOST_LISTED = 8
-ENOUGH_BITS = 64
-GUESSES = 100_000  # a second, over one machine's loopback
+ENOUGH_BITS = 64  # of a key that somebody may have chosen
+ENOUGH_DRAWN = keys.bits_of(keys.WORDS_EACH, keys.DIGITS)  # of a key that was drawn by lot, as `new` does
 KINDS = (string.ascii_lowercase, string.ascii_uppercase, string.digits, string.punctuation)  # of a key's letters
 OTHERS = 128  # how many letters of no kind a key is taken to be drawn from
 
@@ -66,9 +66,9 @@ def standing(text: str, error: str) -> tuple[int | None, str]:
     table = positions.table(text, name, index if kind == "node" else max(index - 1, 0))
     if table is None:
         return None, ""
-    keys = {"no such owner": ("owner", "owners"), "owner stands twice": ("owners",), "p is not a neighbour": ("p",),
-            "name stands twice": ("name",)}.get(fault_text, ("id",) if kind == "node" else ())
-    line = next((table.keys[key] for key in keys if key in table.keys), table.line)
+    wanted = {"no such owner": ("owner", "owners"), "owner stands twice": ("owners",), "p is not a neighbour": ("p",),
+              "name stands twice": ("name",)}.get(fault_text, ("id",) if kind == "node" else ())
+    line = next((table.keys[key] for key in wanted if key in table.keys), table.line)
     return line, identifier(text, table) if kind == "node" else ""
 
 
@@ -99,7 +99,7 @@ def strange(text: str) -> Iterator[tuple[int, str, str | None]]:
             continue
         for key, line in table.keys.items():
             if key not in known:
-                home = next((name for name, keys in KNOWN.items() if key in keys and not name), None)
+                home = next((name for name, known_keys in KNOWN.items() if key in known_keys and not name), None)
                 meant = f"{key} above the first header" if home is not None else nearest(key, known)
                 yield line, key, meant
 
@@ -110,9 +110,23 @@ def nearest(key: str, known: Iterable[str]) -> str | None:
     return found[0] if found else None
 
 
+def is_drawn(key: str) -> bool:
+    """Whether a key has as many words of the list of `new` as its own keys: such a key is taken to be drawn by lot."""
+    parts = keys.drawn(key)
+    return parts is not None and parts[0] >= keys.WORDS_EACH
+
+
 def bits(key: str) -> float:
-    """How many bits a key is taken to have at most, by its length, the kinds of its letters, and how many of them
-    differ: one of few different letters wasn't drawn from many."""
+    """How many bits a key is taken to have at most. Of one that was drawn these are the bits of its words and digits; of others
+    fewer of these and of those of its letters."""
+    parts = keys.drawn(key)
+    by_words = keys.bits_of(*parts) if parts else math.inf
+    return by_words if is_drawn(key) else min(by_words, bits_of_letters(key))
+
+
+def bits_of_letters(key: str) -> float:
+    """How many bits a key is taken to have at most by its length, the kinds of its letters, and how many of them differ: one
+    of few different letters wasn't drawn from many."""
     letters = set(key)
     return len(key) * math.log2(max(2, min(letters_of_kinds(letters), 2 * len(letters))) if len(letters) > 1 else 1.01)
 
@@ -125,8 +139,8 @@ def letters_of_kinds(letters: set[str]) -> int:
 
 
 def effort(key: str) -> str:
-    """How long it would take at most to guess a key, as text."""
-    seconds = 2 ** bits(key) / GUESSES
+    """How long it would take at most to guess a key, as text: a class's server holds guesses back."""
+    seconds = 2 ** bits(key) / keys.DENIALS
     for size, word in ((86400 * 365, "years"), (86400, "days"), (3600, "hours"), (60, "minutes")):
         if seconds >= size:
             return f"{seconds / size:.0f} {word}" if seconds < 1e6 * size else f"over a million {word}"
@@ -148,7 +162,7 @@ def key_warnings(lab: labs.Lab) -> Iterator[str]:
     for name, key in [lab.teacher, *lab.students.items()]:
         if key in examples:
             yield f"{name}'s key is one of the examples': everybody can read it"
-        elif bits(key) < ENOUGH_BITS:
+        elif bits(key) < (ENOUGH_DRAWN if is_drawn(key) else ENOUGH_BITS):
             yield f"{name}'s key has {bits(key):.0f} bits at most: guessed in {effort(key)} or sooner; 64 are little, 128 enough"
 
 

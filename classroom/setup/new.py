@@ -177,7 +177,8 @@ def next_words(words: argparse.Namespace, made: list[Made], merge: Path) -> str:
     every = " ".join(shlex.quote(str(it.file)) for it in made)
     pages = " ".join(str(slips.page_of(it.file)) for it in made)
     door = f" --door {words.door.rpartition(':')[2]}" if words.door else ""
-    return (f"print {pages}, or send each the file that {merge} names; {slips.teacher_of(made[0].file)} is yours alone. Then\n"
+    own = f"{slips.teacher_of(made[0].file)} is" if len(made) == 1 else f"the files {str(merge).removesuffix('-slips.csv')}-*-teacher.slip are"
+    return (f"print {pages}, or send each the file that {merge} names; {own} yours alone. Then\n"
             f"  {CLASS} check {made[0].file}\n  {CLASS} run {every} --page{door or ' --play'}")
 
 

@@ -75,6 +75,18 @@ class Check(InRoom):
         self.assertLess(bits("a" * 60), 64)
         self.assertGreater(bits("0f3b5a7c9d1e2f48a6b8c0d2e4f61357"), 100)
 
+    def test_keys_of_words(self) -> None:
+        drawn = "amber-lilac-tonic-42"
+        self.assertAlmostEqual(bits(drawn), 36 + math.log2(100))
+        cases = ((drawn, ""), ("ant-ant-ant-11", ""), ("amber-lilac-tonic-gravel", ""),
+                 ("amber-lilac-tonic-4", "39 bits at most: guessed in 261 years"), ("amber-lilac-42", "31 bits at most: guessed in 233 days"),
+                 ("amber", "12 bits at most: guessed in 49 seconds"), ("1111-1111-1111-1111", "38 bits at most: guessed in 105 years"),
+                 ("Amber-lilac", "48 bits at most: guessed in 77930 years"))
+        for key, warning in cases:
+            lab = labs.Lab(1000, 4, ("tess", "0f3b5a7c9d1e2f48a6b8c0d2e4f61357"), {"ana": key}, [], [])
+            warned = [line.partition(" or sooner")[0] for line in key_warnings(lab)]
+            self.assertEqual(warned, [f"ana's key has {warning}"] if warning else [], key)
+
     def test_letters_of_no_kind(self) -> None:
         for key, least in (("äöüßéèêàâçñøåæœłżźčš", 100), ("шифр из восьми слов", 80), ("äÄ1!" * 8, 95),
                            ("horse battery staple", 80)):
@@ -84,7 +96,7 @@ class Check(InRoom):
         self.assertLess(bits("äö" * 8), 64)
         self.assertAlmostEqual(bits("abcdefghijklmnopqrstuvwxyz ABCDEFGHIJKLMNOPQRSTUVWXYZ"), 53 * math.log2(106))
         self.assertAlmostEqual(bits("".join(map(chr, range(0x410, 0x510)))), 256 * 7)
-        for key, told in (("äöüßéèêàâçñøåæœłżźčš", []), ("äöüßéè", ["ana's key has 22 bits at most: guessed in 30 seconds"])):
+        for key, told in (("äöüßéèêàâçñøåæœłżźčš", []), ("äöüßéè", ["ana's key has 22 bits at most: guessed in 10 hours"])):
             lab = labs.Lab(1000, 4, ("tess", "0f3b5a7c9d1e2f48a6b8c0d2e4f61357"), {"ana": key}, [], [])
             self.assertEqual([line.partition(" or sooner")[0] for line in key_warnings(lab)], told)
         self.assertGreater(bits("abcdefghijklmnopqrstuvwxyzä"), bits("abcdefghijklmnopqrstuvwxyza"))

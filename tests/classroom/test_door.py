@@ -1,6 +1,7 @@
 """The door by itself, before a server that answers each line: what it lets through, and what it does with whom it doesn't."""
 from __future__ import annotations
 
+import contextlib
 import http.client
 import json
 import os
@@ -11,7 +12,7 @@ import sys
 import threading
 import time
 import unittest
-from collections.abc import Iterator
+from collections.abc import Callable, Iterator
 from contextlib import contextmanager
 from http.server import BaseHTTPRequestHandler, ThreadingHTTPServer
 from pathlib import Path
@@ -62,6 +63,18 @@ class Lines:
                     return
                 if word == "bye":
                     return
+
+
+class Afterwards(Lines):
+    """A server that answers once it knows that no more is asked."""
+
+    def one(self, connection: socket.socket) -> None:
+        """Reads to the end, and then answers each line."""
+        with connection, connection.makefile("rb") as lines:
+            self.taken += lines.readlines()
+            for line in self.taken:
+                time.sleep(0.1)
+                connection.sendall(line)
 
 
 class Page(BaseHTTPRequestHandler):
@@ -146,6 +159,33 @@ class AtDoor(InRoom):
         self.addCleanup(it.close)
         return it
 
+    def half_closed(self, name: str, lines: bytes) -> bytes:
+        """What still comes after these lines and the word of TLS that no more are sent."""
+        context = ssl.SSLContext(ssl.PROTOCOL_TLS_CLIENT)
+        context.check_hostname, context.verify_mode = False, ssl.CERT_NONE
+        come, goes, got = ssl.MemoryBIO(), ssl.MemoryBIO(), b""
+        it = context.wrap_bio(come, goes, server_hostname=name)
+        with socket.create_connection(("127.0.0.1", self.door.port), LIMIT) as plain:
+            def done(step: Callable[[], bytes | None]) -> bytes | None:
+                """Does a step, with all that has to be received for it."""
+                while True:
+                    try:
+                        return step()
+                    except ssl.SSLWantReadError:
+                        plain.sendall(goes.read())
+                        come.write(plain.recv(4096))
+                    finally:
+                        plain.sendall(goes.read())
+
+            done(it.do_handshake)
+            it.write(lines)
+            with contextlib.suppress(ssl.SSLError):
+                it.unwrap()
+            with contextlib.suppress(ssl.SSLZeroReturnError):
+                while more := done(lambda: it.read(4096)):
+                    got += more
+        return got
+
     def asks(self, path: str, host: str = "", method: str = "GET", **more: str) -> tuple[int, bytes]:
         """Status and body of an answer to a request."""
         context = ssl.SSLContext(ssl.PROTOCOL_TLS_CLIENT)
@@ -202,6 +242,18 @@ class Bots(AtDoor):
             self.lines("maths", b'{"refuse":"%s"}\n' % word.encode())
             with self.assertRaises(error):
                 Client.of(self.slip("maths"))
+
+    def test_who_has_ended_the_own_side_gets_the_replies(self) -> None:
+        it = Afterwards("maths")
+        self.addCleanup(it.listener.close)
+        self.network("maths", it.port)
+        lines = b'{"do":"see"}\n{"do":"look"}\n{"do":"bye"}\n'
+        self.assertEqual(self.half_closed("maths", lines), lines)
+        plain = self.raw("maths")
+        plain.sendall(lines)
+        socket.socket.shutdown(plain, socket.SHUT_WR)  # Without a word of TLS.
+        self.assertEqual(plain.makefile("rb").readline(), lines[:13])
+        self.assertEqual(it.taken, 2 * lines.splitlines(keepends=True))
 
     def test_a_network_whose_server_is_gone_and_comes_back(self) -> None:
         first = self.lines("maths")
@@ -330,6 +382,20 @@ class Pages(AtDoor):
                      "/maths/look/", "/maths/act-token/act", "/maths/a/b", "/other/", "/", "/maths/look/look-token/events?x"):
             self.assertEqual(self.asks(path)[0], 404, path)
         self.assertEqual(self.asks("/maths/look/look-token/act", method="POST")[0], 404)
+
+    def test_the_page_for_all_networks(self) -> None:
+        self.assertEqual(self.asks("/all/look/all-token/")[0], 404)
+        routes.announce_all(self.door.folder, self.page, "all-token")
+        for path in ("", "state", "events"):
+            self.assertEqual(json.loads(self.asks(f"/all/look/all-token/{path}")[1])["asked"], f"GET /all-token/{path}")
+        for path in ("/all/", "/all/look/other/", "/all/act-token/act"):
+            self.assertEqual(self.asks(path)[0], 404, path)
+        self.assertEqual(self.asks("/all/look/all-token/act", method="POST")[0], 404)
+        it = self.raw("all")
+        it.sendall(b'{"do":"see"}\n')
+        self.assertEqual(it.recv(100), b"")
+        (self.door.folder / routes.HALL).write_text('{"port": 99999, "looks": 1}', encoding="utf-8")
+        self.assertEqual(self.asks("/all/look/all-token/")[0], 404)
 
     def test_hosts(self) -> None:
         for host, status in ((f"class.example:{self.door.port}", 200), (f"localhost:{self.door.port}", 200), ("class.example", 421),

@@ -3,6 +3,9 @@ from __future__ import annotations
 
 import csv
 import json
+import os
+import re
+import signal
 import subprocess
 import sys
 import time
@@ -10,6 +13,7 @@ import unittest
 from collections.abc import Callable, Iterator
 from contextlib import contextmanager
 from pathlib import Path
+from typing import Any
 
 from classroom.client import Slip
 from classroom.core.lab import read
@@ -95,15 +99,49 @@ class Far(InRoom):
             for record, lab in zip(records, labs, strict=True):
                 self.assertEqual(self.gets(f"/{lab.stem}/")[0], 200)
                 self.assertEqual(self.gets(f"/{lab.stem}/look/{record['looks']}/")[0], 200)
+            path = self.page_for_all(runs[0].parent, [record["looks"] for record in records])
+            self.killed(3, records[2]["server"]["number"], path, run, {Path(row["file"]).stem for row in rows if row["network"] == "maths-3"})
             self.wait(lambda: all("; stable, " in (folder / "run.txt").read_text(encoding="utf-8") for folder in runs))
             run.stdin.write("end\n")
             run.stdin.flush()
             output = run.communicate(timeout=LIMIT)[0]
         self.assertEqual(run.returncode, 0, output)
+        rows = re.findall(r"(?m)^\d  (maths-\d)  ([AB] \d)  .*  (https://\S+/look/\S+)  (https://\S+)$", output)
+        self.assertEqual([(name, room) for name, room, *_ in rows], list(zip([lab.stem for lab in labs], ["B 2", "B 2", "A 1", "A 1"], strict=True)), output)
         marks = [json.loads((folder / "marks.json").read_text(encoding="utf-8"))["runs"][0] for folder in runs]
         self.assertEqual(sum(len(it["students"]) for it in marks), 44)
+        self.assertEqual(re.findall("(?m)^ALARM (maths-\\d) is down: the server has ended, by SIGKILL", output), ["maths-3"])
         self.assertTrue(all(it["stable"] for it in marks))
         self.wait(lambda: not self.reaches(self.students, self.port))  # It stays open a little after its last network.
+
+    def page_for_all(self, folder: Path, looks: list[str]) -> str:
+        """Wants the page for all networks at the students' machine, with pages that are there too, and none to act. Returns its path."""
+        kept = json.loads((folder / "class.json").read_text(encoding="utf-8"))
+        path = f"/all/look/{kept['looks']}/"
+        self.assertEqual(self.gets(path)[0], 200)
+        networks = self.networks(path)
+        self.assertEqual([it["page"] for it in networks],
+                         [f"https://{TEACHERS}:{self.port}/{it['name']}/look/{token}/" for it, token in zip(networks, looks, strict=True)])
+        self.assertEqual(self.gets(f"{path}act")[0], 404)
+        return path
+
+    def networks(self, path: str) -> list[dict[str, Any]]:
+        """Returns what the page for all networks shows of them at the students' machine."""
+        done = subprocess.run([*self.students.on, sys.executable, "-c", GETS.replace("len(answer.read())", "answer.read().decode()"), TEACHERS,
+                               str(self.port), f"{path}state"], check=True, capture_output=True, text=True)
+        networks: list[dict[str, Any]] = json.loads(done.stdout.removeprefix("200 "))["networks"]
+        return networks
+
+    def killed(self, number: int, server: int, path: str, run: subprocess.Popen[str], students: set[str]) -> None:
+        """Kills the server of a network, which is down on the page for all until the desk resumes it; its bots come back."""
+        before = {name: self.greeted().count(name) for name in students}
+        os.kill(server, signal.SIGKILL)
+        self.wait(lambda: bool(self.networks(path)[number - 1]["status"] == "down"))
+        self.assertEqual([it["status"] for it in self.networks(path)].count("runs"), 3)
+        assert run.stdin is not None
+        run.stdin.write(f"resume {number}\n")
+        run.stdin.flush()
+        self.wait(lambda: all(self.greeted().count(name) > count for name, count in before.items()))
 
     def test_another_key_while_the_class_goes_on(self) -> None:
         lab, = self.new(6)

@@ -193,6 +193,58 @@ class New(InRoom):
             it = tomllib.loads((self.room / f"lab-{number}.toml").read_text(encoding="utf-8"))
             self.assertEqual((len(it["student"]), it["sessions"], it["events"]), (12, 16, 100_000))
 
+    def rooms(self, sizes: dict[str, int], *more: str, status: int = 0) -> str:
+        """Makes labs by the rooms of a list that has so many students in each, one after another; gives what was printed."""
+        names = [f"Student {room} {number},{room}" for room, size in sizes.items() for number in range(size)]
+        students = self.file("rooms.csv", "Name,Room\n" + "\n".join(sorted(names, key=lambda line: line[::-1])) + "\n")
+        done = words("new", self.room / "lab.toml", "--students", students, "--groups-by", "room", "--family", "path", *more)
+        self.assertEqual(done.returncode, status, done.stderr)
+        return done.stdout + done.stderr
+
+    def sizes(self) -> list[tuple[str, int]]:
+        """The room and the number of students of each lab, by its slips; those of a lab are of one room."""
+        found = []
+        for file in sorted(self.room.glob("lab-*.toml")):
+            texts = [slip.read_text(encoding="utf-8") for slip in file.with_name(f"{file.stem}-slips").iterdir()]
+            rooms = {line for text in texts for line in text.splitlines() if line.startswith("room ")}
+            self.assertEqual((len(rooms), len(texts)), (1, len(labs.read(file).students)))
+            found.append((rooms.pop().removeprefix("room "), len(texts)))
+        return found
+
+    def test_rooms_have_as_many_networks_as_give_all_a_seat(self) -> None:
+        told = self.rooms({"A": 31, "B": 15, "C": 2})
+        self.assertNotIn("note", told)
+        self.assertEqual(sorted(self.sizes()), [("A", 10), ("A", 10), ("A", 11), ("B", 15), ("C", 2)])
+
+    def test_rooms_share_a_number_of_networks(self) -> None:
+        self.rooms({"A": 12, "B": 5, "C": 2}, "--groups", "5")
+        self.assertEqual(sorted(self.sizes()), [("A", 4), ("A", 4), ("A", 4), ("B", 5), ("C", 2)])
+        self.clean()
+        told = self.rooms({"A": 20, "B": 5}, "--groups", "2")
+        self.assertEqual(sorted(self.sizes()), [("A", 20), ("B", 5)])
+        self.assertIn("note: 16 sessions for 20 students and a teacher: more --groups give all a seat\n", told)
+        self.clean()
+        refused = self.rooms({"A": 4, "B": 4}, "--groups", "1", status=1)
+        self.assertRegex(refused, r"^class: --groups 1: by room there are 2 rooms: (A, B|B, A)\n$")
+        refused = self.rooms({"A": 4, "": 1}, status=1)
+        self.assertEqual(refused, "class: --groups-by room: nothing stands there for Student  0\n")
+        self.assertEqual([*self.room.glob("lab*")], [])
+
+    def test_several_labs_are_made_or_none(self) -> None:
+        refused = self.rooms({"A": 4, "B": 6}, "--nodes", "5", "--strict", status=1)
+        self.assertRegex(refused, r"^class: --strict: more students than nodes: no node for student-b-\d: --nodes 6 has enough\n$")
+        self.assertEqual([*self.room.glob("lab*")], [])
+        warned = self.rooms({"A": 4, "B": 6}, "--nodes", "5")
+        self.assertEqual(warned.count("WARNING: more students than nodes: no node for student-b-"), 1)
+
+    def test_a_spreadsheet_s_own_file_is_refused_by_name(self) -> None:
+        for name in ("list.xlsx", "list.ODS", "list.csv"):
+            file = self.file(name, "PK\x03\x04 and more")
+            done = words("new", self.room / "lab.toml", "--students", file)
+            self.assertEqual((done.returncode, done.stderr), (1, f"class: {file}: this is a spreadsheet's own file, not a table as text: open it "
+                                                                 "there, save it as CSV (UTF-8), and name that file\n"))
+        self.assertEqual([*self.room.glob("lab*")], [])
+
     def test_a_csv(self) -> None:
         self.file("class.csv", "number;Name\n1;Zoë Müller\n2;Ana\n")
         done = words("new", self.room / "lab.toml", "--students", self.room / "class.csv", "--family", "path")

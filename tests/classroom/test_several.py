@@ -117,6 +117,22 @@ class OneDesk(Classes):
         after = labs.read(desk.folder / "maths-2/lab.toml").students
         self.assertEqual([name for name in before if before[name] != after[name]], ["jose-garcia"])
 
+    def test_words_for_a_student_find_the_network(self) -> None:
+        desk = self.begin("--close", "by-hand")
+        students = [list(labs.read(lab).students) for lab in self.labs]
+        desk.type(f"key {students[1][0]}")
+        desk.until(f"^maths-2: {students[1][0]} has another key, slip: ")
+        desk.until("^maths-2: the class goes on at port ")
+        before = len(desk.lines)
+        desk.type("key zoe\nnetworks")
+        desk.until("^1  maths-1 ")
+        said = [line for line in desk.lines[before:-2] if not line.startswith("maths-2: ")]  # That one has still to say its other key.
+        self.assertEqual(said, ["no student zoe in this class"])
+        desk.type(f"1 key {students[1][0]}")
+        desk.until(f"^maths-1: no student {students[1][0]}; there are {students[0][0]}, ")
+        desk.type("end all\nend")
+        self.assertEqual(desk.ends(), 0, desk.lines)
+
     def test_a_host_that_is_given_up(self) -> None:
         desk = self.begin("--close", "by-hand")
         desk.kill("maths-1")

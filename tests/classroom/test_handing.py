@@ -1,0 +1,167 @@
+"""Slips as they are handed out: by ssh or through a door, with QR codes or without, and made anew."""
+from __future__ import annotations
+
+import csv
+import re
+import shutil
+import unittest
+from pathlib import Path
+
+from classroom.client import Slip
+from classroom.core.lab import read
+from classroom.door import certificate
+from classroom.setup import printed
+from classroom.setup.slips import Way
+from tests.classroom.help import InRoom, words
+
+DOOR = "class.example:4700"
+SQUARES = "#!/bin/sh\nread link\n[ -n \"$link\" ] && printf '##  ##\\n  ##  \\n'\n"  # as `qrencode -t ASCII` prints modules
+
+
+class Slips(InRoom):
+    """Labs for four students in two rooms."""
+
+    def new(self, *more: str | Path, status: int = 0, **environment: str) -> str:
+        """Makes the labs, and returns what was printed."""
+        students = self.file("list.csv", "Name,Email,Room\nZoë Müller,z@x.example,A 1\nBen,b@x.example,B 2\nCyd,c@x.example,A 1\nDan,,B 2\n")
+        done = words("new", self.room / "maths.toml", "--students", students, "--groups-by", "Room", "--family", "path", *more, **environment)
+        self.assertEqual(done.returncode, status, done.stdout + done.stderr)
+        return done.stdout + done.stderr
+
+    def page(self, number: int) -> str:
+        """The page of slips of a network."""
+        return (self.room / f"maths-{number}-slips.html").read_text(encoding="utf-8")
+
+    def slips(self) -> dict[str, str]:
+        """The texts of all slips, by their names."""
+        return {file.stem: file.read_text(encoding="utf-8") for file in sorted(self.room.glob("**/*.slip"))}
+
+    def path_with(self, **programs: str | None) -> str:
+        """A path on which these programs stand alone: of a text, or the system's own."""
+        folder = self.room / "path"
+        shutil.rmtree(folder, ignore_errors=True)
+        folder.mkdir()
+        every: dict[str, str | None] = {"openssl": None, **programs}
+        for name, text in every.items():
+            if text is None:
+                (folder / name).symlink_to(shutil.which(name) or name)
+            else:
+                (folder / name).write_text(text, encoding="ascii")
+                (folder / name).chmod(0o755)
+        return str(folder)
+
+
+class Made(Slips):
+    """What `new` makes."""
+
+    def test_each_slip_has_the_ssh_line_of_its_own_network(self) -> None:
+        self.new("--ssh", "student@class.example")
+        for number, names in ((1, ("zoe-mueller", "cyd")), (2, ("ben", "dan"))):
+            port, page = 4710 + number, 4789 + number
+            line = f"ssh -N -L {port}:127.0.0.1:{port} -L {page}:127.0.0.1:{page} student@class.example"
+            self.assertEqual(self.page(number).count(f"<code>{line}</code>"), len(names))
+            for name in names:
+                key = read(self.room / f"maths-{number}.toml").students[name]
+                self.assertIn(f'<a href="http://127.0.0.1:{page}/#name={name}&amp;key={key}">http://127.0.0.1:{page}/</a>', self.page(number))
+                text = self.slips()[name].splitlines()
+                self.assertTrue({f"port {port}", f"page {page}", f"network maths-{number}", "ssh student@class.example"} <= {*text}, text)
+                self.assertEqual(Slip.read(self.room / f"maths-{number}-slips/{name}.slip").door, "")
+        self.assertFalse((self.room / "door.pem").exists())
+
+    def test_without_an_account_the_line_has_a_place_for_the_name(self) -> None:
+        self.new("--port", "5001", "--page-port", "6001")
+        self.assertRegex(self.page(2), r"<code>ssh -N -L 5002:127\.0\.0\.1:5002 -L 6002:127\.0\.0\.1:6002 NAME@[^<]+</code>")
+
+    def test_slips_through_a_door(self) -> None:
+        told = self.new("--door", DOOR, PATH=self.path_with(qrencode=SQUARES))
+        self.assertNotIn("QR", told)
+        known = certificate.fingerprint(self.room / "door.pem")
+        for number, room in ((1, "A 1"), (2, "B 2")):
+            page = self.page(number)
+            self.assertEqual(page.count(f"<h2>maths-{number} · {room}</h2>"), 2)
+            self.assertEqual(page.count('<path d="M0 0h1v1h-1zM2 0h1v1h-1zM1 1h1v1h-1z"/>'), 2)
+            self.assertEqual(page.count(f"<code>{printed.in_parts(known)}</code>"), 2)
+            for name, key in read(self.room / f"maths-{number}.toml").students.items():
+                self.assertIn(f'<a href="https://{DOOR}/maths-{number}/#name={name}&amp;key={key}">https://{DOOR}/maths-{number}/</a>', page)
+        for slip in self.room.glob("maths-*-slips/*.slip"):
+            self.assertEqual((Slip.read(slip).door, Slip.read(slip).fingerprint), (DOOR, known))
+        with (self.room / "maths-slips.csv").open(encoding="utf-8", newline="") as it:
+            rows = [(row["name"], row["e-mail"], row["network"], row["room"]) for row in csv.DictReader(it)]
+        self.assertEqual(rows, [("Zoë Müller", "z@x.example", "maths-1", "A 1"), ("Cyd", "c@x.example", "maths-1", "A 1"),
+                                ("Ben", "b@x.example", "maths-2", "B 2"), ("Dan", "", "maths-2", "B 2")])
+
+    def test_no_qrencode(self) -> None:
+        told = self.new("--door", DOOR, PATH=self.path_with())
+        self.assertIn(f"\nnote: {printed.NO_SQUARE}\n", told)
+        self.assertNotIn("<svg", self.page(1))
+        self.assertIn(f"https://{DOOR}/maths-1/#name=", self.page(1))
+        done = words("slips", self.room / "maths-1.toml", PATH=self.path_with())
+        self.assertEqual((done.returncode, done.stdout.splitlines()[1:]), (0, [printed.NO_SQUARE]))
+
+    def test_a_qrencode_that_fails(self) -> None:
+        told = self.new("--door", DOOR, status=4, PATH=self.path_with(qrencode="#!/bin/sh\necho too long >&2\nexit 1\n"))
+        self.assertEqual(told, "class: qrencode: too long\n")
+        self.assertEqual([*self.room.glob("maths*"), *self.room.glob("door.pem")], [])
+
+
+class Anew(Slips):
+    """`./class slips`."""
+
+    def again(self, *more: str, status: int = 0) -> str:
+        """Makes the slips of both networks anew, and returns what was printed."""
+        done = words("slips", self.room / "maths-1.toml", self.room / "maths-2.toml", *more)
+        self.assertEqual(done.returncode, status, done.stdout + done.stderr)
+        return done.stdout + done.stderr
+
+    def test_another_door(self) -> None:
+        self.new("--door", DOOR)
+        before, labs = self.slips(), [(self.room / f"maths-{number}.toml").read_bytes() for number in (1, 2)]
+        told = self.again("--door", "other.example:4701")
+        for number in (1, 2):
+            self.assertIn(f"{self.room}/maths-{number}-slips.html to print, {self.room}/maths-{number}-slips for programs, "
+                          f"{self.room}/maths-{number}-teacher.slip yours alone\n", told)
+            self.assertIn("https://other.example:4701/", self.page(number))
+            self.assertNotIn(DOOR, self.page(number))
+        self.assertEqual(self.slips(), {name: text.replace(DOOR, "other.example:4701") for name, text in before.items()})
+        self.assertEqual([(self.room / f"maths-{number}.toml").read_bytes() for number in (1, 2)], labs)
+
+    def test_without_words_all_stays(self) -> None:
+        self.new("--door", DOOR, "--port", "5001")
+        before, page = self.slips(), self.page(2)
+        self.again()
+        self.assertEqual((self.slips(), self.page(2)), (before, page))
+        for file in self.room.glob("maths-*-slips/*.slip"):
+            file.unlink()
+        self.again("--door", DOOR, "--port", "5001")
+        self.assertEqual({name: re.sub("room .*\n", "", text) for name, text in before.items()}, self.slips())
+
+    def test_from_a_door_to_ssh_and_back(self) -> None:
+        self.new("--door", DOOR)
+        before = self.slips()
+        self.again("--ssh", "me@x.example")
+        self.assertFalse([name for name, text in self.slips().items() if "door " in text or "ssh me@x.example\n" not in text])
+        self.assertIn(" me@x.example</code>", self.page(1))
+        self.again("--door", DOOR)
+        self.assertEqual(self.slips(), before)
+
+    def test_what_has_no_slips(self) -> None:
+        self.new()
+        (self.room / "sub").mkdir()
+        shutil.copy(self.room / "maths-1.toml", self.room / "sub/maths-1.toml")
+        none = self.room / "none.toml"
+        for files, status, error in (((self.room / "maths-1.toml", self.room / "sub/maths-1.toml"), 1, "two labs have one network's name: maths-1, maths-1"),
+                                     ((none,), 4, f"{none}: No such file or directory")):
+            done = words("slips", *files)
+            self.assertEqual((done.returncode, done.stderr), (status, f"class: {error}\n"))
+
+
+class Ways(unittest.TestCase):
+    """How one gets in."""
+
+    def test_names_that_an_address_can_t_have(self) -> None:
+        way = Way(4711, "maths", door=DOOR, fingerprint="0" * 64)
+        self.assertEqual(printed.address(way, "zoe", "a b&c#d%"), f"https://{DOOR}/maths/#name=zoe&key=a%20b%26c%23d%25")
+
+
+if __name__ == "__main__":
+    unittest.main()

@@ -1,0 +1,132 @@
+"""A run with a door: what it prints, and the same door for a run that goes on."""
+from __future__ import annotations
+
+import os
+import signal
+import subprocess
+import time
+import unittest
+from pathlib import Path
+
+from classroom.client import Client, Closed, NoServer, Refused, Slip
+from classroom.core.folders import Record
+from classroom.core.program import host
+from classroom.door.routes import Kept
+from tests.classroom.help import LIMIT, Going, InRoom, a_port, words
+
+
+@unittest.skipUnless(host(), "not tried: no host is built")
+class Doors(InRoom):
+    """Runs of a lab whose slips lead through a door."""
+
+    def setUp(self) -> None:
+        super().setUp()
+        self.port, self.lab = a_port(), self.room / "maths.toml"
+        students = self.file("list.csv", "Name\nZoë Müller\nBen\nCyd\n")
+        done = words("new", self.lab, "--students", students, "--door", f"127.0.0.1:{self.port}", "--start", "hurt")
+        self.assertEqual(done.returncode, 0, done.stdout + done.stderr)
+        self.slip = Slip.read(self.room / "maths-slips/ben.slip")
+
+    def begin(self, *more: str) -> Going:
+        """Returns a run that lets students in."""
+        return Going(self, self.lab, "--door", f"127.0.0.1:{self.port}", "--close", "by-hand", "--page", str(a_port()), *more)
+
+    def door(self, going: Going) -> Kept:
+        """Returns what is kept of the door of a run."""
+        record = Record.read(going.folder)
+        assert record is not None and record.door is not None
+        kept = Kept.read(Path(record.door))
+        assert kept is not None
+        return kept
+
+    def comes(self) -> Client:
+        """Returns a connection through the door, once there is a way in."""
+        end = time.monotonic() + LIMIT
+        while True:
+            try:
+                return Client.of(self.slip)
+            except (Closed, Refused):
+                self.assertLess(time.monotonic(), end)
+                time.sleep(0.1)
+
+    def wait(self, holds: object) -> None:
+        """Waits until a condition holds."""
+        assert callable(holds)
+        end = time.monotonic() + LIMIT
+        while not holds():
+            self.assertLess(time.monotonic(), end)
+            time.sleep(0.05)
+
+    def grants(self, client: Client) -> int:
+        """Asks for what is enabled at the student's node, and returns how many events the class has then."""
+        look = client.look(self.slip.nodes[0])
+        return client.move(look).place if look.rule and not look.chosen else 0
+
+    def test_a_killed_server_s_run_goes_on_behind_the_same_door(self) -> None:
+        going = self.begin()
+        address = going.until("^page to look at from elsewhere https://")
+        with self.comes() as client:
+            self.grants(client)
+            record = Record.read(going.folder)
+            assert record is not None
+            os.kill(record.server.number, signal.SIGKILL)
+            self.assertEqual(going.ends(), 4, going.lines)
+        door = self.door(going).process
+        self.wait(lambda: not door.lives())
+        with self.assertRaises(NoServer):
+            Client.of(self.slip)
+        again = Going(self, None, "run", "--resume", going.folder)
+        self.assertEqual(again.until("^page to look at from elsewhere "), address)
+        with self.comes() as client:
+            self.grants(client)
+            client.see(self.slip.nodes[0])
+        self.assertNotEqual(self.door(again).process, door)
+        self.assertEqual(again.ended(), 0, again.lines)
+
+    def test_a_door_that_outlives_its_run_is_kept(self) -> None:
+        going = self.begin()
+        record, door = Record.read(going.folder), self.door(going).process
+        assert record is not None
+        going.process.kill()
+        going.process.wait()
+        with self.comes() as client:  # The server and the door go on.
+            self.grants(client)
+        os.kill(record.server.number, signal.SIGKILL)
+        self.wait(lambda: not record.server.lives())
+        again = Going(self, None, "run", "--resume", going.folder)
+        with self.comes() as client:
+            self.assertEqual(client.look(self.slip.nodes[0]).node, self.slip.nodes[0])
+        self.assertEqual(self.door(again).port, self.port)
+        self.assertEqual(again.ended(), 0, again.lines)
+        self.wait(lambda: not door.lives() and not self.door(again).process.lives())
+
+    def test_slips_that_lead_elsewhere_are_named(self) -> None:
+        self.port = a_port()
+        going = self.begin()
+        self.assertTrue(any(line.startswith(f"the slips of {self.lab} don't lead there: ") for line in going.lines), going.lines)
+        self.assertEqual(going.ended(), 0, going.lines)
+        done = words("slips", self.lab, "--door", f"127.0.0.1:{self.port}")
+        self.assertEqual(done.returncode, 0, done.stderr)
+        going = self.begin()
+        self.assertFalse([line for line in going.lines if "don't lead there" in line])
+        self.assertEqual(going.ended(), 0, going.lines)
+
+    def test_another_certificate(self) -> None:
+        own = self.room / "own.pem"
+        subprocess.run(["openssl", "req", "-x509", "-newkey", "ec", "-pkeyopt", "ec_paramgen_curve:prime256v1", "-nodes", "-subj", "/CN=own",
+                        "-keyout", own, "-out", self.room / "certificate"], check=True, capture_output=True)
+        own.write_text(own.read_text(encoding="ascii") + (self.room / "certificate").read_text(encoding="ascii"), encoding="ascii")
+        done = words("slips", self.lab, "--door", f"127.0.0.1:{self.port}", "--certificate", own)
+        self.assertEqual(done.returncode, 0, done.stderr)
+        self.slip = Slip.read(self.room / "maths-slips/ben.slip")
+        going = self.begin("--certificate", str(own))
+        self.assertTrue(any(line == f"door at port {self.port}; its certificate, {own}, has the fingerprint {self.slip.fingerprint}" for line in going.lines),
+                        going.lines)
+        with self.comes() as client:
+            client.look(self.slip.nodes[0])
+        self.assertEqual(going.ended(), 0, going.lines)
+        self.assertEqual(words("run", self.lab, "--into", self.room / "runs", "--door", str(self.port), "--certificate", self.lab).returncode, 4)
+
+
+if __name__ == "__main__":
+    unittest.main()
