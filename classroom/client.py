@@ -3,12 +3,14 @@
 
     with Client.from_slip("gus.slip") as me:
         look = me.look(4)
-        if look.rule is not None and look.chosen is None:
-            me.move(look)
+        print(me.move(look) if look.rule and not look.chosen else look.at)
 
-By hand: python3 client.py SLIP, or client.py PORT NAME KEYFILE, either with --log FILE. It greets; then what is typed is sent, and what
-comes is shown. SLIP - is the environment's CENDUWA_SLIP, KEYFILE - its CENDUWA_KEY. A slip that names a door is taken through it, and
-python3 client.py --tunnel SLIP opens the slip's port on this machine for programs in any language: it leads through the door.
+By hand each line that you type is sent, and the line that answers it is shown:
+    python3 client.py SLIP [--log FILE]         greets as the slip says, which is a file, or - for the environment's CENDUWA_SLIP
+    python3 client.py PORT NAME KEYFILE         the same by port, name and key; KEYFILE - is the environment's CENDUWA_KEY
+    python3 client.py PORT                      greets as nobody: type the hello
+    python3 client.py --tunnel SLIP [PORT]      opens a port of this machine that leads through the slip's door, for any program
+Exit status: 0 the class is over, 1 wrong words, 2 wrong name or key, 3 wrong node or line, 4 no server, 5 no seat, 6 nothing is granted, 7 lost
 """
 from __future__ import annotations
 
@@ -27,15 +29,13 @@ from typing import Any, Literal
 
 Rule = Literal["update", "marriage", "seduction", "abandonment"]
 KEY, SLIP = "CENDUWA_KEY", "CENDUWA_SLIP"  # of the environment: others can't read it as they can a process's words
-# What a class's server says last where it ends a connection, in words.
-LAST = {
+LAST = {  # what a class's server says last when it ends a connection, in words
     "late": "a hello has to be granted within ten seconds, and the next line to come within ten minutes",
     "long": "a line has at most 4096 bytes",
     "over": "the class is over",
 }
-# Why a program stops, with its exit status; 0 is the run's end, 1 wrong words, 4 no server.
 LOST, LOST_SO = 7, "the connection was lost: start again"
-STOPS = {
+STOPS = {  # why a program stops, with its exit status; 0 is the run's end, 1 wrong words, 4 no server
     "unknown": (2, "name and key don't match: take both from your slip"),
     "not-owner": (3, "a node isn't yours: correct the nodes by your slip"),
     "hidden": (3, "a node isn't shown to you: correct the nodes by your slip"),
@@ -45,9 +45,8 @@ STOPS = {
     "full": (6, "nothing is granted any longer: tell your teacher"),
     "journal": (6, "nothing is granted any longer: tell your teacher"),
 }
-# The keys of each request with what they have to be.
-NODE = "a number"
-KEYS: dict[str, dict[str, str]] = {
+NODE, OPTIONS, TOLD = "a number", ("--log", "--tunnel"), "; --help tells the words"
+KEYS: dict[str, dict[str, str]] = {  # of each request, with what they have to be
     "hello": {"name": "a string", "key": "a string"}, "bye": {}, "see": {"node": NODE}, "look": {"node": NODE},
     "move": {"node": NODE, "at": NODE, "rule": "a rule"}, "close": {}, "report": {}, "release": {"node": NODE},
     "fault": {"node": NODE, "p": "a number or null", "m": "true or false"}, "link": {"a": NODE, "b": NODE}, "cut": {"a": NODE, "b": NODE},
@@ -206,7 +205,7 @@ class Slip:
         if words and not words[0].isdecimal():
             return Slip.read(words[0]), words[1:]
         if len(words) < 3:
-            raise NoSlip("SLIP, or PORT NAME KEYFILE NODE,..")
+            raise NoSlip(f"SLIP, or PORT NAME KEYFILE NODE,..{TOLD}")
         nodes = words[3:4] if words[3:4] and re.fullmatch(r"[\d,]*", words[3]) else []
         return Slip(port_of(words[0]), words[1], key_of(words[2]), nodes_of(*nodes)), words[3 + len(nodes):]
 
@@ -512,11 +511,11 @@ def again(slip: Slip, lost: Closed | Refused, patience: float = 60.0) -> Client:
 
 
 def run(program: Callable[[list[str]], None], usage: str) -> None:
-    """Runs a program with the command line's words, or tells the usage. An error ends it with a line and an exit status."""
+    """Runs a program with the command line's words, or prints the usage. An error ends it with a line and an exit status."""
     words = sys.argv[1:]
     if not words or words[0] in ("-h", "--help"):
-        print(usage, file=sys.stderr)
-        sys.exit(1)
+        print(usage, file=sys.stdout if words else sys.stderr)
+        sys.exit(0 if words else 1)
     try:
         program(words)
     except (Denied, Refused, Closed, NoSlip) as error:
@@ -771,22 +770,24 @@ async def tunnel(slip: Slip, port: int) -> None:
 
 def by_hand(words: list[str]) -> None:
     """Sends each line of standard input, and shows the line that answers it."""
+    if strange := [word for word in words if word.startswith("--") and word not in OPTIONS]:
+        raise NoSlip(f"{strange[0]}: there is no such option{meant(strange[0], OPTIONS)}{TOLD}")
     if words[0] == "--tunnel":
         import asyncio
 
         far, rest = Slip.of(words[1:])
         if not far.door or len(rest) > 1:
-            raise NoSlip("--tunnel SLIP [PORT]: the slip names a door")
+            raise NoSlip(f"--tunnel SLIP [PORT]: the slip names a door{TOLD}")
         return asyncio.run(tunnel(far, port_of(rest[0]) if rest else far.port))
     log = None
     if "--log" in words:
         index = words.index("--log")
         if index + 1 == len(words):
-            raise NoSlip("--log FILE")
+            raise NoSlip(f"--log FILE: the file is missing{TOLD}")
         log, words = Path(words[index + 1]), words[:index] + words[index + 2:]
     given: tuple[Slip | None, list[str]] = (None, []) if len(words) == 1 and words[0].isdecimal() else Slip.of(words)
     if given[1]:
-        raise NoSlip(f"{given[1][0]}: no word is taken there")
+        raise NoSlip(f"{given[1][0]}: no word is taken there{TOLD}")
     talk = ByHand(given[0], given[0].port if given[0] else port_of(words[0]), log)
     for line in [] if talk.ended else open(0, encoding="utf-8", errors="surrogateescape", newline="\n", closefd=False):
         talk.send(line.rstrip("\r\n"))
@@ -795,4 +796,4 @@ def by_hand(words: list[str]) -> None:
 
 
 if __name__ == "__main__":
-    run(by_hand, "usage: python3 client.py SLIP, or PORT NAME KEYFILE, or PORT; each with --log FILE; or --tunnel SLIP [PORT]")
+    run(by_hand, (__doc__ or "").strip())

@@ -3,7 +3,7 @@
 _class_words() {
     local program="$1" current="$2" found
     case "${COMP_WORDS[COMP_CWORD - 1]}:$current" in
-        --daemon:* | --close:*) found="central synchronous random: adversary when-idle: every: by-hand" ;;
+        --daemon:* | --close:*) found="central synchronous random: schedule adversary when-idle: every: by-hand" ;;
         *:-*) found="$("$program" "${COMP_WORDS[1]}" --help 2> /dev/null | grep -o -E -- '--[a-z][a-z-]*' | sort -u)" ;;
         *)
             case "$COMP_CWORD,${COMP_WORDS[1]}" in

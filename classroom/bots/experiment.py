@@ -50,7 +50,7 @@ def add_words(words: argparse.ArgumentParser) -> None:
                        help=f"{networks.NAMED}, or random of 1.5 links a node (path,cycle,random)")
     words.add_argument("--nodes", type=sizes, default=range(4, 17), metavar="A..B", help="how many nodes; A..B/STEP leaves some out (4..16)")
     words.add_argument("--daemon", type=daemons, default=[Daemon("central"), Daemon("synchronous")], metavar="D,..",
-                       help="central, synchronous, random:P, adversary, which searches long, and every:S and when-idle:S, where a node "
+                       help="central, synchronous, random:P, schedule and adversary, which make runs long, and every:S and when-idle:S, where a node "
                        "asks after a second on average (central,synchronous)")
     words.add_argument("--start", choices=networks.STARTS, default="random", help="registers at the beginning (random)")
     words.add_argument("--runs", type=positive, default=20, metavar="K",

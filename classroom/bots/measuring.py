@@ -3,6 +3,7 @@ from __future__ import annotations
 
 import contextlib
 import random
+from collections.abc import Sequence
 from dataclasses import dataclass
 
 from classroom.client import Denied, Refused
@@ -12,7 +13,7 @@ from classroom.core.bench import Bench, network
 from classroom.core.program import Fault
 from classroom.core.rounds import Recovery
 from classroom.run.adversary import Adversary
-from classroom.run.daemons import Daemon, movers
+from classroom.run.daemons import SEARCHING, Daemon, movers
 from classroom.setup.new import start
 
 SIZED = ("grid:", "random:")
@@ -59,6 +60,11 @@ def drawn(setting: Setting, seed: int) -> labs.Lab:
     return made
 
 
+def lowest(nodes: Sequence[int]) -> int:
+    """Returns the lowest of some nodes."""
+    return min(nodes)
+
+
 def run(bench: Bench, setting: Setting, made: labs.Lab, seed: int) -> Row:
     """A run from its registers to its stable end, or to where it has more moves than there can be."""
     named = f"{setting.family} {setting.nodes} {setting.start} {seed} {setting.daemon.spelled()}"
@@ -68,9 +74,9 @@ def run(bench: Bench, setting: Setting, made: labs.Lab, seed: int) -> Row:
     most = bounds.of_lab(made).moves
     with contextlib.closing(Adversary(named)) as adversary:
         while report["privileged"] and recovery.moves <= most:
-            nodes = movers(setting.daemon, [node for node, _ in report["privileged"]], chance,
-                           lambda nodes: adversary.choose(bench.present(), nodes))
-            report = bench.step(report, nodes, chance)
+            search = adversary.search_of(setting.daemon, dict(report["privileged"]), bench.present)
+            nodes = movers(setting.daemon, [node for node, _ in report["privileged"]], chance, search)
+            report = bench.step(report, nodes, lowest if setting.daemon.kind in SEARCHING else chance.choice)
             recovery.step(nodes, [node for node, _ in report["privileged"]])
     return Row(setting.family, len(made.nodes), len(made.links), setting.daemon.spelled(), setting.start, seed,
                recovery.moves, recovery.closes, recovery.rounds, bool(report["stable"]))

@@ -316,7 +316,8 @@ class Playing:
         if self.is_held:
             return
         sight = Sight([node for node, _ in self.report["privileged"]], list(self.chosen), now - self.news, now - self.closed)
-        nodes = applied(self.daemon, sight, self.chance, PATIENCE, lambda nodes: self.adversary.choose(self.seen(), nodes))
+        rules = {node: rule for node, (_, rule) in self.chosen.items()}
+        nodes = applied(self.daemon, sight, self.chance, PATIENCE, self.adversary.search_of(self.daemon, rules, self.seen))
         if nodes:
             self.close(nodes)
 

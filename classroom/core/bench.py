@@ -2,7 +2,7 @@
 from __future__ import annotations
 
 import json
-import random
+from collections.abc import Callable, Sequence
 from typing import Any
 
 from classroom.core import lab as labs
@@ -71,12 +71,13 @@ class Bench:
         own = [(who, request | {"at": request["at"] - self.before} if "at" in request else request) for who, request in self.requests]
         return "".join(f"{who} {json.dumps(request)}\n" for who, request in [*hello, *own]).encode()
 
-    def step(self, report: dict[str, Any], nodes: list[int], chance: random.Random) -> dict[str, Any]:
-        """Lets these nodes move in one step, each by its enabled rule; gives the report after it."""
+    def step(self, report: dict[str, Any], nodes: list[int], partner_of: Callable[[Sequence[int]], int]) -> dict[str, Any]:
+        """Lets these nodes move in one step, each by its enabled rule, and those that marry with whom `partner_of` takes of
+        those who point at them. Returns the report after it."""
         rules = dict(report["privileged"])
         suited = [node for node in nodes if rules[node] == "marriage"]
         looks = self.asked(STUDENT, [{"do": "look", "node": node} for node in suited])
-        partner = {look["node"]: chance.choice([near["node"] for near in look["near"] if near["p"] == look["node"]]) for look in looks}
+        partner = {look["node"]: partner_of([near["node"] for near in look["near"] if near["p"] == look["node"]]) for look in looks}
         moves: list[tuple[int, dict[str, Any]]] = []
         for node in nodes:
             more = {"with": partner[node]} if node in partner else {}

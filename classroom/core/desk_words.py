@@ -96,7 +96,7 @@ WORDS = {
     "when-idle": Word("SECONDS", "close a step where nothing came for so long", Action.CLOSE_BY,
                       (Button("when-idle", "when idle", "when-idle #seconds", "so many seconds after the last move"),)),
     "by-hand": Word("", "close no step by itself", Action.CLOSE_BY, (Button("by-hand", "by hand", "by-hand"),)),
-    "daemon": Word("WORD", "close steps as central, synchronous, random:P, adversary, when-idle:SECONDS, every:SECONDS, by-hand", Action.DAEMON),
+    "daemon": Word("WORD", "close steps as central, synchronous, random:P, schedule, adversary, when-idle:SECONDS, every:SECONDS, by-hand", Action.DAEMON),
     "page": Word("", "another address of the page to act at; the one before acts no more", Action.PAGE),
     "key": Word("NAME", "another key for a student, while the class goes on", Action.KEY),
     "help": Word("", "tell these words", Action.HELP),

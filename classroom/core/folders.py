@@ -16,8 +16,9 @@ Run = tuple[Path, Path]
 RECORD = "run.json"
 CLASS = "class.json"  # in the folder of a class of several networks
 STATE = "state.json"  # in the folder of a run that belongs to a class
-FILES = (RECORD, f"{RECORD}.new", STATE, f"{STATE}.new", "lab.toml", "journal", "journal.lab", "journal.torn", "server.txt", "run.txt", "audit.txt",
-         "marks.txt", "marks.json", "run.html")
+LAYOUT = "layout.json"  # of a network that took a search
+FILES = (RECORD, f"{RECORD}.new", STATE, f"{STATE}.new", LAYOUT, f"{LAYOUT}.new", "lab.toml", "journal", "journal.lab", "journal.torn",
+         "server.txt", "run.txt", "audit.txt", "marks.txt", "marks.json", "run.html")
 
 
 def new_folder(into: Path, lab: Path) -> Path:

@@ -19,6 +19,7 @@ from classroom.core.program import Fault
 from classroom.core.record import CUT, ENDED, PAUSED, RESUMED, Entry, Reader, seats
 from classroom.marks.hiding import Hider
 from classroom.marks.vouched import Vouched, vouched
+from classroom.pages import kept_layout
 from classroom.pages.frames import frames_of
 from classroom.pages.page import page_of
 
@@ -205,6 +206,7 @@ def history(words: argparse.Namespace) -> int:
         rows = merged(lines, between)
         if words.output:
             title = f"{name}: {folders.title(lab_file, journal)}"
+            kept_layout.take(lab_file.parent)
             more = section(f"What {name} sent", told, rows)
             page = page_of(title, *frames_of(lab_file, parts[-1].journal), history=more)
             Path(words.output).write_text(page, encoding="utf-8")

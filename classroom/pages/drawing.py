@@ -18,7 +18,6 @@ from classroom.pages.springs import Point
 WITNESSES_MOST = 60  # open links up to which each names its witness
 OPEN_MOST = 2000  # open links above which they are told as a number alone
 FAINT_ABOVE = 8  # links for each node above which their lines are the fainter the more they are
-TINY_BELOW = 11.0  # a radius under which rules have no room
 LETTERS = f"letters: {', '.join(f'{rule[:1].upper()} {rule}' for rule in RULES)}"
 KEY_HIGH, KEY_SIZE = 26.0, 14.0  # of the line below a drawing that says what letters are
 ANCHORS = ("start", "middle", "end")
@@ -51,7 +50,7 @@ class Drawing:
     @property
     def tiny(self) -> bool:
         """Whether nodes have no room for a rule."""
-        return self.view.layout.radius < TINY_BELOW
+        return self.view.layout.radius < labels.LEAST_FRAMED
 
     def svg(self, state: State, event: Event | None) -> str:
         """The whole element of a state; `event` is the one that led to it."""
@@ -192,8 +191,9 @@ class Drawing:
         rules = ("", *RULES)
         return {
             "width": layout.field.width, "height": layout.field.height, "kind": self.kind, "words": form.words, "tiny": self.tiny,
-            "measures": self.measures, "corner": self.view.corner, "widths": [[form.pill_width(rule, it) for it in (False, True)] for rule in rules],
+            "measures": self.measures, "widths": [[form.pill_width(rule, it) for it in (False, True)] for rule in rules],
             "points": [layout.points[node.id] for node in self.lab.nodes],
+            "corners": [self.view.corners[node.id] for node in self.lab.nodes] if self.view.corners else [],
             "labels": [[label.text, ANCHORS.index(label.anchor), label.x, label.name_y, label.pill_y]
                        for node in self.lab.nodes if (label := self.view.labels.get(node.id)) is not None],
         }

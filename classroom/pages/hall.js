@@ -1,9 +1,16 @@
 "use strict";
-// Shows the state of a class, which the server sends as a whole each time that it has changed.
+// Shows the state of a class, which the server sends as a whole each time that it has changed. What is the same stays as it is.
 
 const acts = document.body.classList.contains("acts");
 const here = location.href.replace(/\/[^/]*$/, "/");
 const order = (word) => fetch(here + "act", {method: "POST", body: word});
+const NS = "http://www.w3.org/2000/svg";
+const LINES = 8;
+const SMALLEST = 12, SMALLEST_ON_PHONE = 11; // pixels of a text that can be read
+const LETTER = 0.37; // of a radius: what a digit takes, if it is as large as the radius
+const PILL_AT = [1.1, -1.25]; // in radii, from a node's middle: the middle of its rule's frame
+const PILL_HIGH = 1.45; // of its letter's size
+const PILL_MOST = 1.2; // of a radius: how large the letter of a rule may be beside its node
 
 /** Returns a new element with a text and a class. */
 function made(kind, text = "", of = "") {
@@ -11,6 +18,22 @@ function made(kind, text = "", of = "") {
   it.textContent = text;
   if (of) it.className = of;
   return it;
+}
+
+/** Sets attributes of an element, which it returns. */
+function set(element, attributes) {
+  for (const [name, value] of Object.entries(attributes)) element.setAttribute(name, value);
+  return element;
+}
+
+/** Returns a new element of a drawing. */
+function drawn(kind, attributes) {
+  return set(document.createElementNS(NS, kind), attributes);
+}
+
+/** Sets a text if it is another one: a reader who listens isn't told the same twice. */
+function say(element, text) {
+  if (element.textContent !== text) element.textContent = text;
 }
 
 /** Returns the buttons that send a word to a network, or to all of them. An end is asked for twice. */
@@ -28,17 +51,17 @@ function buttons(to, isDown) {
   return row;
 }
 
-/** Returns the state of a network in a few words. */
-function told(network) {
-  if (network.status === "down") return "down";
-  if (network.status === "ended") return "ended";
-  if (!network.state) return "starting";
-  return network.state.stable ? "stable" : `${network.state.privileged.length} privileged`;
-}
-
 /** Returns a number with what is counted. */
 function counted(number, word) {
   return `${number} ${word}${number === 1 ? "" : "s"}`;
+}
+
+/** Returns the state of a network in a few words. */
+function told(network) {
+  if (network.status === "down") return "Down";
+  if (network.status === "ended") return "Ended";
+  if (!network.state) return "Starting";
+  return network.state.stable ? "At rest" : `${counted(network.state.privileged.length, "node")} can move`;
 }
 
 /** Returns who is missing, as a text. */
@@ -47,35 +70,169 @@ function missing(state) {
   return names.length ? `missing: ${names.join(", ")}` : "nobody is missing";
 }
 
-/** Returns the card of a network. */
-function card(network) {
-  const state = network.state;
-  const it = made("article", "", network.status === "runs" && state && state.stable ? "stable" : network.status);
-  it.dataset.number = network.number;
-  const head = made("h2");
-  const name = made(network.page ? "a" : "span", network.name);
-  if (network.page) Object.assign(name, {href: network.page, target: "_blank"});
-  head.append(name, " ", made("small", [network.room && `room ${network.room}`, network.port && `port ${network.port}`].filter(Boolean).join(", ")));
-  it.append(head, made("p", told(network), "state"));
-  if (network.alarm) it.append(made("p", network.alarm, "alarm"));
-  if (state) {
-    it.append(made("p", `${counted(state.pairs.length, "pair")}, ${counted(state.open, "open link")}, configuration ${state.configuration}`));
-    it.append(made("p", state.most === null ? counted(state.moves, "move") : `${state.moves} of at most ${state.most} moves`, "moves"));
-    const bar = made("progress");
-    Object.assign(bar, {max: state.most || 1, value: state.moves});
-    bar.setAttribute("aria-label", "moves");
-    it.append(bar, made("p", missing(state), "missing"));
+// A small drawing of a network, of the same forms as the large ones.
+class Picture {
+  constructor(view, number) {
+    this.view = view;
+    this.at = new Map(view.nodes.map((node, index) => [node, view.points[index]]));
+    const { measures } = view;
+    this.root = drawn("svg", { viewBox: `0 0 ${view.width} ${view.height}`, role: "img" });
+    const marker = drawn("marker", { id: `tip-${number}`, viewBox: "0 0 10 10", refX: 9.5, refY: 5, markerUnits: "userSpaceOnUse", markerWidth: measures.head, markerHeight: measures.head, orient: "auto" });
+    marker.append(drawn("path", { d: "M0 0L10 5L0 10z" }));
+    this.root.append(marker);
+    this.layers = Object.fromEntries([["links", measures.link], ["pairs", measures.pair], ["pointer", measures.arrow]].map(([name, thick]) => [name, drawn("path", { class: name, "stroke-width": thick })]));
+    this.layers.pointer.setAttribute("marker-end", `url(#tip-${number})`);
+    this.arrows = drawn("g", {});
+    this.nodes = new Map(view.nodes.map((node) => [node, this.node(node)]));
+    this.root.append(this.layers.links, this.layers.pairs, this.arrows, ...this.nodes.values());
+    new ResizeObserver(() => this.fit()).observe(this.root);
   }
-  if (acts && network.status !== "ended") it.append(buttons(String(network.number), network.status === "down"));
-  return it;
+
+  node(node) {
+    const { measures } = this.view, [x, y] = this.at.get(node);
+    const group = drawn("g", { class: "node", transform: `translate(${x} ${y})`, "data-node": node });
+    const name = drawn("text", { class: "identifier" });
+    name.textContent = String(node);
+    const pill = drawn("g", { class: "pill", transform: `translate(${PILL_AT[0] * measures.radius} ${PILL_AT[1] * measures.radius})` });
+    pill.append(drawn("rect", {}), drawn("text", { class: "rule" }));
+    group.append(drawn("circle", { class: "ring", r: measures.ring, "stroke-width": measures.ringLine }), drawn("circle", { class: "disc", r: measures.radius, "stroke-width": measures.discLine }), name, pill);
+    return group;
+  }
+
+  line([a, b]) {
+    const [x, y] = this.at.get(a), [u, v] = this.at.get(b);
+    return `M${x} ${y}L${u} ${v}`;
+  }
+
+  // An arrow from the rim of one node to the ring of another.
+  arrow(a, b) {
+    const [x, y] = this.at.get(a), [u, v] = this.at.get(b), length = Math.hypot(u - x, v - y) || 1, { radius } = this.view.measures;
+    const point = (far) => `${(x + (u - x) * far / length).toFixed(1)} ${(y + (v - y) * far / length).toFixed(1)}`;
+    return `M${point(radius)}L${point(length - 1.36 * radius)}`;
+  }
+
+  show(state) {
+    const rules = new Map(state.privileged), married = new Set(state.pairs.flat());
+    this.layers.links.setAttribute("d", state.links.map((link) => this.line(link)).join(""));
+    this.layers.pairs.setAttribute("d", state.pairs.map((pair) => this.line(pair)).join(""));
+    const arrows = state.nodes.filter(([node, p]) => p !== null && !married.has(node)).map(([node, p]) => {
+      const path = this.layers.pointer.cloneNode();
+      path.setAttribute("d", this.arrow(node, p));
+      return path;
+    });
+    this.arrows.replaceChildren(...arrows);
+    for (const node of this.nodes.keys()) this.showNode(node, null, false, null, rules.get(node), married.has(node));
+    for (const [node, p, m, chosen] of state.nodes) this.showNode(node, p, m, chosen, rules.get(node), married.has(node));
+    this.root.setAttribute("aria-label", `the network: ${counted(state.privileged.length, "node")} can move, ${counted(state.pairs.length, "pair")}`);
+  }
+
+  showNode(node, p, m, chosen, rule, married) {
+    const group = this.nodes.get(node), word = chosen || rule || "";
+    if (!group) return;
+    Object.assign(group.dataset, { p: p ?? "", m: String(m), married: String(married), rule: rule || "", chosen: chosen || "" });
+    say(group.querySelector(".rule"), (chosen ? "✓" : "") + word.slice(0, 1).toUpperCase());
+  }
+
+  // Makes texts large enough to be read, and hides those for which a disc is too small then.
+  fit() {
+    const { width, height, measures, nodes } = this.view, scale = Math.min(this.root.clientWidth / width, this.root.clientHeight / height);
+    const least = (innerWidth <= 700 ? SMALLEST_ON_PHONE : SMALLEST) / scale, digits = String(Math.max(...nodes)).length;
+    const size = Math.max(measures.identifier, least), letter = Math.max(measures.pill, least), high = PILL_HIGH * letter;
+    for (const group of this.nodes.values()) {
+      set(group.querySelector(".identifier"), { y: 0.36 * size, "font-size": size });
+      set(group.querySelector(".rule"), { y: 0.35 * letter, "font-size": letter });
+      set(group.querySelector("rect"), { x: -0.7 * high, y: -high / 2, width: 1.4 * high, height: high, rx: high / 2 });
+    }
+    this.root.classList.toggle("nolabels", LETTER * digits * size > measures.radius);
+    this.root.classList.toggle("nopills", letter > PILL_MOST * measures.radius);
+  }
+}
+
+// The card of a network.
+class Card {
+  constructor(view, number) {
+    this.root = made("article");
+    this.root.dataset.number = number;
+    const head = made("h2");
+    [this.name, this.place] = [made("a"), made("small")];
+    head.append(this.name, " ", this.place);
+    const top = made("div", "", "top");
+    [this.state, this.alarm, this.facts, this.missing] = ["state", "alarm", "facts", "missing"].map((of) => made("p", "", of));
+    this.bar = made("progress");
+    this.bar.setAttribute("aria-label", "moves");
+    top.append(head, this.state);
+    this.picture = view ? new Picture(view, number) : null;
+    this.root.append(top, this.bar, this.alarm, ...(this.picture ? [this.picture.root] : []), this.facts, this.missing);
+    this.acts = null;
+  }
+
+  show(network) {
+    const text = JSON.stringify(network);
+    if (text === this.shown) return;
+    this.shown = text;
+    const { state } = network, isAtRest = network.status === "runs" && state && state.stable;
+    this.root.className = isAtRest ? "stable" : network.status;
+    say(this.name, network.name);
+    if (network.page) Object.assign(this.name, { href: network.page, target: "_blank" });
+    else this.name.removeAttribute("href");
+    say(this.place, [network.room && `room ${network.room}`, network.port && `port ${network.port}`].filter(Boolean).join(", "));
+    say(this.state, told(network));
+    say(this.alarm, network.alarm);
+    for (const each of [this.bar, this.facts, this.missing]) each.hidden = !state;
+    if (state) this.showState(state);
+    this.showActs(network);
+  }
+
+  showState(state) {
+    const moves = state.most === null ? counted(state.moves, "move") : `${state.moves} of at most ${state.most} moves`;
+    say(this.facts, `${counted(state.pairs.length, "pair")} · step ${state.configuration} · ${moves}`);
+    Object.assign(this.bar, { max: state.most || 1, value: state.moves });
+    say(this.missing, missing(state));
+    if (this.picture) this.picture.show(state);
+  }
+
+  showActs(network) {
+    const kind = !acts || network.status === "ended" ? "" : network.status === "down" ? "down" : "runs";
+    if (kind === this.kind) return;
+    this.kind = kind;
+    if (this.acts) this.acts.remove();
+    this.acts = kind ? buttons(String(network.number), kind === "down") : null;
+    if (this.acts) this.root.append(this.acts);
+  }
+}
+
+const views = JSON.parse(document.getElementById("views").textContent);
+const cards = new Map();
+let lines = [];
+
+/** Shows the lines of the desk: those that are new come at the end. */
+function showLines(all) {
+  const list = document.getElementById("lines"), shown = all.slice(-LINES);
+  let same = Math.min(lines.length, shown.length);
+  while (same > 0 && lines.slice(-same).join("\n") !== shown.slice(0, same).join("\n")) same -= 1;
+  while (list.childElementCount > same) list.firstChild.remove();
+  list.append(...shown.slice(same).map((line) => made("li", line)));
+  lines = shown;
 }
 
 /** Shows the class. */
 function show(state) {
-  document.getElementById("networks").replaceChildren(...state.networks.map(card));
-  document.getElementById("lines").replaceChildren(...state.lines.slice(-8).map((line) => made("li", line)));
-  document.getElementById("connection").textContent = state.ended ? "the class is over" : "";
+  const root = document.getElementById("networks");
+  root.style.setProperty("--columns", Math.ceil(Math.sqrt(state.networks.length)));
+  root.style.setProperty("--rows", Math.ceil(state.networks.length / Math.ceil(Math.sqrt(state.networks.length))));
+  state.networks.forEach((network, index) => {
+    if (!cards.has(network.number)) {
+      cards.set(network.number, new Card(views[index], network.number));
+      root.append(cards.get(network.number).root);
+    }
+    cards.get(network.number).show(network);
+  });
+  showLines(state.lines);
+  const down = state.networks.filter((network) => network.status === "down"), still = state.networks.filter((network) => network.state && network.state.stable);
+  say(document.getElementById("said"), [...down.map((network) => `${network.name} is down`), `${still.length} of ${counted(state.networks.length, "network")} at rest`].join(", "));
+  say(document.getElementById("connection"), state.ended ? "the class is over" : "");
   if (acts && !document.getElementById("all").childElementCount) document.getElementById("all").append(buttons("all", false));
+  document.body.dataset.ready = "true";
 }
 
 show(JSON.parse(document.getElementById("data").textContent));
@@ -85,4 +242,4 @@ news.onmessage = (event) => {
   show(state);
   if (state.ended) news.close();
 };
-news.onerror = () => { document.getElementById("connection").textContent = "no connection"; };
+news.onerror = () => say(document.getElementById("connection"), "no connection");

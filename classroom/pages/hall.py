@@ -1,8 +1,10 @@
-"""The page for all networks of a class: what each is like, who is missing, and which is down; a click opens one.
+"""The page for all networks of a class: a drawing of each, how many of its nodes can move, who is missing, and which is down; a
+click opens one.
 
 The page has two addresses: one to look at, and one to act at. Below each of them the server answers
 
-- `` (nothing more): the page, `hall.html` with `drawing.css`, `hall.css` and `hall.js` inside
+- `` (nothing more): the page, `hall.html` with `drawing.css`, `hall.css` and `hall.js` inside, and where each network's nodes are
+  drawn, as `Drawing.data` has it
 - `state`: the state of the class as a JSON object (`classroom.core.class_state` documents it)
 - `events`: server-sent events; each `data` is such an object, sent whenever something has changed, and one comment line if
   nothing has changed for ten seconds
@@ -17,8 +19,14 @@ import json
 import re
 import threading
 from collections.abc import Callable
+from pathlib import Path
+from typing import Any
 
 from classroom.core.class_state import ClassState
+from classroom.core.lab import Lab
+from classroom.pages import kept_layout
+from classroom.pages.drawing import drawing_of
+from classroom.pages.layout import FLAT
 from classroom.pages.page import assembled, data_element
 from classroom.pages.two_addresses import STILL_HERE, AtAddress, TwoAddresses
 from classroom.pages.web import opened as web_opened
@@ -26,15 +34,19 @@ from classroom.pages.web import opened as web_opened
 LISTED = 25  # lines that the page shows
 LAST_WORD = 2.0  # seconds in which pages may learn that the class is over
 ACTS = ("close", "shake", "resume", "end")
+Views = list[dict[str, Any]]
 LINE = re.compile(r"[^\s:]+: (?:close|resume|end|shake (?:\d{1,3}|all))")
 
 
 class Hall(TwoAddresses):
     """Serves the page for all networks of a class."""
 
-    def __init__(self, port: int, title: str, act: Callable[[str], None], state: ClassState, looks: str | None = None) -> None:
+    def __init__(self, port: int, title: str, act: Callable[[str], None], state: ClassState, looks: str | None = None,
+                 views: Callable[[], Views] = list) -> None:
+        """`views` gives where the nodes of each network are drawn. It is asked for each page, since the search for a layout may
+        take a second."""
         super().__init__(port, Page, title, looks)
-        self.act = act
+        self.act, self.views = act, views
         self.turn = threading.Condition()
         self.texts = {self.looks: text(state), self.acts: text(state)}
         self.version, self.ended = 1, False
@@ -80,7 +92,7 @@ class Page(AtAddress):
             self.head(200, "text/event-stream", None)
             with self.server.receives():
                 return self.tell(token)
-        page, policy = hall_page(self.server.title, self.server.texts[token], token == self.server.acts)
+        page, policy = hall_page(self.server.title, self.server.texts[token], self.server.views(), token == self.server.acts)
         self.answer(200, "text/html; charset=utf-8", page.encode(), policy)
 
     def takes(self, line: str) -> bool:
@@ -105,15 +117,25 @@ def text(state: ClassState) -> str:
     return json.dumps(state.table(), separators=(",", ":"))
 
 
-def hall_page(title: str, state: str, acts: bool) -> tuple[str, str]:
+def view(folder: Path, lab: Lab) -> dict[str, Any]:
+    """Returns where the nodes of a network are drawn on the page, by the layout that its run has kept, if it has one."""
+    kept_layout.take(folder)
+    data = drawing_of(lab, lab.links, FLAT).data()
+    wanted = {name: data[name] for name in ("width", "height", "measures", "points")}
+    return wanted | {"nodes": [node.id for node in lab.nodes]}
+
+
+def hall_page(title: str, state: str, views: Views, acts: bool) -> tuple[str, str]:
     """Returns the page, and the policy that lets its own style and program alone be used."""
-    parts = {"TITLE": title, "DATA": data_element(state), "ACTS": "acts" if acts else "looks"}
+    drawn = data_element(json.dumps(views, separators=(",", ":"))).replace('id="data"', 'id="views"', 1)
+    parts = {"TITLE": title, "DATA": data_element(state) + drawn, "ACTS": "acts" if acts else "looks"}
     return assembled("hall", parts, "", ("drawing.css", "hall.css"), ("hall.js",))
 
 
-def opened(port: int, title: str, act: Callable[[str], None], state: ClassState, looks: str | None = None) -> Hall:
+def opened(port: int, title: str, act: Callable[[str], None], state: ClassState, looks: str | None = None,
+           views: Callable[[], Views] = list) -> Hall:
     """Returns the server at a port or at the next that is free, which answers from now on. A class that goes on keeps the token
     of the address to look at."""
-    it = web_opened(port, lambda number: Hall(number, title, act, state, looks))
+    it = web_opened(port, lambda number: Hall(number, title, act, state, looks, views))
     it.open()
     return it

@@ -7,7 +7,7 @@ from __future__ import annotations
 
 import math
 import unicodedata
-from collections.abc import Iterator
+from collections.abc import Iterable, Iterator
 from dataclasses import dataclass
 
 from classroom.core.journal import RULES
@@ -26,7 +26,10 @@ SIDEWAYS = 0.3  # the cosine or sine from which a label stands beside a node, or
 ANGLES = (1, -1, 3, -3, 0, 4, 2, -2, 0.5, -0.5, 3.5, -3.5, 1.5, 2.5, -1.5, -2.5)  # eighths of a turn, in order
 GAP = 2.0  # between a label and anything else
 LEAST = 13.0  # the size of the smallest letters
-CORNER = (0.5, -1.15)  # in radii, from a node's middle: the middle of its rule's frame, where it has no label
+# In radii, from a node's middle: the middle of its rule's frame, if it has no label. The first place that is free is taken.
+CORNERS = ((0.5, -1.15), (-0.5, -1.15), (0.5, 1.15), (-0.5, 1.15), (1.5, -0.6), (-1.5, -0.6), (1.5, 0.6), (-1.5, 0.6), (0.0, -1.5), (0.0, 1.5))
+LEAST_FRAMED = 11.0  # a radius under which rules have no room
+TURNS = 2  # in which a place is looked for
 FULL = "✓ "  # before the rule of a move that is chosen
 
 
@@ -148,11 +151,12 @@ class Label:
 
 @dataclass(frozen=True)
 class View:
-    """A layout with its labels; a node without a label has the letter of its rule at its upper edge, on the right."""
+    """A layout with its labels. A node without a label has the letter of its rule at its corner."""
 
     layout: Layout
     form: Form
     labels: dict[int, Label]
+    corners: dict[int, Point]
 
     @property
     def identifier_size(self) -> float:
@@ -161,15 +165,10 @@ class View:
         plain = BARE.size if wide("8" * digits, BARE.size, True) <= 1.95 * radius else 0.0
         return round(max(plain, 0.92 * radius), 1)
 
-    @property
-    def corner(self) -> Point:
-        """The middle of a rule's frame, from the middle of a node without a label."""
-        return round(CORNER[0] * self.layout.radius, 2), round(CORNER[1] * self.layout.radius, 2)
-
     def pill_at(self, node: int, width: float) -> Point:
         """Returns the middle of the frame of a node's rule, from the node's middle."""
         label = self.labels.get(node)
-        return self.corner if label is None else (label.pill_x(width), label.pill_y)
+        return self.corners[node] if label is None else (label.pill_x(width), label.pill_y)
 
 
 def view_of(owners: dict[int, list[str]], links: list[tuple[int, int]], field: Field) -> View:
@@ -181,8 +180,30 @@ def view_of(owners: dict[int, list[str]], links: list[tuple[int, int]], field: F
             layout = fitted(shape, field, pads(shape.kind, field, form, owners))
             labels, hard, soft = placed(layout, form, owners, near)
             if not hard and (not soft or shape.kind in ("general", "ellipse")):
-                return View(layout, form, labels)
-    return View(fitted(shape, field, pads(shape.kind, field, BARE, owners)), BARE, {})
+                return View(layout, form, labels, {})
+    layout = fitted(shape, field, pads(shape.kind, field, BARE, owners))
+    return View(layout, BARE, {}, corners_of(layout))
+
+
+def corners_of(layout: Layout) -> dict[int, Point]:
+    """Returns the middle of the frame of each node's rule, from the node's middle: upon no other node and no other frame, if
+    such places are found."""
+    radius, points = layout.radius, layout.points
+    found, frames = {node: CORNERS[0] for node in points}, dict[int, Box]()
+    for _ in range(TURNS if radius >= LEAST_FRAMED else 0):
+        for node, middle in points.items():
+            frames.pop(node, None)
+            discs = [point for other, point in points.items() if other != node]
+            found[node] = min(CORNERS, key=lambda corner: lies_upon(framed(middle, corner, radius), layout, discs, frames.values()))
+            frames[node] = framed(middle, found[node], radius)
+    return {node: (round(across * radius, 2), round(down * radius, 2)) for node, (across, down) in found.items()}
+
+
+def framed(middle: Point, corner: Point, radius: float) -> Box:
+    """Returns the widest frame of a rule at a corner of a node, which is so many radii away."""
+    x, y = middle[0] + corner[0] * radius, middle[1] + corner[1] * radius
+    width, high = BARE.widest_pill, PILL_HIGH * BARE.pill
+    return Box(x - width / 2, y - high / 2, x + width / 2, y + high / 2)
 
 
 def pads(kind: str, field: Field, form: Form, owners: dict[int, list[str]]) -> Pads:
@@ -208,7 +229,7 @@ def placed(layout: Layout, form: Form, owners: dict[int, list[str]], near: Near)
         best, least = None, (math.inf, math.inf, 0.0)
         discs = [point for other, point in layout.points.items() if other != node]
         for order, label in enumerate(candidates(node, layout, form, form.name(owners[node]), near[node])):
-            upon = lies_upon(label.box, layout, discs, labels)
+            upon = lies_upon(label.box, layout, discs, [other.box for other in labels.values()])
             if upon <= least[0]:
                 along = sum(label.box.on_line(*line) for line in lines)
                 best, least = min((best, least), (label, (upon, along + 0.1 * order, along)), key=lambda it: it[1][:2])
@@ -220,9 +241,9 @@ def placed(layout: Layout, form: Form, owners: dict[int, list[str]], near: Near)
     return labels, hard, soft
 
 
-def lies_upon(box: Box, layout: Layout, discs: list[Point], labels: dict[int, Label]) -> float:
+def lies_upon(box: Box, layout: Layout, discs: list[Point], others: Iterable[Box]) -> float:
     """Returns how much a label would lie upon discs, other labels, and the edges of the field."""
-    upon = 20 * box.outside(layout.field) + sum(box.shared(other.box) for other in labels.values())
+    upon = 20 * box.outside(layout.field) + sum(map(box.shared, others))
     return upon + 20 * sum(box.in_disc(point, RING * layout.radius) for point in discs)
 
 

@@ -23,11 +23,12 @@ class Field:
 
     width: float
     height: float
+    share: float = MOST_RADIUS
 
     @property
     def most_radius(self) -> float:
         """How large a node may be."""
-        return MOST_RADIUS * min(self.height, 0.62 * self.width + 100)
+        return self.share * min(self.height, 0.62 * self.width + 100)
 
 
 @dataclass(frozen=True)
@@ -43,6 +44,7 @@ class Pads:
 WIDE = Field(1000, 560)  # a screen, a projector, a document
 TALL = Field(366, 340)  # a phone
 CELL = Field(340, 250)  # one of several drawings beside each other, or what a student is shown
+FLAT = Field(440, 200, 0.075)  # one of several networks on a page
 
 
 @dataclass(frozen=True)

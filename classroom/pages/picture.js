@@ -276,7 +276,7 @@ class Drawing {
   // The rule by which a node can move, in a frame; the frame is full if the move is chosen.
   showPill(parts, node, rule, isChosen) {
     const width = this.view.widths[rule][Number(isChosen)], label = this.view.labels[node];
-    const at = label ? [label[2] + SIDES[label[1]] * width, label[4]] : this.view.corner;
+    const at = label ? [label[2] + SIDES[label[1]] * width, label[4]] : this.view.corners[node];
     parts.pill.setAttribute("transform", `translate(${at[0]} ${at[1]})`);
     parts.frame.setAttribute("x", -width / 2);
     parts.frame.setAttribute("width", width);

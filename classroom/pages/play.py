@@ -8,6 +8,7 @@ from pathlib import Path
 
 from classroom.core import classes, folders
 from classroom.core.program import Fault
+from classroom.pages import kept_layout
 from classroom.pages.colours import DARK, LIGHT
 from classroom.pages.drawing import drawing_of, standalone
 from classroom.pages.frames import Frame, frames_of
@@ -18,6 +19,7 @@ from classroom.pages.sheet import sheet
 
 def page(lab_file: Path, journal: Path) -> str:
     """The whole run as a page."""
+    kept_layout.take(lab_file.parent)
     lab, frames = frames_of(lab_file, journal)
     return page_of(folders.title(lab_file, journal), lab, frames)
 
@@ -31,6 +33,7 @@ def places(word: str) -> list[int]:
 
 def picture(lab_file: Path, journal: Path, asked: list[int], theme: str = LIGHT) -> str:
     """The configurations after these places as SVG: one that fills it, or several."""
+    kept_layout.take(lab_file.parent)
     lab, frames = frames_of(lab_file, journal)
     first = next(frames)
     drawing = drawing_of(lab.without_house(), first.state.links, CELL if len(asked) > 1 else WIDE)

@@ -25,10 +25,17 @@ MOST_STRETCHED = 1.45  # how many times wider a drawing is made, so that it fill
 Point = tuple[float, float]
 Rows = list[list[float]]
 Pull = tuple[int, float, float]  # by which node, at which distance, with which weight
+# Points that were found before, by nodes and links.
+KNOWN: dict[tuple[tuple[int, ...], tuple[tuple[int, int], ...]], dict[int, Point]] = {}
+
+
+def by_springs(nodes: tuple[int, ...], links: tuple[tuple[int, int], ...]) -> dict[int, Point]:
+    """Returns a point for each of two nodes or more: the one that is known, or that is searched for."""
+    return KNOWN.get((nodes, links)) or searched(nodes, links)
 
 
 @lru_cache(maxsize=16)
-def by_springs(nodes: tuple[int, ...], links: tuple[tuple[int, int], ...]) -> dict[int, Point]:
+def searched(nodes: tuple[int, ...], links: tuple[tuple[int, int], ...]) -> dict[int, Point]:
     """Returns a point for each of two nodes or more, which is computed once for a network."""
     far = distances(nodes, links)
     ring = [math.tau * index / len(nodes) for index in range(len(nodes))]

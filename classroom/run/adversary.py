@@ -1,18 +1,25 @@
-"""The adversary: a daemon that closes steps in an order which makes the run long. To find it, it tries a few steps over
-a program of its own."""
+"""Daemons that make a run long: the schedule of the proof, and the adversary, which looks ahead over a program of its own."""
 from __future__ import annotations
 
 import random
-from collections.abc import Sequence
+from collections.abc import Callable, Mapping, Sequence
 from typing import Any
 
 from classroom.core import lab as labs
 from classroom.core.bench import TEACHER, Bench
+from classroom.run.daemons import Daemon, Search
 
-STEPS = 3  # that are tried, one after another
-FIRST, NEXT = 8, 3  # of the nodes that may move so many are tried at the first step, and at each later one
-END = 1000  # by how much a way is worth less that ends the run
+# Which rule's move comes first by the schedule: pairs come as late as can be, and all who may court a node do so before.
+ORDER = {"abandonment": 0, "update": 1, "seduction": 2, "marriage": 3}
+HIGHEST = ("seduction", "marriage")  # rules of which the highest node is next, and of the others the lowest
+FIRST = 7  # of the nodes that may move, how many are tried
+STEPS = 32_000  # that are tried for a choice, all ways and nodes of the network together
 USED = labs.MOST_EVENTS // 2  # events of a program, after which another one is begun
+
+
+def scheduled(rules: Mapping[int, str], nodes: Sequence[int]) -> int:
+    """Returns which of some nodes moves next by the schedule, which goes by the names of their rules alone."""
+    return min(nodes, key=lambda node: (ORDER[rules[node]], -node if rules[node] in HIGHEST else node))
 
 
 class Adversary:
@@ -23,6 +30,10 @@ class Adversary:
         self.bench: Bench | None = None
         self.registers: dict[int, tuple[int | None, bool]] = {}
 
+    def search_of(self, how: Daemon, rules: Mapping[int, str], seen: Callable[[], labs.Lab]) -> Search:
+        """Returns how a daemon searches among nodes that have these rules; `seen` gives the network with its registers."""
+        return lambda nodes: [scheduled(rules, nodes)] if how.kind == "schedule" else self.choose(seen(), nodes)
+
     def choose(self, made: labs.Lab, chosen: Sequence[int]) -> list[int]:
         """Of the nodes with a chosen move those whose moves a close is to apply, over the network `made` with its
         registers: one of them, or all at once."""
@@ -31,11 +42,15 @@ class Adversary:
         bench = self.bench_over(made)
         report = bench.begin(made)
         self.registers = {node.id: (node.p, node.m) for node in made.nodes}
-        known = {node for node, _ in report["privileged"]}
-        ways = [[node] for node in self.some(chosen, FIRST)] + [list(chosen)]
-        worth = {index: self.tried(bench, report, way, STEPS)
-                 for index, way in enumerate(ways) if known.issuperset(way)}
-        return ways[max(worth, key=lambda index: worth[index])] if worth else list(chosen)
+        rules = {node: rule for node, rule in report["privileged"]}
+        if not rules.keys() >= {*chosen}:
+            chosen = [node for node in chosen if node in rules]
+        if not chosen:
+            return []
+        ways = [[node] for node in self.some(rules, chosen)] + [list(chosen)]
+        steps = max(1, STEPS // len(made.nodes) // len(ways))
+        worth = [self.tried(bench, report, way, steps) for way in ways]
+        return ways[worth.index(max(worth))]
 
     def bench_over(self, made: labs.Lab) -> Bench:
         """A program over the network, with room for a search: the one at hand, or a new one where that has other links
@@ -45,30 +60,27 @@ class Adversary:
             self.bench = Bench(made)
         return self.bench
 
-    def some(self, nodes: Sequence[int], most: int) -> list[int]:
-        """The nodes, or where they are more, so many of them, drawn."""
-        return list(nodes) if len(nodes) <= most else self.chance.sample(list(nodes), most)
+    def some(self, rules: Mapping[int, str], nodes: Sequence[int]) -> list[int]:
+        """Returns the nodes, or if they are many some of them: the one that is next by the schedule, and others, drawn."""
+        first = scheduled(rules, nodes)
+        others = [node for node in nodes if node != first]
+        return [first, *(others if len(others) < FIRST else self.chance.sample(others, FIRST - 1))]
 
     def tried(self, bench: Bench, report: dict[str, Any], nodes: list[int], steps: int) -> int:
-        """How much it is worth that these nodes move now, and that further steps of one node each follow, `steps` in
-        all: the moves, and after them how many nodes are privileged and links open, at the best of the ways that are
-        tried; END less where nobody is privileged any more. Then all is undone, but for the number of the
-        configuration."""
-        before = {node: self.registers[node] for node in nodes}
-        after = bench.step(report, nodes, self.chance)
-        for it in bench.asked(TEACHER, [{"do": "see", "node": node} for node in nodes]):
-            self.registers[it["node"]] = (it["p"], it["m"])
-        privileged = [node for node, _ in after["privileged"]]
-        if not privileged:
-            worth = -END
-        elif steps == 1:
-            worth = len(privileged) + len(after["open"])
-        else:
-            worth = max(self.tried(bench, after, [node], steps - 1) for node in self.some(privileged, NEXT))
-        undone = bench.asked(TEACHER, [{"do": "fault", "node": node, "p": p, "m": m} for node, (p, m) in before.items()])
-        self.registers |= before
-        report["at"] = undone[-1]["at"]
-        return len(nodes) + worth
+        """Returns how much it is worth that these nodes move now, and one by the schedule in each further step, up to the end
+        or for so many steps: all moves, and how many nodes are privileged then. It is counted by the program's reports. Then
+        all is undone, but for the number of the configuration."""
+        after, moves, moved = bench.step(report, nodes, min), len(nodes), {*nodes}
+        for _ in range(steps - 1):
+            rules = {node: rule for node, rule in after["privileged"]}
+            if not rules:
+                break
+            node = scheduled(rules, [*rules])
+            after, moves = bench.step(after, [node], min), moves + 1
+            moved.add(node)
+        undone = [{"do": "fault", "node": node, "p": p, "m": m} for node, (p, m) in self.registers.items() if node in moved]
+        report["at"] = bench.asked(TEACHER, undone)[-1]["at"]
+        return moves + len(after["privileged"])
 
     def close(self) -> None:
         """Ends its program."""

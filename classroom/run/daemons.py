@@ -8,9 +8,10 @@ import re
 from collections.abc import Callable, Sequence
 from dataclasses import dataclass
 
-FORMS = "central, synchronous, random:P, adversary, when-idle:SECONDS, every:SECONDS, by-hand"
-PLAIN = ("central", "synchronous", "adversary", "by-hand")
-Search = Callable[[Sequence[int]], list[int]]  # the adversary's, among nodes that may move
+FORMS = "central, synchronous, random:P, schedule, adversary, when-idle:SECONDS, every:SECONDS, by-hand"
+PLAIN = ("central", "synchronous", "schedule", "adversary", "by-hand")
+SEARCHING = ("schedule", "adversary")  # those that make a run long
+Search = Callable[[Sequence[int]], list[int]]  # of such a one, among nodes that may move
 
 
 @dataclass(frozen=True)
@@ -71,13 +72,13 @@ def heads(nodes: Sequence[int], probability: float, chance: random.Random) -> li
 
 def applied(how: Daemon, sight: Sight, chance: random.Random, patience: float, search: Search = list) -> list[int]:
     """The nodes whose moves a close applies now, or none: the other chosen moves are released before it. The random
-    daemon tosses, and the adversary searches, where each privileged node has a move, or none came for `patience`
+    daemon tosses, and one that makes the run long searches, where each privileged node has a move, or none came for `patience`
     seconds."""
     if not sight.chosen:
         return []
     if how.kind == "central":
         return [sight.chosen[0]]
-    if how.kind in ("random", "adversary"):
+    if how.kind in ("random", *SEARCHING):
         if not (sight.is_full() or sight.idle >= patience):
             return []
         return heads(sight.chosen, how.value, chance) if how.kind == "random" else search(sight.chosen)
@@ -98,7 +99,7 @@ def movers(how: Daemon, privileged: Sequence[int], chance: random.Random, search
         return heads(privileged, how.value, chance)
     if how.kind in ("every", "when-idle"):
         return in_time(how, privileged, chance)
-    return search(privileged) if how.kind == "adversary" else list(privileged)
+    return search(privileged) if how.kind in SEARCHING else list(privileged)
 
 
 def in_time(how: Daemon, nodes: Sequence[int], chance: random.Random) -> list[int]:

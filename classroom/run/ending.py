@@ -6,9 +6,10 @@ from collections.abc import Callable
 from pathlib import Path
 from typing import IO
 
+from classroom.core import lab as labs
 from classroom.core.program import Fault, call
 from classroom.marks import mark
-from classroom.pages import play
+from classroom.pages import kept_layout, play
 
 
 def put_back(journal: IO[bytes], path: Path, tell: Callable[[str], None]) -> None:
@@ -49,6 +50,7 @@ def finish(folder: Path, tell: Callable[[str], None], brief: bool = False) -> in
         tell((answer.output or answer.error).strip())
         (folder / "audit.txt").write_text(answer.output + answer.error + "\n" * bool(answer.error), encoding="utf-8")
         (folder / "run.html").write_text(play.page(folder / "lab.toml", folder / "journal"), encoding="utf-8")
+        kept_layout.keep(folder, labs.read(folder / "lab.toml"))
         run = mark.marked(folder / "lab.toml", folder / "journal")
         text = mark.text([run])
         tell(f"marks: {folder / 'marks.txt'}" if brief else text.rstrip())

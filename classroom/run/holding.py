@@ -22,7 +22,7 @@ from classroom.core.folders import Process, Record, title
 from classroom.core.program import CLASS
 from classroom.core.shown_names import ShownNames
 from classroom.core.statuses import FAILED, WARNED
-from classroom.pages import by_hand, projector
+from classroom.pages import by_hand, kept_layout, projector
 from classroom.run import letting, renewing, server
 from classroom.run.attend import TICK, Room, attend
 from classroom.run.clock import Clock
@@ -285,7 +285,9 @@ def to_the_end(run: Running, start: Callable[[], server.Server]) -> int:
     """Holds the desk of a server that is started or found, and leaves marks and page in the folder."""
     try:
         if run.page is not None:
+            kept_layout.take(run.folder)
             run.pages = projector.open_pages(run.page, run.title(), run.names.lab(run.lab), run.typed, run.looks)
+            kept_layout.keep(run.folder, run.lab)
         if run.play is not None:
             run.hands = by_hand.open_hands(run.play, run.title(), run.lab)
         obey_signals(run.typed)

@@ -334,7 +334,8 @@ def held(folder: Path, members: list[Member], news: News, words: argparse.Namesp
     several = Several(folder, members, news, typed, Clock(end, datetime.now()) if end else None)
     if words.page is not None:
         several.hall = hall.opened(words.page, title(folder), lambda line: news.put(lambda: several.act(line)),
-                                   several.state(False), kept.looks if kept else None)
+                                   several.state(False), kept.looks if kept else None,
+                                   lambda: [hall.view(member.folder, member.lab) for member in members])
     files = [Path(member.network.lab) for member in members]
     with letting.door(with_door(words), files, several.say, kept.door if kept else None) as door:
         for member in members:

@@ -35,7 +35,9 @@ class Striker:
         known = desk.known
         sight = Sight([node for node, _ in known.report.privileged], list(known.book.chosen), now - known.news_came, now - self.closed)
         try:
-            nodes = applied(desk.closing, sight, self.chance, SECONDS, lambda nodes: self.adversary.choose(desk.seen(), nodes))
+            rules = {node: rule for node, (_, rule) in known.book.chosen.items()}
+            search = self.adversary.search_of(desk.closing, rules, desk.seen)
+            nodes = applied(desk.closing, sight, self.chance, SECONDS, search)
         except Fault as fault:
             desk.tell(f"the adversary can't search: {fault}")
             desk.close_by(f"when-idle:{SECONDS:g}")

@@ -8,11 +8,11 @@ import unittest.mock
 
 from classroom.bots.measuring import Row, Setting, drawn, runs
 from classroom.core import lab as labs
-from classroom.core import networks
+from classroom.core import bounds, networks
 from classroom.core.bench import network
 from classroom.core.program import Fault
 from classroom.run import adversary
-from classroom.run.adversary import Adversary
+from classroom.run.adversary import Adversary, scheduled
 from classroom.run.daemons import Daemon, Sight, applied, movers
 from classroom.run.striking import Striker
 from tests.classroom.help import CYCLE, EXAMPLES, KEYS, Cycle, Going, words
@@ -46,7 +46,7 @@ class Search(unittest.TestCase):
             it.tried(bench, report, nodes, 3)
             self.assertEqual([(node.id, node.p, node.m) for node in bench.present().nodes], before)
             self.assertEqual(it.registers, {node: (p, m) for node, p, m in before})
-        self.assertTrue(bench.step(report, [privileged[0]], random.Random(1)))  # Under the number that is told.
+        self.assertTrue(bench.step(report, [privileged[0]], min))  # Under the number of its report.
 
     def test_it_chooses_some_of_those_that_may_move_and_the_same_again(self) -> None:
         made = drawn(Setting("complete", 5, Daemon("central"), "random"), 2)
@@ -84,6 +84,23 @@ class Search(unittest.TestCase):
 class Long(unittest.TestCase):
     """Runs to their ends."""
 
+    def test_the_schedule_takes_all_moves_and_rounds_that_are_proved(self) -> None:
+        """All moves on a crowd, and all rounds on halves, from their worst starts."""
+        for nodes in range(4, 17, 2):
+            for family in ("crowd", "halves"):
+                row, = (row for row, _ in runs(Setting(family, nodes, Daemon.of("schedule"), "worst"), [1]))
+                most = bounds.of(nodes, row.links)
+                self.assertEqual((row.moves if family == "crowd" else row.rounds, row.stable),
+                                 (most.moves if family == "crowd" else most.rounds, True), (family, nodes))
+
+    def test_the_adversary_takes_most_of_the_moves_that_are_proved(self) -> None:
+        """From the worst start four fifths at least, and from others more than the schedule in all."""
+        for nodes in (4, 6, 8, 10):
+            row, = (row for row, _ in runs(Setting("crowd", nodes, Daemon.of("adversary"), "worst"), [1]))
+            self.assertGreaterEqual(row.moves, 0.8 * bounds.of(nodes, row.links).moves, nodes)
+        schedule, search = (sum(row.moves for row in rows(daemon, "complete", 5, range(1, 9))) for daemon in ("schedule", "adversary"))
+        self.assertGreaterEqual(search, schedule)
+
     def test_runs_are_longer_than_by_a_central_daemon(self) -> None:
         """By the same seeds, so the same networks and registers."""
         for family, nodes in (("complete", 5), ("cycle", 6)):
@@ -106,7 +123,16 @@ class Long(unittest.TestCase):
         self.assertEqual(applied(Daemon("adversary"), full, chance, 1, lambda nodes: [nodes[0]]), [2])
         self.assertEqual(applied(Daemon("adversary"), Sight([1, 2, 3], [2, 1], 0.9, 9), chance, 1, lambda nodes: [9]), [])
         self.assertEqual(applied(Daemon("adversary"), Sight([1, 2, 3], [2, 1], 1.0, 9), chance, 1, lambda nodes: [1]), [1])
-        self.assertEqual(movers(Daemon("adversary"), [1, 2, 3], chance, lambda nodes: [nodes[-1]]), [3])
+        for kind in ("adversary", "schedule"):
+            self.assertEqual(movers(Daemon(kind), [1, 2, 3], chance, lambda nodes: [nodes[-1]]), [3])
+        rules = {1: "marriage", 2: "update", 3: "seduction", 4: "update", 5: "abandonment", 6: "marriage"}
+        order, left = [], dict(rules)
+        while left:
+            order.append(scheduled(left, [*left]))
+            del left[order[-1]]
+        self.assertEqual(order, [5, 2, 4, 3, 6, 1])
+        search = Adversary("test").search_of(Daemon("schedule"), rules, lambda: self.fail("it looks at no network"))
+        self.assertEqual(applied(Daemon("schedule"), full, chance, 1, search), [2])
 
 
 class Everywhere(Cycle):

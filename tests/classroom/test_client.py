@@ -1,16 +1,22 @@
 """`client.py` as a module: what it says before a line is sent, what comes after bye, and the schemas of lines."""
 from __future__ import annotations
 
+import base64
+import hashlib
 import json
+import shutil
 import socket
+import subprocess
+import sys
 import threading
 import unittest
+import zipfile
 from collections.abc import Iterator
 
 from classroom.client import Client, Closed, Look, Malformed, Near, line_of, wrong
 from classroom.core.program import TOP
 from tests.classroom import schemas
-from tests.classroom.help import LIMIT
+from tests.classroom.help import LIMIT, InRoom
 
 # Lines as beginners write them, each with what the client says.
 HURT = (
@@ -110,6 +116,7 @@ HURT = (
      'not JSON: NaN is no number'),
 )
 
+HINT = "; --help tells the words"  # after wrong words
 # What a schema can't say of a line.
 BEYOND = ("not UTF-8", "a byte order mark", "half of a surrogate pair", "nested deeper than", "a number past", "out of range")
 
@@ -183,6 +190,69 @@ class Before(unittest.TestCase):
 
     def test_a_right_request_is_its_line(self) -> None:
         self.assertEqual(line_of({"do": "look", "node": 4}), b'{"do": "look", "node": 4}')
+
+
+class CommandLine(InRoom):
+    """`client.py` as a program."""
+
+    def called(self, *given: str) -> tuple[int, str, str]:
+        """The status, and what is printed."""
+        done = subprocess.run([sys.executable, TOP / "classroom/client.py", *given], capture_output=True, text=True, check=False, timeout=LIMIT)
+        return done.returncode, done.stdout, done.stderr
+
+    def test_help_is_printed(self) -> None:
+        status, told, error = self.called("--help")
+        self.assertEqual((status, error), (0, ""))
+        for word in ("SLIP", "PORT NAME KEYFILE", "--log FILE", "--tunnel SLIP", "CENDUWA_SLIP", "Exit status: 0 "):
+            self.assertIn(word, told)
+        self.assertEqual((self.called("-h"), self.called()), ((0, told, ""), (1, "", told)))
+
+    def test_wrong_words_are_a_line_that_says_what_is_wrong(self) -> None:
+        slip = str(self.file("gus.slip", "port 4711\nname gus\nkey heron-31\n"))
+        for given, why in (
+            (["--lgo"], "--lgo: there is no such option (did you mean --log?)" + HINT),
+            ([slip, "--verbose"], "--verbose: there is no such option" + HINT),
+            ([slip, "--log"], "--log FILE: the file is missing" + HINT),
+            ([slip, "again"], "again: no word is taken there" + HINT),
+            (["4711", "gus"], "SLIP, or PORT NAME KEYFILE NODE,.." + HINT),
+            (["--tunnel", slip], "--tunnel SLIP [PORT]: the slip names a door" + HINT),
+            (["none.slip"], "none.slip: No such file or directory"), (["0", "gus", slip], "0 is no port: 1 to 65535"),
+        ):
+            self.assertEqual(self.called(*given), (1, "", f"client.py: {why}\n"), given)
+
+
+class Installed(InRoom):
+    """`classroom-client/`, which pip installs."""
+
+    def setUp(self) -> None:
+        super().setUp()
+        self.source = self.room / "classroom-client"
+        shutil.copytree(TOP / "classroom-client", self.source, ignore=shutil.ignore_patterns("__pycache__"))
+
+    def test_a_wheel_is_the_client_with_its_metadata(self) -> None:
+        call = [sys.executable, "-B", "-c", "import building; print(building.build_wheel('.'))"]
+        name = subprocess.run(call, cwd=self.source, capture_output=True, text=True, check=True).stdout.strip()
+        with zipfile.ZipFile(self.source / name) as wheel:
+            files = {each: wheel.read(each) for each in wheel.namelist()}
+        self.assertEqual(files["client.py"], (TOP / "classroom/client.py").read_bytes())
+        info = name.partition("-py3")[0] + ".dist-info/"
+        version = (TOP / "VERSION").read_text(encoding="ascii").strip()
+        self.assertIn(f"\nVersion: {version}\n", files[info + "METADATA"].decode())
+        rows = [row.split(",") for row in files[info + "RECORD"].decode().splitlines()]
+        self.assertEqual({row[0] for row in rows}, {*files})
+        for file, digest, size in rows[:-1]:
+            wanted = base64.urlsafe_b64encode(hashlib.sha256(files[file]).digest()).decode().rstrip("=")
+            self.assertEqual((digest, size), (f"sha256={wanted}", str(len(files[file]))))
+
+    def test_pip_installs_it_without_a_network(self) -> None:
+        pip = [sys.executable, "-m", "pip"]
+        if subprocess.run([*pip, "--version"], capture_output=True, check=False).returncode:
+            self.skipTest("not tried: no pip for this Python (Debian's python3-pip)")
+        done = subprocess.run([*pip, "install", "--no-index", "--target", self.room / "lib", self.source], capture_output=True, text=True, check=False)
+        self.assertEqual(done.returncode, 0, done.stdout + done.stderr)
+        call = [sys.executable, "-c", "from client import Client; import client; print(client.__file__)"]
+        found = subprocess.run(call, cwd=self.room, env={"PYTHONPATH": str(self.room / "lib")}, capture_output=True, text=True, check=False)
+        self.assertEqual((found.stdout, found.stderr), (f"{self.room}/lib/client.py\n", ""))
 
 
 class Schemas(unittest.TestCase):

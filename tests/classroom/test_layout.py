@@ -9,7 +9,7 @@ from itertools import combinations, pairwise
 
 from classroom.core.journal import RULES
 from classroom.core.networks import Links, family
-from classroom.pages.labels import Box, View, view_of, wide
+from classroom.pages.labels import LEAST_FRAMED, Box, View, framed, view_of, wide
 from classroom.pages.layout import CELL, RING, TALL, WIDE, Layout, lay_out
 from classroom.pages.shapes import shape_of
 from classroom.pages.springs import FEW_NODES, LEAST, away, by_springs, distances, tangles
@@ -214,6 +214,27 @@ class Labels(unittest.TestCase):
                     self.assertTrue(box.left >= 0 and box.top >= 0 and box.right <= WIDE.width and box.bottom <= WIDE.height)
                     self.assertEqual([node for node, point in view.layout.points.items() if near(box, point) < radius], [])
                     self.assertEqual([link for link in links if box.on_line(*(view.layout.points[node] for node in link)) > 0], [])
+
+    def test_letters_of_rules_lie_upon_no_neighbour(self) -> None:
+        """In random networks too, on a phone and in a small drawing: neither upon another node nor upon another letter."""
+        looked = 0
+        for seed in range(8):
+            for word in ("random:8:12", "random:12:18", "random:14:22", "random:16:24", "complete", "crowd"):
+                count, links = family(word, None if ":" in word else 9, 0, random.Random(seed))
+                for field in (TALL, CELL):
+                    view = view_of({node: ["ana"] for node in range(1, count + 1)}, sorted(links), field)
+                    radius = view.layout.radius
+                    frames = {node: framed(point, (view.corners[node][0] / radius, view.corners[node][1] / radius), radius)
+                              for node, point in view.layout.points.items()}
+                    if radius < LEAST_FRAMED:
+                        continue  # No letter is drawn.
+                    looked += 1
+                    with self.subTest(word, seed=seed, field=field):
+                        self.assertEqual([(a, b) for a, frame in frames.items() for b, point in view.layout.points.items()
+                                          if a != b and near(frame, point) < radius], [])
+                        for a, b in combinations(frames.values(), 2):
+                            self.assertFalse(min(a.right, b.right) > max(a.left, b.left) and min(a.bottom, b.bottom) > max(a.top, b.top))
+        self.assertGreater(looked, 80)
 
     def test_a_box_on_a_line(self) -> None:
         box = Box(10, 10, 20, 20)

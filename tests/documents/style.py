@@ -88,7 +88,7 @@ def counted(files: list[str]) -> Counter[str]:
     """Returns how many phrases the sources of each folder have: of each crate, and of each folder of Python."""
     counts: Counter[str] = Counter()
     for path in files:
-        folder = re.match(r"crates/\w+|(?:classroom|examples|model|bench|tools|tests)\b", path)
+        folder = re.match(r"crates/\w+|(?:classroom|examples|model|bench|tools|tests)(?=/)", path)
         if folder and re.search(r"\.(rt|antt|py)$", path) and not path.startswith("tests/documents/"):
             counts[folder[0]] += sum(len(re.findall(phrase, line)) for line in comments(path) for phrase in PHRASES)
     return counts

@@ -1,0 +1,39 @@
+"""Makes what pip installs: a wheel of client.py, by the metadata of pyproject.toml. It needs no other package."""
+from __future__ import annotations
+
+import base64
+import hashlib
+import re
+import zipfile
+from pathlib import Path
+
+HERE = Path(__file__).parent
+TAG = "py3-none-any"
+
+
+def metadata() -> dict[str, str]:
+    """Returns the texts of pyproject.toml by their keys."""
+    return dict(re.findall(r'(?m)^([a-z-]+) = "(.*)"$', (HERE / "pyproject.toml").read_text(encoding="utf-8")))
+
+
+def build_wheel(wheel_directory: str, config_settings: object = None, metadata_directory: object = None) -> str:
+    """Writes the wheel into a folder, and returns its name."""
+    told = metadata()
+    name = f"{told['name'].replace('-', '_')}-{told['version']}"
+    head = f"Metadata-Version: 2.1\nName: {told['name']}\nVersion: {told['version']}\nSummary: {told['description']}\n"
+    files = {
+        "client.py": (HERE / "client.py").read_bytes(),
+        f"{name}.dist-info/METADATA": f"{head}License: MIT\nRequires-Python: {told['requires-python']}\n".encode(),
+        f"{name}.dist-info/WHEEL": f"Wheel-Version: 1.0\nGenerator: cenduwa\nRoot-Is-Purelib: true\nTag: {TAG}\n".encode(),
+    }
+    rows = [f"{file},sha256={digest(content)},{len(content)}" for file, content in files.items()]
+    record = f"{name}.dist-info/RECORD"
+    with zipfile.ZipFile(Path(wheel_directory, f"{name}-{TAG}.whl"), "w", zipfile.ZIP_DEFLATED) as wheel:
+        for file, content in (files | {record: "\n".join([*rows, f"{record},,", ""]).encode()}).items():
+            wheel.writestr(zipfile.ZipInfo(file), content, zipfile.ZIP_DEFLATED)
+    return f"{name}-{TAG}.whl"
+
+
+def digest(content: bytes) -> str:
+    """Returns the digest of a file as a wheel's record has it."""
+    return base64.urlsafe_b64encode(hashlib.sha256(content).digest()).decode().rstrip("=")

@@ -1,0 +1,1 @@
+../classroom/client.py

@@ -1,0 +1,44 @@
+"""The layout of a network that took a search, kept in the folder of its run: who opens the run later needn't search again."""
+from __future__ import annotations
+
+import json
+import math
+from pathlib import Path
+
+from classroom.core import plain
+from classroom.core.folders import LAYOUT
+from classroom.core.lab import Lab
+from classroom.core.program import Fault
+from classroom.pages import springs
+from classroom.pages.layout import lay_out
+
+MOST = 1 << 20  # bytes of the file
+FARTHEST = 1e6  # of a point from the middle
+
+
+def keep(folder: Path, lab: Lab) -> None:
+    """Writes the layout of a lab's network into the folder of its run, unless it is there, or is found without a search. A full
+    disk has no layout, and ends nothing."""
+    file, new = folder / LAYOUT, folder / f"{LAYOUT}.new"
+    nodes, links = tuple(sorted(node.id for node in lab.nodes)), tuple(sorted(lab.links))
+    if file.exists() or lay_out(nodes, links).kind != "general":
+        return
+    points = {str(node): point for node, point in springs.by_springs(nodes, links).items()}
+    try:
+        new.write_text(json.dumps({"links": links, "points": points}, separators=(",", ":")) + "\n", encoding="utf-8")
+        new.replace(file)
+    except OSError:
+        new.unlink(missing_ok=True)
+
+
+def take(folder: Path) -> None:
+    """Takes the layout that the folder of a run has, for all drawings of that network from now on. A file that is none is left
+    alone."""
+    try:
+        it = json.loads(plain.read(folder / LAYOUT, MOST))
+        points = {int(node): (float(x), float(y)) for node, (x, y) in it["points"].items()}
+        links = tuple(sorted((int(a), int(b)) for a, b in it["links"]))
+    except (Fault, ValueError, TypeError, KeyError, AttributeError, OverflowError, RecursionError):
+        return
+    if all(math.isfinite(value) and abs(value) < FARTHEST for point in points.values() for value in point):
+        springs.KNOWN[tuple(sorted(points)), links] = points
