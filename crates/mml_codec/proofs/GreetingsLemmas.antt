@@ -1,4 +1,4 @@
--- Who a connection is known as after an answer.
+-- The participant that a connection is known as after an answer.
 use Rattle.std.proofs.lemmas.Bool.Decides.{nat_tests}
 use Rattle.std.proofs.Common.{◌≡◌, ◌↔◌, ℕ, List, Option, None, Some, sym, ap, ◌∙◌, arith}
 use Rattle.mml_lab.specs.declared.who.Who.{Who}

@@ -1,4 +1,4 @@
--- Who a connection is known as, and what it may ask.
+-- The participant that a connection is known as, and what it may ask.
 use Rattle.std.specs.Prelude.{ℕ, List, Option, None, Some, IfSome}
 use Rattle.mml_lab.specs.declared.who.Who.{Who}
 use Rattle.mml_lab.specs.Rosters.{RosterValue, principal, IsPrincipal}
