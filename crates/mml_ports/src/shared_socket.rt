@@ -1,4 +1,4 @@
-//! A connection's socket: one descriptor, which its reader, its writer and what cuts it off share.
+//! A connection's socket: one descriptor, which its reader, its writer and its cut-off share.
 use crate::end_reason::EndReason;
 use std::net::{Shutdown, TcpStream};
 use std::sync::atomic::{AtomicBool, AtomicU64, Ordering};
@@ -8,14 +8,14 @@ use std::time::{Clock, Duration};
 // How many hellos of a connection may be denied before it is ended.
 const DENIALS: u64 = 3;
 
-// How many bytes are looked at of what a newcomer has sent.
+// How many bytes are checked of what a newcomer has sent.
 const GLANCE: usize = 512;
 
-/// A socket, until it is given back, and what the threads that share it note of its connection. Once it was given back,
-/// each read and each write fails.
+/// A socket, until it is closed, and what the threads that share it note about its connection. Once it was closed, each
+/// read and each write fails.
 #[derive(Drop)]
 pub struct SharedSocket {
-    /// By which it is known among those of its port.
+    /// Its number among the connections of its port.
     pub number: u64,
     pub(crate) stream: RwLock<Option<TcpStream>>,
     // Whether its session has begun to read.
@@ -24,21 +24,21 @@ pub struct SharedSocket {
     pub(crate) is_greeted: AtomicBool,
     // Whether the connection may stay: a hello was granted, at the desk the teacher's.
     pub(crate) may_stay: AtomicBool,
-    // Whether a reply went out.
+    // Whether a reply was sent.
     pub(crate) is_answered: AtomicBool,
     // How many of its hellos were denied.
     denied: AtomicU64,
-    // Whether its thread is writing: who ends the connection then doesn't wait for that.
+    // Whether its thread is writing: a thread that ends the connection then doesn't wait for that.
     is_writing: AtomicBool,
     // Whether another thread ends the connection.
     is_ending: AtomicBool,
     end_reason: Mutex<Option<EndReason>>,
-    // By which a thread waits until another ends the connection.
+    // The condition on which a thread waits until another ends the connection.
     ending: Condvar,
 }
 
 impl SharedSocket {
-    /// A shared socket over this stream, from which nobody has read.
+    /// Returns a shared socket over this stream, from which nobody has read.
     pub fn new(stream: TcpStream, number: u64) -> SharedSocket {
         SharedSocket {
             number,
@@ -63,14 +63,14 @@ impl SharedSocket {
         }
     }
 
-    /// Why the connection is ended, if that is known already.
+    /// Returns why the connection is ended, if that is known already.
     pub(crate) fn end_reason<Rt: Wait>(&self, rt: &Rt) -> Option<EndReason> {
         *self.end_reason.lock(rt)
     }
 
-    /// Sets whether reads and writes wait; whether a whole line has come may be asked only while they don't. Returns
-    /// whether they are set so: false if the socket was given back, or the system refuses it. Only before the connection
-    /// is served.
+    /// Sets whether reads and writes wait. Whether a whole line has come may be asked only while they don't. Returns
+    /// whether they are set so: `false` if the socket was closed, or the system refuses it. It is called only before
+    /// the connection is served.
     pub(crate) fn set_waiting<Rt: Wait>(&self, rt: &Rt, is_waiting: bool) -> bool {
         let stream = self.stream.read(rt);
         match &*stream {
@@ -79,8 +79,8 @@ impl SharedSocket {
         }
     }
 
-    /// Whether a whole line stands in the first 512 bytes that have come, which are left to be read; false if the socket
-    /// was given back, or can't be looked at. Reads are set not to wait.
+    /// Returns whether a whole line stands in the first 512 bytes that have come, which are left to be read, and
+    /// `false` if the socket was closed, or can't be checked. Reads must be set not to wait.
     pub(crate) fn has_line<Rt: Wait>(&self, rt: &Rt) -> bool {
         let stream = self.stream.read(rt);
         match &*stream {
@@ -89,7 +89,7 @@ impl SharedSocket {
         }
     }
 
-    /// Whether the connection is ended for want of a seat.
+    /// Returns whether the connection is ended because there is no seat.
     pub(crate) fn is_turned_away<Rt: Wait>(&self, rt: &Rt) -> bool {
         matches!(self.end_reason(rt), Some(EndReason::Busy))
     }
@@ -105,13 +105,13 @@ impl SharedSocket {
         };
         let stream = self.stream.read(rt);
         if let Some(stream) = &*stream {
-            // It is refused where the other side is gone.
+            // This fails if the other side is gone.
             let _ = stream.shutdown(how);
         }
     }
 
-    // Keeps the reason, unless one is kept already, and wakes who waits for the end: both under the lock of the reason,
-    // so that nobody is woken before it is kept.
+    // Keeps the reason, unless one is kept already, and wakes the thread that waits for the end: both under the lock of
+    // the reason, so that it isn't woken before the reason is kept.
     fn begin_end<Rt: Wait>(&self, rt: &Rt, why: EndReason) {
         let mut reason = self.end_reason.lock(rt);
         if reason.is_none() {
@@ -121,7 +121,7 @@ impl SharedSocket {
         self.ending.notify_all();
     }
 
-    /// Waits until another thread ends the connection, for `time` at most.
+    /// Waits until another thread ends the connection, for at most `time`.
     pub(crate) fn wait_for_end<Rt: Wait + Clock>(&self, rt: &Rt, time: Duration) {
         let _ended = self
             .ending
@@ -130,7 +130,7 @@ impl SharedSocket {
             });
     }
 
-    /// Notes that a write begins. Gives whether it may: false where another thread ends the connection.
+    /// Notes that a write begins. Returns whether it may: `false` if another thread ends the connection.
     pub(crate) fn begin_write(&self) -> bool {
         self.is_writing.store(true, Ordering::SeqCst);
         !self.is_ending.load(Ordering::SeqCst)
@@ -146,19 +146,19 @@ impl SharedSocket {
         self.denied.fetch_add(1, Ordering::SeqCst);
     }
 
-    /// Whether a hello of the connection was denied.
+    /// Returns whether a hello of the connection was denied.
     pub(crate) fn was_denied(&self) -> bool {
         self.denied.load(Ordering::SeqCst) > 0
     }
 
-    /// Whether nothing more is to be read: another thread ends the connection, or too many hellos were denied.
+    /// Returns whether nothing more is to be read: another thread ends the connection, or too many hellos were denied.
     pub(crate) fn is_done(&self) -> bool {
         self.is_ending.load(Ordering::SeqCst) || self.denied.load(Ordering::SeqCst) >= DENIALS
     }
 }
 
-// Whether a newline stands in the first 512 bytes that have come at a socket whose reads don't wait; they are left
-// there. False too if the system refuses the look.
+// Returns whether a newline stands in the first 512 bytes that have come at a socket whose reads don't wait; they are
+// left there. Returns `false` if the system refuses this.
 fn has_line(stream: &TcpStream) -> bool {
     let mut seen = [0; GLANCE];
     match stream.peek(&mut seen) {
