@@ -19,7 +19,7 @@ FOUND = re.compile(r"^\s*([\d,]+)\s+(?:\(\s*[\d.]+%\)\s+)?\S*?:(\S.*?)(?: \[[^]]
 
 
 def by_function(words: Words, stdin: Path, room: Path) -> dict[str, int]:
-    """How many instructions each function of a run takes itself."""
+    """Returns how many instructions each function of a run takes itself."""
     kept = room / "counts"
     call = ["valgrind", "--tool=callgrind", f"--callgrind-out-file={kept}", *words]
     with stdin.open("rb") as lines:
@@ -32,7 +32,7 @@ def by_function(words: Words, stdin: Path, room: Path) -> dict[str, int]:
 
 
 def parts_of(row: Row, counter: Counter, room: Path) -> dict[str, float]:
-    """How many instructions each function takes itself for a line of a row."""
+    """Returns how many instructions each function takes itself for a line of a row."""
     counter.lab.write_text(row.lab(), encoding="ascii")
     less = counter.write(row, row.few)
     before = by_function(counter.call(row, 0), counter.text, room)

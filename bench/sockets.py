@@ -31,7 +31,7 @@ class Served:
 
 
 def served(words: Words, port: int, burst: int) -> Served:
-    """What all clients were served."""
+    """Returns what all clients were served."""
     with subprocess.Popen(words, stdout=subprocess.PIPE) as server:
         assert server.stdout is not None
         server.stdout.readline()
@@ -46,7 +46,7 @@ def served(words: Words, port: int, burst: int) -> Served:
 
 
 def calls(lab: Path) -> dict[str, tuple[Words, int]]:
-    """What is served, by the words of a call and its port."""
+    """Returns what is served, by the words of a call and its port."""
     ports, many = [free_port() for _ in range(3)], str(CONNECTIONS)
     return {
         "an echo": ([TYPED, "echo", str(ports[0]), many], ports[0]),

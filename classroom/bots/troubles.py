@@ -22,7 +22,7 @@ ON = "; a bot goes on until the class is over"
 
 
 def run(trial: Attempt) -> None:
-    """Plays the whole case; raises what is wrong."""
+    """Plays the whole case. Raises what is wrong."""
     troubles = trial.case.troubles
     trial.playing.relay.busy = BUSY in troubles
     trial.launch()
@@ -41,8 +41,8 @@ def run(trial: Attempt) -> None:
 
 
 def rests(trial: Attempt, seconds: float) -> None:
-    """Wants that a bot for which there is nothing to ask asks for nothing, but for what it saw before: a move for each of
-    its nodes."""
+    """Checks that a bot for which there is nothing to ask asks for nothing, except for what it saw before: a move for
+    each of its nodes."""
     trial.watch(LATE)
     before = trial.heard.asked
     trial.watch(seconds)
@@ -195,7 +195,7 @@ def turned_away(trial: Attempt) -> None:
 
 
 def over(trial: Attempt) -> None:
-    """Ends the class, and wants that the bot ends too."""
+    """Ends the class, and checks that the bot ends too."""
     assert trial.kept is not None
     trial.playing.relay.over()
     end = time.monotonic() + trial.limits.seconds
@@ -224,8 +224,8 @@ def drawn(trial: Attempt, node: int, known: set[tuple[str | None, int, bool]]) -
 
 
 def rules(trial: Attempt) -> None:
-    """Draws configurations around a node of the bot's, one after another without a close: where the program reports a
-    rule there, the bot asks for it, and else for nothing."""
+    """Draws configurations around a node of the bot's, one after another without a close: if the program reports a rule
+    there, the bot asks for it, and else for nothing."""
     playing, links = trial.playing, trial.case.made.links
     node = max(trial.alone(), key=lambda node: (any(node == b for a, b in links) + any(node == a for a, b in links), -node))
     known: set[tuple[str | None, int, bool]] = set()

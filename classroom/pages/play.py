@@ -17,20 +17,20 @@ from classroom.pages.sheet import sheet
 
 
 def page(lab_file: Path, journal: Path) -> str:
-    """The whole run as a page."""
+    """Returns the whole run as a page."""
     lab, frames = frames_of(lab_file, journal)
     return page_of(folders.title(lab_file, journal), lab, frames)
 
 
 def places(word: str) -> list[int]:
-    """Numbers with commas between them."""
+    """Returns numbers with commas between them."""
     if not re.fullmatch(r"\d+(,\d+)*", word):
         raise argparse.ArgumentTypeError(f"{word}: places of the journal, with commas between them; 0 is the beginning")
     return [int(place) for place in word.split(",")]
 
 
 def picture(lab_file: Path, journal: Path, asked: list[int], theme: str = LIGHT) -> str:
-    """The configurations after these places as SVG: one that fills it, or several."""
+    """Returns the configurations after these places as SVG: one that fills it, or several."""
     lab, frames = frames_of(lab_file, journal)
     first = next(frames)
     drawing = drawing_of(lab.without_house(), first.state.links, CELL if len(asked) > 1 else WIDE)
@@ -47,7 +47,7 @@ def picture(lab_file: Path, journal: Path, asked: list[int], theme: str = LIGHT)
 
 
 def play(words: argparse.Namespace) -> int:
-    """Writes the file and says where it lies. Status 3 where the audit says no."""
+    """Writes the file and prints its path. Returns status 3 if the audit says no."""
     runs = classes.given(words.run)
     if len(runs) != 1:
         raise Fault("play: the folder of a run, or a lab and a journal")

@@ -20,8 +20,8 @@ from classroom.pages.page import Frames, live_page
 from classroom.pages.watch import Now, Present
 from classroom.pages.web import Asked, Web, opened
 
-LISTED = 25  # events and lines that a page is told of at once
-STILL_HERE = 10.0  # seconds without news after which a page is told that there are none
+LISTED = 25  # events and lines that a page gets at once
+STILL_HERE = 10.0  # seconds without news after which a page gets a line that there are none
 LAST_WORD = 5.0  # seconds in which the pages may learn that the run is over
 MOST_BYTES = 200  # of what a page asks for
 
@@ -36,20 +36,20 @@ class Pages(Web):
         self.looks, self.acts = looks or secrets.token_urlsafe(16), secrets.token_urlsafe(16)
         self.drawing = drawing_of(lab.without_house(), lab.links)
         self.present: Present | None = None
-        self.told = 0  # how many pages are told the news
+        self.told = 0  # how many pages get the news
 
     @property
     def address(self) -> str:
-        """What the projector shows."""
+        """Returns what the projector shows."""
         return f"http://127.0.0.1:{self.server_port}/{self.looks}/"
 
     @property
     def address_to_act(self) -> str:
-        """What the teacher alone opens."""
+        """Returns what the teacher alone opens."""
         return f"http://127.0.0.1:{self.server_port}/{self.acts}/"
 
     def renew(self) -> None:
-        """From now on another address acts, and the one before neither acts nor shows anything."""
+        """Changes the address to act at: the one before neither acts nor shows anything."""
         self.acts = secrets.token_urlsafe(16)
         if self.present is not None:
             self.present.put()
@@ -60,7 +60,7 @@ class Pages(Web):
         self.open()
 
     def stop(self) -> None:
-        """Tells the pages that the run is over, and lets go of the port."""
+        """Says to the pages that the run is over, and closes the port."""
         if self.present is not None:
             self.present.put(ended=True)
             with self.present.turn:
@@ -68,7 +68,7 @@ class Pages(Web):
         self.close()
 
     def count(self, present: Present, more: int) -> None:
-        """Notes that a page begins to be told the news, by 1, or ends, by -1."""
+        """Notes that a page begins to receive the news, by 1, or ends, by -1."""
         with present.turn:
             self.told += more
             present.turn.notify_all()
@@ -80,13 +80,13 @@ class Page(Asked):
     server: Pages
 
     def asked(self) -> tuple[str, str]:
-        """The token, where it is one of the two, and what is asked for below it; else both are empty."""
+        """Returns the token, if it is one of the two, and what is asked for below it; else both are empty."""
         beginning, slash, rest = self.path[1:].partition("/")
         known = [token for token in (self.server.looks, self.server.acts) if hmac.compare_digest(beginning.encode(), token.encode())]
         return (known[0], rest) if known and slash else ("", "")
 
     def do_GET(self) -> None:
-        """The page, or its news."""
+        """Answers with the page, or its news."""
         (token, asked), present = self.asked(), self.server.present
         if self.is_elsewhere():
             return
@@ -103,7 +103,7 @@ class Page(Asked):
         self.answer(200, "text/html; charset=utf-8", page.encode(), policy)
 
     def do_POST(self) -> None:
-        """A line of the teacher's, as it could be typed."""
+        """Takes a line of the teacher's, as it could be typed."""
         if self.is_elsewhere():
             return
         body = self.body(MOST_BYTES) if self.asked() == (self.server.acts, "act") else None
@@ -128,7 +128,7 @@ class Page(Asked):
 
 
 def message(rows: Frames, present: Present, before: Now | None, now: Now) -> dict[str, Any]:
-    """What a page that has shown `before` has to know."""
+    """Returns what a page that has shown `before` has to know."""
     links = len(rows.links)
     rows.add(Frame(present.events[now.events - 1] if now.events else None, now.state), len(now.state.links))
     events = present.events[max(before.events if before else 0, now.events - LISTED):now.events]
@@ -141,6 +141,6 @@ def message(rows: Frames, present: Present, before: Now | None, now: Now) -> dic
 
 
 def open_pages(port: int, title: str, lab: Lab, typed: queue.SimpleQueue[str], looks: str | None = None) -> Pages:
-    """The pages at a port, or at the next that is free; with the token of the address to look at, where it had one
+    """Returns the pages at a port, or at the next that is free; with the token of the address to look at, if it had one
     before."""
     return opened(port, lambda number: Pages(number, title, lab, typed, looks))

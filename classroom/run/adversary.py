@@ -24,8 +24,8 @@ class Adversary:
         self.registers: dict[int, tuple[int | None, bool]] = {}
 
     def choose(self, made: labs.Lab, chosen: Sequence[int]) -> list[int]:
-        """Of the nodes with a chosen move those whose moves a close is to apply, over the network `made` with its
-        registers: one of them, or all at once."""
+        """Returns, of the nodes with a chosen move, those whose moves a close is to apply, over the network `made` with
+        its registers: one of them, or all at once."""
         if len(chosen) < 2:
             return list(chosen)
         bench = self.bench_over(made)
@@ -38,21 +38,21 @@ class Adversary:
         return ways[max(worth, key=lambda index: worth[index])] if worth else list(chosen)
 
     def bench_over(self, made: labs.Lab) -> Bench:
-        """A program over the network, with room for a search: the one at hand, or a new one where that has other links
-        or few events left."""
+        """Returns a program over the network, with room for a search: the one at hand, or a new one if that has other
+        links or few events left."""
         if self.bench is None or self.bench.made.links != made.links or self.bench.events > USED:
             self.close()
             self.bench = Bench(made)
         return self.bench
 
     def some(self, nodes: Sequence[int], most: int) -> list[int]:
-        """The nodes, or where they are more, so many of them, drawn."""
+        """Returns the nodes, or, if they are more, so many of them, drawn."""
         return list(nodes) if len(nodes) <= most else self.chance.sample(list(nodes), most)
 
     def tried(self, bench: Bench, report: dict[str, Any], nodes: list[int], steps: int) -> int:
-        """How much it is worth that these nodes move now, and that further steps of one node each follow, `steps` in
-        all: the moves, and after them how many nodes are privileged and links open, at the best of the ways that are
-        tried; END less where nobody is privileged any more. Then all is undone, but for the number of the
+        """Returns how much it is worth that these nodes move now, and that further steps of one node each follow,
+        `steps` in all: the moves, and after them how many nodes are privileged and links open, at the best of the ways
+        that are tried; END less if nobody is privileged any more. Then all is undone, but for the number of the
         configuration."""
         before = {node: self.registers[node] for node in nodes}
         after = bench.step(report, nodes, self.chance)

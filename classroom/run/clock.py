@@ -63,7 +63,7 @@ class Clock:
         return f"the lesson ends at {self.end:%H:%M}, in {plural(due[-1], 'minute')}" if due and not self.is_over(now) else ""
 
     def is_over(self, now: datetime) -> bool:
-        """Whether the end has come."""
+        """Returns whether the end has come."""
         return now >= self.end
 
     def told(self) -> str:

@@ -70,7 +70,7 @@ def sweep() -> None:
 
 @contextmanager
 def room() -> Iterator[Room]:
-    """Gives a room for repositories, and removes it at the end."""
+    """Returns a room for repositories, and removes it at the end."""
     sweep()
     folders = []
     try:

@@ -33,7 +33,7 @@ TOP = Path(__file__).resolve().parents[2]
 
 
 def words() -> argparse.Namespace:
-    """The words of the command line."""
+    """Returns the words of the command line."""
     parser = argparse.ArgumentParser(prog="tools.wrong", description=__doc__, formatter_class=argparse.RawDescriptionHelpFormatter)
     parser.add_argument("crates", nargs="*", metavar="CRATE", help="try these alone")
     parser.add_argument("--jobs", type=int, metavar="N", help="at most N checks side by side (else RT_JOBS, or the processors)")
@@ -45,7 +45,7 @@ def words() -> argparse.Namespace:
 
 
 def crates_of(tree: Tree, names: list[str]) -> list[str]:
-    """The crates that are named, or all that have wrong bodies, the longest to try first."""
+    """Returns the crates that are named, or all that have wrong bodies, the longest to try first."""
     for name in names:
         if name not in tree.uses or not tree.has_edits(name):
             sys.exit(f"tools.wrong: {name} is no crate with wrong bodies")
@@ -65,7 +65,7 @@ def say_rounds(tree: Tree, crates: list[str]) -> None:
 
 
 def tried_of(tree: Tree, crates: list[str], asked: argparse.Namespace) -> Iterator[Tried]:
-    """What comes of the edits of crates, at once or as the crates are proved."""
+    """Yields what comes of the edits of crates, at once or as the crates are proved."""
     lanes = lane_count(asked.jobs)
     if not asked.as_proved:
         yield from try_crates(tree, crates, lanes, asked.logs, Running())
