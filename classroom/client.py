@@ -476,7 +476,7 @@ def stop(error: Exception) -> tuple[int, str]:
     if isinstance(error, NoSlip):
         return 1, str(error)
     if isinstance(error, NoServer):
-        return 4, f"{error}; your teacher tells the {'certificate' if isinstance(error, NoDoor) else 'port'}"
+        return 4, f"{error}; ask your teacher for the {'certificate' if isinstance(error, NoDoor) else 'port'}"
     if isinstance(error, Over):
         return 0, "the run is over"
     return (LOST, f"{LOST_SO} ({error})") if isinstance(error, Closed) else (3, str(error))

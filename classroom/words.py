@@ -22,7 +22,7 @@ class Parser(argparse.ArgumentParser):
 
     def error(self, message: str) -> NoReturn:
         """Ends the program with a line and the status of usage."""
-        self.exit(USAGE, f"{self.prog}: {printable(message)}; {self.prog} --help tells the words\n")
+        self.exit(USAGE, f"{self.prog}: {printable(message)}; {self.prog} --help prints the words\n")
 
 
 def version() -> str:
@@ -142,7 +142,7 @@ EACH: dict[str, tuple[str, Callable[[argparse.ArgumentParser], None]]] = {
     "attach": ("take the desk of a class whose run is gone, or has lost its terminal", of("run.attach")),
     "slips": ("the slips of labs anew, for another way in", of("setup.handing")),
     "key": ("another key and slip for a student, in mid-course", of("setup.rekey")),
-    "mark": ("what journals tell of each student", add_mark),
+    "mark": ("the marks of each student, from journals", add_mark),
     "history": ("every line that a student's connections sent, its reply, and the steps between; at one place seat by seat", of("marks.history")),
     "play": ("a run as one page that shows it, or a configuration as a picture", add_play),
     "practise": ("play alone: bots of the house play the other nodes, and each denial is explained", of("bots.practise")),

@@ -30,7 +30,7 @@ PACE = 0.02  # seconds between two looks of the house at its nodes
 SHARED = 0.05  # how often the house asks at such a look for a node that a program plays too
 KEPT_LINES = 20_000  # of a conversation
 SHOWN, SHOWN_LINE = 40, 120  # characters of a word and of a line that was asked
-OWN_RULE = "no look shows a program the enabled rule (--own-rule): it has to decide by p, m and near, as STUDENT.md tells"
+OWN_RULE = "no look shows a program the enabled rule (--own-rule): it has to decide by p, m and near, as STUDENT.md says"
 RULE = re.compile(rb',"rule":"[a-z]+"}$')  # at the end of a look
 PATIENCE = 0.5  # seconds without a grant after which the random daemon tosses
 

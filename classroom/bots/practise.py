@@ -52,7 +52,7 @@ def add_words(words: argparse.ArgumentParser) -> None:
     words.add_argument("--daemon", type=daemon, default=Daemon("when-idle", 0.5), metavar="D", help=f"{FORMS} (when-idle:0.5)")
     words.add_argument("--seed", type=int, default=SEED, help=f"for network, start and daemon ({SEED})")
     words.add_argument("--timeout", type=seconds, default=60.0, metavar="SECONDS",
-                       help="without news for so long it ends, where a BOT is named (60)")
+                       help="end after so long without news, if a BOT is named (60)")
     words.add_argument("--own-rule", action="store_true", help="no look shows the enabled rule, so that your program has to decide by itself")
     words.add_argument("--port", type=positive, help="the port, or else the next that is free (4711; with a BOT any)")
     words.add_argument("--page", action="store_true", help="play by hand at a page in your browser, without a BOT")
@@ -208,7 +208,7 @@ def practise(words: argparse.Namespace) -> int:
     """Plays a class of one student to its end."""
     program(), answerer()
     if words.page and words.bots:
-        raise Fault("--page is for who plays by hand: without a BOT")
+        raise Fault("--page is for playing by hand: leave the BOT out")
     reap_orphans()
     bots = [Bot.of(word) for word in words.bots]
     for bot in bots:

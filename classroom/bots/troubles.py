@@ -48,7 +48,7 @@ def rests(trial: Attempt, seconds: float) -> None:
     trial.watch(seconds)
     asked = trial.heard.asked - before
     if asked > len(trial.nodes()):
-        raise Fails(f"it asked for {asked} moves where nothing was to ask: if `rule` is null, there is nothing to do now")
+        raise Fails(f"it asked for {asked} moves though there was nothing to ask for: if `rule` is null, there is nothing to do now")
 
 
 def hurt(trial: Attempt, of: list[int] | None = None) -> int:
@@ -188,7 +188,7 @@ def turned_away(trial: Attempt) -> None:
         if time.monotonic() > end:
             raise Fails(f"it said no hello in {trial.limits.seconds:g} seconds{trial.playing.silence(trial.case.who)}")
         trial.turn()
-    trial.doing = ", after it was told `busy`: all seats are taken, so a bot comes again in a second"
+    trial.doing = ", after the reply `busy`: all seats are taken, so a bot comes again in a second"
     trial.watch(TURNED_AWAY)
     relay.busy, trial.doing = False, ""
     trial.until_greeted()
@@ -201,7 +201,7 @@ def over(trial: Attempt) -> None:
     end = time.monotonic() + trial.limits.seconds
     while not (how := trial.kept.ended()):
         if time.monotonic() > end:
-            raise Fails(f"it was told that the class is over, and goes on after {trial.limits.seconds:g} seconds: a bot ends then")
+            raise Fails(f"it got the line that the class is over, and still runs after {trial.limits.seconds:g} seconds: a bot ends then")
         if trial.stop.is_set():
             raise Stopped
         trial.playing.turn()

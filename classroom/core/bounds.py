@@ -27,7 +27,7 @@ def of(nodes: int, links: int) -> Bounds:
     finally:
         os.close(file)
     if not found.moves:
-        raise Fault("the host's program is an older one: it tells no bounds", 4)
+        raise Fault("the host's program is an older one: it prints no bounds", 4)
     return found
 
 

@@ -94,13 +94,13 @@ WORDS = {
     "stop": Word("NAME", "leave them to the student again", Action.STOP),
     "every": Word("SECONDS", "close a step every so many seconds", Action.CLOSE_BY,
                   (Button("every", "by the clock", "every #seconds", "every so many seconds"),)),
-    "when-idle": Word("SECONDS", "close a step where nothing came for so long", Action.CLOSE_BY,
+    "when-idle": Word("SECONDS", "close a step when nothing came for so long", Action.CLOSE_BY,
                       (Button("when-idle", "when idle", "when-idle #seconds", "so many seconds after the last move"),)),
     "by-hand": Word("", "close no step by itself", Action.CLOSE_BY, (Button("by-hand", "by hand", "by-hand"),)),
     "daemon": Word("WORD", "close steps as central, synchronous, random:P, adversary, when-idle:SECONDS, every:SECONDS, by-hand", Action.DAEMON),
-    "page": Word("", "another address of the page to act at; the one before acts no more", Action.PAGE),
+    "page": Word("", "another address of the page to act at; the old one stops working", Action.PAGE),
     "key": Word("NAME", "another key for a student, while the class goes on", Action.KEY),
-    "help": Word("", "tell these words", Action.HELP),
+    "help": Word("", "list these words", Action.HELP),
     "end": Word("", "end the run", Action.END, (Button("end", "End the run …", "end", "asks before it ends the run", kind="button"),)),
 }
 EDITS = tuple(word for word, it in WORDS.items() if it.is_edit)

@@ -49,7 +49,7 @@ class People:
 def add_words(words: argparse.ArgumentParser) -> None:
     """Adds the words that name columns."""
     words.add_argument("--column", metavar="COL", help="the column of the table that has the names")
-    words.add_argument("--first-name", metavar="COL", help="the column of first names, where they stand alone")
+    words.add_argument("--first-name", metavar="COL", help="the column of first names, if they have one of their own")
     words.add_argument("--last-name", metavar="COL", help="the column of last names")
     words.add_argument("--id", metavar="COL", help="the column of what tells two of one name apart")
 

@@ -43,7 +43,7 @@ class Comeback:
             return ""
         told = f"after {self.recovery.told(self.nodes, len(self.links))}"
         if self.missed:
-            told = "after closes of which some came in one breath: the marks tell how many moves and rounds it took"
+            told = "after closes of which some came at once: the marks say how many moves and rounds it took"
         self.recovery, self.missed = None, False
         return f"{'stable again' if self.hurt else 'stable'} {told}"
 
@@ -93,5 +93,5 @@ def recoveries(lab: labs.Lab, events: list[Event]) -> list[str]:
     edits."""
     edits = sum(event.is_edit for event in events)
     if edits > MOST_COUNTED:
-        return [f"{edits} faults, links and cuts: how the class came back is told where there are at most {MOST_COUNTED}"]
+        return [f"{edits} faults, links and cuts: how the class came back is printed only for at most {MOST_COUNTED}"]
     return Recount(lab, events, Comeback(lab)).counts()

@@ -26,7 +26,7 @@ STILL_HERE = 10.0  # seconds without news after which a page gets a line that th
 LAST_WORD = 5.0  # seconds in which the pages may learn that the run is over
 MOST_BYTES = 1000  # of what a page asks for
 LINES = "application/x-ndjson"
-LEFT = "this page's server was ended: come again where your teacher tells"
+LEFT = "this page's server was ended: ask your teacher where to come again"
 ASKS = ("node", "at", "rule", "with")  # of a move
 
 

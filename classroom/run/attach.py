@@ -40,7 +40,7 @@ def free(folder: Path, record: Record) -> None:
         end = time.monotonic() + PATIENCE
         while holder.lives():
             if time.monotonic() > end:
-                raise Fault(f"{folder}: process {holder.number} doesn't let go of its desk")
+                raise Fault(f"{folder}: process {holder.number} doesn't leave its desk")
             time.sleep(0.05)
 
 

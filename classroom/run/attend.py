@@ -60,7 +60,7 @@ def limit_of(process: int) -> int | None:
 def told_of_limit(left: int, folder: Path) -> tuple[str, str]:
     """Returns how much room a journal has that may grow by so many bytes, `little`, `full` or neither, and the line
     that says so."""
-    how = f"(ulimit -f): end, and go on with {CLASS} run --resume {folder} where there is no such limit"
+    how = f"(ulimit -f): end, and go on with {CLASS} run --resume {folder} without such a limit"
     if left >= LITTLE:
         return "", ""
     if left >= LINE:

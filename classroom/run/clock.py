@@ -16,7 +16,7 @@ def hour(word: str) -> str:
     """Returns a time of the day that a word of the command line names, as `10:45`."""
     found = re.fullmatch(r"(\d{1,2}):(\d\d)", word, re.ASCII)
     if not found or int(found[1]) > 23 or int(found[2]) > 59:
-        raise argparse.ArgumentTypeError(f"{word} is no time of the day: 10:45")
+        raise argparse.ArgumentTypeError(f"{word} is no time of the day, as 10:45")
     return f"{int(found[1]):02}:{found[2]}"
 
 

@@ -99,8 +99,8 @@ class Connected:
         listens = any(own == self.port and state == LISTENING for own, _, state, _ in found)
         if not self.full and (len(here) >= self.seats or not listens):
             self.full = True
-            lines.append("all seats are taken: who comes now is told so; who tells whose they are" if listens else
-                         "each connection of this server was used: who comes now isn't let in")
+            lines.append("all seats are taken: newcomers are turned away; type who to see whose they are" if listens else
+                         "each connection of this server was used: newcomers aren't let in")
         return lines
 
     def process(self, number: str | None) -> str:

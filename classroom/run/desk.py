@@ -208,7 +208,7 @@ class Desk:
     def housed(self, name: str) -> House:
         """Returns the house, which is to play for a student, or to stop. An error says why it can't."""
         if self.house is None and self.lab.held():
-            raise ValueError("the house plays where the server is a host: without --serve")
+            raise ValueError("the house plays only if the server is a host: without --serve")
         if self.house is None:
             raise ValueError(f"no node has a second owner who could play for {name}: {HOW}")
         return self.house

@@ -20,7 +20,7 @@ VAIN = 10  # denials of a kind since the last step from which on they are printe
 FLOOD = 100.0  # lines a second
 FEW = 4  # students who came or went since the last look and have a line each
 NOBODY = "someone without a name"
-OTHERS = "names that the lab hasn't"
+OTHERS = "names that aren't in the lab"
 MALFORMED = "malformed"
 OVER = ("full", "journal")
 DESK = 1  # the seat of who holds the desk
@@ -202,7 +202,7 @@ class Heard:
     def cut_short(self) -> list[str]:
         """Returns lines of whose lines aren't recorded any longer."""
         names, self.cut = self.cut, []
-        why = "it has taken its room in the record, or the disk is full"
+        why = "its share of the record is used up, or the disk is full"
         return [f"the rest of what {name} sends isn't recorded: {why}" for name in dict.fromkeys(names)]
 
     def who(self, count: int, all_seats: int, otherwise: Iterable[str] = ()) -> str:

@@ -235,7 +235,7 @@ def give_up(it: server.Server, run: Running, seconds: float) -> int | None:
 def leave(it: server.Server, run: Running) -> None:
     """Prints that the server goes on without this program."""
     run.tell(f"the server is left to itself, process {it.process.number}: while it goes on, {CLASS} attach {run.folder} "
-             f"takes its desk; then {CLASS} mark tells the marks")
+             f"takes its desk; then {CLASS} mark prints the marks")
 
 
 def take_leave(it: server.Server, desk: Desk, why: str, run: Running) -> int | None:

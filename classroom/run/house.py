@@ -99,7 +99,7 @@ class House:
             self.again = now + AGAIN
             if refused.word == "busy" and not self.told_busy:
                 self.told_busy = True
-                self.tell("no seat is free for the house, which would play now; who tells whose they are")
+                self.tell("no seat is free for the house, which would play now; type who to see whose they are")
         except Closed:
             self.again = now + AGAIN
 

@@ -44,12 +44,12 @@ def add_desk_words(words: argparse.ArgumentParser) -> None:
                             "student has greeted")
     words.add_argument("--ends", type=hour, metavar="HH:MM", help="end the run at that time of the day; warnings come before it")
     words.add_argument("--anonymous", action="store_true", help="show numbers in place of names on the pages for the projector")
-    words.add_argument("--until", choices=["stable"], help="end the run where no node is privileged")
+    words.add_argument("--until", choices=["stable"], help="end the run when no node is privileged")
     words.add_argument("--page", type=port, nargs="?", const=4780, metavar="PORT",
                        help="serve a page of the run, for the projector, at that port or the next free one (4780)")
     words.add_argument("--play", type=port, nargs="?", const=PLAY, metavar="PORT",
                        help="serve a page at which students play by hand, at that port or the next free one (4790)")
-    words.add_argument("--typed", action="store_true", help="take words on standard input where it is no terminal too")
+    words.add_argument("--typed", action="store_true", help="take words on standard input even if it is no terminal")
 
 
 def add_words(words: argparse.ArgumentParser) -> None:
@@ -63,7 +63,7 @@ def add_words(words: argparse.ArgumentParser) -> None:
     words.add_argument("--into", default="runs", help="where the run's folder is made (runs)")
     words.add_argument("--serve", action="store_true",
                        help="no host: a server for so many connections in all as the lab has sessions")
-    words.add_argument("--beside", action="store_true", help="start the class where a run of the lab goes on, too")
+    words.add_argument("--beside", action="store_true", help="start the class even if a run of the lab goes on")
     letting.add_words(words)
     add_desk_words(words)
     words.set_defaults(work=run)

@@ -192,7 +192,7 @@ def pair_warnings(lab: labs.Lab) -> Iterator[str]:
     shared = [str(node.id) for node in lab.without_house().nodes if len(node.owners) == 2]
     if shared:
         nodes = ("nodes " if len(shared) > 1 else "node ") + ", ".join(shared[:MOST_LISTED]) + ", ..." * (len(shared) > MOST_LISTED)
-        yield f"two students own {nodes}: a mark by counts of granted moves is there one for the quicker program; count a pair as one"
+        yield f"two students own {nodes}: a mark by granted moves favours the quicker program there; count a pair as one"
 
 
 def start_warnings(path: Path, lab: labs.Lab) -> Iterator[str]:

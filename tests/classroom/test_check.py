@@ -95,7 +95,7 @@ class Check(InRoom):
         self.warns("node 17 has no neighbour", "the network is in 2 parts", change=(", [12, 17]", ""))
 
     def test_pairs(self) -> None:
-        self.warns("warning: two students own node 12: a mark by counts of granted moves is there one for the quicker program",
+        self.warns("warning: two students own node 12: a mark by granted moves favours the quicker program there",
                    change=PAIR)
         students = self.file("students", "Ana\nBen\nCyd\n")
         self.assertEqual(words("new", self.room / "pairs.toml", "--students", students, "--pairs", "--nodes", "10").returncode, 0)

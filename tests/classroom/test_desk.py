@@ -373,11 +373,11 @@ class NotDone(Cycle):
     def test_a_line_each(self) -> None:
         into = self.room / "runs"
         for word, port in (("--port", "65536"), ("--port", "0"), ("--page", "70000"), ("--page", "x")):
-            self.says(1, f"class run: argument {word}: {port} is no port: 1 to 65535; class run --help tells the words",
+            self.says(1, f"class run: argument {word}: {port} is no port: 1 to 65535; class run --help prints the words",
                       "run", CYCLE, word, port, "--into", into)
         self.says(4, f"class: {self.room}/none.toml: No such file or directory", "run", self.room / "none.toml", "--into", into)
         self.says(4, f"class: {self.room}: .*", "run", self.room, "--into", into)
-        self.says(1, "class: the following arguments are required: .*; class --help tells the words")
+        self.says(1, "class: the following arguments are required: .*; class --help prints the words")
         file = self.file("file", "")
         self.says(4, f"class: {file}/.*: Not a directory; --into FOLDER names another folder", "run", CYCLE, "--into", file)
         self.says(4, "class: /proc/none/.*; --into FOLDER names another folder", "run", CYCLE, "--into", "/proc/none")

@@ -66,7 +66,7 @@ class Hosted(Cycle):
         gus = self.bot(going, "gus")
         going.until("^connected: gus$")
         self.bot(going, "hana")
-        going.until_each("^connected: hana$", "^all seats are taken: who comes now is told so; who tells whose they are$")
+        going.until_each("^connected: hana$", "^all seats are taken: newcomers are turned away; type who to see whose they are$")
         going.type("who")
         going.until("^connected: 2 of 2 seats: gus, hana$")
         for _ in range(3):

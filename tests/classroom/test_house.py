@@ -258,7 +258,7 @@ class Standing(InRoom):
         lab = self.file("one.toml", re.sub(r"(?m)^sessions = \d+", "sessions = 2", self.made.read_text(encoding="utf-8")))
         going = Going(self, lab, "--stand-in", "0.1s", "--daemon", "synchronous")
         with Client(going.port, "ana-lima", self.lab.students["ana-lima"]):
-            going.until("^no seat is free for the house, which would play now; who tells whose they are$")
+            going.until("^no seat is free for the house, which would play now; type who to see whose they are$")
         going.until("^stable after ")
         first = next(at for at, line in enumerate(going.lines) if line.startswith("configuration "))  # Then it has a seat now and then.
         self.assertEqual(sum("no seat is free" in line for line in going.lines[:first]), 1)

@@ -161,7 +161,7 @@ class Seated(Cycle):
         self.assertEqual(again.lines[-2:], [
             "the server: busy: all seats are taken; come again later",
             f"the server is left to itself, process {record.server.number}: while it goes on, {CLASS} attach {going.folder} takes its desk; "
-            f"then {CLASS} mark tells the marks",
+            f"then {CLASS} mark prints the marks",
         ])
         self.assertTrue(record.server.lives())
         self.assertTrue(tess.fault(2, None, True).place)
