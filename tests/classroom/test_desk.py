@@ -56,7 +56,7 @@ class Completed(unittest.TestCase):
     """What the tab key offers."""
 
     def offers(self, line: str) -> list[str]:
-        """What the tab key offers at the end of a line, where nodes are 1, 12 and 7."""
+        """Returns what the tab key offers at the end of a line, if nodes are 1, 12 and 7."""
         terminal = object.__new__(Terminal)
         terminal.words, terminal.readline = ["1", "12", "7"], unittest.mock.Mock()
         terminal.readline.get_line_buffer.return_value = line
@@ -74,7 +74,7 @@ class Completed(unittest.TestCase):
 
 
 class Words(Cycle):
-    """Runs that are told what to do."""
+    """Runs that take words."""
 
     def test_the_end_is_asked_for_twice(self) -> None:
         going = Going(self, CYCLE, "--close", "by-hand")
@@ -288,20 +288,20 @@ class Kept(InRoom):
 
 
 class Disk(InRoom):
-    """What is told of a disk."""
+    """What is printed of a disk."""
 
     def test_little_room_none_and_room_again(self) -> None:
         told = self.told(self.disk(), 10**9, 65536, 65535, 4096, 0, 0, 10**9, 10**9)
         self.assertEqual(told, [[], [], ["the disk has little room"], [], ["the disk is full"], [], ["the disk has room again"], []])
 
     def disk(self) -> Room:
-        """The room on the disk of the test's folder."""
+        """Returns the room on the disk of the test's folder."""
         room = Room(self.room)
         self.addCleanup(room.close)
         return room
 
     def told(self, room: Room, *free: int) -> list[list[str]]:
-        """The beginnings of what is told where so many bytes are free, one after the other."""
+        """Returns the beginnings of what is printed if so many bytes are free, one after the other."""
         told = []
         for left in free:
             room.due = 0.0
@@ -362,10 +362,10 @@ class Memory(InRoom):
 
 
 class NotDone(Cycle):
-    """What can't be done is told in a line, and no folder is left."""
+    """What can't be done is reported in a line, and no folder is left."""
 
     def says(self, status: int, line: str, *asked: str | Path) -> None:
-        """Wants a status and one line of error."""
+        """Checks for a status and one line of error."""
         done = words(*asked)
         self.assertEqual((done.returncode, done.stdout), (status, ""), done.stderr)
         self.assertRegex(done.stderr, f"^{line}\n$")

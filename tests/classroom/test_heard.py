@@ -1,4 +1,4 @@
-"""What `./class run` tells from the record: who comes and goes, guesses keys, asks in vain, floods."""
+"""What `./class run` prints from the record: who comes and goes, guesses keys, asks without success, floods."""
 from __future__ import annotations
 
 import unittest
@@ -38,7 +38,7 @@ class Listened(InRoom):
         self.say(seat, 0, HELLO % (name, "some-key"), f'{{"ok":"hello","who":"{name}"}}')
 
     def news(self, step: int = 0, seconds: float = 1.0) -> list[str]:
-        """What is told after so many seconds."""
+        """Returns what is printed after so many seconds."""
         self.now += seconds
         return self.heard.look(step, self.now)
 

@@ -46,7 +46,7 @@ class Counted(unittest.TestCase):
 
 @unittest.skipUnless(host(), "not tried: no host is built")
 class AfterACrash(Cycle):
-    """What is told after the server died counts from before."""
+    """What is printed after the server died counts from before."""
 
     def test_live_and_in_the_marks_it_is_the_same(self) -> None:
         going = Going(self, CYCLE, "--daemon", "by-hand")
