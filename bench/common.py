@@ -62,5 +62,5 @@ def instructions(words: Words, stdin: Path) -> int:
         run = subprocess.run(call, stdin=lines, stdout=subprocess.DEVNULL, stderr=subprocess.PIPE, check=True)
     found = re.search(rb"Collected : (\d+)", run.stderr)
     if found is None:
-        refuse("callgrind told no count")
+        refuse("callgrind printed no count")
     return int(found[1])

@@ -3,7 +3,7 @@
     python3 -B -m bench.count [ROW..]
 
 Each figure is the difference of two runs of unlike lengths, by the lines that one has more, so that the
-start isn't counted. Before a figure is told, both programs have to write the same for the longer input.
+start isn't counted. Before a figure is printed, both programs have to write the same for the longer input.
 With words only rows are counted whose names have one of them.
 """
 import sys

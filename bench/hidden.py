@@ -39,7 +39,7 @@ def count(program: Path, before: str, line: str, script: Path) -> tuple[float, b
 
 
 def main() -> None:
-    """Counts each pair, and tells the difference."""
+    """Counts each pair, and prints the difference."""
     needs_valgrind()
     with tempfile.TemporaryDirectory() as folder:
         program, script = stripped(PROGRAM, Path(folder, "program")), Path(folder, "script")

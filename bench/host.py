@@ -3,7 +3,7 @@
     python3 -B -m bench.host
 
 Each serves the same views, 30,000 to each connection, asked for in bursts of 100; each is timed five times in
-turn, from the first request to the last reply, and the medians are told. The replies have to be the same.
+turn, from the first request to the last reply, and the medians are printed. The replies have to be the same.
 """
 import re
 import socket

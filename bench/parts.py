@@ -1,9 +1,9 @@
-"""Tells on which functions of this program a line's instructions go, by valgrind's callgrind.
+"""Prints on which functions of this program a line's instructions go, by valgrind's callgrind.
 
     python3 -B -m bench.parts [ROW..]
 
 Each figure is what a function takes itself for a line of the row, as `bench.count` counts it: the difference of
-two runs of unlike lengths. With words only rows are told whose names have one of them.
+two runs of unlike lengths. With words only rows are printed whose names have one of them.
 """
 import re
 import subprocess
@@ -14,7 +14,7 @@ from pathlib import Path
 from bench.common import Words, needs_valgrind, refuse
 from bench.count import ROWS, Counter, Row
 
-MOST = 12  # functions of a row that are told
+MOST = 12  # functions of a row that are printed
 FOUND = re.compile(r"^\s*([\d,]+)\s+(?:\(\s*[\d.]+%\)\s+)?\S*?:(\S.*?)(?: \[[^]]*\])?$", re.MULTILINE)
 
 
@@ -28,7 +28,7 @@ def by_function(words: Words, stdin: Path, room: Path) -> dict[str, int]:
     taken: dict[str, int] = {}
     for count, name in FOUND.findall(told.stdout):
         taken[name] = taken.get(name, 0) + int(count.replace(",", ""))
-    return taken or refuse("callgrind_annotate told no function")
+    return taken or refuse("callgrind_annotate printed no function")
 
 
 def parts_of(row: Row, counter: Counter, room: Path) -> dict[str, float]:

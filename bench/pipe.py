@@ -2,7 +2,7 @@
 
     python3 -B -m bench.pipe
 
-Each way is timed 41 times in turn, from the call to the program's end, and the medians are told. The replies
+Each way is timed 41 times in turn, from the call to the program's end, and the medians are printed. The replies
 have to be the same.
 """
 import statistics

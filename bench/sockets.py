@@ -1,10 +1,10 @@
-"""Tells what views over sockets take, of this program, of the one by hand, and of an echo.
+"""Prints what views over sockets take, of this program, of the one by hand, and of an echo.
 
     python3 -B -m bench.sockets [BURST]
 
 Eight clients ask at once, each BURST lines (1) after the last replies. The echo answers each line by a write of
 its own with a line as long as a view's reply. What is served is measured in turn, 21 times, and the medians are
-told: of requests a second, which the clients, in Python, hold back, and of the server's own processor time.
+printed: of requests a second, which the clients, in Python, hold back, and of the server's own processor time.
 """
 import os
 import subprocess

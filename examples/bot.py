@@ -51,7 +51,7 @@ def play(words: list[str]) -> None:
             with me:
                 return ask(me, slip.nodes, patience)
         except (Closed, Refused) as lost:
-            if isinstance(lost, Refused) and lost.word != "busy":  # Which is told to who leaves for a newcomer, too.
+            if isinstance(lost, Refused) and lost.word != "busy":  # A connection that leaves for a newcomer gets this, too.
                 raise
             me = again(slip, lost)
 

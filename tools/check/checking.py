@@ -49,7 +49,7 @@ class Count:
         return not it.failed
 
     def with_needs(self, parts: list[Part]) -> list[Part]:
-        """Returns the parts that have what they need; the others are told, or fail if none may be left out."""
+        """Returns the parts that have what they need; the others are reported, or fail if none may be left out."""
         lacks = missing(parts)
         for name, need in lacks.items():
             names = [it.name for it in parts if name in it.needs + it.likes]
@@ -77,7 +77,7 @@ class Count:
 
 
 def begin(stages: Stages, processors: int) -> None:
-    """Gets what is missing, if nothing may be left out; tells how long it will take."""
+    """Gets what is missing, if nothing may be left out; prints how long it will take."""
     if is_gate():
         install([part for stage in stages for part in stage])
     names = [stage[0].name if len(stage) == 1 else "scripts" for stage in stages]
@@ -104,7 +104,7 @@ def run(stages: Stages, crew: Crew, count: Count) -> None:
 
 
 def forget_records() -> None:
-    """Removes the records beside programs that `rt ci` has made anew: they tell of older ones."""
+    """Removes the records beside programs that `rt ci` has made anew: they are about older ones."""
     for record in TOP.glob("crates/*/out/*.sources"):
         record.unlink()
 

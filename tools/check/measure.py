@@ -14,7 +14,7 @@ import time
 from tools.check.processes import TICKS, Process, processes
 
 KINDS = ("proof", "tests", "wrong")
-PROVING = ("proofs", "wrong")  # The parts whose checks are told by crate; all others are scripts.
+PROVING = ("proofs", "wrong")  # The parts whose checks are listed by crate; all others are scripts.
 PAUSE = 0.5
 
 Check = tuple[int, str]

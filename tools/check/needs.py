@@ -21,7 +21,7 @@ NEVER_INSTALLED = "openssh-server"  # Its installation would start a server.
 
 @dataclass(frozen=True)
 class Need:
-    """What has to be there, how that is told, and the Debian packages that bring it."""
+    """What has to be there, how that is reported, and the Debian packages that bring it."""
 
     what: str
     is_there: Callable[[], bool]
@@ -76,7 +76,7 @@ RELEASE = ("python3", "stunnel4", "openssl", "openssh-client", "systemd")
 NEEDS = {
     "rt": Need("the command rt of the Rattle toolchain on the path (README.md)", on_path("rt")),
     "programs": Need("both programs, built from these sources: ./mml build", is_built_or_named, is_a_must=True),
-    "built": Need("both programs where they belong, built from these sources: ./mml build", is_built, is_a_must=True),
+    "built": Need("both programs in their places, built from these sources: ./mml build", is_built, is_a_must=True),
     "tests": Need("the tests inside the crates, as ./check proofs leaves them", has_tests),
     "git": Need("the command git", on_path("git"), ("git",)),
     "python3": Need("Debian's own Python", on_path("/usr/bin/python3"), ("python3",)),

@@ -1,7 +1,7 @@
 """The parts of a check: another one is a line of QUICK.
 
-A part is a call at the top whose status is 0 where it passed, and whose last line tells how much it tried.
-Its figures were measured on four processors: they tell beforehand what a check takes, and bound nothing.
+A part is a call at the top whose status is 0 if it passed, and whose last line says how much it tried.
+Its figures were measured on four processors: they estimate what a check takes, and bound nothing.
 """
 from __future__ import annotations
 
@@ -22,11 +22,11 @@ class Part:
     command: tuple[str, ...]
     work: float  # processor minutes
     least: float  # minutes of the clock, however many processors there are
-    width: float = 1  # how many processors it keeps busy: less than one where it mostly waits
+    width: float = 1  # how many processors it keeps busy: less than one if it mostly waits
     needs: tuple[str, ...] = ()  # names of `needs.NEEDS`
     likes: tuple[str, ...] = ()  # what a few of its tests need, which are left out without it
     shows: str = ""  # the lines of its output that are shown as they come
-    hands_on: str = ""  # what in its lines is written to the parts beside, which are told of no more once it has ended
+    hands_on: str = ""  # what in its lines is written to the parts beside, which get no more once it has ended
     is_beside: bool = False  # whether it runs from the beginning on, beside the others, with what they leave idle
 
     def minutes(self, processors: int) -> float:

@@ -1,4 +1,4 @@
-"""What the system tells of processes, and the end of all that stand below this one."""
+"""What the system reports of processes, and the end of all that stand below this one."""
 from __future__ import annotations
 
 import ctypes
@@ -28,7 +28,7 @@ class Process:
 
 
 def process(pid: int) -> Process:
-    """Returns what the system tells of a process."""
+    """Returns what the system reports of a process."""
     with open(f"/proc/{pid}/stat", encoding="utf-8", errors="replace") as it:
         text = it.read()
     name = text[text.index("(") + 1 : text.rindex(")")]

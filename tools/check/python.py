@@ -2,7 +2,7 @@
 
     python3 -B -m tools.check.python
 
-The settings are those of `pyproject.toml` and `.flake8`, so that who calls a tool by hand, or by an editor, is told the same.
+The settings are those of `pyproject.toml` and `.flake8`, so a tool that is called by hand, or by an editor, says the same.
 """
 from __future__ import annotations
 

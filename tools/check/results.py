@@ -19,7 +19,7 @@ class Result:
 
 
 def of_cases(output: str) -> str | None:
-    """Returns what a run of test cases tells, without those that were left out, or None if it isn't one."""
+    """Returns the result of a run of test cases, without those that were left out, or None if it isn't one."""
     ran = re.search(r"^Ran (\d+) tests? in (.*)$", output, re.MULTILINE)
     if ran is None:
         return None
@@ -33,7 +33,7 @@ def last_line(output: str) -> str:
 
 
 def result(done: Done) -> Result:
-    """Returns what became of a part. One that doesn't tell of a test, or of none, has failed."""
+    """Returns what became of a part. One whose output has no test, or says that there was none, has failed."""
     line = of_cases(done.output) or last_line(done.output)
     counted = SUM.fullmatch(line)
     passed, failed = (int(counted[1]), int(counted[2])) if counted else (int(done.status == 0), 0)

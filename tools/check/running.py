@@ -16,7 +16,7 @@ from tools.check.processes import end_all
 from tools.check.signals import HEED
 
 POLL = 0.1
-PATIENCE = 8.0  # seconds that parts have to clear up where they are ended
+PATIENCE = 8.0  # seconds that parts have to clear up if they are ended
 
 
 @dataclass(frozen=True)
@@ -112,7 +112,7 @@ class Crew:
                 yield Done(it.part, it.process.returncode, time.monotonic() - it.begun, minutes, text)
 
     def show(self, of: Running, is_all: bool = False) -> None:
-        """Prints what is to be shown of a part, and hands on to those beside what they are to be told."""
+        """Prints what is to be shown of a part, and passes to those beside what they need."""
         words = of.show()
         for it in self.running.values():
             if words or is_all:

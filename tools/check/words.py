@@ -28,8 +28,8 @@ def parser() -> argparse.ArgumentParser:
     whole = sum(minutes_of([[PROOFS], QUICK, [wrong_beside()]], 4))
     every = argparse.ArgumentParser(
         prog="check", description=f"Tests all of it, {taking(whole)}: proofs, scripts, wrong bodies.",
-        epilog="The last line is 'N passed, M failed'. The status is 0 where all passed, 1 where a part failed, "
-        f"2 where the words aren't understood, {TAKEN} where another check runs in this tree.",
+        epilog="The last line is 'N passed, M failed'. The status is 0 if all passed, 1 if a part failed, "
+        f"2 if the words aren't understood, {TAKEN} if another check runs in this tree.",
     )
     each = every.add_subparsers(title="words, for a part of it", dest="word", metavar="WORD")
     quick = each.add_parser("quick", help=f"what needs no proof, over the programs that are built: {taking(minutes(QUICK, 4))}")

@@ -8,7 +8,7 @@
 Edits of a crate whose texts and functions are apart are put into one copy of it (a round), of which one check
 proves the functions that they name. A function is proved from the clauses of what it calls, so one that is
 refused opens no goal of its callers. Each round of a crate begins with what the crate's library holds; crates are
-tried side by side. What fails: an edit that can't be put where it belongs, a function that isn't refused at its
+tried side by side. What fails: an edit that can't be applied, a function that isn't refused at its
 goal, an error of no goal (a text that doesn't compile, a name that a proof lost), a function that is refused
 though no edit names it, and counts of the check that don't fit what it says.
 """

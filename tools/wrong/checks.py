@@ -1,4 +1,4 @@
-"""Checks that run side by side, and that end when this process is told to."""
+"""Checks that run side by side, and that end when this process gets the signal."""
 from __future__ import annotations
 
 import os

@@ -35,7 +35,7 @@ class Tree:
         return self.kit / "rlibs" / f"{crate}.rlib"
 
     def left(self, crate: str) -> Path:
-        """Where `rt` leaves a library of the repository."""
+        """Returns the path at which `rt` leaves a library of the repository."""
         return self.folder(crate) / "out/rlib" / f"{crate}.rlib"
 
     def below(self, crate: str) -> list[str]:

@@ -1,8 +1,8 @@
-"""What a crate's library holds of the check that proved it, put if the checks of its wrong bodies look for it.
+"""What a crate's library holds of the check that proved it, put in the place in which the checks of its wrong bodies look for it.
 
 A library has the modules that were checked for it. A check that goes on from a folder takes from there what is up
 to date, and checks the rest: so a function that no edit touches, and that calls none that one does, isn't proved
-once more. Where a library has no such modules, or the prover saves under no name, all are checked.
+once more. If a library has no such modules, or the prover saves under no name, all are checked.
 """
 from __future__ import annotations
 

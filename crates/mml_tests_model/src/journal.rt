@@ -150,7 +150,7 @@ fn are_lines_read(alloc: Global) -> Result<((bool, bool, bool), bool), Fail> {
 }
 
 /// Fails if a line of no event is read as one or has another error, or an event's line isn't read or written as it
-/// stands. What is wanted is by hand, except for replaced bytes, where it is by the plain model.
+/// stands. What is wanted is by hand, except for replaced bytes: there it is by the plain model.
 #[test]
 fn lines_are_read_and_written(rt: HostRuntime) -> Result<(), Fail> {
     assert_eq!(rt; are_lines_read(rt.alloc())?, ((true, true, true), true));
