@@ -18,7 +18,7 @@ WRAPPER = Path("/usr/share/cargo/bin/cargo")
 
 
 def variables() -> dict[str, str]:
-    """The environment that the wrapper wants: it works only with a CARGO_HOME whose name ends as here."""
+    """Returns the environment that the wrapper wants: it works only with a CARGO_HOME whose name ends as here."""
     home = OUT / "debian/cargo_home"
     flags = {name: "" for name in ("CFLAGS", "CXXFLAGS", "CPPFLAGS", "LDFLAGS")}
     target = {"DEB_HOST_GNU_TYPE": "x86_64-linux-gnu", "DEB_HOST_RUST_TYPE": "x86_64-unknown-linux-gnu"}

@@ -12,7 +12,7 @@ BYE = b'{"do":"bye"}\n'
 
 
 def free_port() -> int:
-    """A port that nobody listens at."""
+    """Returns a port that nobody listens at."""
     with socket.socket() as it:
         it.bind(("127.0.0.1", 0))
         port: int = it.getsockname()[1]
@@ -36,7 +36,8 @@ def ask(port: int, burst: int, bursts: int, begin: Barrier, results: "multiproce
 
 
 def time_clients(port: int, burst: int, bursts: int) -> tuple[float, Optional[bytes]]:
-    """How many seconds all clients take, and the one reply that all of them got; None where they got several."""
+    """Returns how many seconds all clients take, and the one reply that all of them got, or None if they got
+    several."""
     begin = multiprocessing.Barrier(CONNECTIONS + 1)
     results: "multiprocessing.Queue[set[bytes]]" = multiprocessing.Queue()
     words = (port, burst, bursts, begin, results)

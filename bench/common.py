@@ -22,12 +22,12 @@ def refuse(why: str) -> NoReturn:
 
 
 def built(program: Path) -> Path:
-    """The path of a program that is built; where it isn't, the measurement ends."""
+    """Returns the path of a program that is built; if it isn't, the measurement ends."""
     return program if program.exists() else refuse(f"{program} isn't built: bench/README.md says how")
 
 
 def built_in(sessions: int = 4, events: int = 100) -> str:
-    """The lab of a call without words, with these limits."""
+    """Returns the lab of a call without words, with these limits."""
     found = re.search(r'r#"(.*?)"#', BUILT_IN.read_text(encoding="utf-8"), re.DOTALL)
     if found is None:
         refuse(f"{BUILT_IN}: no lab")
@@ -36,7 +36,8 @@ def built_in(sessions: int = 4, events: int = 100) -> str:
 
 
 def stripped(program: Path, path: Path) -> Path:
-    """Writes to a path a program without what it holds for a debugger, which valgrind may not read; gives the path."""
+    """Writes to a path a program without what it holds for a debugger, which valgrind may not read. Returns the
+    path."""
     subprocess.run(["strip", "--strip-debug", "-o", path, built(program)], check=True)
     return path
 
@@ -49,17 +50,17 @@ def needs_valgrind() -> None:
 
 
 def replies(words: Words, stdin: Path) -> bytes:
-    """What a program writes to standard output."""
+    """Returns what a program writes to standard output."""
     with stdin.open("rb") as lines:
         return subprocess.run(words, stdin=lines, stdout=subprocess.PIPE, check=True).stdout
 
 
 def instructions(words: Words, stdin: Path) -> int:
-    """How many instructions a run of a program takes: the same in every run, beside other work too."""
+    """Returns how many instructions a run of a program takes: the same in every run, beside other work too."""
     call = ["valgrind", "--tool=callgrind", "--callgrind-out-file=/dev/null", *words]
     with stdin.open("rb") as lines:
         run = subprocess.run(call, stdin=lines, stdout=subprocess.DEVNULL, stderr=subprocess.PIPE, check=True)
     found = re.search(rb"Collected : (\d+)", run.stderr)
     if found is None:
-        refuse("callgrind told no count")
+        refuse("callgrind printed no count")
     return int(found[1])

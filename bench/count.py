@@ -3,7 +3,7 @@
     python3 -B -m bench.count [ROW..]
 
 Each figure is the difference of two runs of unlike lengths, by the lines that one has more, so that the
-start isn't counted. Before a figure is told, both programs have to write the same for the longer input.
+start isn't counted. Before a figure is printed, both programs have to write the same for the longer input.
 With words only rows are counted whose names have one of them.
 """
 import sys
@@ -55,8 +55,8 @@ class Counter:
         self.lab, self.text = folder / "lab", folder / "text"
 
     def call(self, row: Row, index: int) -> Words:
-        """The words of a call: 0 is this program, 1 the one by hand. Through a pipe this program takes none, over the
-        lab that is built in."""
+        """Returns the words of a call: 0 is this program, 1 the one by hand. Through a pipe this program takes none,
+        over the lab that is built in."""
         program = self.programs[index]
         if row.words == PIPED:
             return [program] if index == 0 else [program, "script", self.lab, "/dev/stdin"]
@@ -64,13 +64,13 @@ class Counter:
         return [program, *(named.get(word, word) for word in row.words)]
 
     def write(self, row: Row, turns: int) -> int:
-        """Writes so many turns, and tells how many lines they are."""
+        """Writes so many turns, and returns how many lines they are."""
         lines = list(row.text(turns))
         self.text.write_text("".join(line + "\n" for line in lines), encoding="ascii")
         return len(lines)
 
     def count(self, row: Row) -> list[float]:
-        """How many instructions a line of a row takes in this program, and in the one by hand."""
+        """Returns how many instructions a line of a row takes in this program, and in the one by hand."""
         self.lab.write_text(row.lab(), encoding="ascii")
         less = self.write(row, row.few)
         before = [instructions(self.call(row, index), self.text) for index in range(2)]

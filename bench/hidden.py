@@ -28,7 +28,7 @@ PAIRS: list[tuple[str, str, str, str]] = [
 
 
 def count(program: Path, before: str, line: str, script: Path) -> tuple[float, bytes]:
-    """How many instructions a line takes, and its reply."""
+    """Returns how many instructions a line takes, and its reply."""
     script.write_text(before, encoding="ascii")
     begun = instructions([program], script)
     script.write_text(before + line * LINES, encoding="ascii")
@@ -39,7 +39,7 @@ def count(program: Path, before: str, line: str, script: Path) -> tuple[float, b
 
 
 def main() -> None:
-    """Counts each pair, and tells the difference."""
+    """Counts each pair, and prints the difference."""
     needs_valgrind()
     with tempfile.TemporaryDirectory() as folder:
         program, script = stripped(PROGRAM, Path(folder, "program")), Path(folder, "script")

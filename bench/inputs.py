@@ -13,12 +13,12 @@ FIRST, LAST = 65280, 65535
 
 
 def three() -> str:
-    """The lab that is built in, with as many events as a lab may have."""
+    """Returns the lab that is built in, with as many events as a lab may have."""
     return built_in(events=EVENTS)
 
 
 def lab(owners: dict[int, str], links: Iterable[tuple[int, int]]) -> str:
-    """A lab of these nodes and links."""
+    """Returns a lab of these nodes and links."""
     listed = ", ".join(f"[{a}, {b}]" for a, b in links)
     head = three().split("[[node]]")[0].replace("[[1, 2], [2, 3]]", f"[{listed}]")
     return head + "\n".join(f'[[node]]\nid = {node}\nowner = "{owner}"\n' for node, owner in owners.items())
@@ -32,20 +32,20 @@ def ring(nodes: int, reach: int = 1) -> str:
 
 
 def all_links() -> str:
-    """The greatest lab: each of 256 nodes linked to each other one."""
+    """Returns the greatest lab: each of 256 nodes linked to each other one."""
     ids = range(FIRST, LAST + 1)
     return lab({node: "ben" if node == LAST else "ana" for node in ids}, ((a, b) for a in ids for b in range(FIRST, a)))
 
 
 def sees(turns: int) -> Iterable[str]:
-    """The teacher sees three nodes in turn."""
+    """Returns the teacher sees three nodes in turn."""
     yield TESS
     for turn in range(turns):
         yield f'1 {{"do":"see","node":{turn % 3 + 1}}}'
 
 
 def sees_and_more(turns: int) -> Iterable[str]:
-    """The teacher sees three nodes in turn, each time with a key that no request has."""
+    """Returns the teacher sees three nodes in turn, each time with a key that no request has."""
     yield TESS
     for turn in range(turns):
         yield f'1 {{"do":"see","node":{turn % 3 + 1},"x":[]}}'
@@ -64,7 +64,7 @@ def mixed(turns: int) -> Iterable[str]:
 
 
 def granted(turns: int) -> Iterable[str]:
-    """A move and its release."""
+    """Returns a move and its release."""
     yield from (TESS, ANA)
     for _ in range(turns):
         yield '2 {"at":0,"do":"move","node":1,"rule":"seduction"}'
@@ -72,7 +72,7 @@ def granted(turns: int) -> Iterable[str]:
 
 
 def greetings(turns: int) -> Iterable[str]:
-    """A student's hello and bye, over and over."""
+    """Returns a student's hello and bye, over and over."""
     for _ in range(turns):
         yield BEN
         yield '1 {"do":"bye"}'
@@ -86,14 +86,14 @@ def looks(turns: int) -> Iterable[str]:
 
 
 def reports(turns: int) -> Iterable[str]:
-    """The teacher asks for the report, over and over."""
+    """Returns the teacher asks for the report, over and over."""
     yield TESS
     for _ in range(turns):
         yield '1 {"do":"report"}'
 
 
 def sees_of_all(turns: int) -> Iterable[str]:
-    """What ben sees of the greatest lab, each node in turn."""
+    """Returns what ben sees of the greatest lab, each node in turn."""
     yield BEN
     for turn in range(turns):
         yield f'1 {{"do":"see","node":{FIRST + turn % 256}}}'
@@ -107,7 +107,7 @@ def looks_at_last(turns: int) -> Iterable[str]:
 
 
 def journal(turns: int) -> Iterable[str]:
-    """What a move, a close and a fault that takes it back write, over and over."""
+    """Returns what a move, a close and a fault that takes it back write, over and over."""
     for turn in range(turns):
         place, number = 3 * turn, 2 * turn
         yield f"{place + 1} {number} grant ana 1 seduction"

@@ -1,9 +1,9 @@
-"""Tells on which functions of this program a line's instructions go, by valgrind's callgrind.
+"""Prints on which functions of this program a line's instructions go, by valgrind's callgrind.
 
     python3 -B -m bench.parts [ROW..]
 
 Each figure is what a function takes itself for a line of the row, as `bench.count` counts it: the difference of
-two runs of unlike lengths. With words only rows are told whose names have one of them.
+two runs of unlike lengths. With words only rows are printed whose names have one of them.
 """
 import re
 import subprocess
@@ -14,12 +14,12 @@ from pathlib import Path
 from bench.common import Words, needs_valgrind, refuse
 from bench.count import ROWS, Counter, Row
 
-MOST = 12  # functions of a row that are told
+MOST = 12  # functions of a row that are printed
 FOUND = re.compile(r"^\s*([\d,]+)\s+(?:\(\s*[\d.]+%\)\s+)?\S*?:(\S.*?)(?: \[[^]]*\])?$", re.MULTILINE)
 
 
 def by_function(words: Words, stdin: Path, room: Path) -> dict[str, int]:
-    """How many instructions each function of a run takes itself."""
+    """Returns how many instructions each function of a run takes itself."""
     kept = room / "counts"
     call = ["valgrind", "--tool=callgrind", f"--callgrind-out-file={kept}", *words]
     with stdin.open("rb") as lines:
@@ -28,11 +28,11 @@ def by_function(words: Words, stdin: Path, room: Path) -> dict[str, int]:
     taken: dict[str, int] = {}
     for count, name in FOUND.findall(told.stdout):
         taken[name] = taken.get(name, 0) + int(count.replace(",", ""))
-    return taken or refuse("callgrind_annotate told no function")
+    return taken or refuse("callgrind_annotate printed no function")
 
 
 def parts_of(row: Row, counter: Counter, room: Path) -> dict[str, float]:
-    """How many instructions each function takes itself for a line of a row."""
+    """Returns how many instructions each function takes itself for a line of a row."""
     counter.lab.write_text(row.lab(), encoding="ascii")
     less = counter.write(row, row.few)
     before = by_function(counter.call(row, 0), counter.text, room)

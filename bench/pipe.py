@@ -2,7 +2,7 @@
 
     python3 -B -m bench.pipe
 
-Each way is timed 41 times in turn, from the call to the program's end, and the medians are told. The replies
+Each way is timed 41 times in turn, from the call to the program's end, and the medians are printed. The replies
 have to be the same.
 """
 import statistics
@@ -19,7 +19,7 @@ ROUNDS = 41
 
 
 def time_file(lab: Path, script: Path, replies: Path) -> float:
-    """How many seconds the script takes as a file."""
+    """Returns how many seconds the script takes as a file."""
     with replies.open("wb") as out:
         start = time.perf_counter()
         subprocess.run([PROGRAM, "script", lab, script], stdout=out, check=True)
@@ -27,7 +27,7 @@ def time_file(lab: Path, script: Path, replies: Path) -> float:
 
 
 def time_pipe(script: Path, replies: Path) -> float:
-    """How many seconds the script takes through a pipe."""
+    """Returns how many seconds the script takes through a pipe."""
     with replies.open("wb") as out:
         start = time.perf_counter()
         with subprocess.Popen(["cat", script], stdout=subprocess.PIPE) as feeder:

@@ -1,10 +1,10 @@
-"""Tells what views over sockets take, of this program, of the one by hand, and of an echo.
+"""Prints what views over sockets take, of this program, of the one by hand, and of an echo.
 
     python3 -B -m bench.sockets [BURST]
 
 Eight clients ask at once, each BURST lines (1) after the last replies. The echo answers each line by a write of
 its own with a line as long as a view's reply. What is served is measured in turn, 21 times, and the medians are
-told: of requests a second, which the clients, in Python, hold back, and of the server's own processor time.
+printed: of requests a second, which the clients, in Python, hold back, and of the server's own processor time.
 """
 import os
 import subprocess
@@ -31,7 +31,7 @@ class Served:
 
 
 def served(words: Words, port: int, burst: int) -> Served:
-    """What all clients were served."""
+    """Returns what all clients were served."""
     with subprocess.Popen(words, stdout=subprocess.PIPE) as server:
         assert server.stdout is not None
         server.stdout.readline()
@@ -46,7 +46,7 @@ def served(words: Words, port: int, burst: int) -> Served:
 
 
 def calls(lab: Path) -> dict[str, tuple[Words, int]]:
-    """What is served, by the words of a call and its port."""
+    """Returns what is served, by the words of a call and its port."""
     ports, many = [free_port() for _ in range(3)], str(CONNECTIONS)
     return {
         "an echo": ([TYPED, "echo", str(ports[0]), many], ports[0]),

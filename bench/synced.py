@@ -37,7 +37,7 @@ def ask_on(port: int, over: threading.Event, times: list[float]) -> None:
 
 
 def grant_all(desk: int) -> list[float]:
-    """How many seconds each act takes; a bye at the end."""
+    """Returns how many seconds each act takes; a bye at the end."""
     times = []
     with socket.create_connection(("127.0.0.1", desk)) as it, it.makefile("rb") as replies:
         it.setsockopt(socket.IPPROTO_TCP, socket.TCP_NODELAY, 1)
@@ -54,7 +54,7 @@ def grant_all(desk: int) -> list[float]:
 
 
 def told(times: list[float]) -> str:
-    """The median and the 99th of a hundred, in microseconds."""
+    """Returns the median and the 99th of a hundred, in microseconds."""
     return f"median {statistics.median(times) * 1e6:,.0f} us, 99th of a hundred {statistics.quantiles(times, n=100)[98] * 1e6:,.0f} us"
 
 

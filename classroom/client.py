@@ -75,7 +75,7 @@ class Refused(Exception):
 
 
 class Malformed(Refused):
-    """A line that the server would refuse, and that wasn't sent: its text tells why."""
+    """A line that the server would refuse, and that wasn't sent. Its text says why."""
 
     def __init__(self, why: str) -> None:
         super().__init__("malformed")
@@ -189,7 +189,7 @@ class Slip:
 
     @staticmethod
     def read(path: str | Path) -> Slip:
-        """The slip of a file, or for `-` that of the environment."""
+        """Returns the slip of a file, or for `-` that of the environment."""
         lines = [line.split(None, 1) for line in text_of(path, SLIP).splitlines() if not line.startswith("#")]
         it = {words[0]: words[1].strip() for words in lines if len(words) == 2}
         if missing := [word for word in ("port", "name", "key") if word not in it]:
@@ -201,7 +201,7 @@ class Slip:
 
     @staticmethod
     def of(words: list[str]) -> tuple[Slip, list[str]]:
-        """The slip that the words of a program name, SLIP or PORT NAME KEYFILE NODE,.., and the words after it."""
+        """Returns the slip that the words of a program name, SLIP or PORT NAME KEYFILE NODE,.., and the words after it."""
         if words and not words[0].isdecimal():
             return Slip.read(words[0]), words[1:]
         if len(words) < 3:
@@ -211,7 +211,7 @@ class Slip:
 
 
 def text_of(path: str | Path, variable: str = "") -> str:
-    """The text of a file; where a variable is named, `-` is what the environment has there."""
+    """Returns the text of a file; if a variable is named, `-` is what the environment has there."""
     if variable and str(path) == "-":
         if variable not in os.environ:
             raise NoSlip(f"the environment has no {variable}")
@@ -223,21 +223,21 @@ def text_of(path: str | Path, variable: str = "") -> str:
 
 
 def key_of(word: str) -> str:
-    """The key of a file, which has it alone or is a slip; of `-` that of the environment."""
+    """Returns the key of a file, which has it alone or is a slip; of `-` that of the environment."""
     text = text_of(word, KEY)
     found = word != "-" and re.search(r"^key\s+(.+)$", text, re.MULTILINE)
     return found[1] if found else text if word == "-" else text.strip()
 
 
 def port_of(word: str) -> int:
-    """The port whose number a word is; it raises NoSlip where it is none."""
+    """Returns the port whose number a word is. Raises NoSlip if it is none."""
     if not (word.isascii() and word.isdecimal() and 1 <= int(word) <= 65535):
         raise NoSlip(f"{word} is no port: 1 to 65535")
     return int(word)
 
 
 def door_of(word: str) -> tuple[str, int]:
-    """The host and port of a door, `class.example:4700`; it raises NoSlip where a word is none."""
+    """Returns the host and port of a door, `class.example:4700`. Raises NoSlip if a word is none."""
     host, _, port = word.rpartition(":")
     if not re.fullmatch(r"[A-Za-z0-9.-]+|\[[0-9A-Fa-f:.]+\]", host):
         raise NoSlip(f"{word} is no door: HOST:PORT")
@@ -245,7 +245,7 @@ def door_of(word: str) -> tuple[str, int]:
 
 
 def nodes_of(word: str = "") -> tuple[int, ...]:
-    """The nodes whose numbers a word has, with commas or spaces between them; it raises NoSlip for anything else."""
+    """Returns the nodes whose numbers a word has, with commas or spaces between them. Raises NoSlip for anything else."""
     words = word.replace(",", " ").split()
     if not all(node.isascii() and node.isdecimal() for node in words):
         raise NoSlip(f"nodes {word}: no numbers with commas between them")
@@ -259,7 +259,7 @@ def want_certificate(certificate: bytes | None, slip: Slip) -> None:
 
 
 def tls() -> Any:
-    """How a door is spoken to: who it is, the fingerprint alone tells."""
+    """Returns how a door is spoken to: only the fingerprint says who it is."""
     import ssl
 
     it = ssl.SSLContext(ssl.PROTOCOL_TLS_CLIENT)
@@ -268,7 +268,8 @@ def tls() -> Any:
 
 
 def connected(port: int, limit: float, slip: Slip | None = None, host: str = "127.0.0.1") -> socket.socket:
-    """A connection to a server's port, or through a slip's door, whose certificate is the slip's. One without room ends it: that is `busy`."""
+    """Returns a connection to a server's port, or through a slip's door, whose certificate is the slip's. One without room ends it: that is
+    `busy`."""
     it: Any = None
     try:
         if slip is None or not slip.door:
@@ -301,16 +302,16 @@ class Client:
 
     @staticmethod
     def from_slip(path: str | Path, limit: float = 30.0) -> Client:
-        """A connection as a slip says."""
+        """Returns a connection as a slip says."""
         return Client.of(Slip.read(path), limit)
 
     @staticmethod
     def of(slip: Slip, limit: float = 30.0) -> Client:
-        """A connection as a slip says that was read."""
+        """Returns a connection as a slip says that was read."""
         return Client(slip.port, slip.name, slip.key, limit=limit, connection=connected(slip.port, limit, slip))
 
     def own_port(self) -> int:
-        """The port of this end."""
+        """Returns the port of this end."""
         return int(self._socket.getsockname()[1])
 
     def hang_up(self) -> None:
@@ -331,7 +332,7 @@ class Client:
             self.hang_up()
 
     def _line(self) -> bytes:
-        """The next line, within the time limit."""
+        """Returns the next line, within the time limit."""
         end = time.monotonic() + self.limit
         while b"\n" not in self._rest:
             try:
@@ -347,7 +348,8 @@ class Client:
         return line
 
     def ask(self, **request: object) -> dict[str, Any]:
-        """Returns the reply `ok` to a request as it came; raises Malformed before it sends, or Denied, Refused or Closed after the reply."""
+        """Sends a request, and returns the reply `ok` as it came. Raises Malformed before it sends, or Denied, Refused or Closed after the
+        reply."""
         if self._ended:
             raise Closed("this connection has ended: greet again by another Client")
         line = line_of(request)
@@ -366,12 +368,12 @@ class Client:
         return reply
 
     def see(self, node: int) -> See:
-        """The registers of a node that is shown to you."""
+        """Returns the registers of a node that is shown to you."""
         it = self.ask(do="see", node=node)
         return See(it["node"], it["p"], it["m"], it["at"])
 
     def look(self, node: int) -> Look:
-        """What your node may read."""
+        """Returns what your node may read."""
         it = self.ask(do="look", node=node)
         near = tuple(Near(each["node"], each["p"], each["m"]) for each in it["near"])
         return Look(it["node"], it["p"], it["m"], it["at"], it["rule"], it["chosen"], near)
@@ -404,24 +406,24 @@ class Client:
         self.hang_up()
 
     def close(self) -> Close:
-        """For a teacher: applies all chosen moves at once."""
+        """Applies all chosen moves at once, for a teacher."""
         it = self.ask(do="close")
         return Close(it["at"], it["place"], tuple(it["moved"]))
 
     def fault(self, node: int, p: int | None, m: bool) -> Edit:
-        """For a teacher: sets a node's registers."""
+        """Sets a node's registers, for a teacher."""
         return self._edit(do="fault", node=node, p=p, m=m)
 
     def link(self, a: int, b: int) -> Edit:
-        """For a teacher: adds a link."""
+        """Adds a link, for a teacher."""
         return self._edit(do="link", a=a, b=b)
 
     def cut(self, a: int, b: int) -> Edit:
-        """For a teacher: removes a link."""
+        """Removes a link, for a teacher."""
         return self._edit(do="cut", a=a, b=b)
 
     def release(self, node: int) -> Edit:
-        """For a teacher: takes a chosen move back."""
+        """Takes a chosen move back, for a teacher."""
         return self._edit(do="release", node=node)
 
     def _edit(self, **request: object) -> Edit:
@@ -430,21 +432,21 @@ class Client:
         return Edit(it["at"], it["place"], it.get("dropped", 1))
 
     def report(self) -> Report:
-        """For a teacher: the state of the matching."""
+        """Returns the state of the matching, for a teacher."""
         it = self.ask(do="report")
         lists: dict[str, Any] = {word: tuple(tuple(each) for each in it[word]) for word in ("pairs", "privileged", "open")}
         return Report(it["at"], it["stable"], lists["pairs"], tuple(it["free"]), lists["privileged"], lists["open"])
 
 
 def no_server(port: int, error: BaseException) -> NoServer | None:
-    """The error to raise instead of one that a hello met, if no class's server is at the port; None if one may be."""
+    """Returns the error to raise instead of one that a hello met, if no class's server is at the port, or None if one may be."""
     if isinstance(error, NotReply):
         return NoServer(f"at port {port} is another program: it answers {error}")
     return NoServer(f"no server at port {port} answers a hello: {error}") if isinstance(error, Silent) else None
 
 
 def line_of(request: dict[str, object]) -> bytes:
-    """Returns the line of a request; raises Malformed if the server would take it for none."""
+    """Returns the line of a request. Raises Malformed if the server would take it for none."""
     try:
         line = json.dumps(request)
     except (TypeError, ValueError) as error:
@@ -455,7 +457,7 @@ def line_of(request: dict[str, object]) -> bytes:
 
 
 def reply_of(line: bytes) -> dict[str, Any]:
-    """The reply that a line is; it raises NotReply where it is none."""
+    """Returns the reply that a line is. Raises NotReply if it is none."""
     try:
         reply = json.loads(line)
     except ValueError:
@@ -466,26 +468,26 @@ def reply_of(line: bytes) -> dict[str, Any]:
 
 
 def stop(error: Exception) -> tuple[int, str]:
-    """The status and the sentence by which a program ends."""
+    """Returns the status and the sentence by which a program ends."""
     if isinstance(error, Denied | Refused) and error.word in STOPS:
         status, sentence = STOPS[error.word]
         return status, str(error) if isinstance(error, Malformed) else sentence
     if isinstance(error, NoSlip):
         return 1, str(error)
     if isinstance(error, NoServer):
-        return 4, f"{error}; your teacher tells the {'certificate' if isinstance(error, NoDoor) else 'port'}"
+        return 4, f"{error}; ask your teacher for the {'certificate' if isinstance(error, NoDoor) else 'port'}"
     if isinstance(error, Over):
         return 0, "the run is over"
     return (LOST, f"{LOST_SO} ({error})") if isinstance(error, Closed) else (3, str(error))
 
 
 def goes_on(error: Denied | Refused) -> bool:
-    """Whether a bot looks again after this: a right bot meets it too, or memory was short. Else it stops."""
+    """Returns whether a bot looks again after this: a right bot meets it too, or memory was short. Else it stops."""
     return error.word not in STOPS
 
 
 def enter(slip: Slip, patience: float = 60.0) -> Client:
-    """Greets; where no seat is free, again each second, for so many seconds."""
+    """Greets; if no seat is free, again each second, for so many seconds."""
     end = time.monotonic() + patience
     while True:
         try:
@@ -530,20 +532,20 @@ def run(program: Callable[[list[str]], None], usage: str) -> None:
 
 
 def is_a(kind: str, value: object) -> bool:
-    """Whether a value is of that kind."""
+    """Returns whether a value is of that kind."""
     number = type(value) is int and 0 <= value < 2**64
     return {"a number": number, "a number or null": number or value is None, "a string": isinstance(value, str),
             "true or false": isinstance(value, bool), "a rule": value in RULES}[kind]
 
 
 def said(value: object) -> str:
-    """What a value of the wrong kind is, in a word or two. An integer below 0 or from 2^64 on is out of range."""
+    """Returns what a value of the wrong kind is, in a word or two. An integer below 0 or from 2^64 on is out of range."""
     kinds = {bool: "true or false", str: "a string", type(None): "null", dict: "an object", list: "a list", float: "no whole number"}
     return NODE if is_a(NODE, value) else kinds.get(type(value), "out of range")
 
 
 def wrong(line: str) -> str | None:
-    """What is wrong with a line as a request, also that a key stands twice; None where there is nothing to tell."""
+    """Returns what is wrong with a line as a request, also that a key stands twice, or None if nothing is."""
     if len(sent(line)) >= MOST:
         return f"more than {MOST} bytes: the server ends the connection"
     if line.startswith("\ufeff"):
@@ -555,7 +557,7 @@ def wrong(line: str) -> str | None:
     doubled, strange = list[str](), list[str]()
 
     def once(pairs: list[tuple[str, Any]]) -> dict[str, Any]:
-        """An object's values; of a name that stands twice the last one, and the name is noted."""
+        """Returns an object's values; of a name that stands twice the last one, and the name is noted."""
         names = [name for name, _ in pairs]
         doubled.extend(name for name in names if names.count(name) > 1)
         return dict(pairs)
@@ -631,17 +633,17 @@ def mend_key(key: str, asked: dict[str, Any]) -> str:
 
 
 def sent(line: str) -> bytes:
-    """The bytes of a line: as they were read, where they are no UTF-8."""
+    """Returns the bytes of a line: as they were read, if they are no UTF-8."""
     return line.encode(errors="surrogateescape")
 
 
 def whole(text: str) -> int | float:
-    """The integer of a text: -1 for any with a sign, since they are out of range; infinite past the greatest double."""
+    """Returns the integer of a text: -1 for any with a sign, since they are out of range; infinite past the greatest double."""
     return -1 if text.startswith("-") else int(text) if float(text) < float("inf") else float("inf")
 
 
 def wrong_value(value: object, deep: int = 1) -> str | None:
-    """What is wrong with a value under whatever key it stands; None where nothing is."""
+    """Returns what is wrong with a value under whatever key it stands, or None if nothing is."""
     if isinstance(value, str) and any("\ud800" <= char <= "\udfff" for char in value):
         return "half of a surrogate pair"
     if isinstance(value, float) and abs(value) == float("inf"):
@@ -655,7 +657,7 @@ def wrong_value(value: object, deep: int = 1) -> str | None:
 
 
 def wrong_keys(asked: object) -> str | None:
-    """What is wrong with the keys of a request; None where nothing is."""
+    """Returns what is wrong with the keys of a request, or None if nothing is."""
     if not isinstance(asked, dict):
         return f"{said(asked)}, not an object"
     if "do" not in asked:
@@ -695,7 +697,7 @@ class ByHand:
             self.log = None
 
     def note(self, text: str) -> None:
-        """Tells what the server doesn't."""
+        """Prints what the server doesn't."""
         print(f"client: {text}", file=sys.stderr, flush=True)
 
     def send(self, line: str, typed: bool = True) -> None:
@@ -718,8 +720,8 @@ class ByHand:
         self.greeted = self.greeted or '"ok":"hello"' in answer
 
     def why(self, line: str, answer: str, waited: float) -> str | None:
-        """Why the connection ended by this answer to a line, or without one, `waited` seconds after the line before; None where it goes on.
-        An answer that is no reply is raised as an error; without any, and before a hello was granted, NoServer may be."""
+        """Returns why the connection ended by this answer to a line, or without one, `waited` seconds after the line before, or None if it
+        goes on. An answer that is no reply is raised as an error; without any, and before a hello was granted, NoServer may be."""
         try:
             if answer:
                 return LAST.get(reply_of(answer.encode()).get("refuse", ""))

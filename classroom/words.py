@@ -22,17 +22,17 @@ class Parser(argparse.ArgumentParser):
 
     def error(self, message: str) -> NoReturn:
         """Ends the program with a line and the status of usage."""
-        self.exit(USAGE, f"{self.prog}: {printable(message)}; {self.prog} --help tells the words\n")
+        self.exit(USAGE, f"{self.prog}: {printable(message)}; {self.prog} --help prints the words\n")
 
 
 def version() -> str:
-    """Version, commit and toolchain, as `mml` tells them."""
+    """Returns version, commit and toolchain, as `mml` prints them."""
     said = subprocess.run([TOP / "mml", "--version"], stdin=subprocess.DEVNULL, capture_output=True, text=True, check=False)
     return said.stdout.strip().removeprefix("Cenduwa ") or "of no known version"
 
 
 def add_new(words: argparse.ArgumentParser) -> None:
-    """The words of `new`."""
+    """Adds the words of `new`."""
     from classroom.core import lists, networks
     from classroom.setup import handing, new
 
@@ -80,7 +80,7 @@ EXAMPLES = {
 
 
 def add_mark(words: argparse.ArgumentParser) -> None:
-    """The words of `mark`."""
+    """Adds the words of `mark`."""
     from classroom.core import lists
     from classroom.marks import mark
 
@@ -99,7 +99,7 @@ def add_mark(words: argparse.ArgumentParser) -> None:
 
 
 def add_check(words: argparse.ArgumentParser) -> None:
-    """The words of `check`."""
+    """Adds the words of `check`."""
     from classroom.setup import check
 
     words.add_argument("lab")
@@ -107,7 +107,7 @@ def add_check(words: argparse.ArgumentParser) -> None:
 
 
 def add_demo(words: argparse.ArgumentParser) -> None:
-    """The words of `demo`."""
+    """Adds the words of `demo`."""
     from classroom.run import demo
 
     words.add_argument("--into", default="runs", help="where the run's folder is made (runs)")
@@ -115,7 +115,7 @@ def add_demo(words: argparse.ArgumentParser) -> None:
 
 
 def add_play(words: argparse.ArgumentParser) -> None:
-    """The words of `play`."""
+    """Adds the words of `play`."""
     from classroom.pages import play
 
     words.add_argument("run", nargs="+", metavar="FOLDER or LAB JOURNAL")
@@ -126,7 +126,7 @@ def add_play(words: argparse.ArgumentParser) -> None:
 
 
 def of(module: str) -> Callable[[argparse.ArgumentParser], None]:
-    """What adds the words of a module, which is loaded then."""
+    """Returns what adds the words of a module, which is loaded then."""
     def add(words: argparse.ArgumentParser) -> None:
         """Loads the module, and adds its words."""
         import_module(f"classroom.{module}").add_words(words)
@@ -142,7 +142,7 @@ EACH: dict[str, tuple[str, Callable[[argparse.ArgumentParser], None]]] = {
     "attach": ("take the desk of a class whose run is gone, or has lost its terminal", of("run.attach")),
     "slips": ("the slips of labs anew, for another way in", of("setup.handing")),
     "key": ("another key and slip for a student, in mid-course", of("setup.rekey")),
-    "mark": ("what journals tell of each student", add_mark),
+    "mark": ("the marks of each student, from journals", add_mark),
     "history": ("every line that a student's connections sent, its reply, and the steps between; at one place seat by seat", of("marks.history")),
     "play": ("a run as one page that shows it, or a configuration as a picture", add_play),
     "practise": ("play alone: bots of the house play the other nodes, and each denial is explained", of("bots.practise")),
@@ -153,7 +153,8 @@ EACH: dict[str, tuple[str, Callable[[argparse.ArgumentParser], None]]] = {
 
 
 def parser(asked: str | None = None) -> argparse.ArgumentParser:
-    """All words; where one is asked for, what follows it is there for that one alone, and no other module is loaded."""
+    """Returns all words; if one is asked for, what follows it is there for that one alone, and no other module is
+    loaded."""
     every = Parser(prog="class", description="A class from its list of names to its marks.", epilog=TABLE)
     every.add_argument("--version", action="store_true", help="show version, commit and toolchain, and exit")
     each = every.add_subparsers(title="words", required=True)
@@ -165,7 +166,7 @@ def parser(asked: str | None = None) -> argparse.ArgumentParser:
 
 
 def main(words: list[str] | None = None) -> int:
-    """Does what the words say, and answers the exit status."""
+    """Does what the words say, and returns the exit status."""
     given = sys.argv[1:] if words is None else words
     if given[:1] == ["--version"]:
         print(f"class {version()}")

@@ -52,11 +52,11 @@ public class Bot {
                 requests = new PrintStream(server.getOutputStream(), true, "UTF-8");
                 replies = new Scanner(server.getInputStream(), "UTF-8").useDelimiter("\n");
                 String reply = ask("{\"do\":\"hello\",\"name\":\"" + name + "\",\"key\":\"" + key + "\"}");
-                if (!reply.startsWith("{")) stop(4, "at port " + port + " is another program; your teacher tells the port");
+                if (!reply.startsWith("{")) stop(4, "at port " + port + " is another program; ask your teacher for the port");
                 wasGreeted = wasGreeted || reply.startsWith("{\"ok\"");
                 for (; reply.startsWith("{\"ok\""); second = 0, Thread.sleep(100)) for (String node : nodes) move(node);
             } catch (IOException | NoSuchElementException error) {
-                if (!wasGreeted) stop(4, "no server at port " + port + " answers a hello; your teacher tells the port");
+                if (!wasGreeted) stop(4, "no server at port " + port + " answers a hello; ask your teacher for the port");
             }
         }
         stop(wasGreeted ? 7 : 5, wasGreeted ? "the connection was lost: start again" : "all seats were taken for a minute: come again later");

@@ -32,7 +32,7 @@ async function connect(port) {
     socket.write(JSON.stringify(request) + "\n");
     const line = await lines.next().catch(() => ({ done: true })); // It may have been reset.
     if (line.done) throw LOST;
-    if (!line.value.startsWith("{")) stop(4, `at port ${port} is another program; your teacher tells the port`);
+    if (!line.value.startsWith("{")) stop(4, `at port ${port} is another program; ask your teacher for the port`);
     const reply = JSON.parse(line.value);
     const why = STOPS[reply.deny ?? reply.refuse];
     return why ? stop(...why) : reply;
@@ -59,7 +59,7 @@ async function play(port, name, key, nodes) {
       for (; isIn; second = 0, await wait(0.1)) for (const node of nodes) await move(ask, node);
     } catch (error) {
       if (error !== LOST) throw error;
-      if (!wasGreeted) stop(4, `no server at port ${port} answers a hello; your teacher tells the port`);
+      if (!wasGreeted) stop(4, `no server at port ${port} answers a hello; ask your teacher for the port`);
     }
   }
   stop(...(wasGreeted ? [7, "the connection was lost: start again"] : [5, "all seats were taken for a minute: come again later"]));

@@ -29,7 +29,7 @@ def ask(me: Client, nodes: tuple[int, ...], patience: float) -> None:
 
 
 def seconds_of(words: list[str]) -> float:
-    """How long a bot waits for something new, by the word that may stand last; for ever without one."""
+    """Returns how long a bot waits for something new, by the word that may stand last; for ever without one."""
     try:
         seconds = float(words[0]) if words else float("inf")
     except ValueError:
@@ -40,7 +40,7 @@ def seconds_of(words: list[str]) -> float:
 
 
 def play(words: list[str]) -> None:
-    """Plays, and greets again where the connection is lost: what was granted stands."""
+    """Plays, and greets again if the connection is lost: what was granted stands."""
     slip, rest = Slip.of(words)
     if not slip.nodes:
         raise NoSlip(f"no nodes in {words[0]}")
@@ -51,7 +51,7 @@ def play(words: list[str]) -> None:
             with me:
                 return ask(me, slip.nodes, patience)
         except (Closed, Refused) as lost:
-            if isinstance(lost, Refused) and lost.word != "busy":  # Which is told to who leaves for a newcomer, too.
+            if isinstance(lost, Refused) and lost.word != "busy":  # A connection that leaves for a newcomer gets this, too.
                 raise
             me = again(slip, lost)
 

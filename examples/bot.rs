@@ -40,8 +40,8 @@ fn enter(port: u16, name: &str, key: &str, is_lost: bool) -> BufReader<TcpStream
         let reply = server.as_mut().ok().and_then(|it| ask(it, &format!(r#"{{"do":"hello","name":"{name}","key":"{key}"}}"#)));
         match (reply, server) {
             (Some(reply), Ok(server)) if reply.starts_with(r#"{"ok""#) => return server,
-            (Some(reply), _) if !reply.starts_with('{') => stop(4, &format!("at port {port} is another program; your teacher tells the port")),
-            (None, _) if !is_lost => stop(4, &format!("no server at port {port} answers a hello; your teacher tells the port")),
+            (Some(reply), _) if !reply.starts_with('{') => stop(4, &format!("at port {port} is another program; ask your teacher for the port")),
+            (None, _) if !is_lost => stop(4, &format!("no server at port {port} answers a hello; ask your teacher for the port")),
             _ => {}
         }
     }

@@ -5,7 +5,7 @@ import sys
 
 
 def crowd(n: int) -> tuple[list[tuple[int, int]], list[int]]:
-    """Returns the links of the crowd, on which a run may take the most moves, and where each node points."""
+    """Returns the links of the crowd, on which a run may take the most moves, and the pointer of each node."""
     links = [(i, j) for i in range(1, n + 1) for j in range(i + 1, n + 1) if i + j > n]
     return links, [n + 1 - i if 2 * i <= n else i + 1 if i < n else 2 for i in range(1, n + 1)]
 

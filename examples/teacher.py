@@ -13,7 +13,7 @@ PAUSE = 0.5  # seconds for the students before each close
 
 
 def owners_of(lab: list[str]) -> dict[int, list[str]]:
-    """The owners of each node, by the lab's file; none where no file is named."""
+    """Returns the owners of each node, by the lab's file; none if no file is named."""
     if not lab:
         return {}
     try:

@@ -1,4 +1,4 @@
-"""Events: what a granted request does to the world, and what its reply tells."""
+"""Events: what a granted request does to the world, and the contents of its reply."""
 from typing import Any
 
 from model.requests import Request
@@ -6,7 +6,7 @@ from model.world import World
 
 
 def told(world: World, asked: Request) -> dict[str, Any]:
-    """Returns what the reply to a granted request tells beside its word, by the world before the event."""
+    """Returns what the reply to a granted request has beside its word, by the world before the event."""
     place, number = world.place + 1, world.number
     if asked.do == "move":
         return {"at": number, "place": place, "node": asked.node, "rule": asked.move.rule}
@@ -14,7 +14,7 @@ def told(world: World, asked: Request) -> dict[str, Any]:
         return {"at": number, "place": place, "node": asked.node}
     if asked.do == "close":
         return {"at": number + 1, "place": place, "moved": sorted(world.chosen)}
-    # A fault, a link and a cut drop all chosen moves, and the reply tells how many.
+    # A fault, a link and a cut drop all chosen moves, and the reply says how many.
     named = {"node": asked.node} if asked.do == "fault" else {"a": asked.a, "b": asked.b}
     return {"at": number + 1, "place": place, "dropped": len(world.chosen), **named}
 

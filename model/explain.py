@@ -88,7 +88,7 @@ def right_line(world: World, i: int) -> str:
 
 
 def explained(world: World, asked: Request) -> str:
-    """Returns the explanation of a move, before it is answered; nothing if it isn't one of a node that is there."""
+    """Returns the explanation of a move, before it is answered, or nothing if it isn't one of a node that is there."""
     if asked.do != "move" or asked.node not in world.links:
         return ""
     parts = [failing(world, asked.node, asked.move)] if asked.at == world.number and asked.node not in world.chosen else []

@@ -128,7 +128,7 @@ def repeated(values: list[Any]) -> list[int]:
 
 
 def faults_of(people: list[Account], nodes: list[Node], links: list[Link], events: int, sessions: int) -> Iterator[str]:
-    """Yields the errors of what a file spells, in the order of `docs/LAB.md`; only the first is ever told."""
+    """Yields the errors of what a file spells, in the order of `docs/LAB.md`; only the first is ever reported."""
     yield from (f"node {x}: owner and owners" for x, node in enumerate(nodes) if node.has_both)
     if not nodes:
         yield "no nodes"

@@ -32,7 +32,7 @@ def is_command(line: bytes) -> bool:
 
 
 class Entry(NamedTuple):
-    """An entry: its mark, how many events had been seen, where its text ends, and of an answered line both texts."""
+    """An entry: its mark, how many events had been seen, if its text ends, and of an answered line both texts."""
 
     mark: bytes
     seen: int

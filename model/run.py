@@ -32,7 +32,7 @@ def text_of(**values: Any) -> str:
 
 
 def denied(world: World, name: str) -> str:
-    """Returns the text of a denial. `stale` also tells the current number."""
+    """Returns the text of a denial. `stale` also has the current number."""
     clause, text = DENIALS[name]
     number = {"at": world.number} if name == "stale" else {}
     return text_of(clause=clause, deny=name, text=text, **number)

@@ -47,7 +47,7 @@ def script(lab: Lab, file: str, journal: str | None = None) -> bytes:
 
 
 def print_audit(lab: Lab, journal: str) -> bytes:
-    """Returns where a journal leads."""
+    """Returns if a journal leads."""
     world, _ = audit(lab, read_file(Path(journal), "journal", MOST_JOURNAL))
     return audited(world).encode()
 

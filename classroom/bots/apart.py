@@ -1,5 +1,5 @@
 """Namespaces of its own for a program under test: it sees its own processes, a loopback where only its server listens,
-and of the files those that it needs, which it can't change. No right of the superuser is wanted.
+and of the files those that it needs, which it can't change. It needs no right of the superuser.
 
 What a program writes is kept in memory, in a file system of limited size, and goes with it.
 """
@@ -28,7 +28,7 @@ LINKS = (("fd", "/proc/self/fd"), ("stdin", "/proc/self/fd/0"), ("stdout", "/pro
 OF_KERNEL = ("sys", "sysrq-trigger", "irq", "bus", "fs")  # below /proc, what the superuser could change
 OWN = ("/tmp", "/dev/shm")  # folders that programs expect to write to
 MOST_FILES = 16_384
-SPARE = 16  # megabytes beyond the limit, so that it is told when it is reached
+SPARE = 16  # megabytes beyond the limit, so that reaching it is seen
 LIBC = ctypes.CDLL(None, use_errno=True)
 
 
@@ -36,10 +36,10 @@ LIBC = ctypes.CDLL(None, use_errno=True)
 class World:
     """What a program sees of this machine."""
 
-    shown: tuple[tuple[str, str], ...]  # files and folders that it reads: where it sees each, and where that is
+    shown: tuple[tuple[str, str], ...]  # files and folders that it reads: the path at which it sees each, and its own path
     hidden: tuple[str, ...]  # what of these it doesn't see
     slip: str
-    port: int  # where it finds its server
+    port: int  # the port of its server
 
 
 def done(result: int, what: str) -> None:
@@ -76,7 +76,7 @@ def show(target: str, source: str) -> None:
 
 
 def hide(target: str) -> None:
-    """Puts something empty over a file or folder, where it is seen."""
+    """Covers a file or folder with an empty one, if it is seen."""
     if os.path.isdir(target):
         mount("none", target, "tmpfs", READ_ONLY | NO_SETUID | NO_DEVICES, "size=4k")
     elif os.path.exists(target):
@@ -127,7 +127,7 @@ def own_processes() -> None:
 
 
 def own_server(port: int, channel: int) -> None:
-    """Listens at a port of this namespace's loopback, and hands the listener on."""
+    """Listens at a port of this namespace's loopback, and passes the listener on."""
     with socket.socket() as it:
         fcntl.ioctl(it, SET_FLAGS, struct.pack("16sh22x", b"lo", UP))
     with socket.socket(fileno=channel) as its, socket.create_server(("127.0.0.1", port), backlog=32) as listener:

@@ -56,8 +56,8 @@ class Limits:
 
 @dataclass(frozen=True)
 class Room:
-    """Where a bot runs: its own folder, which is empty, a file that no folder has for what it prints, and what it sees
-    of other files, and doesn't, where it is kept apart."""
+    """The place in which a bot runs: its own folder, which is empty, a file outside all folders for what it prints, and
+    what it sees of other files, and doesn't, if it is kept apart."""
 
     folder: Path
     output: IO[bytes]
@@ -105,7 +105,7 @@ class Attempt:
         self.wrong = no.text + hint + (explaining.of_denial(self.playing, no.line) if no.word == "guard" else "")
 
     def launch(self) -> None:
-        """Starts the bot; where it is kept apart, its world has the class's port."""
+        """Starts the bot; if it is kept apart, its world has the class's port."""
         self.kept = Kept(self.bot, self.slip, self.room.folder, self.limits.seconds, self.limits.megabytes, self.room.output.fileno(), self.world)
         end = time.monotonic() + LATEST
         while self.world is not None:
@@ -143,7 +143,7 @@ class Attempt:
         return ""
 
     def told(self, how: str) -> str:
-        """How the bot ended, with what was done to it then and what it printed last."""
+        """Returns how the bot ended, with what was done to it then and what it printed last."""
         kind, _, what = how.partition(" ")
         if kind == "killed" and what.startswith(f"{self.bot.words[0]}: "):
             raise NotStarted(f"it can't be started: {what}")
@@ -163,7 +163,7 @@ class Attempt:
             self.turn()
 
     def until_greeted(self, before: int = 0) -> None:
-        """Waits until a hello is granted, where so many were before."""
+        """Waits until a hello is granted, after so many were granted before."""
         end = time.monotonic() + self.limits.seconds
         while self.heard.greeted == before:
             if time.monotonic() > end:

@@ -26,7 +26,7 @@ KEPT = ("PATH", "LANG", "LC_ALL", "JAVA_HOME")
 RUN_BY = {".py": [sys.executable], ".java": ["java", "-XX:TieredStopAtLevel=1", "-XX:+UseSerialGC"], ".js": ["node"]}
 SHOWN = 400  # bytes of what a bot printed last
 PATIENCE = 30.0  # seconds that a keeper has to end its bot
-AGAIN = 0.1  # seconds after which a keeper is told again to go on: its bot may stop it again
+AGAIN = 0.1  # seconds after which a keeper is sent the signal to go on again: its bot may stop it again
 
 
 @dataclass(frozen=True)
@@ -39,9 +39,9 @@ class Bot:
 
     @staticmethod
     def of(word: str) -> Bot:
-        """The command that a word is, split as a shell does it; its first word may also be a file here. A file alone
-        whose name ends in .py, .java or .js, and that can't be run as it is, is run by Python, Java or Node. What can't
-        be run has a fault."""
+        """Returns the command that a word is, split as a shell does it; its first word may also be a file here. A file
+        alone whose name ends in .py, .java or .js, and that can't be run as it is, is run by Python, Java or Node. What
+        can't be run has a fault."""
         try:
             words = shlex.split(word)
         except ValueError as error:
@@ -64,8 +64,8 @@ class Bot:
 
 
 def runs_itself(file: Path) -> bool:
-    """Whether a file can be run as it is: it is executable, and begins with `#!` where its name is a source's and it
-    can be read."""
+    """Returns whether a file can be run as it is: it is executable, and begins with `#!` if its name is a source's and
+    it can be read."""
     if not os.access(file, os.X_OK):
         return False
     if file.suffix not in RUN_BY or not os.access(file, os.R_OK):
@@ -107,15 +107,15 @@ class Kept:
             pass
 
     def listener(self) -> socket.socket | None:
-        """The listener in the bot's world; none while it isn't made."""
+        """Returns the listener in the bot's world; none while it isn't made."""
         if not select.select([self.channel], [], [], AGAIN)[0]:
             return None
         files = socket.recv_fds(self.channel, 1, 1)[1]
         return socket.socket(fileno=files[0]) if files else None
 
     def ended(self) -> str:
-        """How the bot has ended, `ended STATUS` or `killed REASON`; empty while it runs. One that halts its keeper is
-        ended."""
+        """Returns how the bot has ended, `ended STATUS` or `killed REASON`, or an empty text while it runs. Ends a bot
+        that halts its keeper."""
         if self.process.poll() is None:
             if not is_halted(self.process.pid):
                 return ""
@@ -129,8 +129,8 @@ class Kept:
         return self.how
 
     def told(self) -> str:
-        """What the keeper told before it ended; empty where it was killed. A bot may hold its pipe too, so that nothing
-        is waited for."""
+        """Returns what the keeper printed before it ended, or an empty text if it was killed. A bot may hold its pipe
+        too, so nothing is waited for."""
         assert self.process.stdout is not None
         os.set_blocking(self.process.stdout.fileno(), False)
         try:
@@ -147,7 +147,7 @@ class Kept:
         end_strays()
 
     def stop(self) -> str:
-        """Ends the bot with all that it started; gives how it ended."""
+        """Ends the bot with all that it started. Returns how it ended."""
         assert self.process.stdin is not None
         self.channel.close()
         try:
@@ -168,7 +168,7 @@ class Kept:
 
 
 def no_worlds() -> str:
-    """Why bots can't be kept apart on this system; empty where they can."""
+    """Returns why bots can't be kept apart on this system, or an empty text if they can."""
     it = Bot("true", ("/bin/true",))
     try:
         with tempfile.TemporaryDirectory() as room, tempfile.TemporaryFile() as output:
@@ -184,7 +184,7 @@ def no_worlds() -> str:
 
 
 def last_line(output: int) -> str:
-    """The last line that a bot printed into such a file; empty where there is none."""
+    """Returns the last line that a bot printed into such a file, or an empty text if there is none."""
     size = os.fstat(output).st_size
     lines = os.pread(output, SHOWN, max(0, size - SHOWN)).decode(errors="replace").strip().splitlines()
     return lines[-1] if lines else ""

@@ -41,17 +41,17 @@ class Scale:
         self.least, self.most, self.high = least, max(most, least + 1), max(high, 1)
 
     def x(self, nodes: float) -> float:
-        """How far from the left a number of nodes stands."""
+        """Returns how far from the left a number of nodes stands."""
         return LEFT + (nodes - self.least) / (self.most - self.least) * (WIDE - LEFT - RIGHT)
 
     def y(self, count: float) -> float:
-        """How far from the top a count stands."""
+        """Returns how far from the top a count stands."""
         return HIGH - BELOW - count / self.high * (HIGH - ABOVE - BELOW)
 
 
 def tick_distance(high: int, parts: int = 5) -> int:
-    """How far apart the numbers on an axis of that length are: the first of 1, 2, 5, 10, 20, 50 and so on by which the
-    axis has at most so many parts."""
+    """Returns how far apart the numbers on an axis of that length are: the first of 1, 2, 5, 10, 20, 50 and so on by
+    which the axis has at most so many parts."""
     step = 1
     while True:
         for factor in (1, 2, 5):
@@ -61,7 +61,7 @@ def tick_distance(high: int, parts: int = 5) -> int:
 
 
 def line(points: Sequence[tuple[float, float]], kind: str, colour: str = "") -> str:
-    """The path through points; a short line through a single point."""
+    """Returns the path through points; a short line through a single point."""
     if len(points) == 1:
         points = [(points[0][0] - 8, points[0][1]), (points[0][0] + 8, points[0][1])]
     path = " ".join(f"{'M' if index == 0 else 'L'}{x:.1f} {y:.1f}" for index, (x, y) in enumerate(points))
@@ -84,8 +84,8 @@ def axes(scale: Scale) -> list[str]:
 
 
 def panel(title: str, rows: list[Row]) -> str:
-    """The drawing of one family under one daemon: the bounds, and of each measure the runs, the greatest and the
-    median."""
+    """Returns the drawing of one family under one daemon: the bounds, and of each measure the runs, the greatest and
+    the median."""
     sizes = sorted({row.nodes for row in rows})
     links = {size: max(row.links for row in rows if row.nodes == size) for size in sizes}
     most = {size: bounds.of(size, links[size]) for size in sizes}
@@ -105,7 +105,7 @@ def panel(title: str, rows: list[Row]) -> str:
 
 
 def key(runs: int) -> str:
-    """What the lines and points of all panels stand for, to be drawn below them."""
+    """Returns what the lines and points of all panels stand for, to be drawn below them."""
     parts = []
     for column, (name, colour, _) in enumerate(MEASURES):
         x = 12 + 84 * column
@@ -119,7 +119,7 @@ def key(runs: int) -> str:
 
 
 def chart(rows: list[Row]) -> str:
-    """A panel for each family and daemon: families side by side, daemons below each other."""
+    """Returns a panel for each family and daemon: families side by side, daemons below each other."""
     families = list(dict.fromkeys(row.family.partition(":")[0] for row in rows))
     daemons = list(dict.fromkeys(row.daemon for row in rows))
     wide, high = max(WIDE * len(families), WIDE), HIGH * len(daemons) + KEY + 8

@@ -64,7 +64,7 @@ class Conduct:
         if self.chosen.get(node) == at:
             self.in_vain += 1
             if self.in_vain > MOST_AGAIN:
-                self.fault(f"it asks again and again for nodes that have a chosen move, as for {node} under {at}, which it was told: "
+                self.fault(f"it asks again and again for nodes that have a chosen move, as for {node} under {at}, though a reply said so: "
                            "after a grant look again a little later, and ask only if `chosen` is null")
         if told.get("deny") == "stale":
             self.stale[node, at] += 1

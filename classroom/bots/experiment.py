@@ -37,7 +37,7 @@ Key = tuple[str, int, str, str, int]
 
 
 def sizes(word: str) -> range:
-    """The numbers of nodes that a word names: `A..B`, `A..B/STEP`, or one number."""
+    """Returns the numbers of nodes that a word names: `A..B`, `A..B/STEP`, or one number."""
     found = re.fullmatch(r"(\d+)(?:\.\.(\d+))?(?:/(\d+))?", word)
     if not found or not 1 <= int(found[1]) <= int(found[2] or found[1]) <= networks.MOST_NODES or found[3] == "0":
         raise argparse.ArgumentTypeError(f"{word} is no A..B within 1..{networks.MOST_NODES}, or A..B/STEP")
@@ -45,7 +45,7 @@ def sizes(word: str) -> range:
 
 
 def add_words(words: argparse.ArgumentParser) -> None:
-    """The words of `experiment`."""
+    """Adds the words of `experiment`."""
     words.add_argument("--family", default="path,cycle,random", metavar="F,..",
                        help=f"{networks.NAMED}, or random of 1.5 links a node (path,cycle,random)")
     words.add_argument("--nodes", type=sizes, default=range(4, 17), metavar="A..B", help="how many nodes; A..B/STEP leaves some out (4..16)")
@@ -64,7 +64,7 @@ def add_words(words: argparse.ArgumentParser) -> None:
 
 
 def settings(words: argparse.Namespace) -> list[Setting]:
-    """Each family at each size under each daemon; a size at which a family has no network is left out."""
+    """Returns each family at each size under each daemon; a size at which a family has no network is left out."""
     for how in words.daemon:
         if how.kind == "by-hand":
             raise Fault("--daemon by-hand: nobody is here to close a step")
@@ -85,18 +85,19 @@ def settings(words: argparse.Namespace) -> list[Setting]:
 
 
 def links_of(nodes: int) -> int:
-    """How many links a random network gets: three for two nodes, but at least those of a tree, and at most all."""
+    """Returns how many links a random network gets: three for two nodes, but at least those of a tree, and at most
+    all."""
     return max(nodes - 1, min(3 * nodes // 2, nodes * (nodes - 1) // 2))
 
 
 def row_of(words: dict[str, str]) -> Row:
-    """The run's row that the cells of a line tell, by their heads."""
+    """Returns the run's row in the cells of a line, by their heads."""
     numbers = {name: int(words[name]) for name in ("nodes", "links", "seed", "moves", "closes", "rounds")}
     return Row(family=words["family"], daemon=words["daemon"], start=words["start"], stable=words["stable"] == "true", **numbers)
 
 
 def read_rows(path: Path) -> list[Row]:
-    """The rows that are there already. A torn last line is taken away."""
+    """Returns the rows that are there already. A torn last line is taken away."""
     if not path.exists():
         return []
     text = path.read_text(encoding="utf-8")
@@ -114,12 +115,12 @@ def read_rows(path: Path) -> list[Row]:
 
 
 def key(row: Row) -> Key:
-    """What tells a run from others."""
+    """Returns the values that distinguish a run from others."""
     return row.family, row.nodes, row.daemon, row.start, row.seed
 
 
 def line_of(row: Row) -> str:
-    """A row as a line of the table."""
+    """Returns a row as a line of the table."""
     values = [str(value).lower() if isinstance(value, bool) else str(value) for value in asdict(row).values()]
     return ",".join(values) + "\n"
 
@@ -131,7 +132,8 @@ def ends_with_parent() -> None:
 
 
 def measured(tasks: list[tuple[Setting, list[int]]], at_once: int) -> Iterator[tuple[Row, bytes]]:
-    """Each run with its script, when its task is done, by so many processes, which are killed where this ends early."""
+    """Yields each run with its script, when its task is done, by so many processes, which are killed if this ends
+    early."""
     context = multiprocessing.get_context("fork")
     with concurrent.futures.ProcessPoolExecutor(at_once, context, ends_with_parent) as pool:
         going = [pool.submit(runs, *task) for task in tasks]
@@ -146,7 +148,7 @@ def measured(tasks: list[tuple[Setting, list[int]]], at_once: int) -> Iterator[t
 
 
 def keep_news(path: Path, row: Row, script: bytes) -> Path:
-    """Keeps a run that breaks what is proved, whole: its lab, script and row. Gives the folder."""
+    """Keeps a run that breaks what is proved, whole: its lab, script and row. Returns the folder."""
     folder = path.with_name(f"{path.stem}-broken") / f"{row.family.replace(':', '-')}-{row.nodes}-{row.daemon.replace(':', '-')}-{row.seed}"
     folder.mkdir(parents=True, exist_ok=True)
     how = Daemon.of(row.daemon)
@@ -175,7 +177,7 @@ class Progress:
 
 def table(rows: list[Row]) -> str:
     """Returns a row for each family, daemon and number of nodes: its runs, and the median, the greatest and the bound of
-    moves and of rounds. A line for each family and daemon tells which run came closest to its bound."""
+    moves and of rounds. A line for each family and daemon says which run came closest to its bound."""
     lines = [f"{'family':10} {'daemon':14} {'nodes':>5} {'runs':>6}  moves: median, greatest, bound  rounds: median, greatest, bound"]
     groups: dict[tuple[str, str], list[Row]] = {}
     for row in rows:
@@ -205,13 +207,13 @@ def closest(family: str, daemon: str, own: list[Row]) -> str:
 
 
 def new_file(path: Path) -> None:
-    """Writes a table without rows, where there is none."""
+    """Writes a table without rows, if there is none."""
     if not path.exists() or path.stat().st_size == 0:
         path.write_text(",".join(COLUMNS) + "\n", encoding="utf-8")
 
 
 def key_of(it: Setting, seed: int) -> Key:
-    """Returns what makes a run another than the others, before it is made."""
+    """Returns the values that distinguish a run from the others, before it is made."""
     return it.family, it.nodes, it.daemon.spelled(), it.start, seed
 
 
@@ -240,7 +242,7 @@ def merge(words: argparse.Namespace, asked: set[Key]) -> int:
 
 
 def left(every: list[Setting], seeds: range, done: set[Key]) -> list[tuple[Setting, list[int]]]:
-    """The runs that aren't in the table yet, some in each task; large networks first."""
+    """Returns the runs that aren't in the table yet, some in each task; large networks first."""
     tasks = []
     for it in sorted(every, key=lambda setting: -setting.nodes):
         more = [seed for seed in seeds if key_of(it, seed) not in done]
@@ -249,7 +251,7 @@ def left(every: list[Setting], seeds: range, done: set[Key]) -> list[tuple[Setti
 
 
 def told(own: list[Row], asked: int, words: argparse.Namespace, broken: list[Path]) -> None:
-    """Prints the table, and whether all is within what is proved; writes the chart, where one is asked for."""
+    """Prints the table, and whether all is within what is proved; writes the chart, if one is asked for."""
     if own:
         print(table(own))
     print(f"NEWS: {len(broken)} runs break what is proved; kept whole: {', '.join(map(str, broken))}" if broken else
@@ -262,7 +264,7 @@ def told(own: list[Row], asked: int, words: argparse.Namespace, broken: list[Pat
 
 @contextlib.contextmanager
 def named(file: str, remedy: str) -> Iterator[None]:
-    """Where a file couldn't be written, raises a fault that tells which, and what helps."""
+    """Raises a fault that names the file, and what helps, if it couldn't be written."""
     try:
         yield
     except OSError as error:

@@ -20,7 +20,7 @@ LIMIT = 60.0  # seconds after which there is no explanation
 
 def lines_of(playing: Playing, more: bytes = b"") -> list[list[str]]:
     """Returns what the model says of a class up to now and of one more line: of each line its place, node and text.
-    There is nothing if the model can't be asked."""
+    Returns an empty list if the model can't be asked."""
     with tempfile.TemporaryDirectory() as room:
         lab, script = Path(room, "lab.toml"), Path(room, "script")
         lab.write_text(labs.text(playing.lab), encoding="utf-8")
@@ -34,14 +34,14 @@ def lines_of(playing: Playing, more: bytes = b"") -> list[list[str]]:
 
 
 def of_denial(playing: Playing, line: bytes) -> str:
-    """Returns the explanation of the move that was denied last, after a semicolon; nothing if there is none."""
+    """Returns the explanation of the move that was denied last, after a semicolon, or nothing if there is none."""
     found = [text for place, _, text in lines_of(playing, line) if place != "now"]
     return f"; {MARK}{found[-1]}" if found else ""
 
 
 def of_waiting(playing: Playing, who: str) -> str:
-    """Returns what a right bot would send for the nodes of a student that could move, after a semicolon; nothing if there
-    are none."""
+    """Returns what a right bot would send for the nodes of a student that could move, after a semicolon, or nothing if
+    there are none."""
     own = [str(node) for node in playing.lab.nodes_of(who)]
     found = [text for place, node, text in lines_of(playing) if place == "now" and node in own]
     return f"; {MARK}{'; '.join(found)}" if found else ""

@@ -30,12 +30,12 @@ from classroom.run.daemons import daemons
 
 MOST_AT_ONCE = 16  # bots that run side by side
 ROOMS: set[Path] = set()  # the folders of bots that run
-LONG = 0.5  # seconds that writing the results takes at most where they are written after each case
-SPARING = 9  # times as long as writing took they aren't written, where it takes longer
+LONG = 0.5  # seconds that writing the results takes at most if they are written after each case
+SPARING = 9  # times as long as writing took they aren't written, if it takes longer
 
 
 def add_words(words: argparse.ArgumentParser) -> None:
-    """The words of `grade`."""
+    """Adds the words of `grade`."""
     words.add_argument("bots", nargs="+", metavar="BOT",
                        help="a command, to which a slip's path is added: 'python3 bot.py'; of bot.py, Bot.java or bot.js alone the file")
     cases = words.add_mutually_exclusive_group()
@@ -58,14 +58,14 @@ def add_words(words: argparse.ArgumentParser) -> None:
 
 
 def folder_of(top: Path, bot: Bot, case: Case) -> Path:
-    """Where a case's record is kept."""
+    """Returns the folder in which a case's record is kept."""
     plain = [re.sub(r"[^A-Za-z0-9._:-]+", "-", word).strip(".-") or "bot" for word in (bot.name, case.name())]
     return top / plain[0] / plain[1]
 
 
 @contextmanager
 def own_room() -> Iterator[Path]:
-    """A new folder, which goes with all that a bot made in it, however deep that is. No link is followed."""
+    """Yields a new folder, which goes with all that a bot made in it, however deep that is. No link is followed."""
     folder = Path(tempfile.mkdtemp(prefix="bot-"))
     ROOMS.add(folder)
     try:
@@ -81,13 +81,13 @@ def own_room() -> Iterator[Path]:
 
 def results_of(bots: list[Bot], cases: list[Case], words: argparse.Namespace, top: Path, stop: threading.Event,
                seen_by: dict[str, Seen] | None = None) -> Iterator[Result]:
-    """The result of each case of each bot as it ends; of a case that was interrupted there is none. Bots run side by side
-    where it is said what each sees, and else one after another."""
+    """Yields the result of each case of each bot as it ends, and none of a case that was interrupted. Bots run side by
+    side if it is known what each sees, and else one after another."""
     limits = Limits(words.timeout, words.memory, words.own_rule)
     at_once = words.at_once or min(MOST_AT_ONCE, 3 * (os.cpu_count() or 1))
 
     def one(bot: Bot, case: Case) -> Result | None:
-        """How a bot does in a case, failed where no folder can be made for it; None where it was interrupted."""
+        """Returns how a bot does in a case, failed if no folder can be made for it, or None if it was interrupted."""
         if stop.is_set():
             return None
         why = "not tried: "
@@ -110,7 +110,7 @@ def results_of(bots: list[Bot], cases: list[Case], words: argparse.Namespace, to
 
 
 def kept_apart(bots: list[Bot], words: argparse.Namespace, top: Path) -> dict[str, Seen] | None:
-    """What each bot sees; None, and a line, where the system doesn't keep them apart."""
+    """Returns what each bot sees, or None, and prints a line, if the system doesn't keep them apart."""
     why = "--not-apart" if words.not_apart else no_worlds()
     if why:
         print(f"class: bots aren't kept apart ({printable(why)}): they run one after another, as you, and see your files (docs/COURSE.md)", flush=True)
@@ -140,7 +140,7 @@ class Written:
         self.next = 0.0  # when they are written again
 
     def add(self, result: Result) -> None:
-        """Writes the results with one more. Where that takes long, they are written now and then."""
+        """Writes the results with one more. If that takes long, they are written now and then."""
         self.results.append(result)
         begun = time.monotonic()
         if begun >= self.next:
@@ -149,7 +149,7 @@ class Written:
             self.next = time.monotonic() + SPARING * taken * (taken > LONG)
 
     def write(self) -> list[str]:
-        """Writes the results in the forms that were asked for; gives a line for each that couldn't be written."""
+        """Writes the results in the forms that were asked for. Returns a line for each that couldn't be written."""
         self.results.sort(key=lambda result: self.order[result.bot, graded.named(result)])
         faults = []
         for form, file in self.files.items():
@@ -161,7 +161,7 @@ class Written:
 
 
 def tell_each(found: Iterator[Result], written: Written) -> None:
-    """Prints and writes each result as it comes; that a record isn't kept is told once."""
+    """Prints and writes each result as it comes. Says once that a record isn't kept."""
     full = False
     for result in found:
         written.add(result)
@@ -172,7 +172,8 @@ def tell_each(found: Iterator[Result], written: Written) -> None:
 
 
 def interruptible() -> threading.Event:
-    """What an interrupt sets. After a second one all is killed, whatever is waited for; the results are written."""
+    """Returns the event that an interrupt sets. After a second one all is killed, whatever is waited for, and the
+    results are written."""
     stop, first = threading.Event(), threading.Event()
 
     def interrupt(*_: object) -> None:
@@ -188,7 +189,7 @@ def interruptible() -> threading.Event:
 
 
 def numbered(bots: list[Bot]) -> list[Bot]:
-    """The bots, of which all but the first of a name have a number behind it."""
+    """Returns the bots, of which all but the first of a name have a number after it."""
     names: dict[str, int] = {}
     found = []
     for bot in bots:
@@ -199,7 +200,7 @@ def numbered(bots: list[Bot]) -> list[Bot]:
 
 
 def grade(words: argparse.Namespace) -> int:
-    """Tries each bot in each case, and tells how it did."""
+    """Tries each bot in each case. Returns the exit status."""
     program(), answerer()
     bots = numbered([Bot.of(word) for word in words.bots])
     faults: list[str] = []

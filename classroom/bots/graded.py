@@ -1,4 +1,4 @@
-"""What a grade tells: a table for people, and the forms that autograders read."""
+"""The results of a grade: a table for people, and the forms that autograders read."""
 from __future__ import annotations
 
 import json
@@ -17,18 +17,18 @@ ABOUT = ("bot", "lab", "daemon", "seed", "passed", "why", "moves", "denied")
 
 
 def named(result: Result) -> str:
-    """A case's name, as `Case.name` has it."""
+    """Returns a case's name, as `Case.name` has it."""
     return f"{result.lab} {result.daemon} {result.seed}"
 
 
 def as_json(results: list[Result]) -> str:
-    """The results as JSON, a list of cases."""
+    """Returns the results as JSON, a list of cases."""
     cases = [{key: value for key, value in asdict(result).items() if key in ABOUT} for result in results]
     return json.dumps(cases, indent=1, ensure_ascii=False) + "\n"
 
 
 def as_junit(results: list[Result]) -> str:
-    """JUnit's form: a suite a bot."""
+    """Returns the results in JUnit's form: a suite a bot."""
     top = ElementTree.Element("testsuites")
     for bot in dict.fromkeys(result.bot for result in results):
         own = [result for result in results if result.bot == bot]
@@ -43,7 +43,7 @@ def as_junit(results: list[Result]) -> str:
 
 
 def as_gradescope(results: list[Result]) -> str:
-    """Gradescope's form: a point a case."""
+    """Returns the results in Gradescope's form: a point a case."""
     tests: list[dict[str, Any]] = [
         {"name": f"{result.bot}: {named(result)}", "score": int(result.passed), "max_score": 1,
          "status": "passed" if result.passed else "failed", "output": printable(result.why) or "passed"}
@@ -67,7 +67,7 @@ def write(form: str, path: Path, results: list[Result]) -> None:
 
 
 def told(result: Result) -> str:
-    """A case as a line, and below it why it isn't passed."""
+    """Returns a case as a line, and below it why it isn't passed."""
     denied = ", ".join(f"{count} {word}" for word, count in result.denied.items())
     tail = "".join(f"; {it}" for it in (f"{result.moves} moves", denied) if it)
     return printable(f"{'passed' if result.passed else 'FAILED'}  {result.bot}: {named(result)}{tail}"
@@ -75,7 +75,7 @@ def told(result: Result) -> str:
 
 
 def table(results: list[Result]) -> str:
-    """How many of its cases each bot passed; of one that was never started, that."""
+    """Returns how many of its cases each bot passed. Of one that was never started, returns that."""
     rows = []
     for bot in dict.fromkeys(result.bot for result in results):
         own = [result for result in results if result.bot == bot]

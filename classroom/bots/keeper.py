@@ -2,8 +2,8 @@
 
 All that the program starts, whatever session it goes to, is this process's to end: it is ended when the program ends,
 when it takes more memory or room for files than it may or is more than 64 processes, or when standard input ends, which
-is where whoever started this has gone.
-Then a line tells how it was: `ended STATUS`, or `killed REASON`.
+happens when the process that started this has gone.
+Then prints a line about how it ended: `ended STATUS`, or `killed REASON`.
 """
 from __future__ import annotations
 
@@ -42,12 +42,12 @@ class Plan:
     folder: str
     megabytes: int
     seconds: int
-    channel: int = -1  # where the listener goes in a world of its own
+    channel: int = -1  # the address of the listener in a world of its own
     world: apart.World | None = None
 
     @staticmethod
     def read() -> Plan:
-        """The plan that standard input begins with."""
+        """Returns the plan that standard input begins with."""
         line = b""
         while not line.endswith(b"\n"):
             more = os.read(0, 1 << 16)
@@ -60,12 +60,12 @@ class Plan:
 
 
 def identity(of: os.stat_result) -> Identity:
-    """What tells a file from all others."""
+    """Returns the numbers that distinguish a file from all others."""
     return of.st_dev, of.st_ino
 
 
 def resident(process: int) -> int:
-    """How many bytes a process has in memory; 0 where it has ended."""
+    """Returns how many bytes a process has in memory, or 0 if it has ended."""
     try:
         with open(f"/proc/{process}/statm", "rb") as it:
             return int(it.read().split()[1]) * resource.getpagesize()
@@ -74,7 +74,7 @@ def resident(process: int) -> int:
 
 
 def nameless(process: int) -> dict[Identity, int]:
-    """The bytes of the files without a name that a process holds, as those of `memfd_create`."""
+    """Returns the bytes of the files without a name that a process holds, as those of `memfd_create`."""
     found = {}
     try:
         for each in os.scandir(f"/proc/{process}/fd"):
@@ -90,7 +90,7 @@ def nameless(process: int) -> dict[Identity, int]:
 
 
 def shared() -> int:
-    """The bytes of the memory that processes share by number, in this namespace."""
+    """Returns the bytes of the memory that processes share by number, in this namespace."""
     try:
         rows = Path("/proc/sysvipc/shm").read_text(encoding="ascii").splitlines()
         return sum(int(row.split()[rows[0].split().index("rss")]) for row in rows[1:])
@@ -99,7 +99,8 @@ def shared() -> int:
 
 
 def room_of(folder: str) -> int:
-    """The bytes of all files of a folder. No link is followed; what lies too deep to be named counts as too much."""
+    """Returns the bytes of all files of a folder. No link is followed; what lies too deep to be named counts as too
+    much."""
     total, left = 0, [folder]
     while left:
         try:
@@ -116,7 +117,7 @@ def room_of(folder: str) -> int:
 
 
 def room_here() -> int:
-    """The bytes of all files of this namespace's own root."""
+    """Returns the bytes of all files of this namespace's own root."""
     it = os.statvfs("/")
     return (it.f_blocks - it.f_bfree) * it.f_frsize
 
@@ -154,7 +155,7 @@ class Watch:
         self.seldom = 0.0
 
     def memory(self, every: set[int]) -> int:
-        """The bytes that these processes have in memory."""
+        """Returns the bytes that these processes have in memory."""
         if not self.plan.seconds:
             return sum(map(resident, every))
         own = os.stat("/").st_dev if self.plan.world else -1  # counted as room for files
@@ -165,7 +166,7 @@ class Watch:
         return sum(map(resident, every)) + held + (shared() if self.plan.world else 0)
 
     def room(self) -> int:
-        """The bytes of the files that the program made; of a folder of the host's it is seldom looked at."""
+        """Returns the bytes of the files that the program made; of a folder of the host's it is seldom looked at."""
         if self.plan.world:
             return room_here()
         if not self.plan.seconds or time.monotonic() < self.seldom:
@@ -175,7 +176,7 @@ class Watch:
         return found
 
     def fault(self) -> str:
-        """The limit that is passed; empty where none is."""
+        """Returns the limit that is passed, or an empty text if none is."""
         every = below(os.getpid())
         if len(every) > MOST_PROCESSES:
             return f"more than {MOST_PROCESSES} processes"
@@ -187,7 +188,7 @@ class Watch:
 
 
 def watched(process: subprocess.Popen[bytes], fault: Callable[[], str]) -> str:
-    """Waits for its end, or for a reason to end it; gives `ended STATUS`, or `killed REASON`."""
+    """Waits for its end, or for a reason to end it. Returns `ended STATUS`, or `killed REASON`."""
     while True:
         if select.select([sys.stdin], [], [], LOOK)[0] and not os.read(0, 4096):
             return "killed asked"
@@ -199,7 +200,7 @@ def watched(process: subprocess.Popen[bytes], fault: Callable[[], str]) -> str:
 
 
 def kept(plan: Plan) -> str:
-    """Keeps the program, and gives how it was."""
+    """Keeps the program. Returns how it ended."""
     if plan.world:
         try:
             apart.enter(plan.world, plan.folder, FOLDER_MEGABYTES, plan.channel)
@@ -217,7 +218,7 @@ def kept(plan: Plan) -> str:
 
 
 def main() -> None:
-    """Keeps the program, and tells how it was."""
+    """Keeps the program, and prints how it ended."""
     for number in (signal.SIGINT, signal.SIGHUP, signal.SIGTERM):
         signal.signal(number, signal.SIG_IGN)
     said = os.dup(1)

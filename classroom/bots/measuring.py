@@ -31,7 +31,7 @@ class Setting:
 
 @dataclass(frozen=True)
 class Row:
-    """What a run gave."""
+    """The result of a run."""
 
     family: str
     nodes: int
@@ -45,13 +45,13 @@ class Row:
     stable: bool
 
     def breaks(self) -> bool:
-        """Whether the run would be news: what is proved doesn't hold of it."""
+        """Returns whether the run would be news: what is proved doesn't hold of it."""
         most = bounds.of(self.nodes, self.links)
         return not self.stable or self.moves > most.moves or self.rounds > most.rounds
 
 
 def drawn(setting: Setting, seed: int) -> labs.Lab:
-    """The network and the registers of a run: the same for each daemon."""
+    """Returns the network and the registers of a run: the same for each daemon."""
     chance = random.Random(f"{setting.family} {setting.nodes} {setting.start} {seed}")
     count = None if setting.family.startswith(SIZED) else setting.nodes
     nodes, links = networks.family(setting.family, count, 0, chance)
@@ -66,7 +66,8 @@ def lowest(nodes: Sequence[int]) -> int:
 
 
 def run(bench: Bench, setting: Setting, made: labs.Lab, seed: int) -> Row:
-    """A run from its registers to its stable end, or to where it has more moves than there can be."""
+    """Runs from the registers to the stable end, or until there are more moves than there can be. Returns the run's
+    row."""
     named = f"{setting.family} {setting.nodes} {setting.start} {seed} {setting.daemon.spelled()}"
     chance = random.Random(named)
     report = bench.begin(made)
@@ -83,7 +84,7 @@ def run(bench: Bench, setting: Setting, made: labs.Lab, seed: int) -> Row:
 
 
 def runs(setting: Setting, seeds: list[int]) -> list[tuple[Row, bytes]]:
-    """A row a seed, each with the script that tells the run where it would be news, and else with nothing."""
+    """Returns a row a seed, each with the script of the run if it would be news, and else with nothing."""
     bench: Bench | None = None
     rows: list[tuple[Row, bytes]] = []
     try:

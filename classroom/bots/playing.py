@@ -30,7 +30,7 @@ PACE = 0.02  # seconds between two looks of the house at its nodes
 SHARED = 0.05  # how often the house asks at such a look for a node that a program plays too
 KEPT_LINES = 20_000  # of a conversation
 SHOWN, SHOWN_LINE = 40, 120  # characters of a word and of a line that was asked
-OWN_RULE = "no look shows a program the enabled rule (--own-rule): it has to decide by p, m and near, as STUDENT.md tells"
+OWN_RULE = "no look shows a program the enabled rule (--own-rule): it has to decide by p, m and near, as STUDENT.md says"
 RULE = re.compile(rb',"rule":"[a-z]+"}$')  # at the end of a look
 PATIENCE = 0.5  # seconds without a grant after which the random daemon tosses
 
@@ -54,7 +54,7 @@ class Heard:
 
 @dataclass(frozen=True)
 class No:
-    """A line that wasn't granted, and why as the program tells it."""
+    """A line that wasn't granted, and the program's reason."""
 
     who: str
     word: str
@@ -73,7 +73,7 @@ class Step:
 
 
 def request_of(line: bytes) -> dict[str, Any]:
-    """The values of the request that a line is; none where it is no object."""
+    """Returns the values of the request that a line is; none if it is no object."""
     try:
         asked = json.loads(line)
     except (ValueError, RecursionError):
@@ -82,8 +82,8 @@ def request_of(line: bytes) -> dict[str, Any]:
 
 
 def kind_of(asked: dict[str, Any], told: dict[str, Any]) -> str:
-    """What a denial has in common with others, whatever the numbers are: what was asked, of a rule's guard also the rule,
-    and the denial."""
+    """Returns what a denial has in common with others, whatever the numbers are: what was asked, of a rule's guard also
+    the rule, and the denial."""
     what = " ".join(str(asked[key])[:SHOWN] for key in ("do", "rule")[: 2 if told["deny"] == "guard" else 1] if key in asked)
     return f"{what} is denied as {told['deny']}, clause {told['clause']}"
 
@@ -122,7 +122,8 @@ class Playing:
     # What programs ask.
 
     def answer(self, connection: int, line: bytes, paused: bool) -> bytes:
-        """The reply that a program gets to a line that came, which is counted; nothing if the reply is lost."""
+        """Returns the reply that a program gets to a line that came, which is counted, or nothing if the reply is
+        lost."""
         asked = request_of(line)
         if asked.get("do") == "move" and asked.get("at") == self.report["at"]:
             self.come_before(number_of(asked.get("node")))
@@ -153,7 +154,7 @@ class Playing:
             self.house_move(node)
 
     def without_rule(self, who: str, reply: bytes, told: dict[str, Any]) -> bytes:
-        """A reply as a program gets it: with `own_rule` a look shows no enabled rule."""
+        """Returns a reply as a program gets it: with `own_rule` a look shows no enabled rule."""
         if not self.own_rule or told.get("ok") != "look" or told["rule"] is None:
             return reply
         self.heard[who].conduct.rules_hidden += 1
@@ -183,11 +184,11 @@ class Playing:
             heard.denied[told["refuse"]] += 1
             note = wrong(line.decode(errors="surrogateescape").replace("\r", " ")) if told["refuse"] == "malformed" else None
             text = f"{told['refuse']}: {note}" if note else told["refuse"]
-            kind = text.partition(" (")[0]  # how to mend it may tell a number
+            kind = text.partition(" (")[0]  # how to mend it may have a number
             self.on_no(No(who, told["refuse"], f"{text}: {line[:SHOWN_LINE].decode(errors='backslashreplace')}", kind, sent))
 
     def explained(self, asked: dict[str, Any], told: dict[str, Any]) -> str:
-        """A denial with its clause, the node's registers, and what would be granted there."""
+        """Returns a denial with its clause, the node's registers, and what would be granted there."""
         what = " ".join(str(asked[key]) for key in ("do", "node", "rule", "with") if key in asked)
         text = f"{what} is denied as {told['deny']}, clause {told['clause']}: {told['text']}"
         if "at" in told:
@@ -203,7 +204,8 @@ class Playing:
         return f"{text}; {look['rule'] or 'nothing'} would be granted there"
 
     def silence(self, who: str) -> str:
-        """Why nothing comes from a program, as far as its port can tell, after a semicolon; empty where it can't."""
+        """Returns why nothing comes from a program, as far as its port can tell, after a semicolon, or empty if it
+        can't."""
         if self.relay.has_unended():
             return "; a line came that has no newline at its end"
         if self.heard[who].greeted:
@@ -212,7 +214,7 @@ class Playing:
         return "; it connected, but no hello was granted" if strangers else f"; it never connected to port {self.relay.port}"
 
     def last_words(self, who: str) -> str:
-        """When a program's last line came and what it was, and at which of its nodes it never looked."""
+        """Returns when a program's last line came and what it was, and at which of its nodes it never looked."""
         heard = self.heard[who]
         ago = time.monotonic() - heard.last_at
         never = [node for node in self.lab.nodes_of(who) if node not in heard.conduct.seen]
@@ -274,12 +276,12 @@ class Playing:
     # Who plays.
 
     def house_owner(self, node: int) -> str | None:
-        """The owner in whose name the house asks; None where programs play for all owners."""
+        """Returns the owner in whose name the house asks, or None if programs play for all owners."""
         return next((name for name in self.lab.owners(node) if name not in self.programs), None)
 
     def house(self) -> None:
-        """The house asks for its nodes: for one where a close applies one, and else for all; but only now and then for
-        a node that a program plays too."""
+        """Asks for the house's nodes: for one if a close applies one, and else for all; but only now and then for a
+        node that a program plays too."""
         nodes = [node for node, _ in self.report["privileged"] if node not in self.chosen and self.house_owner(node)]
         own = [node for node in nodes if len(self.lab.owners(node)) == 1 or not set(self.lab.owners(node)) & set(self.programs)]
         shared = [node for node in nodes if node not in own and self.pace_chance.random() < SHARED]
@@ -307,7 +309,7 @@ class Playing:
             pass
 
     def turn(self) -> None:
-        """What comes is answered, the house asks, and the daemon closes."""
+        """Answers what comes, lets the house ask, and lets the daemon close."""
         self.relay.turn(PACE / 2)
         now = time.monotonic()
         if now - self.paced >= PACE:
@@ -322,16 +324,16 @@ class Playing:
             self.close(nodes)
 
     def seen(self) -> labs.Lab:
-        """The network with its registers as they are."""
+        """Returns the network with its registers as they are."""
         seen = [self.program.ask(TEACHER, do="see", node=node.id) for node in self.lab.nodes]
         return network([labs.Node(it["node"], [], it["p"], it["m"]) for it in seen], self.lab.links)
 
     def is_stable(self) -> bool:
-        """Whether no node is privileged."""
+        """Returns whether no node is privileged."""
         return bool(self.report["stable"])
 
     def waiting(self) -> str:
-        """Whose nodes are privileged and have no chosen move."""
+        """Returns whose nodes are privileged and have no chosen move."""
         return ", ".join(f"{node} ({' and '.join(self.lab.owners(node))}): {rule}"
                          for node, rule in self.report["privileged"] if node not in self.chosen)
 

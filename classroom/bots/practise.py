@@ -34,7 +34,7 @@ from classroom.run.teller import Teller
 from classroom.setup import slips
 from classroom.setup.new import start
 
-QUIET = 10.0  # seconds without news after which it is told for whom the class waits
+QUIET = 10.0  # seconds without news after which it prints for whom the class waits
 MEGABYTES = 4096  # of a program at home
 PAGE_PORT = 4790  # at which the page to play by is served, or the next that is free
 REST = 0.3  # seconds that a stable class is held, for late lines
@@ -42,7 +42,7 @@ SEED = 5503  # over seven nodes in a cycle, hurt, both nodes that it deals out n
 
 
 def add_words(words: argparse.ArgumentParser) -> None:
-    """The words of `practise`."""
+    """Adds the words of `practise`."""
     words.add_argument("bots", nargs="*", metavar="BOT",
                        help="a command, to which a slip's path is added: 'python3 bot.py'; without one, a port waits for a program")
     words.add_argument("--family", default="cycle", help=f"{networks.NAMED} (cycle)")
@@ -52,7 +52,7 @@ def add_words(words: argparse.ArgumentParser) -> None:
     words.add_argument("--daemon", type=daemon, default=Daemon("when-idle", 0.5), metavar="D", help=f"{FORMS} (when-idle:0.5)")
     words.add_argument("--seed", type=int, default=SEED, help=f"for network, start and daemon ({SEED})")
     words.add_argument("--timeout", type=seconds, default=60.0, metavar="SECONDS",
-                       help="without news for so long it ends, where a BOT is named (60)")
+                       help="end after so long without news, if a BOT is named (60)")
     words.add_argument("--own-rule", action="store_true", help="no look shows the enabled rule, so that your program has to decide by itself")
     words.add_argument("--port", type=positive, help="the port, or else the next that is free (4711; with a BOT any)")
     words.add_argument("--page", action="store_true", help="play by hand at a page in your browser, without a BOT")
@@ -61,7 +61,7 @@ def add_words(words: argparse.ArgumentParser) -> None:
 
 
 def own_nodes(word: str | None, identifiers: list[int], bots: int, chance: random.Random) -> list[int]:
-    """The nodes that are the student's: those that the word names, or two for each bot, drawn."""
+    """Returns the nodes that are the student's: those that the word names, or two for each bot, drawn."""
     if word is None:
         return sorted(chance.sample(identifiers, min(2 * bots, len(identifiers))))
     try:
@@ -75,7 +75,7 @@ def own_nodes(word: str | None, identifiers: list[int], bots: int, chance: rando
 
 
 def made(words: argparse.Namespace, names: list[str]) -> labs.Lab:
-    """The lab: the students' nodes in turn, and the house's."""
+    """Returns the lab: the students' nodes in turn, and the house's."""
     chance = random.Random(f"practise {words.seed}")
     sized = words.family.startswith(("grid:", "random:"))
     nodes, links = networks.family(words.family, words.nodes or (None if sized else 7), 0, chance)
@@ -92,9 +92,9 @@ def made(words: argparse.Namespace, names: list[str]) -> labs.Lab:
 
 
 def opened(lab: labs.Lab, names: list[str], words: argparse.Namespace) -> Playing:
-    """The class at a port: the one that is named, or the next that is free."""
+    """Returns the class at a port: the one that is named, or the next that is free."""
     def at(port: int) -> Playing | None:
-        """The class at that port; None where the port is taken."""
+        """Returns the class at that port, or None if the port is taken."""
         try:
             return Playing(lab, names, words.daemon, f"practise {words.seed}", port, words.own_rule)
         except OSError:
@@ -107,7 +107,7 @@ def opened(lab: labs.Lab, names: list[str], words: argparse.Namespace) -> Playin
 
 @dataclass
 class Practice:
-    """A class with its programs, and what is told of it."""
+    """A class with its programs, and what is printed about it."""
 
     playing: Playing
     tell: Callable[[str], None]
@@ -126,7 +126,7 @@ class Practice:
 
     def no(self, no: No) -> None:
         """Explains a line that wasn't granted. Of its kind only the first is explained; at the tenth, the hundredth and
-        so on it is told how many they are."""
+        so on it prints how many they are."""
         self.times[no.who, no.kind] += 1
         times = self.times[no.who, no.kind]
         if times == 1:
@@ -135,7 +135,7 @@ class Practice:
             self.tell(f"{no.who}: {times} times by now: {no.kind}")
 
     def step(self, step: Step) -> None:
-        """A step as a line."""
+        """Prints a step as a line."""
         privileged = [node for node, _ in step.report["privileged"]]
         self.recovery.step([node for node, _, _ in step.moved], privileged)
         moved = ", ".join(f"{node} ({who}) {rule}" for node, who, rule in step.moved)
@@ -149,7 +149,7 @@ class Practice:
         self.floods |= {name for name in self.playing.programs if self.playing.heard[name].conduct.floods(len(self.playing.lab.nodes_of(name)))}
 
     def summary(self, name: str) -> str:
-        """What a program did in all."""
+        """Returns what a program did in all."""
         heard = self.playing.heard[name]
         moves = ", ".join(rule for rule in RULES if heard.rules[rule])
         denied = {word: times for word, times in sorted(heard.denied.items()) if word != MALFORMED}
@@ -163,12 +163,12 @@ class Practice:
         return text + f"; {heard.conduct.wrong}" * bool(heard.conduct.wrong)
 
     def silence(self) -> str:
-        """Why nothing comes from programs, where that can be told."""
+        """Returns why nothing comes from programs, if that can be said."""
         hints = {name: self.playing.silence(name).removeprefix("; ") for name in self.playing.programs}
         return "".join(f"; {name}: {hint}" for name, hint in hints.items() if hint)
 
     def run(self) -> bool:
-        """Plays to the stable end, or to where the class hangs or is stopped; gives whether it is stable."""
+        """Plays until the class is stable, hangs or is stopped. Returns whether it is stable."""
         playing, news = self.playing, self.playing.news
         while not playing.is_stable() and not self.stop:
             self.turn()
@@ -208,7 +208,7 @@ def practise(words: argparse.Namespace) -> int:
     """Plays a class of one student to its end."""
     program(), answerer()
     if words.page and words.bots:
-        raise Fault("--page is for who plays by hand: without a BOT")
+        raise Fault("--page is for playing by hand: leave the BOT out")
     reap_orphans()
     bots = [Bot.of(word) for word in words.bots]
     for bot in bots:
@@ -225,12 +225,12 @@ def practise(words: argparse.Namespace) -> int:
 
 
 def for_its_owner(path: str, flags: int) -> int:
-    """Opens a file; one that it makes nobody else reads."""
+    """Opens a file. One that it makes can be read only by its owner."""
     return os.open(path, flags, 0o600)
 
 
 def played(it: ClassWithPrograms, bots: list[Bot], words: argparse.Namespace, folder: Path) -> int:
-    """Plays it in a folder of its own; the status is that of the word."""
+    """Plays it in a folder of its own. Returns the exit status."""
     lab, names, tell = it.playing.lab, it.playing.programs, Teller(folder)
     practice = Practice(it.playing, tell, words.timeout if bots else None)
     for number in (signal.SIGINT, signal.SIGTERM, signal.SIGHUP):
@@ -263,7 +263,7 @@ def played(it: ClassWithPrograms, bots: list[Bot], words: argparse.Namespace, fo
 
 @contextlib.contextmanager
 def served(practice: Practice, lab: labs.Lab, name: str, is_asked: bool) -> Iterator[None]:
-    """Serves the page to play by as long as the class goes on, if that is asked for. The key stands behind the `#` of its
+    """Serves the page to play by as long as the class goes on, if that is asked for. The key stands after the `#` of its
     address, which no browser sends on."""
     if not is_asked:
         yield

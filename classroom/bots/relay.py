@@ -35,8 +35,8 @@ class Relay:
     """A listener, and who called."""
 
     def __init__(self, answer: Answer, left: Callable[[int], None], numbers: range, port: int = 0) -> None:
-        """`answer` gives the reply to a line of a connection, and is told whether it came after a pause; if it gives none,
-        the connection is lost. `left` is told the number of a connection that has ended."""
+        """`answer` returns the reply to a line of a connection, and is called with whether it came after a pause; if it
+        returns none, the connection is lost. `left` is called with the number of a connection that has ended."""
         self.answer, self.left = answer, left
         self.free = list(numbers)
         self.callers: list[Caller] = []
@@ -53,7 +53,7 @@ class Relay:
         self.selector.register(self.listener, selectors.EVENT_READ)
 
     def move(self, listener: socket.socket) -> None:
-        """Listens there from now on, and no longer where it did."""
+        """Listens there from now on, and no longer if it did."""
         self.selector.unregister(self.listener)
         self.listener.close()
         self.listener = listener
@@ -61,7 +61,7 @@ class Relay:
         self.selector.register(self.listener, selectors.EVENT_READ)
 
     def turn(self, seconds: float) -> None:
-        """Answers what is there; where nothing is, waits for it so many seconds at most."""
+        """Answers what is there; if nothing is, waits for it so many seconds at most."""
         for each in list(self.callers):
             each.quiet += 1
             if each.held:
@@ -87,7 +87,7 @@ class Relay:
         return sum(when >= since for when in self.calls)
 
     def accept(self) -> None:
-        """Lets one in where a number is free, and else says `busy`."""
+        """Accepts a connection if a number is free, and else answers `busy`."""
         try:
             its, _ = self.listener.accept()
         except OSError:
@@ -125,7 +125,7 @@ class Relay:
         caller.parts = caller.parts or not more or len(caller.rest) > LONGEST
 
     def follow(self, caller: Caller) -> None:
-        """Sends what a caller takes of its replies, and chooses what to wait for next; hangs up where it parts and has
+        """Sends what a caller takes of its replies, and chooses what to wait for next; hangs up if it parts and has
         taken all."""
         now = time.monotonic()
         if caller.out and now >= caller.held:
@@ -142,11 +142,11 @@ class Relay:
         self.selector.modify(caller.socket, wants, caller)
 
     def has_unended(self) -> bool:
-        """Whether somebody sent a part of a line and no newline after it."""
+        """Returns whether somebody sent a part of a line and no newline after it."""
         return self.overlong or any(caller.rest for caller in self.callers)
 
     def end(self, caller: Caller) -> None:
-        """Hangs up on a caller, frees its number and tells that it has left."""
+        """Hangs up on a caller, frees its number and notes that it has left."""
         self.selector.unregister(caller.socket)
         caller.socket.close()
         self.callers.remove(caller)
@@ -184,7 +184,7 @@ class Relay:
         self.selector.register(self.listener, selectors.EVENT_READ)
 
     def close(self) -> None:
-        """Hangs up on everybody, without telling that they have left, and lets go of the port."""
+        """Hangs up on everybody, without noting that they have left, and closes the port."""
         for caller in list(self.callers):
             self.selector.unregister(caller.socket)
             caller.socket.close()

@@ -1,4 +1,4 @@
-"""What a bot sees of the files of this machine, where it is kept apart: its own, and what its interpreter needs."""
+"""What a bot sees of the files of this machine, if it is kept apart: its own, and what its interpreter needs."""
 from __future__ import annotations
 
 import os
@@ -18,7 +18,7 @@ APART = "=:,"  # between paths in a word
 
 
 def steps(path: Path) -> list[Path]:
-    """A path, where the link leads that it is, and so on."""
+    """Returns a path, the path that it leads to if it is a link, and so on."""
     found: list[Path] = []
     while path not in found:
         found.append(path)
@@ -28,19 +28,19 @@ def steps(path: Path) -> list[Path]:
 
 
 def holds(folder: Path, paths: Iterable[Path]) -> bool:
-    """Whether one of the paths is that folder or below it."""
+    """Returns whether one of the paths is that folder or below it."""
     return any(path.is_relative_to(folder) for path in paths)
 
 
 def is_private(folder: Path) -> bool:
-    """Whether a folder has more than programs: the home, that of temporary files, and those above them."""
+    """Returns whether a folder has more than programs: the home, that of temporary files, and those above them."""
     home = Path.home()
     return holds(folder, (home, home / ".local", Path(tempfile.gettempdir()), home.resolve()))
 
 
 def around(file: Path) -> list[Path]:
-    """A file with what it needs: its folder, or the installation that this is the folder of programs of. Of a private
-    folder only the file is shown, with the module that students use."""
+    """Returns a file with what it needs: its folder, or the installation that this is the folder of programs of. Of a
+    private folder only the file is shown, with the module that students use."""
     folder = file.parent
     beside = [folder.parent / each for each in BESIDE if folder.name in OF_PROGRAMS and (folder.parent / each).is_dir()]
     if beside and not is_private(folder.parent):
@@ -50,7 +50,7 @@ def around(file: Path) -> list[Path]:
 
 @cache
 def files_of(words: tuple[str, ...]) -> list[Path]:
-    """The files and folders that the words of a command name, with those to which their links lead."""
+    """Returns the files and folders that the words of a command name, with those to which their links lead."""
     found: list[Path] = []
     for word in words:
         parts = word.translate({ord(each): "\n" for each in APART}).splitlines()
@@ -62,7 +62,7 @@ def files_of(words: tuple[str, ...]) -> list[Path]:
 
 @cache
 def common() -> list[Path]:
-    """What every bot sees: the system's programs, those of the path, and the module that students use."""
+    """Returns what every bot sees: the system's programs, those of the path, and the module that students use."""
     found = [Path(each) for each in SYSTEM] + [file for each in OF_ETC for file in Path("/etc").glob(each)]
     for each in os.environ.get("PATH", "").split(":"):
         if each.startswith("/") and Path(each).is_dir() and not is_private(Path(each)):
@@ -72,7 +72,7 @@ def common() -> list[Path]:
 
 
 def shown(words: tuple[str, ...], more: Iterable[Path] = ()) -> tuple[tuple[str, str], ...]:
-    """Where a bot of these words sees each file and folder, and where that is: none is below another."""
+    """Returns each file and folder that a bot of these words sees, with where that is: none is below another."""
     wanted = [*common(), *more]
     for file in files_of(words):
         wanted += [file] if file.is_dir() else around(file)
@@ -84,13 +84,13 @@ def shown(words: tuple[str, ...], more: Iterable[Path] = ()) -> tuple[tuple[str,
 
 
 def holds_one(folders: Iterable[Path], path: Path) -> bool:
-    """Whether one of the folders has that path in it, or is it."""
+    """Returns whether one of the folders has that path in it, or is it."""
     return any(path.is_relative_to(folder) for folder in folders)
 
 
 def hidden(words: tuple[str, ...], others: Iterable[tuple[str, ...]], results: Path) -> tuple[str, ...]:
-    """What of that a bot of these words doesn't see: results, and the files of others' commands, each with its folder
-    where nothing else that the bot sees is in it."""
+    """Returns the part of that which a bot of these words doesn't see: results, and the files of others' commands, each
+    with its folder if nothing else that the bot sees is in it."""
     own, everyones = files_of(words), common()
     found = {file for other in others for file in files_of(other)} - set(own)
     theirs = [file for file in found if not holds_one(everyones, file)]

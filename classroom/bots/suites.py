@@ -52,7 +52,7 @@ class Case:
     piece: int = 0
 
     def name(self) -> str:
-        """What tells it from others, and what its coins are drawn from."""
+        """Returns the text that distinguishes it from others, and that its coins are drawn from."""
         return f"{self.lab} {self.daemon.spelled()} {self.seed}"
 
 
@@ -95,18 +95,18 @@ SUITES = {"small": SMALL, "full": FULL}
 
 
 def key() -> str:
-    """A key that can't be guessed."""
+    """Returns a key that can't be guessed."""
     return secrets.token_hex(16)
 
 
 def dealt(count: int, links: networks.Links, own: list[int], shared: list[int]) -> labs.Lab:
-    """A lab of the bot's nodes, those that it shares with the house, and the house's."""
+    """Returns a lab of the bot's nodes, those that it shares with the house, and the house's."""
     nodes = [labs.Node(node, [BOT] if node in own else [BOT, HOUSE] if node in shared else [HOUSE]) for node in range(1, count + 1)]
     return labs.Lab(labs.MOST_EVENTS, labs.MOST_SESSIONS, (TEACHER, key()), {BOT: key(), HOUSE: key()}, nodes, links)
 
 
 def taken(plan: Plan, count: int, links: networks.Links, chance: random.Random) -> list[int]:
-    """The nodes of the bot: first those that are its alone, and then the shared ones."""
+    """Returns the nodes of the bot: first those that are its alone, and then the shared ones."""
     nodes = list(range(1, count + 1))
     first: list[int] = []
     if plan.takes == HUB:
@@ -119,14 +119,14 @@ def taken(plan: Plan, count: int, links: networks.Links, chance: random.Random) 
 
 
 def renamed(made: labs.Lab, named: tuple[int, ...]) -> labs.Lab:
-    """A lab whose nodes, from 1 on, get other identifiers in the same order."""
+    """Returns a lab whose nodes, from 1 on, get other identifiers in the same order."""
     name = dict(zip((node.id for node in made.nodes), named))
     nodes = [replace(node, id=name[node.id], p=None if node.p is None else name[node.p]) for node in made.nodes]
     return replace(made, nodes=nodes, links=[(name[a], name[b]) for a, b in made.links])
 
 
 def planned(plan: Plan, seed: int, how: Daemon) -> Case:
-    """The case of a plan with a seed."""
+    """Returns the case of a plan with a seed."""
     chance = random.Random(f"{plan.name} {seed}")
     count, links = networks.family(plan.family, plan.nodes, 0, chance)
     nodes = taken(plan, count, links, chance)
@@ -138,7 +138,7 @@ def planned(plan: Plan, seed: int, how: Daemon) -> Case:
 
 
 def own_lab(path: Path, seed: int, how: Daemon) -> Case:
-    """The case of a teacher's own lab: one of its students is the bot, with keys of its own."""
+    """Returns the case of a teacher's own lab: one of its students is the bot, with keys of its own."""
     made = labs.read(path)
     chance = random.Random(f"{path.stem} {seed}")
     alone = {name: [node.id for node in made.nodes if node.owners == [name]] for name in made.students}
@@ -149,15 +149,15 @@ def own_lab(path: Path, seed: int, how: Daemon) -> Case:
 
 
 def of_suite(name: str, how: list[Daemon] | None, seeds: int) -> list[Case]:
-    """The cases of a suite that comes with the release, with the seeds 1 to `seeds`; each plan has its own daemon where
-    none are named."""
+    """Returns the cases of a suite that comes with the release, with the seeds 1 to `seeds`; each plan has its own
+    daemon if none are named."""
     plans = SUITES[name]
     return [planned(plan, seed, each) for seed in range(1, seeds + 1) for plan in plans for each in how or [plan.daemon]]
 
 
 def of_folder(folder: Path, how: list[Daemon] | None, seeds: int) -> tuple[list[Case], list[str]]:
-    """The cases of a folder's labs, with the seeds 1 to `seeds`, under the usual daemons where none are named; and a
-    line for each file that is no lab."""
+    """Returns the cases of a folder's labs, with the seeds 1 to `seeds`, under the usual daemons if none are named; and
+    a line for each file that is no lab."""
     try:
         files = sorted(each for each in folder.iterdir() if each.suffix == ".toml")
     except OSError as error:

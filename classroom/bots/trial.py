@@ -32,13 +32,14 @@ class Result:
 
 
 def tried(bot: Bot, case: Case, limits: Limits, own: Path, folder: Path, stop: threading.Event, seen: Seen | None = None) -> Result | None:
-    """How a bot does in a case, in a folder of its own; its record goes into `folder`. None where it was interrupted."""
+    """Tries a bot in a case, in a folder of its own. Its record goes into `folder`. Returns the result, or None if it
+    was interrupted."""
     with tempfile.TemporaryFile() as output:
         return tried_with(Attempt(bot, case, limits, Room(own, output, seen), stop), folder)
 
 
 def tried_with(trial: Attempt, folder: Path) -> Result | None:
-    """How a trial ends; its record goes into `folder`. None where it was interrupted."""
+    """Runs a trial to its end. Its record goes into `folder`. Returns the result, or None if it was interrupted."""
     begun, case = time.monotonic(), trial.case
     result = Result(trial.bot.name, case.lab, case.daemon.spelled(), case.seed, False, "")
     try:

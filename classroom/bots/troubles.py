@@ -22,7 +22,7 @@ ON = "; a bot goes on until the class is over"
 
 
 def run(trial: Attempt) -> None:
-    """Plays the whole case; raises what is wrong."""
+    """Plays the whole case. Raises what is wrong."""
     troubles = trial.case.troubles
     trial.playing.relay.busy = BUSY in troubles
     trial.launch()
@@ -41,14 +41,14 @@ def run(trial: Attempt) -> None:
 
 
 def rests(trial: Attempt, seconds: float) -> None:
-    """Wants that a bot for which there is nothing to ask asks for nothing, but for what it saw before: a move for each of
-    its nodes."""
+    """Checks that a bot for which there is nothing to ask asks for nothing, except for what it saw before: a move for
+    each of its nodes."""
     trial.watch(LATE)
     before = trial.heard.asked
     trial.watch(seconds)
     asked = trial.heard.asked - before
     if asked > len(trial.nodes()):
-        raise Fails(f"it asked for {asked} moves where nothing was to ask: if `rule` is null, there is nothing to do now")
+        raise Fails(f"it asked for {asked} moves though there was nothing to ask for: if `rule` is null, there is nothing to do now")
 
 
 def hurt(trial: Attempt, of: list[int] | None = None) -> int:
@@ -188,20 +188,20 @@ def turned_away(trial: Attempt) -> None:
         if time.monotonic() > end:
             raise Fails(f"it said no hello in {trial.limits.seconds:g} seconds{trial.playing.silence(trial.case.who)}")
         trial.turn()
-    trial.doing = ", after it was told `busy`: all seats are taken, so a bot comes again in a second"
+    trial.doing = ", after the reply `busy`: all seats are taken, so a bot comes again in a second"
     trial.watch(TURNED_AWAY)
     relay.busy, trial.doing = False, ""
     trial.until_greeted()
 
 
 def over(trial: Attempt) -> None:
-    """Ends the class, and wants that the bot ends too."""
+    """Ends the class, and checks that the bot ends too."""
     assert trial.kept is not None
     trial.playing.relay.over()
     end = time.monotonic() + trial.limits.seconds
     while not (how := trial.kept.ended()):
         if time.monotonic() > end:
-            raise Fails(f"it was told that the class is over, and goes on after {trial.limits.seconds:g} seconds: a bot ends then")
+            raise Fails(f"it got the line that the class is over, and still runs after {trial.limits.seconds:g} seconds: a bot ends then")
         if trial.stop.is_set():
             raise Stopped
         trial.playing.turn()
@@ -224,8 +224,8 @@ def drawn(trial: Attempt, node: int, known: set[tuple[str | None, int, bool]]) -
 
 
 def rules(trial: Attempt) -> None:
-    """Draws configurations around a node of the bot's, one after another without a close: where the program reports a
-    rule there, the bot asks for it, and else for nothing."""
+    """Draws configurations around a node of the bot's, one after another without a close: if the program reports a rule
+    there, the bot asks for it, and else for nothing."""
     playing, links = trial.playing, trial.case.made.links
     node = max(trial.alone(), key=lambda node: (any(node == b for a, b in links) + any(node == a for a, b in links), -node))
     known: set[tuple[str | None, int, bool]] = set()

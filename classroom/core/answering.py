@@ -19,7 +19,7 @@ SOME = 24  # lines, at most, that are sent before their replies are read
 
 
 def answerer() -> Path:
-    """The host's program, which has the word `answer`; a fault where it isn't built."""
+    """Returns the host's program, which has the word `answer`. Raises a fault if it isn't built."""
     found = host()
     if found is None:
         how = "`./mml build` builds it (with the toolchain's rt on the path)" if is_clone() else "this release has none"
@@ -28,7 +28,8 @@ def answerer() -> Path:
 
 
 def started(lab: labs.Lab) -> subprocess.Popen[bytes]:
-    """The program, started over a lab. The lab's file has no name, so that a program under test can't find it."""
+    """Returns the program, started over a lab. The lab's file has no name, so that a program under test can't find
+    it."""
     program = answerer()
     file = os.memfd_create("lab")
     try:
@@ -43,7 +44,7 @@ def started(lab: labs.Lab) -> subprocess.Popen[bytes]:
 
 
 def all_of(lab: labs.Lab, script: list[str]) -> str:
-    """The replies to all lines of a script, a line each after its connection's number."""
+    """Returns the replies to all lines of a script, a line each after its connection's number."""
     with started(lab) as process:
         out, error = process.communicate("\n".join([*script, ""]).encode("ascii"))
     replies, said = out.decode("ascii"), error.decode(errors="replace").strip()
@@ -64,7 +65,7 @@ class Answering:
         self.names: dict[int, str] = {}
 
     def answers(self, lines: list[tuple[int, bytes]]) -> list[bytes]:
-        """The replies to lines of connections, in their order."""
+        """Returns the replies to lines of connections, in their order."""
         assert self.process.stdin is not None and self.process.stdout is not None
         replies: list[bytes] = []
         while len(replies) < len(lines):
@@ -88,8 +89,8 @@ class Answering:
         return replies
 
     def ended(self) -> Fault:
-        """The fault to be raised where the program has ended, or answers no longer: its status and what it said. The
-        program is killed."""
+        """Returns the fault to be raised if the program has ended, or answers no longer: its status and what it said.
+        The program is killed."""
         assert self.process.stderr is not None
         self.process.kill()
         said = self.process.stderr.read().decode(errors="replace").strip()
@@ -97,20 +98,21 @@ class Answering:
         return Fault(f"the program has ended, status {status}: {said}", 4)
 
     def answer(self, connection: int, line: bytes) -> dict[str, Any]:
-        """The reply to a line; what was granted is kept."""
+        """Asks a line. Returns the reply; what was granted is kept."""
         reply = reply_of(self.answers([(connection, line)])[0])
         self.keep(connection, line, reply)
         return reply
 
     def keep(self, connection: int, line: bytes, reply: dict[str, Any]) -> None:
-        """Keeps a line for the script that does again what was granted, where its reply says that it was: a hello, a
-        bye or an event. A full script takes no more."""
+        """Keeps a line for the script that does again what was granted, if its reply says that it was: a hello, a bye
+        or an event. A full script takes no more."""
         if (reply.get("ok") in ("hello", "bye") or "place" in reply) and self.size + len(line) < MOST_SCRIPT:
             self.granted.append(b"%d %s\n" % (connection, line))
             self.size += len(self.granted[-1])
 
     def ask(self, connection: int, **request: object) -> dict[str, Any]:
-        """Sends a request, and gives its reply where it was answered by `ok`; else raises the denial or the refusal."""
+        """Sends a request, and returns its reply if it was answered by `ok`. Otherwise raises the denial or the
+        refusal."""
         reply = self.answer(connection, json.dumps(request, separators=(",", ":")).encode())
         if "deny" in reply:
             raise Denied(reply["clause"], reply["deny"], reply["text"], reply.get("at"))
@@ -129,7 +131,7 @@ class Answering:
         self.names[connection] = name
 
     def script(self) -> bytes:
-        """The script that does again what was granted."""
+        """Returns the script that does again what was granted."""
         return b"".join(self.granted)
 
     def close(self) -> None:

@@ -15,7 +15,7 @@ ROOM = 4  # moves and closes for each move that there can be, with room to spare
 
 
 def network(nodes: list[labs.Node], links: list[tuple[int, int]]) -> labs.Lab:
-    """A lab whose one student has all nodes."""
+    """Returns a lab whose one student has all nodes."""
     own = [labs.Node(node.id, ["student"], node.p, node.m) for node in nodes]
     return labs.Lab(labs.MOST_EVENTS, 2, ("teacher", "teacher"), {"student": "student"}, own, links)
 
@@ -32,16 +32,17 @@ class Bench:
         self.before = 0  # the number at which it begins
 
     def has_room(self, made: labs.Lab) -> bool:
-        """Whether a run over that network can follow: it has the program's links, and enough events are left for it."""
+        """Returns whether a run over that network can follow: it has the program's links, and enough events are left
+        for it."""
         most = ROOM * bounds.of_lab(made).moves + 2 * len(made.nodes)
         return made.links == self.made.links and self.events + most < labs.MOST_EVENTS
 
     def asked(self, connection: int, requests: list[dict[str, Any]]) -> list[dict[str, Any]]:
-        """The replies to requests, each of which is answered by `ok`."""
+        """Returns the replies to requests, each of which is answered by `ok`."""
         return self.all_asked([(connection, request) for request in requests])
 
     def all_asked(self, requests: list[tuple[int, dict[str, Any]]]) -> list[dict[str, Any]]:
-        """The replies to requests of several connections, each of which is answered by `ok`."""
+        """Returns the replies to requests of several connections, each of which is answered by `ok`."""
         lines = [(connection, json.dumps(request, separators=(",", ":")).encode()) for connection, request in requests]
         replies: list[dict[str, Any]] = [json.loads(reply) for reply in self.program.answers(lines)]
         for (_, request), reply in zip(requests, replies):
@@ -52,7 +53,7 @@ class Bench:
         return replies
 
     def begin(self, made: labs.Lab) -> dict[str, Any]:
-        """Sets all registers; gives the report."""
+        """Sets all registers. Returns the report."""
         self.requests = []
         faults = [{"do": "fault", "node": node.id, "p": node.p, "m": node.m} for node in made.nodes]
         report = self.asked(TEACHER, [*faults, {"do": "report"}])[-1]
@@ -60,13 +61,13 @@ class Bench:
         return report
 
     def present(self) -> labs.Lab:
-        """The network with its registers as they are."""
+        """Returns the network with its registers as they are."""
         seen = self.asked(TEACHER, [{"do": "see", "node": node.id} for node in self.made.nodes])
         del self.requests[-len(seen):]  # They do nothing.
         return network([labs.Node(it["node"], [], it["p"], it["m"]) for it in seen], self.made.links)
 
     def script(self) -> bytes:
-        """The run at hand as a script over its lab."""
+        """Returns the run at hand as a script over its lab."""
         hello = [(TEACHER, {"do": "hello", "name": "teacher", "key": "teacher"}), (STUDENT, {"do": "hello", "name": "student", "key": "student"})]
         own = [(who, request | {"at": request["at"] - self.before} if "at" in request else request) for who, request in self.requests]
         return "".join(f"{who} {json.dumps(request)}\n" for who, request in [*hello, *own]).encode()

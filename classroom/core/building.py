@@ -13,7 +13,7 @@ NAMED_BY = {"mml_server": "MML_PROGRAM", "mml_host": "MML_HOST"}  # what in the 
 SIGNALS = (signal.SIGINT, signal.SIGTERM, signal.SIGHUP)
 POLL = 0.1
 PATIENCE = 2.0  # seconds after a signal in which the build, which a terminal's Ctrl-C reaches too, may end by itself
-STDERR = 2  # results go to standard output, where nothing else may stand
+STDERR = 2  # results go to standard output, and nothing else may stand there
 
 
 def lacks_programs() -> bool:

@@ -27,7 +27,7 @@ class Network:
     lab: str
 
     def is_sound(self) -> bool:
-        """Whether each value is of its kind, and the name is that of a folder."""
+        """Returns whether each value is of its kind, and the name is that of a folder."""
         texts = (self.name, self.room, self.lab)
         return all(isinstance(text, str) and "\0" not in text for text in texts) and bool(NAME.fullmatch(self.name)) \
             and self.name not in (".", "..")
@@ -61,7 +61,7 @@ class Class:
         return made
 
     def is_sound(self) -> bool:
-        """Whether each value is of its kind: another user may have written the file."""
+        """Returns whether each value is of its kind: another user may have written the file."""
         names = [network.name for network in self.networks]
         return (
             bool(names) and len(set(names)) == len(names) and all(network.is_sound() for network in self.networks)
@@ -88,7 +88,7 @@ def title(folder: Path) -> str:
 
 
 def is_class(folder: Path) -> bool:
-    """Whether a folder is that of a class."""
+    """Returns whether a folder is that of a class."""
     return (folder / FILE).is_file()
 
 

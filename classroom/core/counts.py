@@ -6,19 +6,19 @@ import re
 
 
 def positive(word: str) -> int:
-    """A number from 1."""
+    """Returns a number from 1."""
     if not (word.isascii() and word.isdecimal() and int(word) > 0):
         raise argparse.ArgumentTypeError(f"{word} is no number from 1")
     return int(word)
 
 
 def seconds(word: str) -> float:
-    """A number of seconds above 0."""
+    """Returns a number of seconds above 0."""
     if not re.fullmatch(r"\d+(\.\d+)?", word) or float(word) == 0:
         raise argparse.ArgumentTypeError(f"{word} is no number of seconds")
     return float(word)
 
 
 def plural(count: int, word: str) -> str:
-    """A count with the word for what is counted, in the plural but for one."""
+    """Returns a count with the word for what is counted, in the plural but for one."""
     return f"{count} {word}{'' if count == 1 else 's'}"

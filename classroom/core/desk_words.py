@@ -1,4 +1,5 @@
-"""The words of a teacher's desk: one table, for who takes, does, shows, counts or replays what one of them asks for."""
+"""The words of a teacher's desk: one table, for everything that takes, does, shows, counts or replays what one of them
+asks for."""
 from __future__ import annotations
 
 from collections.abc import Callable, Sequence
@@ -12,7 +13,7 @@ PATTERNS = {
     "NODE": r"\d+", "NEIGHBOUR|null": r"\d+|null|-", "true|false": "true|false", "SECONDS": r"\d+(\.\d+)?", "WORD": r"\S+", "NAME": r"\S+",
     "K|all": r"[1-9]\d*|all", "SEED": r"\d+",
 }
-# How a value is read that a request wants, by its kind in `client.KEYS`.
+# How a value of a request is read, by its kind in `client.KEYS`.
 READ: dict[str, Callable[[str], object]] = {
     "a number": int, "a number or null": lambda value: None if value in ("-", "null") else int(value),
     "true or false": lambda value: value == "true",
@@ -63,12 +64,12 @@ class Word:
 
     @property
     def is_on_page(self) -> bool:
-        """Whether the page sends it: by a button, or by clicks on two nodes."""
+        """Returns whether the page sends it: by a button, or by clicks on two nodes."""
         return bool(self.buttons or self.links)
 
     @property
     def nodes(self) -> int:
-        """How many nodes it names."""
+        """Returns how many nodes it names."""
         return self.form.split().count("NODE")
 
 
@@ -93,13 +94,13 @@ WORDS = {
     "stop": Word("NAME", "leave them to the student again", Action.STOP),
     "every": Word("SECONDS", "close a step every so many seconds", Action.CLOSE_BY,
                   (Button("every", "by the clock", "every #seconds", "every so many seconds"),)),
-    "when-idle": Word("SECONDS", "close a step where nothing came for so long", Action.CLOSE_BY,
+    "when-idle": Word("SECONDS", "close a step when nothing came for so long", Action.CLOSE_BY,
                       (Button("when-idle", "when idle", "when-idle #seconds", "so many seconds after the last move"),)),
     "by-hand": Word("", "close no step by itself", Action.CLOSE_BY, (Button("by-hand", "by hand", "by-hand"),)),
     "daemon": Word("WORD", "close steps as central, synchronous, random:P, schedule, adversary, when-idle:SECONDS, every:SECONDS, by-hand", Action.DAEMON),
     "page": Word("", "another address of the page to act at; the one before acts no more", Action.PAGE),
     "key": Word("NAME", "another key for a student, while the class goes on", Action.KEY),
-    "help": Word("", "tell these words", Action.HELP),
+    "help": Word("", "list these words", Action.HELP),
     "end": Word("", "end the run", Action.END, (Button("end", "End the run …", "end", "asks before it ends the run", kind="button"),)),
 }
 EDITS = tuple(word for word, it in WORDS.items() if it.is_edit)
@@ -108,10 +109,10 @@ BY_LINKS = {it.links: word for word, it in WORDS.items() if it.links}  # what ad
 
 
 def request(word: str, values: Sequence[str]) -> dict[str, Any]:
-    """The request that a word asks for, with its values as they are typed, or as a journal's line has them."""
+    """Returns the request that a word asks for, with its values as they are typed, or as a journal's line has them."""
     return {"do": word} | {key: READ[kind](value) for (key, kind), value in zip(KEYS[word].items(), values)}
 
 
 def links_after(word: str) -> int:
-    """How many more links there are after an event of that word."""
+    """Returns how many more links there are after an event of that word."""
     return WORDS[word].links if word in WORDS else 0

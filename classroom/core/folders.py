@@ -38,7 +38,7 @@ def new_folder(into: Path, lab: Path) -> Path:
 
 
 def of_folder(folder: Path) -> Run:
-    """Lab and journal of a run's folder, in which whatever a run reads or writes is a plain file."""
+    """Returns lab and journal of a run's folder, in which whatever a run reads or writes is a plain file."""
     for name in FILES:
         plain.want(folder / name)
     if not (folder / "lab.toml").is_file() or not (folder / "journal").is_file():
@@ -47,7 +47,8 @@ def of_folder(folder: Path) -> Run:
 
 
 def title(lab: Path, journal: Path, name: str = "") -> str:
-    """The lab's name and the day: of a run's folder what its own name has, else that of the journal's last change."""
+    """Returns the lab's name and the day: of a run's folder what its own name has, else that of the journal's last
+    change."""
     own = lab.resolve().parent
     in_class = (own.parent / CLASS).is_file()
     found = re.fullmatch(r"(\d{4}-\d\d-\d\d)T\d{4}-(.+)", (own.parent if in_class else own).name)
@@ -59,14 +60,14 @@ def title(lab: Path, journal: Path, name: str = "") -> str:
 
 @dataclass(frozen=True)
 class Process:
-    """A process, told from a later one of the same number by when it was started."""
+    """A process, distinguished from a later one of the same number by its start."""
 
     number: int
     start: str
 
     @staticmethod
     def of(number: int) -> Process:
-        """The process that has the number now, with an empty start where none has it or it has ended."""
+        """Returns the process that has the number now, with an empty start if none has it or it has ended."""
         try:
             stat = Path(f"/proc/{number}/stat").read_text(encoding="utf-8", errors="replace")
         except OSError:
@@ -75,7 +76,7 @@ class Process:
         return Process(number, "" if state == "Z" else rest[18])
 
     def lives(self) -> bool:
-        """Whether the process hasn't ended."""
+        """Returns whether the process hasn't ended."""
         return self.start != "" and Process.of(self.number) == self
 
 
@@ -103,7 +104,7 @@ class Record:
 
     @staticmethod
     def read(folder: Path) -> Record | None:
-        """The record that a folder keeps, where it has one."""
+        """Returns the record that a folder keeps, if it has one."""
         try:
             it = json.loads(plain.read(folder / RECORD, plain.MOST_KEPT))
             made = Record(**it | {"run": Process(**it["run"]), "server": Process(**it["server"])})
@@ -112,7 +113,7 @@ class Record:
             return None
 
     def is_sound(self) -> bool:
-        """Whether each value is of its kind: the folder may be another's."""
+        """Returns whether each value is of its kind: the folder may be another's."""
         texts = [self.lab, self.close, self.run.start, self.server.start, *self.played, *filter(None, (self.until, self.looks, self.ends, self.door))]
         numbers = [self.port, self.desk, *(each for each in (self.page, self.play) if each is not None)]
         seconds = 1.0 if self.stand_in is None else self.stand_in
@@ -125,7 +126,8 @@ class Record:
 
     @staticmethod
     def lacking(folder: Path, port: int) -> Record:
-        """A record for a folder which keeps none, as those that 0.9.0 made first: ports and closing are a new run's."""
+        """Returns a record for a folder which keeps none, as those that 0.9.0 made first: ports and closing are a new
+        run's."""
         return Record(str(folder / "lab.toml"), port, 0, None, "when-idle:2", None, Process(0, ""), Process(0, ""))
 
     def write(self, folder: Path) -> None:
@@ -138,12 +140,12 @@ class Record:
             new.unlink(missing_ok=True)
 
     def goes_on(self) -> bool:
-        """Whether the run or its server hasn't ended."""
+        """Returns whether the run or its server hasn't ended."""
         return self.run.lives() or self.server.lives()
 
 
 def going(into: Path, lab: Path) -> tuple[Path, Record] | None:
-    """Folder and record of a run of that lab which goes on, where there is one; else those of its last run, where it
+    """Returns folder and record of a run of that lab which goes on, if there is one; else those of its last run, if it
     didn't end."""
     files = sorted([*into.glob(f"*/{RECORD}"), *into.glob(f"*/*/{RECORD}")], key=lambda file: file.parent.stat().st_mtime)
     records = [(file.parent, Record.read(file.parent)) for file in files]

@@ -21,41 +21,41 @@ class Event:
 
     @cached_property
     def kind(self) -> str:
-        """The event's word."""
+        """Returns the event's word."""
         return self.words[0]
 
     @property
     def student(self) -> str | None:
-        """Who asked, where it was a student."""
+        """Returns who asked, if it was a student."""
         return self.words[1] if self.kind == "grant" else None
 
     @property
     def is_edit(self) -> bool:
-        """Whether it changes registers or links: a fault, a link or a cut."""
+        """Returns whether it changes registers or links: a fault, a link or a cut."""
         return self.kind in EDITS
 
     @property
     def makes_configuration(self) -> bool:
-        """Whether another configuration comes of it."""
+        """Returns whether another configuration comes of it."""
         return self.kind == "close" or self.kind in EDITS
 
     @property
     def links(self) -> int:
-        """How many more links there are after it."""
+        """Returns how many more links there are after it."""
         return links_after(self.kind)
 
     @cached_property
     def nodes(self) -> tuple[int, ...]:
-        """The nodes at which it happens, as far as its line names them."""
+        """Returns the nodes at which it happens, as far as its line names them."""
         first, count = NODES_AT.get(self.kind, (0, 0))
         return tuple(int(word) for word in self.words[first : first + count])
 
 
 def split(text: str) -> list[list[str]]:
-    """The words of each whole line of a journal: its place, the configuration before it, and the event's."""
+    """Returns the words of each whole line of a journal: its place, the configuration before it, and the event's."""
     return [line.split(" ") for line in text.split("\n")[:-1]]
 
 
 def events(text: str) -> list[Event]:
-    """The whole lines of a journal."""
+    """Returns the whole lines of a journal."""
     return [Event(int(place), int(at), tuple(rest)) for place, at, *rest in split(text)]

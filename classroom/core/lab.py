@@ -39,21 +39,22 @@ class Lab:
     people: dict[str, Person] = field(default_factory=dict)
 
     def owners(self, node: int) -> list[str]:
-        """Who owns the node with that identifier."""
+        """Returns the owners of the node with that identifier."""
         return next((each.owners for each in self.nodes if each.id == node), [])
 
     def nodes_of(self, name: str) -> list[int]:
-        """The identifiers of a student's nodes."""
+        """Returns the identifiers of a student's nodes."""
         return [node.id for node in self.nodes if name in node.owners]
 
     def held(self) -> list[int]:
-        """The nodes at which the house may play: those of the student `house`, or none where that one owns a node
+        """Returns the nodes at which the house may play: those of the student `house`, or none if that one owns a node
         alone."""
         nodes = [node for node in self.nodes if HOUSE in node.owners]
         return [node.id for node in nodes] if all(len(node.owners) == 2 for node in nodes) else []
 
     def without_house(self) -> Lab:
-        """The lab without the house, as a student and as an owner; as it is where the house may play nowhere."""
+        """Returns the lab without the house, as a student and as an owner; as it is if the house may play
+        nowhere."""
         if not self.held():
             return self
         students = {name: key for name, key in self.students.items() if name != HOUSE}
@@ -62,23 +63,23 @@ class Lab:
 
 
 def is_same(one: Lab, other: Lab) -> bool:
-    """Whether two labs agree in all that a journal names; keys and limits may differ."""
+    """Returns whether two labs agree in all that a journal names; keys and limits may differ."""
     return named(one) == named(other)
 
 
 def named(lab: Lab) -> object:
-    """What of a lab a journal names: names in their order, nodes with owners and registers, links."""
+    """Returns what of a lab a journal names: names in their order, nodes with owners and registers, links."""
     nodes = {node.id: (frozenset(node.owners), node.p, node.m) for node in lab.nodes}
     return lab.teacher[0], list(lab.students), nodes, {frozenset(link) for link in lab.links}
 
 
 def ordered(link: tuple[int, int]) -> tuple[int, int]:
-    """A link with its lower end first."""
+    """Returns a link with its lower end first."""
     return min(link), max(link)
 
 
 def parsed(text: str) -> dict[str, Any]:
-    """A text's document; nothing where it is none. Python's reader knows TOML 1.0 alone."""
+    """Returns a text's document, or nothing if it is none. Python's reader knows TOML 1.0 alone."""
     try:
         return tomllib.loads(text)
     except tomllib.TOMLDecodeError:
@@ -86,7 +87,7 @@ def parsed(text: str) -> dict[str, Any]:
 
 
 def document(path: Path) -> dict[str, Any]:
-    """The file's document."""
+    """Returns the file's document."""
     try:
         return tomllib.loads(path.read_text(encoding="utf-8-sig"))
     except OSError as error:
@@ -98,7 +99,7 @@ def document(path: Path) -> dict[str, Any]:
 
 
 def unread(path: Path, error: str) -> str:
-    """Why a file that the program couldn't read can't be read, as far as the system says it."""
+    """Returns why a file that the program couldn't read can't be read, as far as the system says it."""
     try:
         with path.open("rb"):
             return f"{path}: {error}"
@@ -107,7 +108,7 @@ def unread(path: Path, error: str) -> str:
 
 
 def read(path: Path) -> Lab:
-    """A lab that the program has taken."""
+    """Returns a lab that the program has taken."""
     answer = call("check", path)
     if answer.status == 4:
         raise Fault(unread(path, answer.error), 4)
@@ -125,23 +126,24 @@ def read(path: Path) -> Lab:
 
 
 def with_house_apart(told: str, lab: Lab) -> str:
-    """What the program says of a lab's size, where the house that it counts among the students is told apart."""
+    """Returns what the program says of a lab's size, with the house, which it counts among the students, counted
+    apart."""
     students = len(lab.without_house().students)
     return told.replace(f"{students + 1} students", f"{students} students and the house") if lab.held() else told
 
 
 def quoted(word: str) -> str:
-    """A string as TOML has it, and JSON too where it is printable; what isn't printable is escaped."""
+    """Returns a string as TOML has it, and JSON too if it is printable; what isn't printable is escaped."""
     return "".join(char if char.isprintable() else escaped(char) for char in json.dumps(word, ensure_ascii=False))
 
 
 def escaped(char: str) -> str:
-    """A character as TOML escapes it."""
+    """Returns a character as TOML escapes it."""
     return f"\\u{ord(char):04x}" if ord(char) < 0x10000 else f"\\U{ord(char):08x}"
 
 
 def text(lab: Lab) -> str:
-    """The lab as a file."""
+    """Returns the lab as a file."""
     quote = quoted
     lines = [f"events = {lab.events}", f"sessions = {lab.sessions}"]
     lines += ["links = [", *(f"  [{a}, {b}]," for a, b in lab.links), "]"] if lab.links else ["links = []"]

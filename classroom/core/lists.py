@@ -42,20 +42,20 @@ class People:
 
     @property
     def people(self) -> list[Person]:
-        """The persons."""
+        """Returns the persons."""
         return [person for _, person in self.rows if person is not None]
 
 
 def add_words(words: argparse.ArgumentParser) -> None:
-    """The words that name columns."""
+    """Adds the words that name columns."""
     words.add_argument("--column", metavar="COL", help="the column of the table that has the names")
-    words.add_argument("--first-name", metavar="COL", help="the column of first names, where they stand alone")
+    words.add_argument("--first-name", metavar="COL", help="the column of first names, if they have one of their own")
     words.add_argument("--last-name", metavar="COL", help="the column of last names")
     words.add_argument("--id", metavar="COL", help="the column of what tells two of one name apart")
 
 
 def decoded(content: bytes) -> str:
-    """The text: UTF-8 or UTF-16 with a mark or without, else Latin-1 as Windows has it."""
+    """Returns the text: UTF-8 or UTF-16 with a mark or without, else Latin-1 as Windows has it."""
     for mark, encoding in MARKS:
         if content.startswith(mark):
             return content.decode(encoding)
@@ -70,7 +70,7 @@ def decoded(content: bytes) -> str:
 
 
 def read(path: Path, words: argparse.Namespace) -> People:
-    """The people of a file, by the words that name its columns."""
+    """Returns the people of a file, by the words that name its columns."""
     try:
         content = path.read_bytes()
         if path.suffix.lower() in SHEETS or content.startswith(b"PK\x03\x04"):
@@ -94,7 +94,7 @@ def read(path: Path, words: argparse.Namespace) -> People:
 
 
 def table(path: Path, text: str, words: argparse.Namespace) -> People:
-    """The people of a table."""
+    """Returns the people of a table."""
     delimiter = max(",;\t", key=text.partition("\n")[0].count)
     reader = csv.reader(io.StringIO(text, newline=""), delimiter=delimiter)
     try:
@@ -109,7 +109,7 @@ def table(path: Path, text: str, words: argparse.Namespace) -> People:
     groups = column(path, heads, getattr(words, "groups_by", None), ())
 
     def cell(row: list[str], index: int | None) -> str:
-        """A row's cell without spaces around it; empty without a column."""
+        """Returns a row's cell without spaces around it; empty without a column."""
         return row[index].strip() if index is not None else ""
 
     parts = [whole] if whole is not None else [index for index in (first, last) if index is not None]
@@ -126,7 +126,7 @@ def table(path: Path, text: str, words: argparse.Namespace) -> People:
 
 
 def column(path: Path, heads: list[str], asked: str | None, known: Iterable[str]) -> int | None:
-    """The index of a column: the one that is asked for, or the first of those that are known."""
+    """Returns the index of a column: the one that is asked for, or the first of those that are known."""
     lower = [head.lower() for head in heads]
     if asked is not None and asked.lower() not in lower:
         raise Fault(f"{path}: no column {asked}; there are: {', '.join(heads)}. --column NAME names it")

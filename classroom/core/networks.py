@@ -17,7 +17,7 @@ NAMED = "path, cycle, star, complete, tree, crowd, halves, grid:WxH, random:N:LI
 
 
 def neighbours(nodes: Iterable[int], links: Iterable[tuple[int, int]]) -> dict[int, list[int]]:
-    """Each node's neighbours; a link that leads elsewhere counts for none."""
+    """Returns each node's neighbours; a link that leads elsewhere counts for none."""
     near: dict[int, list[int]] = {node: [] for node in nodes}
     for a, b in links:
         if a in near and b in near:
@@ -39,7 +39,7 @@ def steps_from(start: int, near: dict[int, list[int]]) -> dict[int, int]:
 
 
 def random_links(count: int, links: int, chance: random.Random) -> Links:
-    """A network in one part: a random tree, and more links until there are enough."""
+    """Returns a network in one part: a random tree, and more links until there are enough."""
     every = count * (count - 1) // 2
     if not count - 1 <= links <= every:
         raise Fault(f"random:{count}: between {count - 1} and {every} links")
@@ -49,8 +49,8 @@ def random_links(count: int, links: int, chance: random.Random) -> Links:
 
 
 def family(word: str, count: int | None, students: int, chance: random.Random) -> tuple[int, Links]:
-    """How many nodes a family's network has, from 1 on, and its links. Where the word has no size there are `count`
-    nodes, or as many as students."""
+    """Returns how many nodes a family's network has, from 1 on, and its links. If the word has no size there are
+    `count` nodes, or as many as students."""
     sized = re.fullmatch(r"grid:(\d{1,3})x(\d{1,3})|random:(\d{1,3}):(\d{1,5})", word)
     if sized and sized[1]:
         width, height = int(sized[1]), int(sized[2])
@@ -70,14 +70,14 @@ def family(word: str, count: int | None, students: int, chance: random.Random) -
 
 
 def within(nodes: int) -> int:
-    """A number of nodes that a lab may have."""
+    """Returns a number of nodes that a lab may have."""
     if not 1 <= nodes <= MOST_NODES:
         raise Fault(f"a lab has 1 to {MOST_NODES} nodes, not {nodes}")
     return nodes
 
 
 def plain(word: str, nodes: int) -> Links:
-    """The links of a family's network of so many nodes, where the word has no size."""
+    """Returns the links of a family's network of so many nodes, if the word has no size."""
     row = [(node, node + 1) for node in range(1, nodes)]
     if word == "path":
         return row
@@ -99,7 +99,8 @@ def plain(word: str, nodes: int) -> Links:
 
 
 def from_file(path: Path, count: int | None) -> tuple[list[int], Links]:
-    """The identifiers and links of a file with a link a line: `1 2`; with a count also the identifiers from 1 to it."""
+    """Returns the identifiers and links of a file with a link a line: `1 2`; with a count also the identifiers from 1
+    to it."""
     links: Links = []
     seen: dict[frozenset[int], int] = {}
     try:
@@ -125,7 +126,8 @@ def from_file(path: Path, count: int | None) -> tuple[list[int], Links]:
 
 
 def wrong_link(words: list[str], seen: dict[frozenset[int], int]) -> str | None:
-    """What is wrong with the words of a link, after those that were seen in other lines; None where nothing is."""
+    """Returns what is wrong with the words of a link, after those that were seen in other lines, or None if nothing
+    is."""
     if len(words) != 2 or not all(word.isascii() and word.isdecimal() for word in words):
         return "not two numbers"
     a, b = map(int, words)
@@ -137,7 +139,7 @@ def wrong_link(words: list[str], seen: dict[frozenset[int], int]) -> str | None:
 
 
 def enough(word: str, nodes: int) -> str:
-    """The words for the next network of a family that has so many nodes."""
+    """Returns the words for the next network of a family that has so many nodes."""
     sized = re.fullmatch(r"grid:(\d+)x(\d+)|random:(\d+):(\d+)", word)
     if sized and sized[1]:
         width = int(sized[1])

@@ -15,7 +15,8 @@ DIGITS = 19  # of a number in a record
 
 
 def opened(path: Path) -> BinaryIO:
-    """A plain file to be read; a fault where it is none, as a pipe or a device, or can't be opened."""
+    """Returns a plain file, open for reading. Raises a fault if it is none, as a pipe or a device, or can't be
+    opened."""
     try:
         file = os.open(path, os.O_RDONLY | os.O_NONBLOCK | os.O_NOCTTY | os.O_CLOEXEC)
     except OSError as error:
@@ -27,12 +28,12 @@ def opened(path: Path) -> BinaryIO:
 
 
 def not_plain(path: Path) -> Fault:
-    """The fault of what is no plain file."""
+    """Returns the fault of what is no plain file."""
     return Fault(f"{path}: it is no plain file", FAILED)
 
 
 def read(path: Path, most: int) -> bytes:
-    """The bytes of a plain file; a fault where it has more than so many."""
+    """Returns the bytes of a plain file. Raises a fault if it has more than so many."""
     with opened(path) as it:
         is_large = os.fstat(it.fileno()).st_size > most
         content = b"" if is_large else it.read(most + 1) or b""
@@ -42,18 +43,18 @@ def read(path: Path, most: int) -> bytes:
 
 
 def tail(path: Path, most: int) -> bytes:
-    """The last bytes of a plain file, at most so many."""
+    """Returns the last bytes of a plain file, at most so many."""
     with opened(path) as it:
         it.seek(max(0, os.fstat(it.fileno()).st_size - most))
         return it.read(most) or b""
 
 
 def want(path: Path) -> None:
-    """Raises a fault where something else than a plain file has that name, a link that leads nowhere too."""
+    """Raises a fault if something else than a plain file has that name, even a link that leads nowhere."""
     if os.path.lexists(path) and not path.is_file():
         raise not_plain(path)
 
 
 def number(text: bytes) -> int | None:
-    """The number that a few decimal digits spell; None for other bytes."""
+    """Returns the number that a few decimal digits spell, or None for other bytes."""
     return int(text) if text.isdigit() and len(text) <= DIGITS else None

@@ -1,5 +1,5 @@
-"""What a desk tells of its run while it goes on: what is chosen, and the moves that steps applied. Marks are told by
-`classroom.core.tally`."""
+"""The state of a run at its desk while it goes on: what is chosen, and the moves that steps applied. Marks are counted
+by `classroom.core.tally`."""
 from __future__ import annotations
 
 from classroom.core.desk_words import links_after
@@ -17,7 +17,7 @@ class Book:
         self.since = 0  # Moves since the last fault, link or cut.
 
     def add(self, event: Event) -> list[tuple[int, str, str]]:
-        """Takes an event; for a close it gives the nodes that moved, whose grant it was, and the rule."""
+        """Takes an event. For a close, returns the nodes that moved, whose grant it was, and the rule."""
         word = event.kind
         if word == "grant":
             _, name, node, rule = event.words[:4]
@@ -30,7 +30,7 @@ class Book:
         return self.step(word)
 
     def step(self, word: str) -> list[tuple[int, str, str]]:
-        """Takes an event that makes a configuration; gives who moved by a close, and else nobody."""
+        """Takes an event that makes a configuration. Returns who moved by a close, and else nobody."""
         moved = [(node, name, rule) for node, (name, rule) in sorted(self.chosen.items())] if word == "close" else []
         self.links += links_after(word)
         self.moves += len(moved)

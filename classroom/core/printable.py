@@ -5,10 +5,10 @@ FORMULA = ("=", "+", "-", "@", "\t", "\r")  # with which a table's cell would be
 
 
 def printable(text: str) -> str:
-    """The text, in which each character that isn't printable stands as Python spells it; lines stay."""
+    """Returns the text, in which each character that isn't printable stands as Python spells it; lines stay."""
     return "".join(char if char.isprintable() or char == "\n" else ascii(char)[1:-1] for char in text)
 
 
 def guarded(cell: str) -> str:
-    """A table's cell; before one that a spreadsheet would take for a formula stands an apostrophe."""
+    """Returns a table's cell; before one that a spreadsheet would take for a formula stands an apostrophe."""
     return f"'{cell}" if cell.startswith(FORMULA) else cell

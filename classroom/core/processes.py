@@ -1,4 +1,4 @@
-"""Processes: those that this one started, those below one, and those that programs under test leave behind."""
+"""Processes: those that this one started, those below one, and those that programs under test leave."""
 from __future__ import annotations
 
 import ctypes
@@ -29,8 +29,8 @@ def begin(words: Sequence[str | Path], **how: Any) -> subprocess.Popen[bytes]:
 
 
 def run(words: Sequence[str | Path], given: bytes = b"", seconds: float | None = None, **how: Any) -> subprocess.CompletedProcess[bytes]:
-    """Runs a process of this one's own to its end, which gets `given` as its input; raises `TimeoutExpired` where it
-    takes longer, and kills it."""
+    """Runs a process of this one's own to its end, with `given` as its input. Kills it, and raises `TimeoutExpired`, if
+    it takes longer."""
     source = subprocess.PIPE if given else subprocess.DEVNULL
     with begin(words, stdin=source, stdout=subprocess.PIPE, stderr=subprocess.PIPE, **how) as process:
         try:
@@ -42,7 +42,7 @@ def run(words: Sequence[str | Path], given: bytes = b"", seconds: float | None =
 
 
 def parents() -> dict[int, int]:
-    """Each process's parent."""
+    """Returns each process's parent."""
     found = {}
     for name in os.listdir("/proc"):
         if name.isdecimal():
@@ -55,7 +55,7 @@ def parents() -> dict[int, int]:
 
 
 def below(*tops: int) -> set[int]:
-    """The numbers of all processes that descend from these."""
+    """Returns the numbers of all processes that descend from these."""
     found, known = parents(), set(tops)
     while more := {child for child, parent in found.items() if parent in known} - known:
         known |= more
@@ -63,7 +63,7 @@ def below(*tops: int) -> set[int]:
 
 
 def state(process: int) -> bytes:
-    """The letter of a process's state; empty where it is gone."""
+    """Returns the letter of a process's state, or empty if it is gone."""
     try:
         with open(f"/proc/{process}/stat", "rb") as it:
             return it.read().rpartition(b") ")[2][:1]
@@ -72,7 +72,7 @@ def state(process: int) -> bytes:
 
 
 def is_halted(process: int) -> bool:
-    """Whether a process was stopped by a signal or by a debugger."""
+    """Returns whether a process was stopped by a signal or by a debugger."""
     return state(process) in (b"T", b"t")
 
 

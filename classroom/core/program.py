@@ -1,4 +1,4 @@
-"""The proved program: where it is, and what it answers."""
+"""The proved program: its path, and its answers."""
 from __future__ import annotations
 
 import os
@@ -42,13 +42,13 @@ class Answer:
 
 
 def is_clone() -> bool:
-    """Whether the programs are built here, in a clone, and don't come with a release."""
+    """Returns whether the programs are built here, in a clone, and don't come with a release."""
     return (TOP / "crates").is_dir()
 
 
 def built(crate: str) -> Path:
-    """Where a crate's program stands: as it is built here, or in a release; a fault where the release wants a later C
-    library."""
+    """Returns the path of a crate's program, as it is built here, or in a release. Raises a fault if the release wants
+    a later C library."""
     here = TOP / "crates" / crate
     if here.is_dir():
         return here / "out" / crate
@@ -59,8 +59,8 @@ def built(crate: str) -> Path:
 
 @cache
 def old_library() -> str:
-    """The line that `mml` has too, where a release wants a later C library than is here: the loader's own words are no
-    help. Empty where it doesn't."""
+    """Returns the line that `mml` has too, if a release wants a later C library than is here: the loader's own words
+    are no help. Returns an empty text if it doesn't."""
     proved = TOP / "PROVED"
     wanted = re.search(r"(?m)^# wants glibc ([0-9.]+)$", proved.read_text(encoding="utf-8")) if proved.exists() else None
     here = library() if wanted else ""
@@ -70,7 +70,7 @@ def old_library() -> str:
 
 
 def library() -> str:
-    """The version of the GNU C library that is here; empty where another one is."""
+    """Returns the version of the GNU C library that is here, or empty if another one is."""
     try:
         told = os.confstr("CS_GNU_LIBC_VERSION")
     except (OSError, ValueError):
@@ -79,12 +79,12 @@ def library() -> str:
 
 
 def numbers(version: str) -> list[int]:
-    """The numbers of a version, in their order."""
+    """Returns the numbers of a version, in their order."""
     return [int(number) for number in re.findall("[0-9]+", version)]
 
 
 def program() -> Path:
-    """The built program; another one where the environment's MML_PROGRAM names it."""
+    """Returns the built program, or the one that the environment's MML_PROGRAM names."""
     path = Path(os.environ.get("MML_PROGRAM") or built("mml_server"))
     if not os.access(path, os.X_OK) or path.is_dir():
         raise Fault("mml isn't built: `./mml build` builds it (with the toolchain's rt on the path)")
@@ -92,14 +92,14 @@ def program() -> Path:
 
 
 def host() -> Path | None:
-    """The built host; another one where the environment's MML_HOST names it. None where it isn't built."""
+    """Returns the built host, or the one that the environment's MML_HOST names. Returns None if it isn't built."""
     path = Path(os.environ.get("MML_HOST") or built("mml_host"))
     return path if os.access(path, os.X_OK) and not path.is_dir() else None
 
 
 def first_free(port: int, opened: Callable[[int], Opened | None], what: str = "") -> Opened:
-    """What opens at that port, or at the next that is free: `opened` gives None for one that is taken. A fault after so
-    many PORTS."""
+    """Returns what opens at that port, or at the next that is free: `opened` returns None for one that is taken. Raises
+    a fault after so many PORTS."""
     last = min(port + PORTS, 65536) - 1
     for number in range(port, last + 1):
         it = opened(number)
@@ -122,11 +122,11 @@ def host_call(*words: str | Path, files: tuple[int, ...] = ()) -> Answer:
 
 
 def answer_of(path: Path, *words: str | Path, files: tuple[int, ...] = ()) -> Answer:
-    """What a program answers to words."""
+    """Returns what a program answers to words."""
     done = run([path, *map(plain, words)], restore_signals=False, pass_fds=files)
     return Answer(done.returncode, done.stdout.decode(errors="replace"), done.stderr.decode(errors="replace").strip())
 
 
 def plain(word: str | Path) -> str:
-    """A file's name as the program takes it: none begins with `-`."""
+    """Returns a file's name as the program takes it: none begins with `-`."""
     return f"./{word}" if str(word).startswith("-") else str(word)

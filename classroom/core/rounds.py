@@ -26,7 +26,7 @@ class Recovery:
             self.left = set(privileged)
 
     def told(self, nodes: int, links: int) -> str:
-        """The counts as a text, with the bounds of the network as it is now."""
+        """Returns the counts as a text, with the bounds of the network as it is now."""
         most = bounds.told(nodes, links)
         proved = f"; proved: at most {most.moves} moves, {most.rounds} rounds" if most else ""
         return f"{plural(self.moves, 'move')}, {plural(self.closes, 'close')}, {plural(self.rounds, 'round')}{proved}"

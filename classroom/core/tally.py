@@ -1,4 +1,4 @@
-"""What the host's program tells of a journal: its word `tally`, line by line (docs/JOURNAL.md)."""
+"""The host's tally of a journal: its word `tally`, line by line (docs/JOURNAL.md)."""
 from __future__ import annotations
 
 from collections import Counter
@@ -11,7 +11,7 @@ from classroom.core.program import Fault, host_call
 
 @dataclass
 class Marks:
-    """What a journal tells of a student."""
+    """The marks of a student in a journal."""
 
     granted: Counter[str] = field(default_factory=Counter)
     applied: Counter[str] = field(default_factory=Counter)
@@ -23,7 +23,7 @@ class Marks:
 
 @dataclass(frozen=True)
 class Bounds:
-    """The most moves, rounds and events of a run to its stable end, where no fault, link or cut comes."""
+    """The most moves, rounds and events of a run to its stable end, if no fault, link or cut comes."""
 
     moves: int
     rounds: int
@@ -35,8 +35,8 @@ DENIED = ("clause1", "clause2", "clause3", "clause4", "malformed")
 
 @dataclass
 class Asked:
-    """What a record tells: how many of each student's lines each clause denied, and how many were no request; what each
-    owner of a shared node asked for there; whether nothing is left out of it; and of whom nothing is, by name."""
+    """The result of a record: how many of each student's lines each clause denied, and how many were no request; what
+    each owner of a shared node asked for there; whether nothing is left out of it; and of whom nothing is, by name."""
 
     denied: dict[str, Counter[str]] = field(default_factory=dict)
     moves: dict[int, dict[str, Counter[str]]] = field(default_factory=dict)
@@ -44,7 +44,7 @@ class Asked:
     all_of: frozenset[str] | None = None
 
     def add(self, other: Asked) -> None:
-        """Adds what the run's next record tells."""
+        """Adds the result of the run's next record."""
         for name, counts in other.denied.items():
             self.denied.setdefault(name, Counter()).update(counts)
         for node, owners in other.moves.items():
@@ -56,7 +56,7 @@ class Asked:
 
 @dataclass
 class Tally:
-    """What a journal tells of its run."""
+    """The tally of a journal's run."""
 
     events: int = 0
     configuration: int = 0
@@ -74,8 +74,8 @@ class Tally:
 
 
 def of(lab: Path, journal: Path, files: tuple[int, ...] = (), record: Path | None = None) -> Tally:
-    """The tally of a journal that the audit passes, and of its record where one is given; `files` are open files that
-    the program gets."""
+    """Returns the tally of a journal that the audit passes, and of its record if one is given. `files` are open files
+    that the program gets."""
     answer = host_call("tally", lab, journal, *([] if record is None else [record]), files=files)
     if answer.status != 0:
         raise Fault(answer.error, answer.status)
@@ -83,7 +83,7 @@ def of(lab: Path, journal: Path, files: tuple[int, ...] = (), record: Path | Non
 
 
 def read(text: str) -> Tally:
-    """The tally that its lines tell."""
+    """Returns the tally in these lines."""
     tally, asked = Tally(), Asked()
     for line in text.splitlines():
         word, *rest = line.split(" ")
@@ -107,28 +107,28 @@ def read(text: str) -> Tally:
 
 
 def by_owner(words: list[str]) -> dict[str, Counter[str]]:
-    """How many moves of each rule, by owner: for each a name, and four numbers."""
+    """Returns how many moves of each rule, by owner: for each a name, and four numbers."""
     return {words[at]: by_rule(words[at + 1 : at + 5]) for at in range(0, len(words), 5)}
 
 
 def marks(words: list[str]) -> Marks:
-    """The marks that a student's line tells."""
+    """Returns the marks in a student's line."""
     steps, first, last, shared = words[8:]
     return Marks(by_rule(words[:4]), by_rule(words[4:8]), int(steps), place(first), place(last), int(shared))
 
 
 def by_rule(words: list[str]) -> Counter[str]:
-    """How many moves of each rule: four numbers in the rules' order."""
+    """Returns how many moves of each rule: four numbers in the rules' order."""
     return Counter(dict(zip(RULES, map(int, words), strict=True)))
 
 
 def place(word: str) -> int | None:
-    """A place, or none."""
+    """Returns a place, or none."""
     return None if word == "-" else int(word)
 
 
 def take_run(tally: Tally, words: list[str]) -> None:
-    """Takes what the line of the run tells."""
+    """Takes the values of the run's line."""
     tally.stable = words.pop(2) == "stable"
     (tally.events, tally.configuration, tally.closes, tally.faults, tally.links, tally.cuts, tally.moves, *since) = map(int, words)
     tally.since = (since[0], since[1])

@@ -1,4 +1,4 @@
-"""Requests for pages at a door: the head alone is read, and a page's server gets one that is written anew."""
+"""Requests for pages at a door: only the head is read, and a page's server gets one that is written anew."""
 from __future__ import annotations
 
 import re
@@ -34,7 +34,7 @@ class Elsewhere(Bad):
         super().__init__("308 Permanent Redirect", path)
 
     def answer(self) -> bytes:
-        """Returns where the page is."""
+        """Returns the answer that says where the page is."""
         return f"HTTP/1.0 308 Permanent Redirect\r\nLocation: {self.text}\r\nContent-Length: 0\r\nConnection: close\r\n\r\n".encode()
 
 

@@ -20,12 +20,12 @@ from classroom.door.routes import Kept, announce, forget, network
 
 BACKLOG = 256
 TIMES = 5  # that a door is opened again
-FOLDER = ".door-{}"  # of the port, where the runs' folders are
+FOLDER = ".door-{}"  # of the port, in the folder of the runs' folders
 
 
 @dataclass(frozen=True)
 class Place:
-    """Where a door is: at a port of an address or name, or of all addresses of this machine."""
+    """The place of a door: a port of an address or name, or of all addresses of this machine."""
 
     address: str
     port: int
@@ -80,7 +80,7 @@ class Opened:
                                     pass_fds=[number], start_new_session=True)
 
     def watch(self) -> None:
-        """Starts the process again where it ends by itself, a few times."""
+        """Starts the process again if it ends by itself, a few times."""
         for _ in range(TIMES):
             if self.child.wait() == 0 or self.closes.is_set():
                 return self.listener.close()

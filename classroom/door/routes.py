@@ -1,4 +1,4 @@
-"""Where a door leads: the networks of a class, each with the ports that its run's folder has."""
+"""The networks that a door leads to, each with the ports that its run's folder has."""
 from __future__ import annotations
 
 import json
@@ -58,7 +58,7 @@ class Kept:
 
     @staticmethod
     def read(folder: Path) -> Kept | None:
-        """Returns what a folder keeps; None if that isn't whole."""
+        """Returns what a folder keeps, or None if that isn't whole."""
         try:
             it = json.loads(plain.read(folder / DOOR, plain.MOST_KEPT))
             return Kept(str(it["address"]), int(it["port"]), str(it["certificate"]), Process(**it["process"]))

@@ -1,4 +1,4 @@
-"""How a class comes back: counted from each fault, link or cut to the next stable configuration, and told."""
+"""How a class comes back: counted from each fault, link or cut to the next stable configuration."""
 from __future__ import annotations
 
 from collections.abc import Callable, Collection
@@ -9,7 +9,7 @@ from classroom.core.journal import Event
 from classroom.core.rounds import Recovery
 from classroom.pages.replay import REPORT, Replay, Script
 
-MOST_COUNTED = 50  # faults, links and cuts of a run of which it is told how the class came back
+MOST_COUNTED = 50  # faults, links and cuts of a run for which it prints how the class came back
 
 
 class Comeback:
@@ -30,12 +30,12 @@ class Comeback:
 
     def miss(self) -> None:
         """Notes that there was a close of which it isn't known who was privileged before or after it, so that the
-        counts can't be told."""
+        counts can't be printed."""
         self.missed = True
 
     def close(self, moved: Collection[int], before: Collection[int], after: Collection[int]) -> str:
-        """Counts a close, by who moved and who was privileged before and after it; gives what there is to tell where
-        the class has come back, and else nothing."""
+        """Counts a close, by who moved and who was privileged before and after it. Returns the counts if the class has
+        come back, and else nothing."""
         if self.recovery is None:
             self.recovery = Recovery(before)
         self.recovery.step(moved, after)
@@ -43,7 +43,7 @@ class Comeback:
             return ""
         told = f"after {self.recovery.told(self.nodes, len(self.links))}"
         if self.missed:
-            told = "after closes of which some came in one breath: the marks tell how many moves and rounds it took"
+            told = "after closes of which some came at once: the marks say how many moves and rounds it took"
         self.recovery, self.missed = None, False
         return f"{'stable again' if self.hurt else 'stable'} {told}"
 
@@ -68,7 +68,7 @@ class Recount(Replay):
         self.moved = reply.get("moved", [])
 
     def taking(self, event: Event | None) -> Callable[[dict[str, Any]], None]:
-        """What takes the report after an event, or at the beginning."""
+        """Returns what takes the report after an event, or at the beginning."""
         def takes(report: dict[str, Any]) -> None:
             """Keeps who is privileged by the report, and counts the event, if there is one."""
             before, self.before = self.before, {node for node, _ in report["privileged"]}
@@ -82,15 +82,16 @@ class Recount(Replay):
         return takes
 
     def counts(self) -> list[str]:
-        """Counts to the end; gives what there was to tell, with places."""
+        """Counts to the end. Returns the counts, with places."""
         for _ in self.replies():
             pass
         return self.lines
 
 
 def recoveries(lab: labs.Lab, events: list[Event]) -> list[str]:
-    """A line for each time that a run came to rest, with the place in its journal; one line for a run of many edits."""
+    """Returns a line for each time that a run came to rest, with the place in its journal; one line for a run of many
+    edits."""
     edits = sum(event.is_edit for event in events)
     if edits > MOST_COUNTED:
-        return [f"{edits} faults, links and cuts: how the class came back is told where there are at most {MOST_COUNTED}"]
+        return [f"{edits} faults, links and cuts: how the class came back is printed only for at most {MOST_COUNTED}"]
     return Recount(lab, events, Comeback(lab)).counts()

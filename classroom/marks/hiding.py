@@ -1,4 +1,4 @@
-"""What was sent, so that it can be shown: of printable characters alone, and without anyone's key."""
+"""What was sent, made fit to be shown: only printable characters, and without anyone's key."""
 from __future__ import annotations
 
 import json
@@ -18,20 +18,21 @@ WORDS = frozenset((
 
 
 class Hider:
-    """Knows the keys that mustn't be told."""
+    """Knows the keys that mustn't be shown."""
 
     def __init__(self, keys: Iterable[str], names: Iterable[str]) -> None:
         self.keys = [key for key in keys if key]
         self.shown = WORDS | set(names)
 
     def line(self, line: bytes) -> str:
-        """A line as it came, in which `***` stands for a key; of one that is no object and may have a key, its
+        """Returns a line as it came, in which `***` stands for a key; of one that is no object and may have a key, its
         beginning."""
         text = line.decode(errors="backslashreplace")
         return printable(self.without(text) if is_object(text) else self.beginning(text))
 
     def without(self, text: str) -> str:
-        """An object's text, in which whatever stands under `key`, and each text that has a key in it, is hidden."""
+        """Returns an object's text, in which whatever stands under `key`, and each text that has a key in it, is
+        hidden."""
         pieces: list[str] = []
         at, hides = 0, False
         for found in TEXT.finditer(text):
@@ -46,11 +47,11 @@ class Hider:
         return "".join(pieces) + (":***, and more" if hides else text[at:])
 
     def tells(self, word: str) -> bool:
-        """Whether a text has somebody's key in it; a word of the protocol or a name is never taken for one."""
+        """Returns whether a text has somebody's key in it; a word of the protocol or a name is never taken for one."""
         return word not in self.shown and self.first_key(word) is not None
 
     def first_key(self, text: str) -> int | None:
-        """Where the first key begins in a text, however it is escaped there; None where no key is."""
+        """Returns where the first key begins in a text, however it is escaped there, or None if no key is there."""
         plain = unescaped(text)
         found = [at for at in (plain.find(unescaped(key)) for key in self.keys) if at >= 0]
         if not found:
@@ -58,7 +59,7 @@ class Hider:
         return next(islice((at for at, char in enumerate(text) if char != ESCAPE), min(found), None), len(text))
 
     def beginning(self, text: str) -> str:
-        """The text up to where a key may stand."""
+        """Returns the text up to where a key may stand."""
         found = re.search(r"key|\\u", text, re.IGNORECASE)
         shown = text[:found.start()] if found else text
         shown = shown[:self.first_key(shown)]
@@ -66,12 +67,13 @@ class Hider:
 
 
 def unescaped(text: str) -> str:
-    """The text without its backslashes: so a key is found in it, however deep it stands in texts within texts."""
+    """Returns the text without its backslashes: so a key is found in it, however deep it stands in texts within
+    texts."""
     return text.replace(ESCAPE, "")
 
 
 def is_object(text: str) -> bool:
-    """Whether a text is a JSON object, as Python reads it."""
+    """Returns whether a text is a JSON object, as Python reads it."""
     try:
         return isinstance(json.loads(text), dict)
     except (ValueError, RecursionError):

@@ -46,7 +46,7 @@ class Row:
 
 
 def add_words(words: argparse.ArgumentParser) -> None:
-    """The words of `history`."""
+    """Adds the words of `history`."""
     words.add_argument("folder", metavar="FOLDER", help="the folder of a run or of a class; it may go on")
     words.add_argument("name", metavar="NAME", help="a student's name in the lab, or the teacher's")
     form = words.add_mutually_exclusive_group()
@@ -57,7 +57,7 @@ def add_words(words: argparse.ArgumentParser) -> None:
 
 
 def sessions(part: Vouched) -> Iterator[Session]:
-    """The sessions of a record, seat by seat."""
+    """Yields the sessions of a record, seat by seat."""
     for file in seats(part.copy):
         said: Session = []
         for entry in Reader().take(file.read_bytes()):
@@ -70,15 +70,15 @@ def sessions(part: Vouched) -> Iterator[Session]:
 
 
 def is_of(said: Session, name: str) -> bool:
-    """Whether a session was known by that name; or by none, and had asked for it."""
+    """Returns whether a session was known by that name; or by none, and had asked for it."""
     known = {entry.told().get("who") for entry in said if not entry.mark} - {None}
     return name in known or not known and any(
         entry.asked_name() == name for entry in said if entry.told().get("deny") == "unknown")
 
 
 def rows_of(parts: list[Vouched], name: str, hider: Hider) -> list[Row]:
-    """What the connections of that name sent and were answered, in the order of the places, and at one place seat by
-    seat."""
+    """Returns what the connections of that name sent and were answered, in the order of the places, and at one place
+    seat by seat."""
     found, number = [], 0
     for part in parts:
         for said in sessions(part):
@@ -89,8 +89,8 @@ def rows_of(parts: list[Vouched], name: str, hider: Hider) -> list[Row]:
 
 
 def left_open(part: Vouched, said: Session, session: int) -> list[Row]:
-    """A row, behind all events so far, for a session that hasn't ended: it goes on where the server does, and else its
-    rest isn't recorded. No row where its last entry says that already, or that the session has ended."""
+    """Returns a row, after all events so far, for a session that hasn't ended: it goes on if the server does, and else
+    its rest isn't recorded. Returns no row if its last entry says that already, or that the session has ended."""
     if said[-1].mark == ENDED or said[-1].mark == CUT and not part.goes_on:
         return []
     events = part.journal.read_bytes().count(b"\n")
@@ -98,7 +98,7 @@ def left_open(part: Vouched, said: Session, session: int) -> list[Row]:
 
 
 def row_of(entry: Entry, session: int, hider: Hider) -> Row:
-    """A row of an entry."""
+    """Returns a row of an entry."""
     if entry.mark:
         return Row(entry.place, entry.seat, session, event=MARKS[entry.mark].format(entry.missed))
     told = entry.told()
@@ -108,7 +108,8 @@ def row_of(entry: Entry, session: int, hider: Hider) -> Row:
 
 
 def steps(lab: labs.Lab, journal: list[Event], name: str, own: set[int]) -> Iterator[Row]:
-    """The steps, and what else was done at the student's nodes; but for the events that are told with their lines."""
+    """Yields the steps, and what else was done at the student's nodes, except the events that are shown with their
+    lines."""
     book, nodes = Book(list(lab.students)), set(lab.nodes_of(name))
     for event in journal:
         moved = book.add(event)
@@ -127,12 +128,12 @@ def steps(lab: labs.Lab, journal: list[Event], name: str, own: set[int]) -> Iter
 
 
 def merged(lines: list[Row], between: list[Row]) -> list[Row]:
-    """Both in their order: an event stands before the lines that were answered after it."""
+    """Returns both in their order: an event stands before the lines that were answered after it."""
     return sorted([*between, *lines], key=lambda row: (row.place, row.seat > 0))
 
 
 def text(told: list[str], rows: list[Row]) -> str:
-    """The rows for people."""
+    """Returns the rows for people."""
     lines = [*told]
     for row, count in alike(rows):
         head = f"  after {row.place}, seat {row.seat}{times(count)}"
@@ -146,23 +147,23 @@ def text(told: list[str], rows: list[Row]) -> str:
 
 
 def alike(rows: list[Row]) -> list[tuple[Row, int]]:
-    """The rows, of which those that follow each other and are the same stand once, and how many they are."""
+    """Returns the rows, of which those that follow each other and are the same stand once, and how many they are."""
     return [(row, len(list(same))) for row, same in groupby(rows)]
 
 
 def times(count: int) -> str:
-    """How often, where it isn't once."""
+    """Returns how often, if it isn't once."""
     return f", {count} times" if count > 1 else ""
 
 
 def cells(row: Row) -> list[str]:
-    """A row's cells; before one that a spreadsheet would take for a formula stands an apostrophe."""
+    """Returns a row's cells; before one that a spreadsheet would take for a formula stands an apostrophe."""
     every = [str(row.place), str(row.seat or ""), str(row.session or ""), row.asked, row.reply, row.denied, row.event]
     return list(map(guarded, every))
 
 
 def section(title: str, told: list[str], rows: list[Row]) -> str:
-    """The rows as a part of the player's page: each leads to its place."""
+    """Returns the rows as a part of the player's page: each leads to its place."""
     items = [f'<li><a href="#p={row.place}">after {row.place}</a> {item(row, count)}</li>'
              for row, count in alike(rows)]
     heads = "".join(f"<p>{escape(line)}</p>" for line in told)
@@ -171,7 +172,7 @@ def section(title: str, told: list[str], rows: list[Row]) -> str:
 
 
 def item(row: Row, count: int) -> str:
-    """A row's words, as HTML."""
+    """Returns a row's words, as HTML."""
     if row.event:
         return escape(row.event if not row.seat else f"seat {row.seat}: {row.event}")
     reply = f"<strong>{escape(row.reply)}</strong>" if row.denied else escape(row.reply)
@@ -179,14 +180,14 @@ def item(row: Row, count: int) -> str:
 
 
 def hider_of(parts: list[Vouched], lab: labs.Lab) -> Hider:
-    """What hides the keys of the lab, and those that were others before."""
+    """Returns what hides the keys of the lab, and those that were others before."""
     every = [lab, *(labs.read(part.lab) for part in parts)]
     keys = {key for each in every for key in (*each.students.values(), each.teacher[1])}
     return Hider(keys, [*lab.students, lab.teacher[0]])
 
 
 def history(words: argparse.Namespace) -> int:
-    """Prints what was said, or writes it as a page, where the program vouches for it."""
+    """Prints what was said, or writes it as a page, if the program vouches for it."""
     name = words.name
     run = classes.run_of(Path(words.folder), name)
     lab_file, journal = folders.of_folder(run)

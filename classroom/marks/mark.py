@@ -1,4 +1,4 @@
-"""`./class mark`: what the journals of runs tell of each student."""
+"""`./class mark`: the marks of each student from the journals of runs."""
 from __future__ import annotations
 
 import argparse
@@ -35,14 +35,14 @@ UNTOLD = (
 
 @dataclass(frozen=True)
 class Recorded:
-    """What is told of a run's record; of one that isn't refused what its lines asked."""
+    """The verdict on a run's record, and, unless it is refused, what its lines asked."""
 
     line: str
     asked: Asked | None = None
 
     @property
     def is_refused(self) -> bool:
-        """Whether there is one, which doesn't pass."""
+        """Returns whether there is one, which doesn't pass."""
         return self.asked is None and self != NONE
 
 
@@ -51,7 +51,7 @@ NONE = Recorded("no record: what was asked for and denied isn't known")
 
 @dataclass(frozen=True)
 class Run:
-    """A journal that the audit passed, with what it tells, and the verdicts on its records."""
+    """A journal that the audit passed, with its tally, and the verdicts on its records."""
 
     lab_file: Path
     journal: Path
@@ -62,7 +62,7 @@ class Run:
 
     @property
     def asked(self) -> Asked | None:
-        """What all records of the run tell together; None where one is refused, or there is none."""
+        """Returns what all records of the run say together, or None if one is refused, or there is none."""
         together = Asked()
         for it in self.records:
             if it.asked is None:
@@ -79,7 +79,7 @@ class Run:
         return Path(found.lab).stem if found else self.lab_file.stem
 
     def is_whole(self, name: str) -> bool:
-        """Whether the record has all lines of a student."""
+        """Returns whether the record has all lines of a student."""
         asked = self.asked
         return asked is not None and name in (asked.all_of or ())
 
@@ -88,7 +88,7 @@ class Run:
         return columns.row(self.tally.students[name], self.lab, name, self.network, self.denied(name), self.is_whole(name))
 
     def denied(self, name: str) -> list[int | None]:
-        """How many lines of a student each clause denied, and how many were no request, where that is known."""
+        """Returns how many lines of a student each clause denied, and how many were no request, if that is known."""
         asked = self.asked
         return [None if asked is None else asked.denied.get(name, Counter())[clause] for clause in DENIED]
 
@@ -117,12 +117,12 @@ class Run:
 
 
 def by_node(shared: dict[int, dict[str, Counter[str]]]) -> dict[str, dict[str, dict[str, int]]]:
-    """The numbers of each owner at each node, as JSON has them."""
+    """Returns the numbers of each owner at each node, as JSON has them."""
     return {str(node): {name: dict(moves) for name, moves in owners.items()} for node, owners in shared.items()}
 
 
 def marked(lab_file: Path, journal: Path) -> Run:
-    """What the program tells of a journal that it passes."""
+    """Returns the run of a journal that the program passes, with its tally."""
     try:
         told = tally.of(lab_file, journal)
     except Fault as fault:
@@ -140,7 +140,7 @@ def marked(lab_file: Path, journal: Path) -> Run:
 
 
 def recorded(journal: Path) -> list[Recorded]:
-    """The verdicts on the records of the run's folder; of journals elsewhere there is none."""
+    """Returns the verdicts on the records of the run's folder; of journals elsewhere there is none."""
     if journal.name != "journal" or not record.kept(journal.parent):
         return [NONE]
     with vouched(journal.parent) as parts:
@@ -148,7 +148,7 @@ def recorded(journal: Path) -> list[Recorded]:
 
 
 def asked_in(part: Vouched) -> Asked | None:
-    """What the lines of a record asked, if it passes; where its server hasn't ended it counts as one that isn't
+    """Returns what the lines of a record asked, if it passes; if its server hasn't ended it counts as one that isn't
     whole, of nobody."""
     asked = tally.of(part.lab, part.journal, record=part.copy).asked if part.status == 0 else None
     if asked is None or part.has_ended:
@@ -157,7 +157,7 @@ def asked_in(part: Vouched) -> Asked | None:
 
 
 def refusal(journal: Path, error: str) -> str:
-    """The audit's error line, with the text of the line that it names."""
+    """Returns the audit's error line, with the text of the line that it names."""
     line = re.match(r"audit: line (\d+)", error)
     if line is None:
         return f"{journal}: {error}"
@@ -179,7 +179,7 @@ def rows(runs: list[Run], rule: Rule | None = None) -> list[list[str]]:
 
 
 def sentence(run: Run) -> str:
-    """The run in a line."""
+    """Returns the run in a line."""
     told = run.tally
     pairs = " ".join(f"{a}-{b}" for a, b in run.pairs) or "none"
     return (f"{run.journal}: {told.events} events, configuration {told.configuration}, "
@@ -188,14 +188,14 @@ def sentence(run: Run) -> str:
 
 
 def of_owner(name: str, granted: Counter[str], asked: Counter[str] | None) -> str:
-    """What an owner was granted at a node, and what it asked for there, where that is known."""
+    """Returns what an owner was granted at a node, and what it asked for there, if that is known."""
     rules = ", ".join(f"{number} {rule}" for rule, number in granted.items() if number)
     of_asked = "" if asked is None else f" of {asked.total()} asked for"
     return f"{name} {granted.total()} granted{of_asked}" + (f" ({rules})" if rules else "")
 
 
 def shared(run: Run) -> list[str]:
-    """A line for each node of several owners at which moves were granted or asked for: whose they were."""
+    """Returns a line for each node of several owners at which moves were granted or asked for: whose they were."""
     asked = run.asked
     lines = []
     for node, owners in sorted(run.tally.shared.items()):

@@ -31,7 +31,7 @@ def difference(word: str, *files: Path) -> str:
 
 
 def differences(lab: Path, journal: Path) -> list[str]:
-    """Returns what differs of a run: of its tally, and of each record in its folder.
+    """Returns what differs in a run: in its tally, and in each record in its folder.
 
     The journal is copied first, since both must read the same bytes while a run goes on.
     """

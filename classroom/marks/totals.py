@@ -1,4 +1,5 @@
-"""What several runs tell of each person: a row a person, in the form and order of a list, or by the labs' names."""
+"""The totals of several runs for each person: a row a person, in the form and order of a list, or by the labs'
+names."""
 from __future__ import annotations
 
 import csv
@@ -27,12 +28,12 @@ class Total:
     shared: int = 0
     runs: int = 0
     denied: Counter[str] = field(default_factory=Counter)
-    recorded: int = 0  # of how many runs a whole record tells what was denied
+    recorded: int = 0  # of how many runs a whole record has what was denied
     nodes: int = 0
     networks: dict[str, None] = field(default_factory=dict)  # whose labs have the person
 
     def add(self, marks: Marks, denied: Counter[str], is_whole: bool, nodes: int, network: str) -> None:
-        """Adds the marks of a run, and what its record tells."""
+        """Adds the marks of a run, and the result of its record."""
         self.nodes += nodes
         self.networks[network] = None
         self.granted += marks.granted.total()
@@ -44,7 +45,7 @@ class Total:
         self.recorded += is_whole
 
     def row(self) -> list[str]:
-        """The numbers below HEADS."""
+        """Returns the numbers below HEADS."""
         rules = [self.applied[rule] for rule in RULES]
         numbers = [self.granted, self.applied.total(), *rules, self.steps, self.shared, self.runs,
                    *(self.denied[clause] for clause in DENIED), self.recorded]
@@ -78,7 +79,8 @@ Runs = list[Marked]
 
 
 def summed(runs: Runs) -> dict[str, tuple[Person, Total]]:
-    """The totals by whom the labs say who it is: by the identifier, or where there is none by the name in the lab."""
+    """Returns the totals by person, as the labs name them: by the identifier, or if there is none by the name in the
+    lab."""
     found: dict[str, tuple[Person, Total]] = {}
     for run in runs:
         lab, asked = run.lab, run.asked
@@ -121,8 +123,8 @@ def by_roster(runs: Runs, roster: People, rule: Rule | None = None) -> tuple[lis
 
 
 def same(person: Person, other: Person) -> bool:
-    """Whether two are one: by their identifiers where both have one, else by what is written. What isn't printable counts
-    as it is spelled, since labs of 1.0.0 have it so."""
+    """Returns whether two are one: by their identifiers if both have one, else by what is written. What isn't printable
+    counts as it is spelled, since labs of 1.0.0 have it so."""
     return printable(person.id) == printable(other.id) if person.id and other.id else printable(person.written) == printable(other.written)
 
 

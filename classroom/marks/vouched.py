@@ -20,7 +20,7 @@ UNENDED = "its server is running or was killed, so its last entries may be missi
 
 @dataclass(frozen=True)
 class Vouched:
-    """A record that was copied with its lab and the journal as far as it goes, and what was told of it."""
+    """A record that was copied with its lab and the journal as far as it goes, and the verdict on it."""
 
     record: Path
     copy: Path
@@ -31,26 +31,26 @@ class Vouched:
 
     @property
     def lab(self) -> Path:
-        """The lab with which it was recorded."""
+        """Returns the lab with which it was recorded."""
         return self.copy / "lab"
 
     @property
     def journal(self) -> Path:
-        """The events up to its end."""
+        """Returns the events up to its end."""
         return self.copy / "journal"
 
     @property
     def is_copied(self) -> bool:
-        """Whether each of its files could be read."""
+        """Returns whether each of its files could be read."""
         return self.journal.is_file()
 
     def told(self) -> str:
-        """The verdict as a line."""
+        """Returns the verdict as a line."""
         return f"{self.record}: {self.line}"
 
 
 def has_ended(run: Path) -> bool:
-    """Whether its server has said that it is done; of a folder that has no server's lines it is taken so."""
+    """Returns whether its server has said that it is done; of a folder that has no server's lines it is taken so."""
     output = run / "server.txt"
     if not output.is_file():
         return True
@@ -59,8 +59,8 @@ def has_ended(run: Path) -> bool:
 
 
 def front(text: bytes, events: int) -> bytes:
-    """The whole entries of a seat's text that so many events are enough for: what was put later comes of a run that
-    goes on. A place never falls, so it is looked for from the end."""
+    """Returns the whole entries of a seat's text that so many events are enough for: what was put later comes of a run
+    that goes on. A place never falls, so it is looked for from the end."""
     end = text.rfind(b"\n") + 1
     while end:
         start = text.rfind(b"\n", 0, end - 1) + 1
@@ -73,13 +73,13 @@ def front(text: bytes, events: int) -> bytes:
 
 
 def granted(sign: bytes, reply: bytes) -> int:
-    """Which event a reply grants; 0 where none."""
+    """Returns which event a reply grants, or 0 if none."""
     place = json_object(reply).get("place") if sign == b"<" else None
     return place if isinstance(place, int) else 0
 
 
 def goes_on(run: Path) -> bool:
-    """Whether the server of a folder lives."""
+    """Returns whether the server of a folder lives."""
     record = Record.read(run)
     return record is not None and record.server.lives()
 
@@ -96,14 +96,14 @@ def copied(record: Path, into: Path, journal: bytes) -> None:
 
 
 def is_open(seat: Path) -> bool:
-    """Whether a seat's file ends within a session."""
+    """Returns whether a seat's file ends within a session."""
     last = seat.read_bytes().rpartition(b"\n")[0].rpartition(b"\n")[2]
     return last != b"" and not re.fullmatch(rb"\d+ \d+ \.", last)
 
 
 def mark(into: Path) -> None:
-    """Marks a copy as one that may lack entries, by a session that isn't whole, in a seat where none is open if there
-    is one."""
+    """Marks a copy as one that may lack entries, by a session that isn't whole, in a seat in which none is open if
+    there is one."""
     events = (into / "journal").read_bytes().count(b"\n")
     for file in sorted(seats(into), key=is_open)[:1]:
         seat = file.name.partition(".")[0]
@@ -113,7 +113,7 @@ def mark(into: Path) -> None:
 
 @contextmanager
 def vouched(run: Path) -> Iterator[list[Vouched]]:
-    """The records of a folder, from the oldest on, in copies that nobody else reads and that go away."""
+    """Yields the records of a folder, from the oldest on, in copies that nobody else reads and that go away."""
     is_whole, lives = has_ended(run), goes_on(run)
     lines = plain.read(run / "journal", plain.MOST_JOURNAL).split(b"\n")[:-1]
     records = kept(run)
@@ -125,8 +125,8 @@ def vouched(run: Path) -> Iterator[list[Vouched]]:
 
 
 def vouch(record: Path, into: Path, journal: bytes, is_whole: bool, lives: bool) -> Vouched:
-    """A record's copy, verified; where its server hasn't ended and an entry is lacking, as one that isn't whole. It is
-    refused where its lab is another than the run's."""
+    """Verifies a record's copy and returns it; if its server hasn't ended and an entry is missing, as one that isn't
+    whole. It is refused if its lab is another than the run's."""
     into.mkdir()
     try:
         copied(record, into, journal)
@@ -143,7 +143,7 @@ def vouch(record: Path, into: Path, journal: bytes, is_whole: bool, lives: bool)
 
 
 def has_lab_of(run: Path, copy: Path) -> bool:
-    """Whether the lab of a record's copy agrees with the run's in all that a journal names."""
+    """Returns whether the lab of a record's copy agrees with the run's in all that a journal names."""
     if (copy / "lab").read_bytes() == plain.read(run / "lab.toml", plain.MOST_LAB):
         return True
     try:
@@ -153,5 +153,5 @@ def has_lab_of(run: Path, copy: Path) -> bool:
 
 
 def verified(copy: Path) -> Answer:
-    """What the program says of a copy."""
+    """Returns what the program says of a copy."""
     return host_call("verify", copy / "lab", copy / "journal", copy)

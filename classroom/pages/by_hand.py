@@ -1,5 +1,5 @@
 """The page at which a student plays by hand. It comes to the server as a program of the student's would, by name and
-key, and what it shows is what that connection was told.
+key, and it shows what that connection was answered.
 
 A page that nobody has greeted at has no connection; one that went away gives its seat back.
 """
@@ -22,11 +22,11 @@ from classroom.pages.seat import Seat
 from classroom.pages.web import Asked, Web, opened
 
 PAUSE = 0.25  # seconds between two looks
-STILL_HERE = 10.0  # seconds without news after which a page is told that there are none
+STILL_HERE = 10.0  # seconds without news after which a page gets a line that there are none
 LAST_WORD = 5.0  # seconds in which the pages may learn that the run is over
 MOST_BYTES = 1000  # of what a page asks for
 LINES = "application/x-ndjson"
-LEFT = "this page's server was ended: come again where your teacher tells"
+LEFT = "this page's server was ended: ask your teacher where to come again"
 ASKS = ("node", "at", "rule", "with")  # of a move
 
 
@@ -44,7 +44,7 @@ class Hands(Web):
 
     @property
     def address(self) -> str:
-        """What a student opens."""
+        """Returns what a student opens."""
         return f"http://127.0.0.1:{self.server_port}/"
 
     def show(self, students: int, tell: Callable[[str], None]) -> None:
@@ -66,13 +66,13 @@ class Hands(Web):
                 self.turn.notify_all()
 
     def seat(self, token: object) -> Seat | None:
-        """The seat of the page that has this token; None where there is none, or the token is no text."""
+        """Returns the seat of the page that has this token, or None if there is none, or the token is no text."""
         with self.turn:
             return next((seat for known, seat in self.seats.items()
                          if isinstance(token, str) and hmac.compare_digest(known.encode(), token.encode(errors="replace"))), None)
 
     def stop(self) -> None:
-        """Gives the seats back, and lets go of the port."""
+        """Closes the seats and the port."""
         with self.turn:
             self.leaves = True
             self.turn.wait_for(lambda: not self.seats, LAST_WORD)
@@ -85,7 +85,7 @@ class Hand(Asked):
     server: Hands
 
     def do_GET(self) -> None:
-        """The page, which is the same for everybody."""
+        """Answers with the page, which is the same for everybody."""
         if self.is_elsewhere():
             return
         if self.path != "/":
@@ -94,7 +94,7 @@ class Hand(Asked):
         self.answer(200, "text/html; charset=utf-8", page.encode(), policy)
 
     def do_POST(self) -> None:
-        """A hello, which is answered as long as the page stays, or a move."""
+        """Takes a hello, which is answered as long as the page stays, or a move."""
         if self.is_elsewhere():
             return
         does = {"/enter": self.enter, "/move": self.move}.get(self.path)
@@ -118,7 +118,7 @@ class Hand(Asked):
         self.wfile.write(json.dumps(row).encode() + b"\n")
 
     def enter(self, asked: dict[str, Any]) -> None:
-        """Says hello by that name and key, and shows what is told as long as the page is there."""
+        """Says hello by that name and key, and shows the replies as long as the page is there."""
         name, key = asked.get("name"), asked.get("key")
         if not isinstance(name, str) or not isinstance(key, str):
             return self.head(400)
@@ -154,7 +154,7 @@ class Hand(Asked):
         self.put({"ended": last_word(seat)})
 
     def move(self, asked: dict[str, Any]) -> None:
-        """Asks for a move by the page's seat, and tells what is replied."""
+        """Asks for a move by the page's seat, and sends the reply."""
         seat = self.server.seat(asked.get("token"))
         if seat is None:
             return self.say(404, told="this page has no seat: come in again")
@@ -169,7 +169,7 @@ class Hand(Asked):
 
 
 def last_word(seat: Seat) -> str:
-    """Why a seat ends where the run lets go of it: what the server said, if that has ended the connection."""
+    """Returns why a seat ends if the run closes it: what the server said, if that has ended the connection."""
     try:
         seat.present()
     except (Closed, Denied) as error:
@@ -178,5 +178,5 @@ def last_word(seat: Seat) -> str:
 
 
 def open_hands(port: int, title: str, lab: Lab) -> Hands:
-    """The page at a port, or at the next that is free."""
+    """Returns the page at a port, or at the next that is free."""
     return opened(port, lambda number: Hands(number, title, lab))

@@ -16,7 +16,7 @@ from classroom.pages.layout import RING, WIDE, Field
 from classroom.pages.springs import Point
 
 WITNESSES_MOST = 60  # open links up to which each names its witness
-OPEN_MOST = 2000  # open links above which they are told as a number alone
+OPEN_MOST = 2000  # open links above which only their number is given
 FAINT_ABOVE = 8  # links for each node above which their lines are the fainter the more they are
 LETTERS = f"letters: {', '.join(f'{rule[:1].upper()} {rule}' for rule in RULES)}"
 KEY_HIGH, KEY_SIZE = 26.0, 14.0  # of the line below a drawing that says what letters are
@@ -32,12 +32,12 @@ class Drawing:
 
     @property
     def points(self) -> dict[int, Point]:
-        """Where each node is."""
+        """Returns the point of each node."""
         return self.view.layout.points
 
     @property
     def measures(self) -> dict[str, float]:
-        """How large and how thick everything is, by the radius of a node."""
+        """Returns how large and how thick everything is, by the radius of a node."""
         radius, form = self.view.layout.radius, self.view.form
         plain = {
             "radius": radius, "ring": 1.28 * radius, "ringLine": max(1.5, 0.14 * radius), "discLine": max(1.2, 0.1 * radius),
@@ -53,7 +53,7 @@ class Drawing:
         return self.view.layout.radius < labels.LEAST_FRAMED
 
     def svg(self, state: State, event: Event | None) -> str:
-        """The whole element of a state; `event` is the one that led to it."""
+        """Returns the whole element of a state; `event` is the one that led to it."""
         open_links = state.open if len(state.open) <= OPEN_MOST else []
         sizes, field = self.measures, self.view.layout.field
         return "\n".join([
@@ -83,16 +83,16 @@ class Drawing:
 
     @property
     def kind(self) -> str:
-        """The classes of a drawing: whether it has names, and room for rules."""
+        """Returns the classes of a drawing: whether it has names, and room for rules."""
         return " ".join(["named" if self.view.labels else "bare", *["tiny"] * self.tiny])
 
     def faint(self, links: int) -> float:
-        """How opaque the line of each of so many links is: where there are many, fainter, so that what lies over them
-        can be read."""
+        """Returns how opaque the line of each of so many links is: if there are many, fainter, so that what lies over
+        them can be read."""
         return min(1.0, FAINT_ABOVE * len(self.lab.nodes) / max(links, 1))
 
     def rows(self, name: str, thick: float, drawn: list[tuple[int, str]], opacity: float = 1.0) -> list[str]:
-        """A path for each node, of the lines whose lower end it is: so that few change at a time."""
+        """Returns a path for each node, of the lines whose lower end it is: so that few change at a time."""
         lines: dict[int, list[str]] = {node.id: [] for node in self.lab.nodes}
         for node, line in drawn:
             lines[node].append(line)
@@ -100,29 +100,29 @@ class Drawing:
         return [f'<g class="{name}" stroke-width="{thick:g}" stroke-opacity="{opacity:.2g}">', *paths, "</g>"]
 
     def line(self, a: int, b: int) -> str:
-        """The line of a link, as a path has it."""
+        """Returns the line of a link, as a path has it."""
         (x, y), (u, v) = self.points[a], self.points[b]
         return f"M{x:g} {y:g}L{u:g} {v:g}"
 
     def half(self, a: int, b: int) -> str:
-        """The half of a link on the side of a."""
+        """Returns the half of a link on the side of a."""
         (x, y), (u, v) = self.points[a], self.points[b]
         return f"M{x:g} {y:g}L{(x + u) / 2:g} {(y + v) / 2:g}"
 
     def witness(self, link: OpenLink) -> str:
-        """The witness of an open link and its rule, in the middle of the link."""
+        """Returns the witness of an open link and its rule, in the middle of the link."""
         a, b, witness, rule = link
         (x, y), (u, v) = self.points[a], self.points[b]
         return f'<text x="{(x + u) / 2:g}" y="{(y + v) / 2:g}">{witness}: {self.view.form.word(rule)}</text>'
 
     def pointer(self, node: int, state: State) -> str:
-        """An arrow where the node points at another that it isn't married to."""
+        """Returns an arrow if the node points at another that it isn't married to."""
         target = state.pointers[node]
         drawn = "" if target is None or married(node, state) else self.arrow(node, target)
         return f'<path class="pointer" data-of="{node}" d="{drawn}" marker-end="url(#arrow)"/>'
 
     def arrow(self, a: int, b: int) -> str:
-        """A line from the rim of one node to the ring of another."""
+        """Returns a line from the rim of one node to the ring of another."""
         start, end = self.points[a], self.points[b]
         length = math.dist(start, end) or 1.0
         along = ((end[0] - start[0]) / length, (end[1] - start[1]) / length)
@@ -130,7 +130,7 @@ class Drawing:
         return f"M{at(start, along, near)}L{at(start, along, far)}"
 
     def node(self, node: int, owners: list[str], state: State, event: Event | None) -> str:
-        """A node's element: its values, its disc, and the label beside it."""
+        """Returns a node's element: its values, its disc, and the label beside it."""
         (x, y), sizes = self.points[node], self.measures
         pointer, rule = state.pointers[node], state.privileged.get(node, "")
         chosen, m = state.chosen.get(node, ""), told(state.ms[node])
@@ -148,7 +148,7 @@ class Drawing:
         ])
 
     def label(self, node: int) -> list[str]:
-        """The name beside a node, if there is room for names."""
+        """Returns the name beside a node, if there is room for names."""
         label = self.view.labels.get(node)
         if label is None:
             return []
@@ -156,7 +156,7 @@ class Drawing:
                 f' font-size="{self.view.form.size:g}">{escape(label.text)}</text>']
 
     def pill(self, node: int, rule: str, chosen: str) -> str:
-        """The rule by which a node can move, in a frame; the frame is full if the move is chosen."""
+        """Returns the rule by which a node can move, in a frame; the frame is full if the move is chosen."""
         form, word = self.view.form, chosen or rule
         width, high = form.pill_width(word, bool(chosen)), self.measures["pillHigh"]
         x, y = self.view.pill_at(node, width)
@@ -165,12 +165,12 @@ class Drawing:
                 f' height="{high:g}" rx="{high / 2:g}"/><text class="rule" y="{0.35 * form.pill:.3g}" font-size="{form.pill:g}">{text}</text></g>')
 
     def said(self, node: int, owners: list[str], state: State) -> str:
-        """A node in words."""
+        """Returns a node in words."""
         pointer, partner = state.pointers[node], next((sum(pair) - node for pair in state.pairs if node in pair), None)
         return told_node(node, owners, pointer, state.ms[node], partner, state.privileged.get(node, ""), state.chosen.get(node, ""))
 
     def mark(self, event: Event | None) -> str:
-        """The word of a fault, link or cut, where it happened."""
+        """Returns the word of a fault, link or cut, if it happened."""
         size = self.measures["mark"]
         if event is None or not event.is_edit:
             return f'<text class="mark" font-size="{size:g}"></text>'
@@ -180,13 +180,13 @@ class Drawing:
         return f'<text class="mark" x="{x:g}" y="{max(size, y - up):g}" font-size="{size:g}">⚡ {event.kind}</text>'
 
     def key(self) -> str:
-        """What letters stand for, below a drawing; empty if it has none."""
+        """Returns what letters stand for, below a drawing, or empty if it has none."""
         if self.view.form.words or self.tiny:
             return ""
         return f'<text class="key" x="8" y="{self.view.layout.field.height + 17:g}" font-size="{KEY_SIZE:g}">{LETTERS}</text>'
 
     def data(self) -> dict[str, Any]:
-        """What a page's program has to know of the view."""
+        """Returns what a page's program has to know of the view."""
         form, layout = self.view.form, self.view.layout
         rules = ("", *RULES)
         return {
@@ -200,18 +200,18 @@ class Drawing:
 
 
 def drawing_of(lab: Lab, links: Iterable[tuple[int, int]] | None = None, field: Field = WIDE) -> Drawing:
-    """The drawing of a lab's network in a field, as it is with these links."""
+    """Returns the drawing of a lab's network in a field, as it is with these links."""
     owners = {node.id: node.owners for node in lab.nodes}
     return Drawing(lab, view_of(owners, sorted(lab.links if links is None else links), field))
 
 
 def married(node: int, state: State) -> bool:
-    """Whether a pair of the report has the node."""
+    """Returns whether a pair of the report has the node."""
     return any(node in pair for pair in state.pairs)
 
 
 def told_node(node: int, owners: list[str], pointer: int | None, m: bool, partner: int | None, rule: str, chosen: str) -> str:
-    """What is said of a node to who doesn't see it; the page's program says the same."""
+    """Returns a node in words, for readers who don't see it. The page's program says the same."""
     return ", ".join([
         f"node {node} of {' and '.join(owners)}", f"p {'null' if pointer is None else pointer}", f"m {told(m)}",
         *([f"married to {partner}"] if partner is not None else []), *([f"privileged: {rule}"] if rule else []),
@@ -220,22 +220,22 @@ def told_node(node: int, owners: list[str], pointer: int | None, m: bool, partne
 
 
 def told(value: bool) -> str:
-    """A truth value as the page's elements have it."""
+    """Returns a truth value as the page's elements have it."""
     return "true" if value else "false"
 
 
 def at(start: Point, along: Point, far: float) -> str:
-    """The point that is so far from a start along a direction, as a path has it."""
+    """Returns the point that is so far from a start along a direction, as a path has it."""
     return f"{start[0] + along[0] * far:.1f} {start[1] + along[1] * far:.1f}"
 
 
 def path(name: str, drawn: str, thick: float) -> str:
-    """A path's element, with its class."""
+    """Returns a path's element, with its class."""
     return f'<path class="{name}" stroke-width="{thick:g}" d="{drawn}"/>'
 
 
 def standalone(drawing: Drawing, state: State, event: Event | None, theme: str = "light") -> str:
-    """The element as a file of its own, with its style inside."""
+    """Returns the element as a file of its own, with its style inside."""
     key, field = drawing.key(), drawing.view.layout.field
     head, tail = drawing.svg(state, event).split("<defs>", 1)
     if key:

@@ -19,7 +19,7 @@ OpenLink = tuple[int, int, int, str]
 
 @dataclass
 class State:
-    """What is known of the run at a place: each value as a reply told it."""
+    """What is known of the run at a place: each value as in a reply."""
 
     place: int
     number: int
@@ -35,7 +35,7 @@ class State:
     since: int = 0  # moves since the last fault, link or cut
 
     def copy(self) -> State:
-        """A state that stays; what is replaced as a whole is shared."""
+        """Returns a state that stays; what is replaced as a whole is shared."""
         return State(self.place, self.number, self.links, dict(self.pointers), dict(self.ms), dict(self.chosen),
                      self.privileged, self.pairs, self.open, self.stable, self.moves, self.since)
 
@@ -57,13 +57,13 @@ class Looking(Replay):
         self.frames: list[Frame] = []
 
     def run(self) -> Iterator[Frame]:
-        """The frames in order, the beginning first."""
+        """Yields the frames in order, the beginning first."""
         for _ in self.replies():
             yield from self.frames
             self.frames.clear()
 
     def ask(self, script: Script, event: Event | None, named: set[int]) -> None:
-        """Looks at the nodes that an event may have changed, and asks for the report where it made a configuration. The
+        """Looks at the nodes that an event may have changed, and asks for the report if it made a configuration. The
         last reply makes the frame whole."""
         if event is None or event.makes_configuration:
             for node in sorted(named if event else self.registers):
@@ -74,7 +74,7 @@ class Looking(Replay):
         script.takes.append(self.showing(event, script.takes.pop()))
 
     def showing(self, event: Event | None, take: Take | None) -> Take:
-        """What takes the last reply of a frame, as `take` does, and then shows the frame, which is whole."""
+        """Returns what takes the last reply of a frame, as `take` does, and then shows the frame, which is whole."""
         def takes(reply: dict[str, Any]) -> None:
             """Takes the last reply, and adds the frame."""
             if take is not None:
@@ -84,7 +84,7 @@ class Looking(Replay):
         return takes
 
     def take_look(self, reply: dict[str, Any]) -> None:
-        """Takes the registers and the chosen move that a look tells."""
+        """Takes the registers and the chosen move in a look."""
         node, state = reply["node"], self.state
         state.pointers[node], state.ms[node] = reply["p"], reply["m"]
         state.chosen.pop(node, None)
@@ -92,7 +92,7 @@ class Looking(Replay):
             state.chosen[node] = reply["chosen"]
 
     def take_report(self, reply: dict[str, Any]) -> None:
-        """Takes what a report tells; its numbers begin anew with each part of the replay."""
+        """Takes the values of a report. Its numbers begin anew with each part of the replay."""
         state = self.state
         state.number = reply["at"] + self.number
         state.privileged = {node: rule for node, rule in reply["privileged"]}
@@ -114,8 +114,8 @@ class Looking(Replay):
 
 
 def frames_of(lab: Path, journal: Path) -> tuple[labs.Lab, Iterator[Frame]]:
-    """The lab, and the frames of a journal that the audit passes. All frames share one state, which
-    changes when the next one is taken."""
+    """Returns the lab, and the frames of a journal that the audit passes. All frames share one state, which changes
+    when the next one is taken."""
     answer = call("audit", lab, journal)
     if answer.status != 0:
         raise Fault(f"{journal}: {answer.error}", answer.status)

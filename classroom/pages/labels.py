@@ -1,4 +1,4 @@
-"""Where the name and the rule of each node stand: beside its disc, away from other discs, links and labels.
+"""The places of the name and the rule of each node: beside its disc, away from other discs, links and labels.
 
 Widths of texts are guessed from their letters, at most as wide as in the usual fonts. So a drawing has its place for each
 text before anything is drawn.
@@ -61,12 +61,12 @@ class Form:
 
     @property
     def pill(self) -> float:
-        """The size of a rule's letters."""
+        """Returns the size of a rule's letters."""
         return max(LEAST, PILL * self.size)
 
     @property
     def high(self) -> float:
-        """The height of a label of two lines."""
+        """Returns the height of a label of two lines."""
         return LINE * self.size + PILL_HIGH * self.pill + GAP
 
     def name(self, owners: list[str]) -> str:
@@ -85,7 +85,7 @@ class Form:
 
     @property
     def widest_pill(self) -> float:
-        """The width of the widest frame of a rule."""
+        """Returns the width of the widest frame of a rule."""
         return max(self.pill_width(rule, True) for rule in RULES)
 
 
@@ -134,8 +134,8 @@ class Box:
 
 @dataclass(frozen=True)
 class Label:
-    """The label of a node: from the node's middle, where its name and the middle of its rule's frame stand. `anchor` says
-    which end of the name and the frame stands at `x`: start, middle or end."""
+    """The label of a node: where, from the node's middle, its name and the middle of its rule's frame stand. `anchor`
+    says which end of the name and the frame stands at `x`: start, middle or end."""
 
     text: str
     anchor: str
@@ -160,7 +160,7 @@ class View:
 
     @property
     def identifier_size(self) -> float:
-        """How large identifiers are: as large as there is room in a disc."""
+        """Returns how large identifiers are: as large as there is room in a disc."""
         radius, digits = self.layout.radius, max(len(str(node)) for node in self.layout.points)
         plain = BARE.size if wide("8" * digits, BARE.size, True) <= 1.95 * radius else 0.0
         return round(max(plain, 0.92 * radius), 1)
@@ -248,7 +248,7 @@ def lies_upon(box: Box, layout: Layout, discs: list[Point], others: Iterable[Box
 
 
 def candidates(node: int, layout: Layout, form: Form, text: str, others: list[int]) -> Iterator[Label]:
-    """Yields where a label may stand, the best places first: in the widest gap between links, and all around."""
+    """Yields the places in which a label may stand, the best first: in the widest gap between links, and all around."""
     first = math.pi / 4 if layout.kind == "grid" else widest_gap(layout, node, others)
     width = max(wide(text, form.size), form.widest_pill)
     for angle in (first, *(eighths * math.pi / 4 for eighths in ANGLES)):

@@ -1,4 +1,4 @@
-"""Where each node of a network is drawn: its shape, fitted into a field."""
+"""The places of the nodes of a network: its shape, fitted into a field."""
 from __future__ import annotations
 
 import math
@@ -58,7 +58,7 @@ class Layout:
 
     @property
     def radius(self) -> float:
-        """The radius of a node's disc, which leaves a gap between the nearest two."""
+        """Returns the radius of a node's disc, which leaves a gap between the nearest two."""
         return round(max(LEAST_RADIUS, min(self.field.most_radius, SHARE * self.nearest)), 1)
 
 

@@ -61,7 +61,8 @@ class Frames:
         self.before = state.copy()
 
     def registers(self, before: State, state: State) -> list[list[int]]:
-        """The nodes whose registers changed: each with the node that it points at, or -1, and with m as 0 or 1."""
+        """Returns the nodes whose registers changed: each with the node that it points at, or -1, and with m as 0 or
+        1."""
         if (before.pointers, before.ms) == (state.pointers, state.ms):
             return []
         return [
@@ -71,12 +72,12 @@ class Frames:
         ]
 
     def rules(self, before: dict[int, str], now: dict[int, str]) -> list[list[int]]:
-        """The nodes whose rule changed, each with the rule's index in RULES, 0 where it has none."""
+        """Returns the nodes whose rule changed, each with the rule's index in RULES, 0 if it has none."""
         changed = {node for node, _ in before.items() ^ now.items()}
         return [[self.order[node], RULES.index(now.get(node, ""))] for node in sorted(changed)]
 
     def partners(self, before: list[Link], now: list[Link]) -> list[list[int]]:
-        """The nodes that were parted, each with -1, and then those that were paired, each with its partner."""
+        """Returns the nodes that were parted, each with -1, and then those that were paired, each with its partner."""
         gone, come = set(before) - set(now), set(now) - set(before)
         rows = [[self.order[node], -1] for pair in sorted(gone) for node in pair]
         return rows + [
@@ -84,19 +85,19 @@ class Frames:
         ]
 
     def changed_links(self, before: frozenset[Link], now: frozenset[Link]) -> list[list[int]]:
-        """The links that came, each with 1, or went, with 0."""
+        """Returns the links that came, each with 1, or went, with 0."""
         return [[self.index_of(link), int(link in now)] for link in sorted(before ^ now)]
 
     def index_of(self, link: Link) -> int:
-        """The index of a link in the list, at whose end it is put where it is new."""
+        """Returns the index of a link in the list, at whose end it is put if it is new."""
         if link not in self.index:
             self.index[link] = len(self.links)
             self.links.append(link)
         return self.index[link]
 
     def changed_open(self, links: list[OpenLink]) -> list[list[int]]:
-        """Runs of links that follow each other and have the same witness from now on: the first, how many
-        they are, the witness (-1: none) and its rule."""
+        """Returns runs of links that follow each other and have the same witness from now on: the first, how many they
+        are, the witness (-1: none) and its rule."""
         now = {self.index_of((a, b)): (self.order[node], RULES.index(rule)) for a, b, node, rule in links}
         changed = sorted(link for link in now.keys() | self.open.keys() if now.get(link) != self.open.get(link))
         runs: list[list[int]] = []
@@ -110,12 +111,12 @@ class Frames:
         return runs
 
     def drawn_links(self, known: int = 0) -> list[list[int]]:
-        """The links but for so many that are known."""
+        """Returns the links but for so many that are known."""
         return [[self.order[a], self.order[b]] for a, b in self.links[known:]]
 
 
 def page_of(title: str, lab: Lab, frames: Iterable[Frame], history: str = "") -> str:
-    """The file's text, with a part more below the player."""
+    """Returns the file's text, with a part more below the player."""
     each = iter(frames)
     first = next(each)
     drawing = drawing_of(lab.without_house(), first.state.links)
@@ -127,20 +128,21 @@ def page_of(title: str, lab: Lab, frames: Iterable[Frame], history: str = "") ->
 
 
 def live_page(title: str, drawing: Drawing, state: State, acts: bool) -> tuple[str, str]:
-    """The page of a run that is going on, whose program asks for what to draw; and the policy that it is sent with."""
+    """Returns the page of a run that is going on, whose program asks for what to draw; and the policy that it is sent
+    with."""
     own = {"links": [], "acts": acts, "buttons": {name: it.line for name, it in BUTTONS.items()}, "byLinks": BY_LINKS}
     parts = {name: button(it) for name, it in BUTTONS.items()}
     return filled("live", title, drawing, drawing.svg(state, None), what_stays(drawing, state) | own, parts)
 
 
 def button(it: Button) -> str:
-    """A button of the desk's, as its page has it."""
+    """Returns a button of the desk's, as its page has it."""
     more = "".join(f' {name}="{escape(value)}"' for name, value in (("type", it.kind), ("title", it.title)) if value)
     return f'<button id="{it.name}"{more}>{escape(it.text)}</button>'
 
 
 def what_stays(drawing: Drawing, state: State) -> dict[str, Any]:
-    """What of a page's data stays from place to place: with the view of a screen, and with that of a phone."""
+    """Returns what of a page's data stays from place to place: with the view of a screen, and with that of a phone."""
     phone = drawing_of(drawing.lab, state.links, TALL)
     return {
         "nodes": [{"id": node.id, "owners": node.owners} for node in drawing.lab.nodes],
@@ -149,14 +151,14 @@ def what_stays(drawing: Drawing, state: State) -> dict[str, Any]:
 
 
 def size_of(drawing: Drawing) -> str:
-    """What network it is, in words."""
+    """Returns what network it is, in words."""
     kind = drawing.view.layout.kind
     kind = {"general": "network", "ellipse": "network", "complete": "complete graph"}.get(kind, kind)
     return f"{kind} of {plural(len(drawing.lab.nodes), 'node')}, {plural(len(drawing.lab.students), 'student')}"
 
 
 def filled(name: str, title: str, drawing: Drawing, picture: str, data: dict[str, Any], more: dict[str, str]) -> tuple[str, str]:
-    """A page of a drawing by its form, which has more parts of its own, and the policy that it is sent with."""
+    """Returns a page of a drawing by its form, which has more parts of its own, and the policy that it is sent with."""
     header = form("header", {"TITLE": escape(title), "SIZE": escape(size_of(drawing))})
     parts = more | {
         "TITLE": title, "DRAWING": picture, "HEADER": header,
@@ -166,7 +168,8 @@ def filled(name: str, title: str, drawing: Drawing, picture: str, data: dict[str
 
 
 def assembled(name: str, parts: dict[str, str], more: str, styles: tuple[str, ...], programs: tuple[str, ...]) -> tuple[str, str]:
-    """A page by its form, with its style and its program inside, and the policy that lets these two alone be used."""
+    """Returns a page by its form, with its style and its program inside, and the policy that lets these two alone be
+    used."""
     style = "".join((FOLDER / file).read_text("utf-8") for file in styles) + more
     program = "".join((FOLDER / file).read_text("utf-8") for file in programs)
     page = form(name, parts | {"TITLE": escape(parts["TITLE"]), "STYLE": style, "PROGRAM": program, "LEGEND": legend()})
@@ -174,23 +177,24 @@ def assembled(name: str, parts: dict[str, str], more: str, styles: tuple[str, ..
 
 
 def form(name: str, parts: dict[str, str]) -> str:
-    """A form, with its parts where their names stand."""
+    """Returns a form, with its parts where their names stand."""
     head, *rest = (FOLDER / f"{name}.html").read_text("utf-8").split("{{")
     return head + "".join(parts[piece.split("}}", 1)[0]] + piece.split("}}", 1)[1] for piece in rest)
 
 
 def hashed(text: str) -> str:
-    """A text as a policy names it."""
+    """Returns a text as a policy names it."""
     return f"'sha256-{base64.b64encode(hashlib.sha256(text.encode()).digest()).decode()}'"
 
 
 def legend() -> str:
-    """What the signs of a drawing stand for, each as it is drawn; the letters of rules are shown where they stand."""
+    """Returns what the signs of a drawing stand for, each as it is drawn; the letters of rules are shown where they
+    stand."""
     return (FOLDER / "legend.html").read_text("utf-8").replace("{{LETTERS}}", LETTERS)
 
 
 def data_element(text: str) -> str:
-    """The data as they are, or packed where they are long; neither can end the element."""
+    """Returns the data as they are, or packed if they are long; neither can end the element."""
     if len(text) <= PLAIN_LIMIT:
         return f'<script id="data" type="application/json" data-form="plain">{text.replace("<", chr(92) + "u003c")}</script>'
     packed = base64.b64encode(zlib.compress(text.encode(), 9)).decode()

@@ -25,7 +25,7 @@ def page(lab_file: Path, journal: Path) -> str:
 
 
 def places(word: str) -> list[int]:
-    """Numbers with commas between them."""
+    """Returns numbers with commas between them."""
     if not re.fullmatch(r"\d+(,\d+)*", word):
         raise argparse.ArgumentTypeError(f"{word}: places of the journal, with commas between them; 0 is the beginning")
     return [int(place) for place in word.split(",")]
@@ -50,7 +50,7 @@ def picture(lab_file: Path, journal: Path, asked: list[int], theme: str = LIGHT)
 
 
 def play(words: argparse.Namespace) -> int:
-    """Writes the file and says where it lies. Status 3 where the audit says no."""
+    """Writes the file and prints its path. Returns status 3 if the audit says no."""
     runs = classes.given(words.run)
     if len(runs) != 1:
         raise Fault("play: the folder of a run, or a lab and a journal")

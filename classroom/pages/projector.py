@@ -45,7 +45,7 @@ class Pages(TwoAddresses):
         self.open()
 
     def stop(self) -> None:
-        """Tells the pages that the run is over, and lets go of the port."""
+        """Says to the pages that the run is over, and closes the port."""
         if self.present is not None:
             self.present.put(ended=True)
         self.close_after(LAST_WORD)
@@ -57,7 +57,7 @@ class Page(AtAddress):
     server: Pages
 
     def do_GET(self) -> None:
-        """The page, or its news."""
+        """Answers with the page, or its news."""
         (token, asked), present = self.asked(), self.server.present
         if self.is_elsewhere():
             return
@@ -90,7 +90,7 @@ class Page(AtAddress):
 
 
 def message(rows: Frames, present: Present, before: Now | None, now: Now) -> dict[str, Any]:
-    """What a page that has shown `before` has to know."""
+    """Returns what a page that has shown `before` has to know."""
     links = len(rows.links)
     rows.add(Frame(present.events[now.events - 1] if now.events else None, now.state), len(now.state.links))
     events = present.events[max(before.events if before else 0, now.events - LISTED):now.events]
@@ -103,6 +103,6 @@ def message(rows: Frames, present: Present, before: Now | None, now: Now) -> dic
 
 
 def open_pages(port: int, title: str, lab: Lab, typed: queue.SimpleQueue[str], looks: str | None = None) -> Pages:
-    """The pages at a port, or at the next that is free; with the token of the address to look at, where it had one
+    """Returns the pages at a port, or at the next that is free; with the token of the address to look at, if it had one
     before."""
     return opened(port, lambda number: Pages(number, title, lab, typed, looks))

@@ -1,8 +1,8 @@
 """A journal's events, asked of the program once more.
 
 They are turned into scripts over a lab in which one student owns every node; between the events the teacher asks what
-there is to see, or after them for the report. What is seen between them goes in parts, each from where the one before
-ended. Nothing of the rules stands here.
+there is to see, or after them for the report. What is seen between them goes in parts, each from the end of the one
+before. Nothing of the rules stands here.
 """
 from __future__ import annotations
 
@@ -29,7 +29,7 @@ raw_decode, encode = json.JSONDecoder().raw_decode, json.JSONEncoder(separators=
 
 
 def request(at: int | str, words: Sequence[str]) -> str:
-    """The line that asks for an event, in a configuration of that number."""
+    """Returns the line that asks for an event, in a configuration of that number."""
     word, *rest = words
     if word == "grant":
         partner = f',"with":{rest[3]}' if len(rest) == 4 else ""
@@ -38,7 +38,7 @@ def request(at: int | str, words: Sequence[str]) -> str:
 
 
 def look(node: int) -> str:
-    """The line that asks what a node has."""
+    """Returns the line that asks what a node has."""
     return f'1 {{"do":"look","node":{node}}}'
 
 
@@ -72,11 +72,11 @@ class Replay:
         self.now = (0, 0)  # place and number after the last event that was answered
 
     def ask(self, script: Script, event: Event | None, named: set[int]) -> None:
-        """What is asked after an event, or at the beginning, where `named` are the nodes of the events since a
+        """Asks what is needed after an event, or at the beginning. `named` are the nodes of the events since a
         configuration was made, that one among them."""
 
     def took(self, event: Event, reply: dict[str, Any]) -> None:
-        """What is done with an event's reply."""
+        """Handles an event's reply."""
 
     def replies(self) -> Iterator[None]:
         """Plays all, and stops after each reply."""
@@ -88,7 +88,7 @@ class Replay:
             is_first = False
 
     def part(self, events: list[Event], is_first: bool) -> tuple[Script, list[Event]]:
-        """As many events as go into one script: all, or up to the last one that made a configuration."""
+        """Returns as many events as go into one script: all, or up to the last one that made a configuration."""
         script, fits, kept, named = Script(), 0, 0, set[int]()
         for line in HELLOS:
             script.ask(line)
@@ -129,11 +129,11 @@ class Replay:
         self.took(event, reply)
 
     def take_registers(self, reply: dict[str, Any]) -> None:
-        """What the next part's lab has at a node."""
+        """Keeps what the next part's lab has at a node."""
         self.registers[reply["node"]] = (reply["p"], reply["m"])
 
     def answered(self, script: Script) -> Iterator[None]:
-        """Hands each reply of the program to what it is for."""
+        """Passes each reply of the program to what it is for."""
         nodes = [labs.Node(node, [STUDENT], p, m) for node, (p, m) in self.registers.items()]
         with tempfile.TemporaryDirectory() as room:
             lab, lines = Path(room, "lab.toml"), Path(room, "script")
@@ -153,23 +153,23 @@ class Replay:
 
 
 def alone(nodes: list[labs.Node], links: list[tuple[int, int]]) -> labs.Lab:
-    """A lab of one student."""
+    """Returns a lab of one student."""
     return labs.Lab(labs.MOST_EVENTS, 2, (TEACHER, KEY), {STUDENT: KEY}, nodes, links)
 
 
 def told_by(reply: str) -> dict[str, Any]:
-    """What a reply tells, which stands after its connection's number."""
+    """Returns the values of a reply, which stands after its connection's number."""
     told: dict[str, Any] = raw_decode(reply, 2)[0]
     return told
 
 
 def another(line: str, reply: str) -> Fault:
-    """What is said of a line that isn't answered as it was in the run."""
+    """Returns the fault of a line that isn't answered as it was in the run."""
     return Fault(f"{line[2:]} is answered {reply[2:]}", 4)
 
 
 def report(lab: labs.Lab, lines: list[list[str]]) -> dict[str, Any]:
-    """The report after the events of these lines."""
+    """Returns the report after the events of these lines."""
     nodes = [labs.Node(node.id, [STUDENT], node.p, node.m) for node in lab.nodes]
     script = [*HELLOS, *(request(at, words) for _, at, *words in lines), REPORT]
     replies = all_of(alone(nodes, lab.links), script)

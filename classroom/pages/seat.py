@@ -1,4 +1,4 @@
-"""A student's seat that a page has: one connection to the server, and all that its replies told, as a picture too."""
+"""A student's seat that a page has: one connection to the server, and the contents of its replies, as a picture too."""
 from __future__ import annotations
 
 import threading
@@ -14,7 +14,7 @@ from classroom.pages.frames import State
 from classroom.pages.labels import view_of
 from classroom.pages.layout import CELL
 
-NEIGHBOUR = "a neighbour"  # instead of its owners, whom no reply tells; no student has such a name
+NEIGHBOUR = "a neighbour"  # instead of its owners, whom no reply names; no student has such a name
 Told = TypeVar("Told")
 Looks = dict[int, Look]
 
@@ -27,11 +27,11 @@ class Seen(Drawing):
     beyond: frozenset[int] = frozenset()
 
     def pointer(self, node: int, state: State) -> str:
-        """No arrow from beyond."""
+        """Draws no arrow from a node beyond."""
         return "" if node in self.beyond else super().pointer(node, state)
 
     def node(self, node: int, owners: list[str], state: State, event: Event | None) -> str:
-        """A node beyond is its number; a neighbour has a thin rim."""
+        """Draws a node: one beyond is its number, and a neighbour has a thin rim."""
         if node not in self.beyond:
             kind = "node near" if owners == [NEIGHBOUR] else "node"
             return super().node(node, owners, state, event).replace('class="node"', f'class="{kind}"', 1)
@@ -41,7 +41,7 @@ class Seen(Drawing):
 
 
 def shown_part(name: str, looks: Looks) -> Lab:
-    """The network as far as looks tell it."""
+    """Returns the network as far as looks show it."""
     near = {each.node: each.p for look in looks.values() for each in look.near}
     beyond = {p for p in [*near.values(), *(look.p for look in looks.values())] if p is not None} - near.keys() - looks.keys()
     nodes = [Node(node, [name] if node in looks else [] if node in beyond else [NEIGHBOUR])
@@ -51,7 +51,7 @@ def shown_part(name: str, looks: Looks) -> Lab:
 
 
 def drawn(part: Lab, looks: Looks) -> Seen:
-    """How that part is drawn, with each node beyond near the one that points at it."""
+    """Returns how that part is drawn, with each node beyond near the one that points at it."""
     beyond = frozenset(node.id for node in part.nodes if not node.owners)
     points_at = [(each.node, each.p) for look in looks.values() for each in look.near if each.p in beyond and each.p is not None]
     links = sorted({*part.links, *map(ordered, points_at)})
@@ -59,7 +59,7 @@ def drawn(part: Lab, looks: Looks) -> Seen:
 
 
 def state_of(part: Lab, looks: Looks) -> State:
-    """What the looks tell, for a picture."""
+    """Returns what the looks show, for a picture."""
     registers = {each.node: each for look in looks.values() for each in (*look.near, look)}
     state = State(0, max(look.at for look in looks.values()), frozenset(part.links))
     for node in part.nodes:
@@ -82,7 +82,7 @@ class Seat:
         self.row: dict[str, Any] = {}
 
     def asked(self, ask: Callable[[], Told]) -> Told:
-        """What the server answers; where it ended the connection, says why from then on."""
+        """Returns what the server answers. If it ended the connection, returns the reason from then on."""
         with self.turn:
             try:
                 return ask()
@@ -95,7 +95,7 @@ class Seat:
         raise Closed(self.why)
 
     def move(self, request: dict[str, Any]) -> dict[str, Any]:
-        """The reply to a request for a move."""
+        """Returns the reply to a request for a move."""
         try:
             return self.asked(lambda: self.client.ask(**request))
         except Denied as denied:
@@ -104,7 +104,7 @@ class Seat:
             return {"refuse": refused.word}
 
     def present(self) -> dict[str, Any]:
-        """What the page shows now: the same one where nothing is new, or can't be told for the moment."""
+        """Returns what the page shows now: the same one if nothing is new, or it can't be asked for the moment."""
         try:
             looks = self.asked(lambda: self.client.snapshot(self.nodes))
         except (Moving, Refused):
@@ -120,6 +120,7 @@ class Seat:
 
 
 def told(look: Look) -> dict[str, Any]:
-    """A look as the server told it, but for the number that all have in common; and which neighbours point at the node."""
+    """Returns a look as the server sent it, except the number that all have in common, and which neighbours point at the
+    node."""
     values = {name: value for name, value in asdict(look).items() if name != "at"}
     return values | {"pointing": [near.node for near in look.near if near.p == look.node]}

@@ -16,7 +16,7 @@ from classroom.pages.springs import Point, by_springs, stretched
 
 TURNS = 1200  # parts of an ellipse by which it is measured
 MOST_WIDE = 1.7  # how many times wider than high an ellipse is
-ROW_APART = 1.6  # between two rows of a path, where two of its nodes are 1 apart
+ROW_APART = 1.6  # between two rows of a path, if two of its nodes are 1 apart
 LAYER_APART = 0.6  # between two layers of a tree, at least
 HUB_ROOM = 0.24  # of an ellipse around a hub: what is free on its right, for the hub's label
 DENSE = 4  # links for each node above which a network that is no other shape stands on an ellipse
@@ -50,7 +50,7 @@ def kept_shape(nodes: tuple[int, ...], links: tuple[tuple[int, int], ...], aspec
 
 
 def plain_shape(near: Near, aspect: float) -> Shape | None:
-    """Returns the shape of a single node, a complete graph, path, cycle or star; None for any other network."""
+    """Returns the shape of a single node, a complete graph, path, cycle or star, or None for any other network."""
     nodes, degrees = [*near], [len(others) for others in near.values()]
     count, links = len(nodes), sum(degrees) // 2
     if count == 1:
@@ -139,8 +139,8 @@ def down(root: int, children: Near) -> Iterator[int]:
 
 
 def grid_shape(near: Near) -> Shape | None:
-    """Returns a grid row by row, whatever its nodes are called; None for another network. The lowest corner is at the
-    upper left, and its lower neighbour beside it."""
+    """Returns a grid row by row, whatever its nodes are called, or None for another network. The lowest corner is at
+    the upper left, and its lower neighbour beside it."""
     corners = [node for node, others in near.items() if len(others) == 2]
     if len(near) < 4 or len(corners) != 4 or any(not 2 <= len(others) <= 4 for others in near.values()):
         return None
@@ -151,7 +151,7 @@ def grid_shape(near: Near) -> Shape | None:
 
 
 def lattice(near: Near, first: dict[int, int], second: dict[int, int]) -> Points | None:
-    """Returns the nodes as a lattice, by how far each is from the two ends of the first row; None if the network is
+    """Returns the nodes as a lattice, by how far each is from the two ends of the first row, or None if the network is
     none."""
     if len(first) != len(near):
         return None

@@ -1,4 +1,4 @@
-"""Where nodes are drawn as far apart as the shortest path between them is long.
+"""Drawings in which nodes are as far apart as the shortest path between them is long.
 
 By stress majorization (Gansner, Koren and North, 'Graph drawing by stress majorization', 2004), from the best plane
 through the distances (classical scaling). In a large network a node is pulled by its neighbours and by some pivots,
@@ -19,7 +19,7 @@ FEW_NODES = 80  # up to which each node is pulled by each other one
 PIVOTS = 40  # by which each node is pulled in a larger network
 TURNS = 60  # of the power method, and of the majorization
 APART = 0.05  # by which nodes are parted that the plane has at one point
-LEAST = 0.62  # between two nodes, where a link is 1 long
+LEAST = 0.62  # between two nodes, if a link is 1 long
 PUSHES = 80  # by which nodes that are closer are pushed apart
 MOST_STRETCHED = 1.45  # how many times wider a drawing is made, so that it fills its field
 Point = tuple[float, float]
@@ -124,7 +124,7 @@ def stretched(points: dict[int, Point], aspect: float) -> dict[int, Point]:
 
 
 def distances(nodes: Sequence[int], links: Iterable[tuple[int, int]]) -> Rows:
-    """How many links part each two nodes; where no path joins them, one more than the longest path has."""
+    """Returns how many links part each two nodes; if no path joins them, one more than the longest path has."""
     near = neighbours(nodes, links)
     found = [steps_from(node, near) for node in nodes]
     longest = max(max(steps.values()) for steps in found)
@@ -132,8 +132,8 @@ def distances(nodes: Sequence[int], links: Iterable[tuple[int, int]]) -> Rows:
 
 
 def plane(far: Rows, axes: Rows) -> Rows:
-    """The two coordinates that tell most of the distances, a row each, found by the power method, which begins at these
-    axes."""
+    """Computes the classical scaling of the distances in two dimensions by power iteration, which begins at these axes.
+    Returns the two coordinates that explain most of the distances, a row each."""
     squares = [[each * each for each in row] for row in far]
     means = [sum(row) / len(row) for row in squares]
     mean = sum(means) / len(means)
@@ -156,7 +156,7 @@ def plane(far: Rows, axes: Rows) -> Rows:
 
 
 def pulled(points: list[Point], pulls: list[Pull], index: int) -> Point:
-    """Returns where a node comes to lie: in the middle of where each that pulls it wants it."""
+    """Returns the new place of a node: in the middle of the places in which each that pulls it wants it."""
     x, y = points[index]
     sum_x = sum_y = weights = 0.0
     for other, apart, weight in pulls:
@@ -169,7 +169,7 @@ def pulled(points: list[Point], pulls: list[Pull], index: int) -> Point:
 
 
 def tangles(points: dict[int, Point], links: Links, radius: float) -> int:
-    """How often links cross, or run through a node of that radius that isn't theirs."""
+    """Returns how often links cross, or run through a node of that radius that isn't theirs."""
     crossed = sum(
         cross(points[a], points[b], points[c], points[d]) for (a, b), (c, d) in combinations(links, 2) if len({a, b, c, d}) == 4
     )
@@ -179,17 +179,17 @@ def tangles(points: dict[int, Point], links: Links, radius: float) -> int:
 
 
 def cross(a: Point, b: Point, c: Point, d: Point) -> bool:
-    """Whether the line from a to b and the one from c to d cross."""
+    """Returns whether the line from a to b and the one from c to d cross."""
     return side(a, b, c) * side(a, b, d) < 0 and side(c, d, a) * side(c, d, b) < 0
 
 
 def side(a: Point, b: Point, c: Point) -> float:
-    """On which side of the line from a to b c lies: its sign tells."""
+    """Returns on which side of the line from a to b c lies, by its sign."""
     return (b[0] - a[0]) * (c[1] - a[1]) - (b[1] - a[1]) * (c[0] - a[0])
 
 
 def away(point: Point, a: Point, b: Point) -> float:
-    """How far a point is from the line from a to b."""
+    """Returns how far a point is from the line from a to b."""
     across, down = b[0] - a[0], b[1] - a[1]
     square = across * across + down * down
     part = ((point[0] - a[0]) * across + (point[1] - a[1]) * down) / square if square else 0.0

@@ -1,4 +1,4 @@
-"""What a live page shows: asked at the desk as it changes, and kept for any number of pages."""
+"""The data of a live page: asked at the desk as it changes, and kept for any number of pages."""
 from __future__ import annotations
 
 import threading
@@ -58,8 +58,8 @@ class Now:
 
 
 class Present:
-    """The newest `Now`, and all events and lines, which only grow. Who shows it waits for another one; who makes it
-    waits for nobody."""
+    """The newest `Now`, and all events and lines, which only grow. A reader waits for another one; the writer waits for
+    nobody."""
 
     def __init__(self, state: State, closing: str) -> None:
         self.turn = threading.Condition()
@@ -87,7 +87,7 @@ class Present:
             self.turn.notify_all()
 
     def after(self, version: int, seconds: float) -> Now:
-        """The newest one, as soon as it is another than that version, or after so many seconds."""
+        """Returns the newest one, as soon as it is another than that version, or after so many seconds."""
         with self.turn:
             self.turn.wait_for(lambda: self.now.version != version, seconds)
             return self.now
@@ -121,8 +121,8 @@ class Watch:
             state.links = state.links | link if event.links > 0 else state.links - link
 
     def turn(self, report: Report, book: Book) -> None:
-        """Publishes the present after the events that were noted; where the run has gone on meanwhile, its next
-        events come first."""
+        """Publishes the present after the events that were noted; if the run has gone on meanwhile, its next events
+        come first."""
         if not self.events:
             return
         last = self.events[-1]
@@ -147,7 +147,7 @@ class Watch:
             pass
 
     def look(self) -> set[int]:
-        """Looks at the named nodes; gives the numbers of the configurations in which they were seen."""
+        """Looks at the named nodes. Returns the numbers of the configurations in which they were seen."""
         state, numbers = self.state, set()
         for node in sorted(self.named):
             look = self.client.look(node)
@@ -159,7 +159,7 @@ class Watch:
         return numbers
 
     def take(self, report: Report) -> None:
-        """Takes what a report tells."""
+        """Takes the values of a report."""
         state = self.state
         state.number, state.stable = report.at, report.stable
         state.privileged = dict(report.privileged)

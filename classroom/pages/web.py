@@ -36,7 +36,7 @@ class Web(ThreadingHTTPServer):
         self.tell: Callable[[str], None] = print
         self.free = threading.BoundedSemaphore(CONNECTIONS)
         self.is_open = False
-        self.faults: set[tuple[str, str]] = set()  # the kinds of errors that were told
+        self.faults: set[tuple[str, str]] = set()  # the kinds of errors that were printed
 
     def open(self) -> None:
         """Answers from now on."""
@@ -46,13 +46,13 @@ class Web(ThreadingHTTPServer):
         threading.Thread(target=self.serve_forever, kwargs={"poll_interval": 0.1}, daemon=True).start()
 
     def close(self) -> None:
-        """Lets go of the port."""
+        """Closes the port."""
         if self.is_open:
             self.shutdown()
         self.server_close()
 
     def process_request(self, request: Any, client_address: Any) -> None:
-        """A connection has a thread of its own, where one is free and can be made."""
+        """Serves a connection in a thread of its own, if one is free and can be made."""
         if not self.free.acquire(blocking=False):
             return self.shutdown_request(request)
         try:
@@ -62,14 +62,14 @@ class Web(ThreadingHTTPServer):
             self.shutdown_request(request)
 
     def process_request_thread(self, request: Any, client_address: Any) -> None:
-        """One connection, to its end."""
+        """Serves one connection, to its end."""
         try:
             super().process_request_thread(request, client_address)
         finally:
             self.free.release()
 
     def handle_error(self, request: Any, client_address: Any) -> None:
-        """Tells what went wrong, once of each kind; a page that went away is no error."""
+        """Prints what went wrong, once of each kind. A page that went away is no error."""
         error = sys.exc_info()[1]
         if error is None or isinstance(error, (ConnectionError, TimeoutError)):
             return
@@ -88,11 +88,11 @@ class InTime(io.RawIOBase):
         self.connection, self.end = connection, time.monotonic() + seconds
 
     def readable(self) -> bool:
-        """Yes: it is for reading alone."""
+        """Returns true: it is only for reading."""
         return True
 
     def readinto(self, buffer: Any) -> int:
-        """Reads what comes within the time that is left; gives how many bytes."""
+        """Reads what comes within the time that is left. Returns how many bytes."""
         left = self.end - time.monotonic()
         if left <= 0:
             raise TimeoutError
@@ -104,26 +104,27 @@ class Asked(BaseHTTPRequestHandler):
     """One request of a page."""
 
     def log_message(self, format: str, *words: Any) -> None:
-        """Nothing is printed: what is asked may tell what nobody else knows."""
+        """Prints nothing: a request may have what nobody else knows."""
 
     def setup(self) -> None:
-        """Little is kept for a page that is slow: it gets the present instead of what has passed."""
+        """Keeps little for a page that is slow: it gets the present instead of what has passed."""
         self.request.setsockopt(socket.SOL_SOCKET, socket.SO_SNDBUF, KEPT)
         super().setup()
         self.rfile = io.BufferedReader(InTime(self.connection, ASKING))
 
     def is_elsewhere(self) -> bool:
-        """Whether another machine's name was asked, or another port, as through a tunnel; says what to open."""
+        """Returns whether another machine's name was asked, or another port, as through a tunnel; says what to open."""
         port = self.connection.getsockname()[1]
         if self.headers.get("Host") in (f"127.0.0.1:{port}", f"localhost:{port}"):
             return False
-        text = (f"This page is served as http://127.0.0.1:{port}/.. alone: open the address that the run has told. From another "
+        text = (f"This page is served as http://127.0.0.1:{port}/.. only: open the address that the run printed. From another "
                 f"machine, open it there after: ssh -N -L {port}:127.0.0.1:{port} NAME@HOST\n").encode()
         self.answer(421, "text/plain; charset=utf-8", text)
         return True
 
     def body(self, most: int) -> bytes | None:
-        """What a request carries; None where that is more than so many bytes, or its size is no number of few digits."""
+        """Returns what a request carries, or None if that is more than so many bytes, or its size is no number of few
+        digits."""
         size = self.headers.get("Content-Length") or "0"
         if not (size.isascii() and size.isdecimal() and len(size) <= DIGITS and int(size) <= most):
             return None
@@ -151,9 +152,9 @@ class Asked(BaseHTTPRequestHandler):
 
 
 def opened(port: int, make: Callable[[int], Opened]) -> Opened:
-    """A server at that port, or the next that is free."""
+    """Returns a server at that port, or the next that is free."""
     def at(number: int) -> Opened | None:
-        """The server at that port; None where the port is taken."""
+        """Returns the server at that port, or None if the port is taken."""
         try:
             return make(number)
         except OSError:

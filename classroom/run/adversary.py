@@ -35,8 +35,8 @@ class Adversary:
         return lambda nodes: [scheduled(rules, nodes)] if how.kind == "schedule" else self.choose(seen(), nodes)
 
     def choose(self, made: labs.Lab, chosen: Sequence[int]) -> list[int]:
-        """Of the nodes with a chosen move those whose moves a close is to apply, over the network `made` with its
-        registers: one of them, or all at once."""
+        """Returns, of the nodes with a chosen move, those whose moves a close is to apply, over the network `made` with
+        its registers: one of them, or all at once."""
         if len(chosen) < 2:
             return list(chosen)
         bench = self.bench_over(made)
@@ -53,8 +53,8 @@ class Adversary:
         return ways[worth.index(max(worth))]
 
     def bench_over(self, made: labs.Lab) -> Bench:
-        """A program over the network, with room for a search: the one at hand, or a new one where that has other links
-        or few events left."""
+        """Returns a program over the network, with room for a search: the one at hand, or a new one if that has other
+        links or few events left."""
         if self.bench is None or self.bench.made.links != made.links or self.bench.events > USED:
             self.close()
             self.bench = Bench(made)

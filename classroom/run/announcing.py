@@ -1,4 +1,5 @@
-"""What a run tells as it goes on: each event, how the class comes back, whom it waits for, and why nothing more is granted."""
+"""The lines that a run prints as it goes on: each event, how the class comes back, whom it waits for, and why nothing more is
+granted."""
 from __future__ import annotations
 
 import itertools
@@ -15,13 +16,13 @@ from classroom.marks.comeback import Comeback, Recount
 from classroom.run import wording
 from classroom.run.following import Follower, News
 
-MOST_TOLD = 0.9  # of the limit of events, from which on what is left is told
+MOST_TOLD = 0.9  # of the limit of events, from which on it prints what is left
 MOST_WAITING = 8  # nodes that are named while the class waits for more
 LOOKS, PAUSE = 30, 0.1  # how often it is looked what the server says of the journal, and seconds between
 
 
 def listed(report: Report) -> str:
-    """A report as a line."""
+    """Returns a report as a line."""
     lists = {
         "pairs": [f"{a}-{b}" for a, b in report.pairs],
         "free": [str(node) for node in report.free],
@@ -33,7 +34,7 @@ def listed(report: Report) -> str:
 
 
 class Announcer:
-    """Tells what is known of a run, as lines."""
+    """Prints what is known of a run, as lines."""
 
     def __init__(self, lab: labs.Lab, folder: Path, known: Follower, tell: Callable[[str], None]) -> None:
         self.lab, self.known, self.tell = lab, known, tell
@@ -47,7 +48,8 @@ class Announcer:
         self.edits: list[Event] = []  # that weren't printed yet
 
     def gone_on(self) -> None:
-        """Counts how the class came back within the events that have passed, and tells from where it goes on."""
+        """Counts how the class came back within the events that have passed, and prints the configuration from which it
+        goes on."""
         self.recount()
         self.known.ask_report()
         self.tell(f"the class goes on at configuration {self.known.report.at}, {self.events_used()}")
@@ -55,8 +57,8 @@ class Announcer:
             self.end_by("full")
 
     def recount(self) -> None:
-        """Counts how the class came back within the events that have passed. Where the program can't be asked, that is
-        told, and the next time that the class is stable has no counts."""
+        """Counts how the class came back within the events that have passed. If the program can't be asked, says so,
+        and the next time that the class is stable has no counts."""
         past = self.known.past
         try:
             Recount(self.lab, past, self.comeback).counts()
@@ -94,7 +96,7 @@ class Announcer:
                 self.step(at, wording.edits(events))
 
     def limit(self) -> None:
-        """Where the lab has few events left, tells that; after the last one ends the run."""
+        """Says if the lab has few events left, and ends the run after the last one."""
         if self.known.count == int(MOST_TOLD * self.lab.events) > 0:
             self.tell_edits()
             self.tell(f"{self.events_used()}: nothing more is granted after the last")
@@ -103,11 +105,11 @@ class Announcer:
             self.end_by("full")
 
     def events_used(self) -> str:
-        """How many events there are of how many."""
+        """Returns how many events there are of how many."""
         return f"events {self.known.count} of {self.lab.events}"
 
     def step(self, at: int, what: str) -> None:
-        """Tells the line of an event: the number after it, what was done, how many are privileged then, if the report
+        """Prints the line of an event: the number after it, what was done, how many are privileged then, if the report
         is of that number, moves beside the bound, and events."""
         known = self.known
         most = bounds.told(len(self.lab.nodes), len(self.lab.links) + known.book.links)
@@ -117,7 +119,7 @@ class Announcer:
         self.tell(f"configuration {at}: {what}; {now}{known.book.since}{limit} moves; {self.events_used()}")
 
     def come_back(self, event: Event, moved: list[int], before: Report) -> None:
-        """Counts a close; where it was the last that the class took to come back, tells how it came."""
+        """Counts a close. If it was the last that the class took to come back, prints how it came."""
         report = self.known.report
         if (before.at, report.at) != (event.at, event.at + 1):
             self.comeback.miss()
@@ -144,7 +146,7 @@ class Announcer:
         self.tell(f"waiting for {', '.join(self.told_waiting) or 'nobody'}")
 
     def end_by(self, word: str) -> None:
-        """Nothing is granted any longer: says so at once, with what to do, and ends the run."""
+        """Says at once that nothing is granted any longer, with what to do, and ends the run."""
         if self.over:
             return
         self.over = word
@@ -158,8 +160,8 @@ class Announcer:
         self.tell(f"nothing more is granted: {what}")
 
     def why_journal(self) -> str:
-        """Why the journal takes nothing more, and what to do. The server says within a moment what became of the file; if
-        it says nothing, no line could be written."""
+        """Returns why the journal takes nothing more, and what to do. The server says within a moment what became of the
+        file; if it says nothing, no line could be written."""
         for _ in range(LOOKS):
             lost = self.lost_journal()
             if lost:

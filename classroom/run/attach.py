@@ -19,19 +19,19 @@ from classroom.run.run import add_desk_words, may_stand_in
 from classroom.run.server import Server
 from classroom.run.teller import Teller
 
-PATIENCE = 60.0  # seconds in which a `run` without its terminal lets go of the desk
+PATIENCE = 60.0  # seconds in which a `run` without its terminal leaves the desk
 
 
 def add_words(words: argparse.ArgumentParser) -> None:
-    """The words of `attach`."""
+    """Adds the words of `attach`."""
     words.add_argument("folder", metavar="FOLDER", help="the folder of the run or of the class, which knows the ports")
     add_desk_words(words)
     words.set_defaults(work=attach)
 
 
 def free(folder: Path, record: Record) -> None:
-    """Wants the desk free. A `run` that has lost its terminal is told to let go of it, and waited for; any other
-    process that holds it is a fault."""
+    """Waits until the desk is free. A `run` that has lost its terminal is asked to leave it, and waited for. Raises a
+    fault if any other process holds it."""
     holder = record.run
     if holder.lives() and not record.left:
         raise Fault(f"{folder}: process {holder.number} holds its desk")
@@ -40,7 +40,7 @@ def free(folder: Path, record: Record) -> None:
         end = time.monotonic() + PATIENCE
         while holder.lives():
             if time.monotonic() > end:
-                raise Fault(f"{folder}: process {holder.number} doesn't let go of its desk")
+                raise Fault(f"{folder}: process {holder.number} doesn't leave its desk")
             time.sleep(0.05)
 
 

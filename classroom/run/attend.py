@@ -29,7 +29,7 @@ LINE = 101  # bytes of a journal's line at most
 
 
 def pause(how: Closing) -> float:
-    """How many seconds to wait for a typed line before it is looked again whether to close a step."""
+    """Returns how many seconds to wait for a typed line before it is looked again whether to close a step."""
     return min(TICK, max(how.value / 4, 0.01)) if how.kind in ("every", "when-idle") else TICK
 
 
@@ -38,8 +38,8 @@ AGAIN_ROOM = ("the disk has room again: if moves are refused as `journal`, which
 
 
 def told_of(left: int, why: str) -> tuple[str, str]:
-    """How much room a disk has with so many free bytes, `little`, `full` or neither, and the line that tells it. `why`
-    says why nothing can be written to it; it is empty where something can."""
+    """Returns how much room a disk has with so many free bytes, `little`, `full` or neither, and the line that says so.
+    `why` says why nothing can be written to it; it is empty if something can."""
     if left > 0 and not why:
         return ("little", f"the disk has little room: {left} bytes are left") if left < LITTLE else ("", "")
     what = f"takes nothing ({why})" if why else "is full"
@@ -48,8 +48,8 @@ def told_of(left: int, why: str) -> tuple[str, str]:
 
 
 def limit_of(process: int) -> int | None:
-    """How many bytes a file of a process may have (ulimit -f); None where there is no such limit, or it can't be
-    read."""
+    """Returns how many bytes a file of a process may have (ulimit -f), or None if there is no such limit, or it can't
+    be read."""
     try:
         limit = resource.prlimit(process, resource.RLIMIT_FSIZE)[0]
     except (OSError, ValueError):
@@ -58,9 +58,9 @@ def limit_of(process: int) -> int | None:
 
 
 def told_of_limit(left: int, folder: Path) -> tuple[str, str]:
-    """How much room a journal has that may grow by so many bytes, `little`, `full` or neither, and the line that tells
-    it."""
-    how = f"(ulimit -f): end, and go on with {CLASS} run --resume {folder} where there is no such limit"
+    """Returns how much room a journal has that may grow by so many bytes, `little`, `full` or neither, and the line
+    that says so."""
+    how = f"(ulimit -f): end, and go on with {CLASS} run --resume {folder} without such a limit"
     if left >= LITTLE:
         return "", ""
     if left >= LINE:
@@ -69,7 +69,7 @@ def told_of_limit(left: int, folder: Path) -> tuple[str, str]:
 
 
 def nameless(folder: Path) -> IO[bytes] | None:
-    """A file without a name on the disk of a folder, where one can be made."""
+    """Returns a file without a name on the disk of a folder, if one can be made."""
     try:
         return tempfile.TemporaryFile(buffering=0, dir=folder)
     except OSError:
@@ -91,12 +91,12 @@ class Room:
             self.file.close()
 
     def left(self) -> int:
-        """How many bytes are free."""
+        """Returns how many bytes are free."""
         disk = os.statvfs(self.folder)
         return disk.f_bavail * disk.f_frsize
 
     def why(self) -> str:
-        """Why a write fails where bytes are free, as by a quota; nothing where it doesn't."""
+        """Returns why a write fails if bytes are free, as by a quota, or nothing if it doesn't."""
         if self.file is None:
             return ""
         try:
@@ -107,8 +107,8 @@ class Room:
         return ""
 
     def news(self) -> list[str]:
-        """The lines that tell that disk or limit have come to leave little room or none, or that the disk has room
-        again. It looks once a second at most."""
+        """Returns the lines which say that disk or limit have come to leave little room or none, or that the disk has
+        room again. Looks at most once a second."""
         now = time.monotonic()
         if now < self.due:
             return []
@@ -116,8 +116,8 @@ class Room:
         return [*self.of_disk(), *self.of_limit()]
 
     def of_disk(self) -> list[str]:
-        """A line where the disk has come to have little room or none since the last look, or has room again after it
-        was full."""
+        """Returns a line if the disk has come to have little room or none since the last look, or has room again after
+        it was full."""
         left = self.left()
         kind, line = told_of(left, self.why() if left >= LITTLE else "")
         before, self.told = self.told, kind
@@ -126,7 +126,8 @@ class Room:
         return [line] if line else [AGAIN_ROOM] if before == "full" else []
 
     def of_limit(self) -> list[str]:
-        """A line where the limit on files has come to leave the journal little room or none since the last look."""
+        """Returns a line if the limit on files has come to leave the journal little room or none since the last
+        look."""
         limit = limit_of(self.server) if self.server is not None else None
         journal = self.folder / "journal"
         left = LITTLE if limit is None or not journal.exists() else limit - journal.stat().st_size
@@ -136,8 +137,8 @@ class Room:
 
 
 def turn(desk: Desk, room: Room, until_stable: bool) -> str:
-    """Reads what is new, lets the house play, and tells each piece of news as a line; a lost desk is greeted again
-    first. Gives why the run ends, or nothing where it goes on."""
+    """Reads what is new, lets the house play, and prints each piece of news as a line. First greets again if the desk
+    was lost. Returns why the run ends, or nothing if it goes on."""
     if not desk.again():
         return ""
     desk.read()
@@ -158,7 +159,7 @@ def turn(desk: Desk, room: Room, until_stable: bool) -> str:
 
 
 def is_over(desk: Desk, clock: Clock) -> bool:
-    """Whether the lesson is over. Prints the warnings before it, and that it is over."""
+    """Returns whether the lesson is over. Prints the warnings before it, and that it is over."""
     now = datetime.now()
     if warning := clock.warning(now):
         desk.tell(warning)
@@ -168,7 +169,7 @@ def is_over(desk: Desk, clock: Clock) -> bool:
 
 
 def next_typed(typed: Typed, seconds: float) -> str | None:
-    """The next line that was typed, where one comes in that time."""
+    """Returns the next line that was typed, if one comes in that time."""
     try:
         return typed.get(timeout=seconds)
     except queue.Empty:
@@ -176,7 +177,7 @@ def next_typed(typed: Typed, seconds: float) -> str | None:
 
 
 def obeys(desk: Desk, line: str | None, hung: Callable[[], None]) -> str:
-    """Does what was typed, if anything; gives why that ends the run, or nothing where the run goes on."""
+    """Does what was typed, if anything. Returns why that ends the run, or nothing if the run goes on."""
     if line is None:
         return ""
     if line == HUNG:
@@ -193,7 +194,7 @@ def obeys(desk: Desk, line: str | None, hung: Callable[[], None]) -> str:
 
 
 def attend(desk: Desk, it: Server, until_stable: bool, typed: Typed, room: Room, hung: Callable[[], None]) -> str:
-    """Closes steps and does what is typed, until the run ends; gives by what: `stable`, `full`, `journal`, `end`,
+    """Closes steps and does what is typed, until the run ends. Returns by what: `stable`, `full`, `journal`, `end`,
     `clock`, `left` or `died`. `hung` is called if the terminal goes away."""
     with contextlib.closing(Striker()) as striker:
         while not it.ended():
@@ -207,7 +208,7 @@ def attend(desk: Desk, it: Server, until_stable: bool, typed: Typed, room: Room,
                     return why
                 if not desk.lost:
                     if line is not None:
-                        desk.read()  # What was done is told before a step is closed.
+                        desk.read()  # What was done is printed before a step is closed.
                     striker.strike(desk)
             except Closed as error:
                 if not it.ended(TICK):

@@ -16,7 +16,7 @@ def hour(word: str) -> str:
     """Returns a time of the day that a word of the command line names, as `10:45`."""
     found = re.fullmatch(r"(\d{1,2}):(\d\d)", word, re.ASCII)
     if not found or int(found[1]) > 23 or int(found[2]) > 59:
-        raise argparse.ArgumentTypeError(f"{word} is no time of the day: 10:45")
+        raise argparse.ArgumentTypeError(f"{word} is no time of the day, as 10:45")
     return f"{int(found[1]):02}:{found[2]}"
 
 
@@ -63,7 +63,7 @@ class Clock:
         return f"the lesson ends at {self.end:%H:%M}, in {plural(due[-1], 'minute')}" if due and not self.is_over(now) else ""
 
     def is_over(self, now: datetime) -> bool:
-        """Whether the end has come."""
+        """Returns whether the end has come."""
         return now >= self.end
 
     def told(self) -> str:

@@ -14,12 +14,12 @@ mode = daemon
 
 
 def closing(word: str) -> Closing:
-    """The daemon that a word names, with so many SECONDS where it names none."""
+    """Returns the daemon that a word names, with so many SECONDS if it names none."""
     return Daemon.of(word, SECONDS)
 
 
 def kept(folder: Path, record: Record) -> Closing:
-    """The daemon of a run that goes on, as its folder keeps it."""
+    """Returns the daemon of a run that goes on, as its folder keeps it."""
     try:
         return closing(record.close)
     except ValueError as error:
@@ -27,5 +27,5 @@ def kept(folder: Path, record: Record) -> Closing:
 
 
 def spelled(how: Closing) -> str:
-    """How steps are closed, as a word."""
+    """Returns how steps are closed, as a word."""
     return how.spelled()

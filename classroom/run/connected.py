@@ -1,4 +1,4 @@
-"""Who is connected to a port of this machine, as far as the system tells it (Linux alone)."""
+"""The connections to a port of this machine, as far as the system reports them (only on Linux)."""
 from __future__ import annotations
 
 import os
@@ -16,14 +16,14 @@ Row = tuple[int, int, str, str]
 
 
 def rows() -> Iterator[Row]:
-    """Each of the system's TCP sockets over IPv4: its own port, the other end's, its state, its number."""
+    """Yields each of the system's TCP sockets over IPv4: its own port, the other end's, its state, its number."""
     for line in (PROC / "net/tcp").read_text(encoding="ascii").splitlines()[1:]:
         _, own, other, state, *_, = words = line.split()
         yield int(own.rpartition(":")[2], 16), int(other.rpartition(":")[2], 16), state, words[9]
 
 
 def leads_to(end: Path, wanted: str) -> bool:
-    """Whether a process's descriptor is the wanted socket; not, where it was closed meanwhile."""
+    """Returns whether a process's descriptor is the wanted socket; not, if it was closed meanwhile."""
     try:
         return os.readlink(end) == wanted
     except FileNotFoundError:
@@ -31,8 +31,8 @@ def leads_to(end: Path, wanted: str) -> bool:
 
 
 def owner(number: str) -> str:
-    """Which process has the client's end of a connection, by its socket's number. Of another user's process, or another
-    machine's, that isn't known: it is someone from elsewhere."""
+    """Returns which process has the client's end of a connection, by its socket's number. Of another user's process, or
+    another machine's, that isn't known: it is someone from elsewhere."""
     wanted = f"socket:[{number}]"
     for process in PROC.iterdir():
         if not process.name.isdecimal():
@@ -46,13 +46,13 @@ def owner(number: str) -> str:
 
 
 class Connected:
-    """What there is to tell of who comes and goes at the students' port."""
+    """Prints who comes and goes at the students' port."""
 
     def __init__(self, port: int, seats: int, but: int, names: dict[int, str] | None = None,
                  tells: bool = True) -> None:
         """`seats` is how many seats there are; `but` is the port of the desk's own end, which isn't counted; `names`
-        has who is known otherwise than by a process, by the port of the client's end. `tells` is false where a record
-        tells who comes and goes: then nothing is told here but that the seats are taken."""
+        has who is known otherwise than by a process, by the port of the client's end. `tells` is false if a record
+        shows who comes and goes: then only full seats are reported here."""
         self.port, self.seats, self.but, self.tells = port, seats, but, tells
         self.names = {} if names is None else names
         self.known: dict[int, str] = {}
@@ -60,7 +60,7 @@ class Connected:
         self.due = 0.0
 
     def news(self) -> list[str]:
-        """Lines of who has come and gone since the last look, and whether all seats are taken."""
+        """Returns lines of who has come and gone since the last look, and whether all seats are taken."""
         now = time.monotonic()
         if now < self.due:
             return []
@@ -71,8 +71,8 @@ class Connected:
             return []
 
     def look(self) -> list[Row]:
-        """The system's connections. Its list isn't of one moment: it is read again while a newcomer's own end isn't in
-        it, a few times, since who comes from another machine has none here."""
+        """Returns the system's connections. Its list isn't of one moment: it is read again while a newcomer's own end
+        isn't in it, a few times, since who comes from another machine has none here."""
         for _ in range(READINGS):
             found = list(rows())
             if not self.tells or self.served(found) <= self.ends(found).keys() | self.known.keys():
@@ -81,16 +81,16 @@ class Connected:
         return found
 
     def ends(self, found: list[Row]) -> dict[int, str]:
-        """The clients' ends on this machine: the number of each one's socket by its port."""
+        """Returns the clients' ends on this machine: the number of each one's socket by its port."""
         return {own: number for own, other, state, number in found if other == self.port and state == ESTABLISHED}
 
     def served(self, found: list[Row]) -> set[int]:
-        """The clients' ports but the desk's, as the server's ends tell them."""
+        """Returns the clients' ports but the desk's, by the server's ends."""
         return {other for own, other, state, _ in found if own == self.port and state == ESTABLISHED} - {self.but}
 
     def compared(self, found: list[Row]) -> list[str]:
-        """Lines of who has come and gone between what was seen before and these connections, and whether all seats are
-        taken."""
+        """Returns lines of who has come and gone between what was seen before and these connections, and whether all
+        seats are taken."""
         ends, here = self.ends(found), self.served(found)
         gone = [self.known.pop(port) for port in sorted(self.known.keys() - here)]
         come = sorted(here - self.known.keys())
@@ -99,23 +99,23 @@ class Connected:
         listens = any(own == self.port and state == LISTENING for own, _, state, _ in found)
         if not self.full and (len(here) >= self.seats or not listens):
             self.full = True
-            lines.append("all seats are taken: who comes now is told so; who tells whose they are" if listens else
-                         "each connection of this server was used: who comes now isn't let in")
+            lines.append("all seats are taken: newcomers are turned away; type who to see whose they are" if listens else
+                         "each connection of this server was used: newcomers aren't let in")
         return lines
 
     def process(self, number: str | None) -> str:
-        """Which process has a connection, by its socket's number; someone from elsewhere, where that isn't known or
-        isn't told."""
+        """Returns which process has a connection, by its socket's number, or someone from elsewhere, if that isn't
+        known or isn't said."""
         return owner(number) if self.tells and number is not None else ELSEWHERE
 
     def count(self) -> int:
-        """How many of the seats are taken now; 0 where the system doesn't say."""
+        """Returns how many of the seats are taken now, or 0 if the system doesn't say."""
         try:
             return len(self.served(list(rows())))
         except OSError:
             return 0
 
     def who(self) -> str:
-        """How many of the seats are taken, and by whom, in the order in which they were seen to come."""
+        """Returns how many of the seats are taken, and by whom, in the order in which they were seen to come."""
         names = [self.names.get(port, who) for port, who in self.known.items()]
         return f"{len(self.known)} of {self.seats} seats: {', '.join(names) or 'nobody'}"

@@ -23,7 +23,7 @@ class Daemon:
 
     @staticmethod
     def of(word: str, seconds: float = 2.0) -> Daemon:
-        """The daemon that a word names; `seconds` are those of a kind whose word names none."""
+        """Returns the daemon that a word names; `seconds` are those of a kind whose word names none."""
         found = re.fullmatch(r"(random|every|when-idle)(?::(\d+(?:\.\d+)?))?", word)
         if word in PLAIN:
             return Daemon(word)
@@ -32,12 +32,12 @@ class Daemon:
         return Daemon(found[1], float(found[2]) if found[2] else 0.5 if found[1] == "random" else seconds)
 
     def spelled(self) -> str:
-        """The word that names the daemon."""
+        """Returns the word that names the daemon."""
         return self.kind if self.kind in PLAIN else f"{self.kind}:{self.value:g}"
 
 
 def daemon(word: str) -> Daemon:
-    """The daemon that a word of the command line names."""
+    """Returns the daemon that a word of the command line names."""
     try:
         return Daemon.of(word)
     except ValueError as error:
@@ -45,7 +45,7 @@ def daemon(word: str) -> Daemon:
 
 
 def daemons(word: str) -> list[Daemon]:
-    """The daemons that a word of the command line names, with commas between them."""
+    """Returns the daemons that a word of the command line names, with commas between them."""
     return [daemon(each) for each in word.split(",")]
 
 
@@ -60,12 +60,12 @@ class Sight:
     since: float
 
     def is_full(self) -> bool:
-        """Whether each privileged node has a chosen move."""
+        """Returns whether each privileged node has a chosen move."""
         return set(self.privileged) <= set(self.chosen)
 
 
 def heads(nodes: Sequence[int], probability: float, chance: random.Random) -> list[int]:
-    """The nodes whose coins, which have this probability, show heads; where all show tails, one node."""
+    """Returns the nodes whose coins, which have this probability, show heads; if all show tails, one node."""
     found = [node for node in nodes if chance.random() < probability]
     return found or [chance.choice(list(nodes))]
 
@@ -91,8 +91,8 @@ def applied(how: Daemon, sight: Sight, chance: random.Random, patience: float, s
 
 
 def movers(how: Daemon, privileged: Sequence[int], chance: random.Random, search: Search = list) -> list[int]:
-    """The nodes that move in the next step, of those that are privileged, where each of them would: nobody is waited
-    for, as in an experiment."""
+    """Returns the nodes that move in the next step, of those that are privileged, if each of them would: nobody is
+    waited for, as in an experiment."""
     if how.kind == "central":
         return [chance.choice(list(privileged))]
     if how.kind == "random":
@@ -103,8 +103,9 @@ def movers(how: Daemon, privileged: Sequence[int], chance: random.Random, search
 
 
 def in_time(how: Daemon, nodes: Sequence[int], chance: random.Random) -> list[int]:
-    """The nodes that move in the next step, where each asks after a time that is drawn, a second on average: those that
-    have asked by the clock's first close with a move, or, when-idle, before so many seconds pass in which none asks."""
+    """Returns the nodes that move in the next step, if each asks after a time that is drawn, a second on average: those
+    that have asked by the clock's first close with a move, or, when-idle, before so many seconds pass in which none
+    asks."""
     asks = sorted((chance.expovariate(1.0), node) for node in nodes)
     first = end = asks[0][0]
     if how.kind == "every" and how.value:

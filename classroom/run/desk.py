@@ -1,4 +1,4 @@
-"""The teacher's desk: its connection, what the teacher's words do there, and what is shown and told as the run goes on."""
+"""The teacher's desk: its connection, the teacher's words, and what is shown and printed as the run goes on."""
 from __future__ import annotations
 
 from collections.abc import Callable
@@ -58,11 +58,11 @@ class Desk:
 
     @property
     def client(self) -> Client:
-        """The desk's connection."""
+        """Returns the desk's connection."""
         return self.known.client
 
     def again(self) -> bool:
-        """Greets again at the desk where its connection was lost; gives whether the desk is held."""
+        """Greets again at the desk if its connection was lost. Returns whether the desk is held."""
         if not self.lost:
             return True
         try:
@@ -90,15 +90,16 @@ class Desk:
         self.tell(f"the desk: {error}; it is greeted again")
 
     def catch_up(self) -> None:
-        """Counts what the journal has already, and tells none of its events, but from where the class goes on."""
+        """Counts what the journal has already, and prints none of its events, except the configuration from which the
+        class goes on."""
         self.known.catch_up()
         if self.heard:
             self.heard.catch_up(self.known.last_step)
         self.announcer.gone_on()
 
     def read(self) -> None:
-        """Reads what the journal has got, tells each event but a grant as a line, and has the pages show it; ends the
-        run where the journal is halted."""
+        """Reads what the journal has got, prints each event but a grant as a line, and has the pages show it. Ends the
+        run if the journal is halted."""
         for news in self.known.news():
             self.announcer.event(news)
             if self.watch:
@@ -116,14 +117,15 @@ class Desk:
             self.announcer.end_by("journal")
 
     def watched(self) -> Watch:
-        """What the pages are shown, beginning with what the run has done; from now on the desk keeps it up to date."""
+        """Returns what the pages show, beginning with what the run has done. From now on the desk keeps it up to
+        date."""
         self.watch = Watch(self.lab, self.client, self.known.report, spelled(self.closing))
         for event in self.known.past:
             self.watch.note(self.names.event(event))
         return self.watch
 
     def stand_in(self) -> None:
-        """Lets the house play for who is absent: one move at a time, where a step applies one."""
+        """Lets the house play for absent students: one move at a time, if a step applies one."""
         if self.house is None or self.known.is_old or self.announcer.over:
             return
         self.house.begun = self.heard is None or self.heard.came
@@ -132,8 +134,8 @@ class Desk:
         self.house.turn(waiting, len(waiting) if not is_central else 0 if self.known.book.chosen else 1)
 
     def close(self) -> None:
-        """Closes a step; where no node is chosen, tells whom the class waits for. Where nothing is granted any longer
-        it ends the run."""
+        """Closes a step. If no node is chosen, prints whom the class waits for. If nothing is granted any longer, ends
+        the run."""
         try:
             self.client.close()
         except Denied as denied:
@@ -147,7 +149,7 @@ class Desk:
             self.announcer.end_by(refused.word)
 
     def command(self, line: str) -> bool:
-        """Does a line of the teacher's; false where it ends the run."""
+        """Does a line of the teacher's. Returns false if it ends the run."""
         if line == EOF:
             self.tell("to end the run type end")
             return True
@@ -168,8 +170,8 @@ class Desk:
         return True
 
     def ends(self, asked: bool) -> bool:
-        """Whether the run ends where `end` was typed. Unless it is stable it ends only if the line before was `end` too,
-        which `asked` says, and else that is told."""
+        """Returns whether `end` ends the run. Unless the run is stable it ends only if the line before was `end` too,
+        which `asked` says, and else that is printed."""
         self.known.ask_report()
         if asked or self.known.report.stable:
             return True
@@ -182,13 +184,13 @@ class Desk:
         self.client.ask(**request(word, rest))
 
     def tell_report(self) -> None:
-        """The report, and how many events there are."""
+        """Prints the report, and how many events there are."""
         self.known.ask_report()
         self.tell(f"{listed(self.known.report)}; {self.announcer.events_used()}")
 
     def tell_who(self) -> None:
-        """Who is connected and who asks in vain, as the record tells it (without one the system tells processes), and
-        who hasn't moved, as the journal tells it."""
+        """Prints who is connected and who asks without success, by the record (without one the system reports
+        processes), and who hasn't moved, by the journal."""
         if self.connected and self.heard:
             self.heard.read()
             self.heard.since(self.known.last_step)
@@ -204,24 +206,24 @@ class Desk:
             self.tell(self.house.told())
 
     def housed(self, name: str) -> House:
-        """The house, which is to play for a student, or to stop. An error says why it can't."""
+        """Returns the house, which is to play for a student, or to stop. An error says why it can't."""
         if self.house is None and self.lab.held():
-            raise ValueError("the house plays where the server is a host: without --serve")
+            raise ValueError("the house plays only if the server is a host: without --serve")
         if self.house is None:
             raise ValueError(f"no node has a second owner who could play for {name}: {HOW}")
         return self.house
 
     def nodes(self) -> list[int]:
-        """All nodes."""
+        """Returns all nodes."""
         return [node.id for node in self.lab.nodes]
 
     def seen(self) -> labs.Lab:
-        """The network with its registers as they are."""
+        """Returns the network with its registers as they are."""
         seen = [self.client.see(node) for node in self.nodes()]
         return network([labs.Node(it.node, [], it.p, it.m) for it in seen], pairs_of(self.announcer.comeback.links))
 
     def renew_page(self) -> None:
-        """Gives the page to act at another address; the one before acts no more."""
+        """Changes the address of the page to act at. The one before acts no more."""
         if self.another_page is None:
             raise ValueError("there is no page: --page")
         self.another_page()

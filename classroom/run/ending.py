@@ -31,7 +31,7 @@ def put_back(journal: IO[bytes], path: Path, tell: Callable[[str], None]) -> Non
 
 
 def whole_lines(journal: Path) -> None:
-    """Takes the torn end of a journal away into a file beside it; makes an empty journal where there is none."""
+    """Moves the torn end of a journal into a file beside it, and makes an empty journal if there is none."""
     content = journal.read_bytes() if journal.exists() else b""
     whole, found, torn = content.rpartition(b"\n")
     if torn or not journal.exists():

@@ -17,7 +17,7 @@ ASKED, PAUSE = 50, 0.1  # how often the first report is asked for, and seconds b
 
 
 def first_report(client: Client) -> Report:
-    """The report at the beginning, asked for again where memory is short."""
+    """Returns the report at the beginning, asked for again if memory is short."""
     for _ in range(ASKED):
         try:
             return client.report()
@@ -44,7 +44,7 @@ class News:
 
 
 class Follower:
-    """Follows the journal of a run, and asks at the desk for the report where an event may have changed it."""
+    """Follows the journal of a run, and asks at the desk for the report if an event may have changed it."""
 
     def __init__(self, lab: Lab, journal: Path, client: Client) -> None:
         self.client = client
@@ -67,13 +67,14 @@ class Follower:
             self.take(event)
 
     def take(self, event: Event) -> list[tuple[int, str, str]]:
-        """Counts an event; gives who moved by it."""
+        """Counts an event. Returns who moved by it."""
         self.count = event.place
         self.last_step = event.place if event.makes_configuration else self.last_step
         return self.book.add(event)
 
     def news(self) -> Iterator[News]:
-        """Each event that the journal has got, counted, and with the report asked for after it unless it is a grant."""
+        """Yields each event that the journal has got, counted, and with the report asked for after it unless it is a
+        grant."""
         if self.is_old:
             self.ask_report()
         more = self.journal.read()
@@ -87,18 +88,19 @@ class Follower:
             yield News(event, moved, before)
 
     def rewind(self) -> None:
-        """Reads the beginning of a line again that isn't whole: whoever goes on with the journal takes it off."""
+        """Reads the beginning of an incomplete line again: whoever goes on with the journal removes it."""
         self.journal.seek(-len(self.rest), os.SEEK_CUR)
         self.rest = b""
 
     def is_halted(self) -> bool:
-        """Whether a line couldn't be written, or not synced. A line is written at once, so a part of one that stays
-        alone for seconds is all that was written; a line that wasn't synced was taken back, and the file is shorter."""
+        """Returns whether a line couldn't be written, or not synced. A line is written at once, so a part of one that
+        stays alone for seconds is all that was written; a line that wasn't synced was taken back, and the file is
+        shorter."""
         is_torn = self.rest != b"" and time.monotonic() - self.torn_since > TORN
         return is_torn or os.fstat(self.journal.fileno()).st_size < self.journal.tell()
 
     def ask_report(self) -> None:
-        """Asks for the report; where memory was short, it is asked for again at the next turn."""
+        """Asks for the report; if memory was short, it is asked for again at the next turn."""
         try:
             self.report = self.client.report()
             self.is_old = False
@@ -107,5 +109,5 @@ class Follower:
             self.is_old = True
 
     def waiting(self) -> list[tuple[int, str]]:
-        """The nodes that are privileged and have no chosen move, each with its rule."""
+        """Returns the nodes that are privileged and have no chosen move, each with its rule."""
         return [(node, rule) for node, rule in self.report.privileged if node not in self.book.chosen]

@@ -1,4 +1,5 @@
-"""What the record tells of a class that goes on: who is connected, who guesses keys, who asks in vain, who floods."""
+"""What the record shows of a class that goes on: who is connected, who guesses keys, who asks without success, who
+floods."""
 from __future__ import annotations
 
 import time
@@ -15,11 +16,11 @@ from classroom.core.record import CUT, ENDED, PAUSED, RESUMED, Entry, Reader, se
 
 PAUSE = 1.0  # seconds between two looks
 MOST = 1 << 20  # bytes of a seat that are read at one look
-VAIN = 10  # denials of a kind since the last step from which on they are told
+VAIN = 10  # denials of a kind since the last step from which on they are printed
 FLOOD = 100.0  # lines a second
 FEW = 4  # students who came or went since the last look and have a line each
 NOBODY = "someone without a name"
-OTHERS = "names that the lab hasn't"
+OTHERS = "names that aren't in the lab"
 MALFORMED = "malformed"
 OVER = ("full", "journal")
 DESK = 1  # the seat of who holds the desk
@@ -34,7 +35,7 @@ class Seat:
     name: str | None = None  # Who is known there.
 
     def grown(self, path: Path) -> bytes:
-        """What came to the file since it was read last, at most MOST bytes; nothing where it can't be read."""
+        """Returns what came to the file since it was read last, at most MOST bytes, or nothing if it can't be read."""
         try:
             with plain.opened(path) as it:
                 it.seek(self.at)
@@ -46,7 +47,7 @@ class Seat:
 
 
 def told_so(word: str) -> str:
-    """How a line was answered."""
+    """Returns how a line was answered."""
     return f"refused {word}" if word == MALFORMED else f"denied {word}"
 
 
@@ -65,11 +66,11 @@ class Heard:
         self.seats: dict[Path, Seat] = {}
         self.wrong: Counter[str] = Counter()  # wrong keys, by the name that was given
         self.vain: dict[tuple[str, str], Counter[int]] = defaultdict(Counter)  # by name and word, how many at a place
-        self.told: Counter[tuple[str, str]] = Counter()  # how many were told of what
+        self.told: Counter[tuple[str, str]] = Counter()  # how many were printed of what
         self.lines: Counter[str] = Counter()  # since the last look
-        self.floods: dict[str, int] = {}  # who floods, with the lines a second that were told
+        self.floods: dict[str, int] = {}  # who floods, with the lines a second that were printed
         self.cut: list[str] = []
-        self.shown: Counter[str] = Counter()  # whose connections were told
+        self.shown: Counter[str] = Counter()  # whose connections were printed
         self.step = 0
         self.came = False  # Whether a student has greeted.
         self.students = lab.without_house().students.keys()
@@ -77,7 +78,7 @@ class Heard:
         self.due = self.last = time.monotonic()
 
     def catch_up(self, step: int) -> None:
-        """Takes what the record has already, and tells nothing of it."""
+        """Takes what the record has already, and prints nothing of it."""
         while self.read():
             pass
         self.since(step)
@@ -93,12 +94,12 @@ class Heard:
         self.came = not self.students.isdisjoint(self.connected())
 
     def news(self, step: int) -> list[str]:
-        """Lines of what is new since the last look; `step` is the place of the last step."""
+        """Returns lines of what is new since the last look. `step` is the place of the last step."""
         now = time.monotonic()
         return self.look(step, now) if now >= self.due else []
 
     def look(self, step: int, now: float) -> list[str]:
-        """Lines of what is new since the last look, at this moment."""
+        """Returns lines of what is new since the last look, at this moment."""
         seconds = max(now - self.last, PAUSE)
         self.last, self.due = now, now + PAUSE
         self.read()
@@ -106,7 +107,7 @@ class Heard:
         return [*self.come_and_gone(), *self.wrong_keys(), *self.in_vain(), *self.flooding(seconds), *self.cut_short()]
 
     def read(self) -> bool:
-        """Takes what the files have got; gives whether there may be more."""
+        """Takes what the files have got. Returns whether there may be more."""
         more = False
         for path in seats(self.folder):
             seat = self.seats.setdefault(path, Seat())
@@ -152,11 +153,11 @@ class Heard:
                 del at[place]
 
     def connected(self) -> Counter[str]:
-        """How many connections each name has, but the desk's."""
+        """Returns how many connections each name has, but the desk's."""
         return Counter(seat.name for path, seat in self.seats.items() if seat.name and path.name != f"{DESK}.record")
 
     def come_and_gone(self) -> list[str]:
-        """Whose connections have become more or fewer."""
+        """Returns lines of whose connections have become more or fewer."""
         before, now = self.shown, self.connected()
         self.shown = now
         come = [name + (f", {plural(now[name], 'connection')}" if now[name] > 1 else "")
@@ -166,29 +167,31 @@ class Heard:
         return together("connected", come) + together("gone", gone)
 
     def is_news(self, key: tuple[str, str], count: int, least: int) -> bool:
-        """Whether a count is to be told: it is `least` or more, and twice what was told or more. It counts as told
-        then."""
+        """Returns whether a count is to be printed: it is `least` or more, and twice what was printed or more. It
+        counts as printed then."""
         if count < max(least, 2 * self.told[key]):
             return False
         self.told[key] = count
         return True
 
     def wrong_keys(self) -> list[str]:
-        """Wrong keys, as often as their number has doubled."""
+        """Returns lines of wrong keys, as often as their number has doubled."""
         return [f"{plural(count, 'wrong key')} for {name}" for name, count in self.wrong.items()
                 if self.is_news(("wrong", name), count, 1)]
 
     def denied(self) -> list[tuple[str, str, int]]:
-        """Who asked in vain since the last step: the name, the word of the denial or refusal, how often."""
+        """Returns who asked without success since the last step: the name, the word of the denial or refusal, how
+        often."""
         return [(name, word, at.total()) for (name, word), at in self.vain.items() if at.total()]
 
     def in_vain(self) -> list[str]:
-        """Who asked in vain since the last step, as lines, from VAIN times on as often as the number has doubled."""
+        """Returns who asked without success since the last step, as lines, from VAIN times on as often as the number
+        has doubled."""
         return [f"{name}: {told_so(word)} {plural(count, 'time')} since the last step"
                 for name, word, count in self.denied() if self.is_news((name, word), count, VAIN)]
 
     def flooding(self, seconds: float) -> list[str]:
-        """Who began to flood, and who ceased."""
+        """Returns lines of who began to flood, and who ceased."""
         rates = {name: round(count / seconds) for name, count in self.lines.items() if count / seconds >= FLOOD}
         self.lines.clear()
         begun = [f"a flood: {rate} lines a second of {name}" for name, rate in rates.items() if name not in self.floods]
@@ -197,14 +200,14 @@ class Heard:
         return begun + over
 
     def cut_short(self) -> list[str]:
-        """Whose lines aren't recorded any longer."""
+        """Returns lines of whose lines aren't recorded any longer."""
         names, self.cut = self.cut, []
-        why = "it has taken its room in the record, or the disk is full"
+        why = "its share of the record is used up, or the disk is full"
         return [f"the rest of what {name} sends isn't recorded: {why}" for name in dict.fromkeys(names)]
 
     def who(self, count: int, all_seats: int, otherwise: Iterable[str] = ()) -> str:
-        """Who is connected, and how many of the seats are taken: `count`, as the system tells it. `otherwise` are texts
-        of some of them: a name, a comma, and how they are connected."""
+        """Returns who is connected, and how many of the seats are taken: `count`, as the system reports it. `otherwise`
+        are texts of some of them: a name, a comma, and how they are connected."""
         known, every = self.connected(), self.connected().total()
         how = [text for text in otherwise if known[text.partition(",")[0]]]
         known.subtract(text.partition(",")[0] for text in how)
@@ -214,7 +217,7 @@ class Heard:
         return f"{max(count, every)} of {all_seats} seats: {', '.join(names) or 'nobody'}"
 
     def amiss(self) -> list[str]:
-        """Lines of wrong keys, of who asked in vain since the last step, and of who floods."""
+        """Returns lines of wrong keys, of who asked without success since the last step, and of who floods."""
         wrong = ", ".join(f"{count} for {name}" for name, count in self.wrong.items())
         vain = [f"{name}: {told_so(word)} {plural(count, 'time')}" for name, word, count in self.denied()]
         floods = ", ".join(f"{name}, {rate} lines a second" for name, rate in self.floods.items())

@@ -1,4 +1,5 @@
-"""The desk of a run, held from its greeting to the run's end: by who began the run, and by who goes on with it."""
+"""The desk of a run, held from its greeting to the run's end: by whoever began the run, and by whoever goes on with
+it."""
 from __future__ import annotations
 
 import contextlib
@@ -37,7 +38,7 @@ from classroom.run.taking import Left, taken
 from classroom.run.teller import Teller, is_private
 from classroom.run.typed import HELP, HUNG, LEAVE, NOW, Terminal, Typed, read_lines
 
-LATE = 10.0  # seconds after which it is told that the server's end is waited for
+LATE = 10.0  # seconds after which it prints that the server's end is waited for
 SIGNALS = {signal.SIGINT: NOW, signal.SIGTERM: NOW, signal.SIGHUP: HUNG, signal.SIGUSR1: LEAVE}
 
 
@@ -57,7 +58,7 @@ class Running:
     goes_on: bool = False  # Whether it had begun before.
     by_number: bool = False  # Whether its server is one for a number of connections.
     stand_in: float | None = None  # seconds after which the house plays
-    looks: str | None = None  # The token of the page's address to look at, where it had one before.
+    looks: str | None = None  # The token of the page's address to look at, if it had one before.
     played: list[str] = field(default_factory=list)  # for whom the house plays at once
     ends: datetime | None = None  # when the lesson ends
     anonymous: bool = False  # Whether the pages show numbers in place of names.
@@ -68,7 +69,7 @@ class Running:
     terminal: Terminal | None = None
 
     def record(self, it: server.Server) -> Record:
-        """What its folder keeps while it goes on."""
+        """Returns what its folder keeps while it goes on."""
         page, looks = (self.pages.server_port, self.pages.looks) if self.pages else (self.page, self.looks)
         play = self.hands.server_port if self.hands else self.play
         return Record(str(self.lab_file.resolve()), it.port, it.desk, page, spelled(self.close), self.until,
@@ -82,17 +83,17 @@ class Running:
         return ShownNames.of(self.lab, self.anonymous)
 
     def is_in_class(self) -> bool:
-        """Whether it is the run of one network of a class, whose desk holds the other end of its input."""
+        """Returns whether it is the run of one network of a class, whose desk holds the other end of its input."""
         return is_class(self.folder.absolute().parent)
 
     def keep(self, **other: Any) -> None:
-        """Changes something of the record in its folder, where there is one."""
+        """Changes something of the record in its folder, if there is one."""
         record = Record.read(self.folder)
         if record is not None:
             replace(record, **other).write(self.folder)
 
     def title(self) -> str:
-        """What its page is called."""
+        """Returns what its page is called."""
         return title(self.folder / "lab.toml", self.folder / "journal", self.lab_file.stem)
 
     def hung(self) -> None:
@@ -144,19 +145,20 @@ def renew(run: Running, it: server.Server, desk: Desk, name: str) -> None:
 
 
 def show(pages: projector.Pages, desk: Desk, tell: Teller, typed: bool) -> None:
-    """Opens the page, and tells it what is told from now on. Where to act is told to the terminal alone, or to a
-    program that types instead."""
+    """Opens the page, and shows on it what is printed from now on. The address to act at is printed only on the
+    terminal, or for a program that types instead."""
     watch = desk.watched()
 
     def act() -> None:
-        """Prints the address to act at for who may act; for others that it is printed only at a terminal."""
+        """Prints the address to act at for readers who may act, and for others that it is printed only at a
+        terminal."""
         if is_private(typed):
             tell.alone(f"page to act {pages.address_to_act}")
         else:
             tell("page to act: its address is printed only at a terminal")
 
     def renew() -> None:
-        """Changes the address to act at, and tells it."""
+        """Changes the address to act at, and prints it."""
         pages.renew()
         act()
 
@@ -168,7 +170,7 @@ def show(pages: projector.Pages, desk: Desk, tell: Teller, typed: bool) -> None:
 
 
 def listen(run: Running) -> None:
-    """Takes what is typed from now on, where there is who types."""
+    """Takes what is typed from now on, if somebody types."""
     at_terminal = sys.stdin is not None and sys.stdin.isatty()
     if not at_terminal and not run.takes_lines:
         return
@@ -194,7 +196,7 @@ def obey_signals(typed: Typed) -> None:
 
 
 def hold(run: Running, it: server.Server) -> int | None:
-    """Holds the desk to the end of the run, and gives the status; None where it is left to another process."""
+    """Holds the desk to the end of the run, and returns the status, or None if it is left to another process."""
     try:
         desk = open_desk(it, run)
         if it.hosted:
@@ -219,8 +221,8 @@ def hold(run: Running, it: server.Server) -> int | None:
 
 
 def give_up(it: server.Server, run: Running, seconds: float) -> int | None:
-    """Ends a server whose desk can't be held, and gives the status. Only who started a server ends it: one that was
-    found goes on, unless it ends by itself in so many seconds, and then None is given."""
+    """Ends a server whose desk can't be held, and returns the status. A server that was found, and not started here,
+    goes on, unless it ends by itself in so many seconds, and then None is returned."""
     ended = it.ended(seconds)
     if it.child is None and not ended:
         leave(it, run)
@@ -231,14 +233,14 @@ def give_up(it: server.Server, run: Running, seconds: float) -> int | None:
 
 
 def leave(it: server.Server, run: Running) -> None:
-    """Tells that the server goes on without this program."""
+    """Prints that the server goes on without this program."""
     run.tell(f"the server is left to itself, process {it.process.number}: while it goes on, {CLASS} attach {run.folder} "
-             f"takes its desk; then {CLASS} mark tells the marks")
+             f"takes its desk; then {CLASS} mark prints the marks")
 
 
 def take_leave(it: server.Server, desk: Desk, why: str, run: Running) -> int | None:
-    """Says bye, and waits for the server's end, which may be late; `why` is what ended the run. Gives the status; None
-    where the desk or the server is left to go on."""
+    """Says bye, and waits for the server's end, which may be late. `why` is what ended the run. Returns the status, or
+    None if the desk or the server is left to go on."""
     tell = run.tell
     if why == "left":
         desk.client.hang_up()
@@ -269,7 +271,7 @@ def take_leave(it: server.Server, desk: Desk, why: str, run: Running) -> int | N
 
 
 def waits(it: server.Server, run: Running) -> bool:
-    """Waits for the server's end, and says so where it is late; false where the teacher doesn't wait any longer."""
+    """Waits for the server's end, and says so if it is late. Returns false if the teacher doesn't wait any longer."""
     if it.ended(LATE):
         return True
     while not run.typed.empty():

@@ -1,4 +1,4 @@
-"""The house at a run: it holds a second owner of each node, and plays for who is absent, in its own name."""
+"""The house at a run: it holds a second owner of each node, and plays for absent students, in its own name."""
 from __future__ import annotations
 
 import time
@@ -10,13 +10,13 @@ from classroom.core.lab import HOUSE, Lab
 from classroom.core.program import Fault
 
 LIMIT = 5.0  # seconds that an answer may take
-AGAIN = 2.0  # seconds after which it comes again where it wasn't let in
+AGAIN = 2.0  # seconds after which it comes again if it wasn't let in
 WAITS = "the house waits for a first student"
 HOW = "./class new .. --stand-in makes a lab in which each node has it"
 
 
 def want_house(lab: Lab, file: object) -> None:
-    """Raises a fault, which names the file, where a lab has no house."""
+    """Raises a fault, which names the file, if a lab has no house."""
     if not lab.held():
         raise Fault(f"{file}: no node has the second owner `{HOUSE}`, who could stand in: {HOW}")
 
@@ -27,8 +27,8 @@ class House:
 
     def __init__(self, lab: Lab, port: int, seconds: float | None, tell: Callable[[str], None], played: Collection[str] = (),
                  keep: Callable[[list[str]], None] = lambda names: None) -> None:
-        """The house plays by itself where a node has waited for so many seconds, if any; and at once for the students
-        that are named in `played`. `keep` keeps their names where they become others."""
+        """The house plays by itself if a node has waited for so many seconds, if any; and at once for the students
+        named in `played`. `keep` keeps their names if they become others."""
         self.port, self.seconds, self.tell = port, seconds, tell
         self.key = lab.students[HOUSE]
         self.held = set(lab.held())
@@ -40,13 +40,13 @@ class House:
         self.told_busy = False
 
     def play(self, name: str) -> str:
-        """Plays a student's nodes from now on, without waiting; gives the line that tells it."""
+        """Plays a student's nodes from now on, without waiting. Returns the line that says so."""
         self.played.add(self.student(name))
         self.keep(sorted(self.played))
         return f"the house plays for {name}: {', '.join(map(str, sorted(self.students[name])))}"
 
     def stop(self, name: str) -> str:
-        """Leaves a student's nodes to the student again; gives the line that tells it."""
+        """Leaves a student's nodes to the student again. Returns the line that says so."""
         if self.student(name) not in self.played:
             raise ValueError(f"the house doesn't play for {name}")
         self.played.discard(name)
@@ -54,20 +54,20 @@ class House:
         return f"the house doesn't play for {name} any longer"
 
     def student(self, name: str) -> str:
-        """The name, where it is that of a student with nodes; an error for any other."""
+        """Returns the name, if it is that of a student with nodes. Raises an error for any other."""
         if name not in self.students:
             raise ValueError(f"no student {name} has a node here; there are {', '.join(self.students)}")
         return name
 
     def told(self) -> str:
-        """For whom the house plays, as a line."""
+        """Returns for whom the house plays, as a line."""
         names = ", ".join(name for name in self.students if name in self.played)
         late = f"each node that has waited for {self.seconds:g} seconds" if self.seconds is not None else ""
         whom = " and ".join(filter(None, (f"for {names}" if names else "", late)))
         return f"the house plays {whom or 'for nobody'}{f'; {WAITS}' if self.waits() else ''}"
 
     def waits(self) -> bool:
-        """Whether the house would play by itself, and doesn't yet: nobody has come who could have played."""
+        """Returns whether the house would play by itself, and doesn't yet: nobody has come who could have played."""
         return self.seconds is not None and not self.begun
 
     def note(self, event: Event) -> None:
@@ -76,8 +76,8 @@ class House:
             self.since.pop(event.nodes[0], None)
 
     def due(self, waiting: Collection[int], now: float) -> list[int]:
-        """The nodes that are the house's to play now, of those for which the class waits; the one that has waited
-        longest comes first. Before a first student has come no time passes."""
+        """Returns the nodes that are the house's to play now, of those for which the class waits; the one that has
+        waited longest comes first. Before a first student has come no time passes."""
         before = self.since if self.begun else {}
         self.since = {node: before.get(node, now) for node in waiting if node in self.held}
         at_once = set[int]().union(*(self.students[name] for name in self.played))
@@ -99,12 +99,12 @@ class House:
             self.again = now + AGAIN
             if refused.word == "busy" and not self.told_busy:
                 self.told_busy = True
-                self.tell("no seat is free for the house, which would play now; who tells whose they are")
+                self.tell("no seat is free for the house, which would play now; type who to see whose they are")
         except Closed:
             self.again = now + AGAIN
 
     def ask(self, me: Client, node: int) -> None:
-        """Asks for what a look shows at a node, if anything; where its student was quicker nothing is left to do."""
+        """Asks for what a look shows at a node, if anything; if its student was quicker nothing is left to do."""
         look = me.look(node)
         if look.rule is None or look.chosen is not None:
             return

@@ -1,4 +1,4 @@
-"""The first connection at a host's desk. It is tried while the host starts, before anybody is told the desk's number."""
+"""The first connection at a host's desk. It is tried while the host starts, before anybody knows the desk's number."""
 from __future__ import annotations
 
 import socket
@@ -47,7 +47,7 @@ class Knock:
             time.sleep(BETWEEN)
 
     def taken(self) -> socket.socket | None:
-        """Hands over the connection, if there is one."""
+        """Returns the connection, if there is one, which is the caller's from then on."""
         it, self.connection = self.connection, None
         return it
 

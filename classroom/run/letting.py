@@ -45,7 +45,7 @@ def door(words: argparse.Namespace, labs: Iterable[Path], tell: Callable[[str], 
 
 
 def told_of(opened: opening.Opened, labs: list[Path], file: Path) -> Iterator[str]:
-    """Yields where a door is, by which certificate it is known, and which slips don't lead to it."""
+    """Yields the place of a door, its certificate, and which slips don't lead to it."""
     yield f"door at port {opened.port}; its certificate, {file}, has the fingerprint {certificate.fingerprint(file)}"
     wrong = opening.amiss(labs, file, opened.port)
     if wrong:

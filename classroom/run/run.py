@@ -24,7 +24,7 @@ CLOSING = closing.closing("when-idle:2")
 
 
 def port(word: str) -> int:
-    """A port's number."""
+    """Returns a port's number."""
     try:
         return port_of(word)
     except NoSlip as error:
@@ -32,28 +32,28 @@ def port(word: str) -> int:
 
 
 def seconds_with_unit(word: str) -> float:
-    """Seconds, as `20s` or `20`."""
+    """Returns seconds, from `20s` or `20`."""
     return seconds(word.removesuffix("s"))
 
 
 def add_desk_words(words: argparse.ArgumentParser) -> None:
-    """The words of who holds a desk."""
+    """Adds the words of whoever holds a desk."""
     words.add_argument("--daemon", "--close", dest="close", type=closing.mode, metavar="D", help=f"{FORMS} (when-idle:2)")
     words.add_argument("--stand-in", type=seconds_with_unit, metavar="20s",
                        help="let the house ask for a node that has been privileged so long without its student's move, from when a first "
                             "student has greeted")
     words.add_argument("--ends", type=hour, metavar="HH:MM", help="end the run at that time of the day; warnings come before it")
     words.add_argument("--anonymous", action="store_true", help="show numbers in place of names on the pages for the projector")
-    words.add_argument("--until", choices=["stable"], help="end the run where no node is privileged")
+    words.add_argument("--until", choices=["stable"], help="end the run when no node is privileged")
     words.add_argument("--page", type=port, nargs="?", const=4780, metavar="PORT",
                        help="serve a page of the run, for the projector, at that port or the next free one (4780)")
     words.add_argument("--play", type=port, nargs="?", const=PLAY, metavar="PORT",
                        help="serve a page at which students play by hand, at that port or the next free one (4790)")
-    words.add_argument("--typed", action="store_true", help="take words on standard input where it is no terminal too")
+    words.add_argument("--typed", action="store_true", help="take words on standard input even if it is no terminal")
 
 
 def add_words(words: argparse.ArgumentParser) -> None:
-    """The words of `run`."""
+    """Adds the words of `run`."""
     words.add_argument("labs", nargs="*", metavar="LAB", help="several are the networks of one class: a port each, one desk, one folder")
     words.add_argument("--rooms", metavar="ROOM,..", help="with several labs: the room of each, for the table at the start and the page")
     words.add_argument("--resume", metavar="FOLDER", help="go on with the run or the class of a folder, whose server has ended")
@@ -63,14 +63,14 @@ def add_words(words: argparse.ArgumentParser) -> None:
     words.add_argument("--into", default="runs", help="where the run's folder is made (runs)")
     words.add_argument("--serve", action="store_true",
                        help="no host: a server for so many connections in all as the lab has sessions")
-    words.add_argument("--beside", action="store_true", help="start the class where a run of the lab goes on, too")
+    words.add_argument("--beside", action="store_true", help="start the class even if a run of the lab goes on")
     letting.add_words(words)
     add_desk_words(words)
     words.set_defaults(work=run)
 
 
 def one(words: argparse.Namespace) -> int:
-    """A run from its folder to its marks."""
+    """Runs a lab from its folder to its marks. Returns the exit status."""
     lab_file, into = Path(words.labs[0]), Path(words.into)
     server.ready(words.serve)
     lab = labs.read(lab_file)
@@ -93,7 +93,7 @@ def one(words: argparse.Namespace) -> int:
 
 
 def may_stand_in(words: argparse.Namespace, lab: labs.Lab, file: Path) -> None:
-    """Where --stand-in is asked for, wants a lab with a house, and no --serve."""
+    """Raises a fault if --stand-in is asked for, and the lab has no house, or --serve is asked for too."""
     if words.stand_in is not None:
         house.want_house(lab, file)
         if getattr(words, "serve", False):
@@ -101,7 +101,7 @@ def may_stand_in(words: argparse.Namespace, lab: labs.Lab, file: Path) -> None:
 
 
 def resumed(words: argparse.Namespace) -> int:
-    """Goes on with a folder's run: its lab, journal, ports, page and way of closing, where no words say another."""
+    """Goes on with a folder's run: its lab, journal, ports, page and way of closing, if no words say another."""
     folder = Path(words.resume)
     if is_class(folder):
         return class_again.held_again(words, folder)
@@ -123,7 +123,7 @@ def resumed(words: argparse.Namespace) -> int:
 
 
 def refuse_beside(into: Path, lab_file: Path) -> None:
-    """Raises a fault where a run of the lab goes on, or the last one didn't end, and says where."""
+    """Raises a fault if a run of the lab goes on, or the last one didn't end, and says where."""
     found = going(into, lab_file)
     if found is None:
         return
@@ -137,7 +137,7 @@ def refuse_beside(into: Path, lab_file: Path) -> None:
 
 
 def begin(run: Running, port_asked: int, record: Record | None = None) -> server.Server:
-    """Starts the server, and tells where the run is."""
+    """Starts the server, and prints the run's ports and folder."""
     letting.lead(run.door, run.lab_file, run.folder)
     by_number = run.lab.sessions if run.by_number else None
     it = server.start(run.folder, run.folder / "lab.toml", port_asked, run.folder / "journal", by_number, record)

@@ -209,7 +209,7 @@ class Several:
         return ClassState(title(self.folder), [member.shown(acts) for member in self.members], self.lines, ended)
 
     def goes_on(self) -> bool:
-        """Whether a network runs, or is down and may be resumed by somebody."""
+        """Returns whether a network runs, or is down and may be resumed by somebody."""
         can_be_told = self.is_typed or self.hall is not None
         return any(member.status in (STARTS, RUNS) or member.status == DOWN and can_be_told for member in self.members)
 

@@ -23,9 +23,9 @@ class Striker:
         self.closed = 0.0
 
     def strike(self, desk: Desk) -> None:
-        """Closes a step where it is time for one; the chosen moves that it isn't to apply are taken back before. Where
-        it isn't time, and nothing has come for SECONDS, it is told whom the class waits for, unless steps are closed by
-        hand. A search that fails changes the daemon to when-idle."""
+        """Closes a step if it is time for one. The chosen moves that it isn't to apply are released before. If it isn't
+        time, and nothing has come for SECONDS, prints whom the class waits for, unless steps are closed by hand. A
+        search that fails changes the daemon to when-idle."""
         now = time.monotonic()
         if desk.closing != self.how:
             self.how, self.closed = desk.closing, now
@@ -50,7 +50,7 @@ class Striker:
             desk.announcer.tell_waiting()
 
     def by_clock(self, desk: Desk, now: float) -> None:
-        """Closes a step where its time has come, also where no node is chosen: then the desk tells whom the class waits
+        """Closes a step if its time has come, even if no node is chosen: then the desk prints whom the class waits
         for."""
         seconds = desk.closing.value
         if now - self.closed >= seconds and not (desk.closing.kind == "when-idle" and now - desk.known.news_came < seconds):

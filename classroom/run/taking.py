@@ -18,8 +18,8 @@ class Left(Exception):
 
 
 def taken(it: Server, teacher: tuple[str, str], typed: Typed, tell: Callable[[str], None], hung: Callable[[], None]) -> Client:
-    """Greets at the desk, and again for a minute while that fails, which is told once. Raises the last error when the
-    minute is over, the server has ended or the run is to end, and `Left` when another process wants the desk."""
+    """Greets at the desk, and again for a minute while that fails, which is printed once. Raises the last error when
+    the minute is over, the server has ended or the run is to end, and `Left` when another process wants the desk."""
     end, is_told = time.monotonic() + PATIENCE, False
     while True:
         try:
@@ -45,7 +45,7 @@ def greeted(it: Server, teacher: tuple[str, str]) -> Client:
 
 
 def told_of(error: Closed | Refused) -> str:
-    """Why the desk can't be had, as a line."""
+    """Returns why the desk can't be had, as a line."""
     return "somebody else has the desk" if isinstance(error, Refused) and error.word == "busy" else f"the desk: {error}"
 
 

@@ -1,4 +1,4 @@
-"""What a run says: on the terminal, in its folder, and to who else hears it."""
+"""The lines of a run: on the terminal, in its folder, and for everybody else who hears it."""
 from __future__ import annotations
 
 import os
@@ -12,8 +12,8 @@ from classroom.core.printable import printable
 
 
 def is_private(typed: bool) -> bool:
-    """Whether who reads what is printed may act: at a terminal, or a program that holds both ends; or where a service
-    prints, which is the system's journal. A file has other readers."""
+    """Returns whether readers of what is printed may act: at a terminal, or a program that holds both ends; or if a
+    service prints, into the system's journal. A file has other readers."""
     try:
         mode = os.fstat(sys.stdout.fileno()).st_mode
         return sys.stdout.isatty() or stat.S_ISSOCK(mode) or typed and not stat.S_ISREG(mode)
@@ -30,7 +30,7 @@ class Teller:
         self.around: Callable[[str], str] = str  # What a terminal shows instead while a line is typed there.
 
     def __call__(self, line: str) -> None:
-        """Tells a line to all that hear it, keeps it and prints it."""
+        """Prints a line, keeps it, and passes it to all that hear it."""
         line = printable(line)
         for hear in self.also:
             hear(line)
@@ -48,7 +48,7 @@ class Teller:
             pass
 
     def say(self, line: str) -> None:
-        """Prints a line; where nobody reads any more, nothing is printed from then on."""
+        """Prints a line. If nobody reads any more, nothing is printed from then on."""
         try:
             print(self.around(line + "\n"), end="", flush=True)
         except OSError:

@@ -20,8 +20,8 @@ HELP = ", ".join(FORMS.values())
 
 
 def understood(line: str) -> list[str]:
-    """The words of a line, where it has the form of its first; an empty line is `wait`. Else an error that says what it
-    should be."""
+    """Returns the words of a line, if it has the form of its first; an empty line is `wait`. Raises an error that says
+    what it should be if it hasn't."""
     word, *rest = line.split() or ["wait"]
     if word not in FORMS:
         near = difflib.get_close_matches(word, WORDS, 1)
@@ -34,13 +34,13 @@ def understood(line: str) -> list[str]:
 
 
 def helped() -> str:
-    """All words with what they do, a line each."""
+    """Returns all words with what they do, a line each."""
     wide = max(map(len, FORMS.values()))
     return "\n".join(f"  {FORMS[word]:{wide}}  {it.help}" for word, it in WORDS.items())
 
 
 class Terminal:
-    """A terminal in which a line is edited while other lines are told."""
+    """A terminal in which a line is edited while other lines are printed."""
 
     PROMPT = "> "
 
@@ -57,14 +57,14 @@ class Terminal:
         readline.parse_and_bind("tab: complete")
 
     def complete(self, text: str, state: int) -> str | None:
-        """Of the words that begin so the one at that index, from 0; None after the last."""
+        """Returns, of the words that begin so, the one at that index, from 0, or None after the last."""
         before = self.readline.get_line_buffer()[:self.readline.get_begidx()]
         first = re.fullmatch(r"\s*(\d+\s+|\S+\s*:\s*)?", before) is not None  # A network may stand before it.
         found = [f"{word} " for word in (WORDS if first else self.words) if word.startswith(text)]
         return found[state] if state < len(found) else None
 
     def around(self, line: str) -> str:
-        """A line with what clears the one that is typed before it, and shows that again."""
+        """Returns a line with what clears the one that is typed before it, and shows that again."""
         return f"\r\x1b[K{line}{self.prompt}{self.readline.get_line_buffer()}" if self.reads else line
 
     def read(self, put: Callable[[str], None]) -> None:

@@ -1,4 +1,4 @@
-"""`./class check`: what `mml check` says, where it stands, and what a teacher would want to know besides."""
+"""`./class check`: what `mml check` says, the line that it is about, and what a teacher would want to know besides."""
 from __future__ import annotations
 
 import argparse
@@ -32,8 +32,8 @@ OTHERS = 128  # how many letters of no kind a key is taken to be drawn from
 
 
 def refused(path: Path, error: str) -> Iterator[str]:
-    """What is told of a lab that the program refuses: its error line, where it stands and with what text, and which
-    keys may be meant by those that the format doesn't name."""
+    """Yields the lines about a lab that the program refuses: its error line, the place with its text, and which keys
+    may be meant by those that the format doesn't name."""
     text = path.read_bytes().decode("utf-8-sig", errors="replace")
     yield f"{path}: {error}"
     line, what = standing(text, error)
@@ -45,8 +45,8 @@ def refused(path: Path, error: str) -> Iterator[str]:
 
 
 def standing(text: str, error: str) -> tuple[int | None, str]:
-    """The line that an error is about, where there is one, and what is told behind its number: what the document's
-    reader says, or the identifier of its node."""
+    """Returns the line that an error is about, if there is one, and what follows its number: what the document's reader
+    says, or the identifier of its node."""
     if error == "lab: not a TOML document":
         try:
             tomllib.loads(text)
@@ -73,7 +73,7 @@ def standing(text: str, error: str) -> tuple[int | None, str]:
 
 
 def identifier(text: str, table: positions.Table) -> str:
-    """What is told of a node behind its line: its identifier as the file has it, in brackets; nothing where that isn't
+    """Returns what follows the line of a node: its identifier as the file has it, in brackets, or nothing if that isn't
     found."""
     line = table.keys.get("id")
     found = re.search(r"\bid\s*=\s*([-+\w]+)", text.splitlines()[line - 1]) if line else None
@@ -81,15 +81,15 @@ def identifier(text: str, table: positions.Table) -> str:
 
 
 def line_of_key(text: str, key: str) -> tuple[int | None, str]:
-    """The line of the key that an error names, as `teacher.name`, where a single table of that name has it, else none;
-    behind it nothing is told."""
+    """Returns the line of the key that an error names, as `teacher.name`, if a single table of that name has it, and
+    else None. Nothing follows it."""
     table, _, word = key.rpartition(".")
     lines = [each.keys[word] for each in positions.tables(text) if each.name == table and word in each.keys]
     return (lines[0], "") if len(lines) == 1 else (None, "")
 
 
 def strange(text: str) -> Iterator[tuple[int, str, str | None]]:
-    """Keys and tables that the format doesn't name: the line, the key, and the nearest one that may be meant, if
+    """Yields keys and tables that the format doesn't name: the line, the key, and the nearest one that may be meant, if
     any."""
     for table in positions.tables(text):
         known = KNOWN.get(table.name)
@@ -105,7 +105,7 @@ def strange(text: str) -> Iterator[tuple[int, str, str | None]]:
 
 
 def nearest(key: str, known: Iterable[str]) -> str | None:
-    """The key that is spelled most like it; None where none is much like it."""
+    """Returns the key that is spelled most like it, or None if none is much like it."""
     found = difflib.get_close_matches(key, list(known), 1, 0.6)
     return found[0] if found else None
 
@@ -132,8 +132,8 @@ def bits_of_letters(key: str) -> float:
 
 
 def letters_of_kinds(letters: set[str]) -> int:
-    """How many letters there are of the kinds that these are of. One of none, as a space or what is outside ASCII, is
-    taken for one of OTHERS."""
+    """Returns how many letters there are of the kinds that these are of. One of none, as a space or what is outside
+    ASCII, is taken for one of OTHERS."""
     others = letters.difference(*KINDS)
     return sum(len(kind) for kind in KINDS if letters.intersection(kind)) + (OTHERS if others else 0)
 
@@ -148,7 +148,7 @@ def effort(key: str) -> str:
 
 
 def example_keys() -> set[str]:
-    """The keys of the labs that come with the program."""
+    """Returns the keys of the labs that come with the program."""
     found = {"chalk", "a-key", "b-key", "c-key"}
     for path in (TOP / "examples").glob("*.toml"):
         it = labs.document(path)
@@ -157,7 +157,7 @@ def example_keys() -> set[str]:
 
 
 def key_warnings(lab: labs.Lab) -> Iterator[str]:
-    """Keys that may be known, or guessed."""
+    """Yields keys that may be known, or guessed."""
     examples = example_keys()
     for name, key in [lab.teacher, *lab.students.items()]:
         if key in examples:
@@ -167,7 +167,7 @@ def key_warnings(lab: labs.Lab) -> Iterator[str]:
 
 
 def network_warnings(lab: labs.Lab) -> Iterator[str]:
-    """Students without a node, nodes without a neighbour, a network in parts."""
+    """Yields students without a node, nodes without a neighbour, a network in parts."""
     owners = {owner for node in lab.nodes for owner in node.owners}
     yield from (f"{name} has no node" for name in lab.students if name not in owners)
     near = networks.neighbours((node.id for node in lab.nodes), lab.links)
@@ -178,7 +178,7 @@ def network_warnings(lab: labs.Lab) -> Iterator[str]:
 
 
 def parts_of(near: dict[int, list[int]]) -> int:
-    """In how many parts the network is."""
+    """Returns in how many parts the network is."""
     left, parts = set(near), 0
     while left:
         parts += 1
@@ -191,7 +191,7 @@ def parts_of(near: dict[int, list[int]]) -> int:
 
 
 def limit_warnings(lab: labs.Lab) -> Iterator[str]:
-    """Fewer sessions or events than the class may need."""
+    """Yields that there are fewer sessions or events than the class may need."""
     people = len(lab.without_house().students) + 1
     if lab.sessions < people:
         yield (f"{lab.sessions} sessions are fewer than {people - 1} students and a teacher"
@@ -202,15 +202,15 @@ def limit_warnings(lab: labs.Lab) -> Iterator[str]:
 
 
 def pair_warnings(lab: labs.Lab) -> Iterator[str]:
-    """Nodes that two share, where a count of moves goes to whose program asks first."""
+    """Yields nodes that two share, if a count of moves goes to the one whose program asks first."""
     shared = [str(node.id) for node in lab.without_house().nodes if len(node.owners) == 2]
     if shared:
         nodes = ("nodes " if len(shared) > 1 else "node ") + ", ".join(shared[:MOST_LISTED]) + ", ..." * (len(shared) > MOST_LISTED)
-        yield f"two students own {nodes}: a mark by counts of granted moves is there one for the quicker program; count a pair as one"
+        yield f"two students own {nodes}: a mark by granted moves favours the quicker program there; count a pair as one"
 
 
 def start_warnings(path: Path, lab: labs.Lab) -> Iterator[str]:
-    """A start at which there is nothing to do, as the program's report says."""
+    """Yields a start at which there is nothing to do, as the program's report says."""
     hello = '{"do":"hello","name":"%s","key":%s}' % (lab.teacher[0], labs.quoted(lab.teacher[1]))
     with tempfile.TemporaryDirectory() as room:
         script = Path(room, "script")
@@ -223,7 +223,7 @@ def start_warnings(path: Path, lab: labs.Lab) -> Iterator[str]:
 
 
 def warnings(path: Path) -> Iterator[str]:
-    """All that a teacher would want to know of a lab that the program takes."""
+    """Yields all that a teacher would want to know of a lab that the program takes."""
     text = path.read_text(encoding="utf-8-sig")
     for line, key, meant in strange(text):
         yield f"line {line}: {key} is no key of a lab, and ignored" + (f"; did you mean {meant}?" if meant else "")
@@ -237,7 +237,7 @@ def warnings(path: Path) -> Iterator[str]:
 
 
 def sized(path: Path, told: str) -> str:
-    """The program's line of a lab that it takes, with the house told apart where the lab is read here too."""
+    """Returns the program's line of a lab that it takes, with the house counted apart if the lab is read here too."""
     try:
         return labs.with_house_apart(told, labs.read(path))
     except Fault:
@@ -245,8 +245,8 @@ def sized(path: Path, told: str) -> str:
 
 
 def check(words: argparse.Namespace) -> int:
-    """Tells what the program says of a lab, and warnings. The status is 0, 5 for warnings alone, or the program's own
-    where it refuses the lab."""
+    """Prints what the program says of a lab, and warnings. The status is 0, 5 if there are only warnings, or the
+    program's own if it refuses the lab."""
     path = Path(words.lab)
     answer: Answer = call("check", path)
     if answer.status != 0:

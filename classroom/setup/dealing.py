@@ -1,4 +1,4 @@
-"""Who plays in which network, and who owns which nodes."""
+"""Dealing out: who plays in which network, and who owns which nodes."""
 from __future__ import annotations
 
 import itertools

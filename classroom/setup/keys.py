@@ -1,6 +1,6 @@
-"""Keys: of students three words and two digits, to be typed from paper; of programs alone 32 hexadecimal digits.
+"""Keys: of students three words and two digits, to be typed from paper; of programs 32 hexadecimal digits.
 
-A student's key is one of 4096 * 4096 * 4096 * 100, which are 42 bits. A class's server tells of one wrong key each 12
+A student's key is one of 4096 * 4096 * 4096 * 100, which are 42 bits. A class's server answers one wrong key each 12
 milliseconds in all, so that a whole day's guesses are one in 950,000 of them.
 """
 from __future__ import annotations

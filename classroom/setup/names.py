@@ -34,7 +34,7 @@ SYLLABLES = ("DEVANAGARI", "BENGALI", "GURMUKHI", "GUJARATI", "TAMIL", "TELUGU",
 
 
 def letters(char: str) -> str:
-    """A character, whatever stands beside it, in letters a to z and digits; empty where it isn't known how."""
+    """Returns a character, whatever stands beside it, in letters a to z and digits, or empty if it isn't known how."""
     if char in SPELLED:
         return SPELLED[char]
     named = unicodedata.name(char, "")
@@ -50,7 +50,7 @@ def letters(char: str) -> str:
 
 
 def sounds(named: list[str]) -> str | None:
-    """How a letter sounds by the words of its name; None where that isn't known."""
+    """Returns how a letter sounds by the words of its name, or None if that isn't known."""
     if len(named) < 3:
         return None
     if named[0] in ("ARABIC", "HEBREW") and named[1] == "LETTER":
@@ -63,8 +63,8 @@ def sounds(named: list[str]) -> str | None:
 
 
 def one(name: str) -> str:
-    """A name's form in a lab, without regard to others: `Zoë Müller` is `zoe-mueller`, and so is `Müller, Zoë`.
-    It is empty where no letter of it is known."""
+    """Returns a name's form in a lab, without regard to others: `Zoë Müller` is `zoe-mueller`, and so is `Müller, Zoë`.
+    It is empty if no letter of it is known."""
     last, comma, first = name.partition(",")
     folded = unicodedata.normalize("NFC", f"{first} {last}" if comma and "," not in first else name).lower()
     spelled = "".join("-" if char.isspace() or char in "-_.,/" else letters(char) for char in folded)
@@ -73,13 +73,13 @@ def one(name: str) -> str:
 
 
 def with_end(short: str, end: str) -> str:
-    """A name with an end that tells it apart."""
+    """Returns a name with an end that tells it apart."""
     return f"{short[: MOST_BYTES - len(end) - 1].rstrip('-')}-{end}"
 
 
 def all_of(people: Iterable[Person], taken: Iterable[str] = ()) -> dict[str, Person]:
-    """The lab's names, each with its person. Those that come out alike are told apart by what the list has, else by
-    numbers; so is a name of which no letter is known."""
+    """Returns the lab's names, each with its person. Those that come out alike are distinguished by what the list has,
+    or else by numbers; so is a name of which no letter is known."""
     listed = list(people)
     forms = [one(person.written) for person in listed]
     ids = [re.sub("[^a-z0-9]+", "-", person.id.lower()).strip("-") for person in listed]

@@ -23,8 +23,8 @@ from classroom.setup.slips import Way
 
 
 def start(made: labs.Lab, word: str, chance: random.Random) -> None:
-    """Registers at the beginning: all clean; at random at every node; hurt at one node in three; or the worst that is
-    known."""
+    """Sets the registers at the beginning: all clean; at random at every node; hurt at one node in three; or the worst
+    that is known."""
     if word == "worst":
         registers = {node: (p, m) for node, p, m in shaking.broken([node.id for node in made.nodes], made.links)}
         for node in made.nodes:
@@ -38,7 +38,7 @@ def start(made: labs.Lab, word: str, chance: random.Random) -> None:
 
 
 def make(words: argparse.Namespace, people: dict[str, Person], chance: random.Random) -> labs.Lab:
-    """A lab for these students."""
+    """Returns a lab for these students."""
     students = list(people)
     if words.links:
         identifiers, links = networks.from_file(Path(words.links), words.nodes)
@@ -106,7 +106,7 @@ def write(made: Made, way: Way, page: str, done: list[Path]) -> None:
 
 @contextlib.contextmanager
 def all_or_none() -> Iterator[list[Path]]:
-    """Gives a list for the files and folders that are written. Removes all of them if something fails."""
+    """Returns a list for the files and folders that are written. Removes all of them if something fails."""
     done: list[Path] = []
     try:
         yield done
@@ -144,7 +144,7 @@ def new(words: argparse.Namespace) -> int:
 
 
 def written(words: argparse.Namespace, made: list[Made], rooms: list[str], merge: Path) -> list[Way]:
-    """Writes all labs and slips, or nothing if one of them can't be written; returns how one gets in."""
+    """Writes all labs and slips, or nothing if one of them can't be written. Returns how one gets in."""
     with all_or_none() as done:
         file = words.certificate or certificate.beside(made[0].file)
         is_new = bool(words.door) and not os.path.lexists(file)
@@ -183,7 +183,7 @@ def next_words(words: argparse.Namespace, made: list[Made], merge: Path) -> str:
 
 
 def tell_seats(made: labs.Lab, everybody: int, words: argparse.Namespace) -> None:
-    """Tells if not all students of the lab can have a seat at once, and how many labs would give each one."""
+    """Says if not all students of the lab can have a seat at once, and how many labs would give each one."""
     students = len(made.without_house().students)
     if made.sessions < students + 1 and words.groups_by:
         print(f"note: {made.sessions} sessions for {students} students and a teacher: more --groups give all a seat")
@@ -193,7 +193,7 @@ def tell_seats(made: labs.Lab, everybody: int, words: argparse.Namespace) -> Non
 
 
 def tell_few(made: labs.Lab) -> None:
-    """Tells where the lab may be full before it comes to rest. The most events that a lab may have suffice for each
+    """Says if the lab may be full before it comes to rest. The most events that a lab may have suffice for each
     network."""
     if made.events == labs.MOST_EVENTS:
         return
@@ -203,7 +203,7 @@ def tell_few(made: labs.Lab) -> None:
 
 
 def without_node(made: labs.Lab, words: argparse.Namespace) -> str:
-    """Returns who has no node, and which network has enough; nothing if each student has one."""
+    """Returns who has no node, and which network has enough, or nothing if each student has one."""
     shown = made.without_house()
     idle = [name for name in shown.students if not shown.nodes_of(name)]
     if not idle:

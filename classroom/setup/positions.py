@@ -1,4 +1,4 @@
-"""In which line of a lab's file a thing stands, by the forms in which labs are commonly written."""
+"""The line of a lab's file in which a thing stands, by the forms in which labs are commonly written."""
 from __future__ import annotations
 
 import re
@@ -21,14 +21,14 @@ class Table:
 
 @dataclass
 class Value:
-    """The value of a key, which ends where its brackets are closed. Its tables in braces are added to a list."""
+    """The value of a key, which ends if its brackets are closed. Its tables in braces are added to a list."""
 
     name: str = ""  # of the key
     tables: list[Table] = field(default_factory=list)
     brackets: str = ""  # those that are open, the outermost first
 
     def take(self, number: int, text: str) -> None:
-        """Reads a line, or what of it stands behind the key. A table within another isn't added, nor are its keys."""
+        """Reads a line, or what of it stands after the key. A table within another isn't added, nor are its keys."""
         for found in BRACKET_OR_KEY.finditer(text):
             if found[0] in ("[", "{"):
                 self.brackets += found[0]
@@ -41,13 +41,14 @@ class Value:
 
 
 def without_texts(line: str) -> str:
-    """A line without its comment and without what stands in quotes."""
+    """Returns a line without its comment and without what stands in quotes."""
     return re.sub(r"#.*", "", re.sub(r'"(\\.|[^"\\])*"|\'[^\']*\'', '""', line))
 
 
 def tables(text: str) -> list[Table]:
-    """The file's tables in order; the first is the document's own. Those in braces count too, under the keys of the
-    document that take tables. A bracket that isn't closed ends at the next header, or at a key that isn't in braces."""
+    """Returns the file's tables in order; the first is the document's own. Those in braces count too, under the keys of
+    the document that take tables. A bracket that isn't closed ends at the next header, or at a key that isn't in
+    braces."""
     found, value = [Table("", 1)], Value()
     current = found[0]
     for number, whole in enumerate(text.splitlines(), 1):
@@ -67,14 +68,14 @@ def tables(text: str) -> list[Table]:
 
 
 def table(text: str, name: str, index: int) -> Table | None:
-    """The table of that name and index, from 0; None where there are fewer."""
+    """Returns the table of that name and index, from 0, or None if there are fewer."""
     named = [each for each in tables(text) if each.name == name]
     return named[index] if index < len(named) else None
 
 
 def link(text: str, index: int) -> int | None:
-    """The line in which the link of that index, from 0, begins, found by counting brackets; None where there aren't so
-    many."""
+    """Returns the line in which the link of that index, from 0, begins, found by counting brackets, or None if there
+    aren't so many."""
     inside, seen = False, 0
     for number, whole in enumerate(text.splitlines(), 1):
         line = without_texts(whole)

@@ -36,7 +36,7 @@ NO_SQUARE = "The slips have no QR codes: qrencode isn't installed (Debian's pack
 
 
 def address(way: Way, name: str, key: str) -> str:
-    """Returns the address of the page to play by, which has name and key behind `#`: they aren't sent."""
+    """Returns the address of the page to play by, which has name and key after `#`: they aren't sent."""
     given = f"#name={quote(name)}&key={quote(key, safe='')}"
     return f"https://{way.door}/{way.network}/{given}" if way.door else f"http://127.0.0.1:{way.page}/{given}"
 
@@ -47,7 +47,7 @@ def has_squares(way: Way) -> bool:
 
 
 def square(content: str) -> str:
-    """Returns a QR code as SVG. The program gets its content where others can't read it."""
+    """Returns a QR code as SVG. The program gets its content if others can't read it."""
     done = run(["qrencode", "-t", "ASCII", "-m", "0", "-l", "M"], given=content.encode())
     if done.returncode != 0:
         raise Fault(f"qrencode: {done.stderr.decode(errors='replace').strip()}", FAILED)

@@ -17,14 +17,14 @@ from classroom.setup.slips import FIRST_PORT, Way
 
 
 def add_words(words: argparse.ArgumentParser) -> None:
-    """The words of `key`."""
+    """Adds the words of `key`."""
     words.add_argument("lab", metavar="LAB", help="the lab's file, or the folder of a run of it or of its class")
     words.add_argument("name", metavar="NAME", help="the student's name in the lab")
     words.set_defaults(work=rekey)
 
 
 def changed(path: Path, name: str, key: str) -> str:
-    """The lab's text, in which that student alone has another key."""
+    """Returns the lab's text, in which that student alone has another key."""
     before = labs.document(path)
     text = path.read_text(encoding="utf-8-sig")
     index = next((index for index, each in enumerate(before["student"]) if each["name"] == name), None)
@@ -45,7 +45,7 @@ def changed(path: Path, name: str, key: str) -> str:
 
 
 def files_of(word: str) -> tuple[list[Path], Path, Record | None]:
-    """The lab's files that have the key, the one beside which slips lie, and what a run's folder keeps."""
+    """Returns the lab's files that have the key, the one beside which slips lie, and what a run's folder keeps."""
     path = Path(word)
     if not path.is_dir():
         return [path], path, None
@@ -65,7 +65,7 @@ class Changed:
 
 
 def change(word: str, name: str) -> Changed:
-    """Changes a student's key where it stands: in the lab, in a run's copy of it, and on the slips."""
+    """Changes a student's key in all its places: in the lab, in a run's copy of it, and on the slips."""
     files, own, record = files_of(word)
     labs.read(files[0])
     key = keys.for_people()
@@ -83,7 +83,7 @@ def change(word: str, name: str) -> Changed:
 
 
 def rekey(words: argparse.Namespace) -> int:
-    """Gives a student another key, of a class that doesn't go on."""
+    """Gives a student another key, of a class that doesn't go on. Returns the exit status."""
     words.lab = str(classes.run_of(Path(words.lab), words.name))
     it, record = change(words.lab, words.name), files_of(words.lab)[2]
     print(f"{words.name} has another key in {', '.join(map(str, it.files))}; slip: {it.slip}")

@@ -13,7 +13,7 @@ LEAST = {"crowd": 4, "halves": 2}  # nodes
 
 
 def pairs_of(links: Iterable[Collection[int]]) -> list[tuple[int, int]]:
-    """The links in order, each with its lower end first."""
+    """Returns the links in order, each with its lower end first."""
     found = []
     for link in links:
         a, b = sorted(link)
@@ -22,7 +22,7 @@ def pairs_of(links: Iterable[Collection[int]]) -> list[tuple[int, int]]:
 
 
 def shaken(nodes: list[int], links: Iterable[Collection[int]], word: str, seed: int | None) -> list[Registers]:
-    """Registers for so many nodes, or for `all`, drawn with the seed."""
+    """Returns registers for so many nodes, or for `all`, drawn with the seed."""
     count = len(nodes) if word == "all" else int(word)
     if not 1 <= count <= len(nodes):
         raise Fault(f"shake {word}: 1 to {len(nodes)} nodes, or all")
@@ -33,9 +33,10 @@ def shaken(nodes: list[int], links: Iterable[Collection[int]], word: str, seed: 
 
 
 def broken(nodes: list[int], links: Iterable[Collection[int]]) -> list[Registers]:
-    """The start from which a crowd may take the most moves, and halves the most rounds (docs/SELF-STABILISATION.md). In
-    another network each node claims to be married, and points at a higher neighbour, which doesn't point back; one
-    without such points at a lower one that doesn't point at it, or at none: no start has a greater potential."""
+    """Returns the start from which a crowd may take the most moves, and halves the most rounds
+    (docs/SELF-STABILISATION.md). In another network each node claims to be married, and points at a higher neighbour,
+    which doesn't point back; one without such points at a lower one that doesn't point at it, or at none: no start has
+    a greater potential."""
     pairs, order = pairs_of(links), sorted(nodes)
     for word, pointers in (("crowd", of_crowd), ("halves", of_halves)):
         placed = [(order[a - 1], order[b - 1]) for a, b in plain(word, len(order))]
@@ -51,11 +52,11 @@ def broken(nodes: list[int], links: Iterable[Collection[int]]) -> list[Registers
 
 
 def of_crowd(count: int) -> list[int | None]:
-    """The pointers of a crowd's nodes: those of the first half point at the last ones, the first at the last; the
-    others each at the next, and the last at the second."""
+    """Returns the pointers of a crowd's nodes: those of the first half point at the last ones, the first at the last;
+    the others each at the next, and the last at the second."""
     return [count + 1 - node if 2 * node <= count else node + 1 if node < count else 2 for node in range(1, count + 1)]
 
 
 def of_halves(count: int) -> list[int | None]:
-    """The pointers of the nodes of halves: each is null."""
+    """Returns the pointers of the nodes of halves: each is null."""
     return [None] * count

@@ -36,7 +36,7 @@ class Way:
 
     @staticmethod
     def read(lab: Path) -> Way | None:
-        """Returns what a slip beside a lab tells; None if there is none that can be read."""
+        """Returns what a slip beside a lab says, or None if there is none that can be read."""
         for file in sorted(folder_of(lab).glob("*.slip")):
             try:
                 pairs = [line.partition(" ") for line in plain.read(file, plain.MOST_KEPT).decode().splitlines()]

@@ -14,7 +14,8 @@ from pathlib import Path
 TOP = Path(__file__).resolve().parents[2]
 LIMIT = 300.0  # seconds after which something hangs
 CRATES = "# A line a crate.\nlow: itoa\nunused: low\nleft: low\nright: low\nmml_server: left\nmml_host: left right\n"
-# Proves one crate after another by a process that is named as the prover is; in the first repository of a build, where
+# Proves one crate after another by a process that is named as the prover is; in the first repository of a build, if
+
 # nothing is to be proved, that process doesn't end. Waits before the crate that the file `waits` names, fails at the one
 # that `fails` names, wants those that `meets` names to be proved side by side, and keeps nothing if `lacks` says so.
 STAND_IN = '''#!{python}
@@ -141,7 +142,7 @@ class InClone(unittest.TestCase):
                 os.kill(pid, signal.SIGKILL)
 
     def program(self, crate: str) -> Path:
-        """Returns where a program of the clone stands."""
+        """Returns the path of a program of the clone."""
         return self.clone / "crates" / crate / "out" / crate
 
 

@@ -110,7 +110,7 @@ class Builds(InClone):
         self.assertEqual((each["low"], each["left"], each["right"]), (2 * number, 2 * number, number))
 
     def test_where_it_is_proved(self) -> None:
-        """In a clone of Git the repository stands on the clone's disk, where no check looks, and is removed at the end."""
+        """In a clone of Git the repository stands on the clone's disk, if no check looks, and is removed at the end."""
         git = self.clone / ".git"
         git.mkdir()
         self.set("waits", "left")
@@ -215,7 +215,7 @@ class Builds(InClone):
         self.assertTrue(done.stderr.endswith("\nmml: 5 of 5 crates proved, 2 of them earlier\n"), done.stderr)
 
     def test_killed(self) -> None:
-        """Where the build is killed at once, `rt` is ended, and the next call clears up."""
+        """If the build is killed at once, `rt` is ended, and the next call clears up."""
         self.set("waits", "right")
         going = self.begun("./mml", "build")
         rt = self.pids()[0]
@@ -230,7 +230,7 @@ class Builds(InClone):
         self.assertEqual([*self.temporary.iterdir()], [])
 
     def test_failed(self) -> None:
-        """A crate that isn't proved is told with what is wrong, and an older program stays."""
+        """A crate that isn't proved is reported with what is wrong, and an older program stays."""
         self.call("./mml", "build")
         (self.clone / "crates/low/src/lib.rt").write_text("// another\n", encoding="utf-8")
         self.set("fails", "left")

@@ -53,7 +53,7 @@ class SetsUp(InClone):
         self.assertFalse((self.room / "words").exists())
 
     def test_each_word(self) -> None:
-        """Each word builds the programs before it does anything: where that fails, it does nothing."""
+        """Each word builds the programs before it does anything: if that fails, it does nothing."""
         self.set("fails", "low")
         before = sorted(self.clone.rglob("*"))
         for words in (("new", *WORDS), ("check", "it.toml"), ("run", "it.toml"), ("attach", "it"), ("slips", "it.toml"), ("key", "it.toml", "ana"),

@@ -33,7 +33,7 @@ class Chains(unittest.TestCase):
         self.assertEqual(chain.chain(without, "top"), ["slow", "top"])
 
     def test_tables(self) -> None:
-        """Waiting for a processor is told apart; the last crate's chain is printed if no crate is named."""
+        """Waiting for a processor is printed apart; the last crate's chain is printed if no crate is named."""
         rows = [line.split() for line in chain.told(SPANS, ["top"]).splitlines()[1:]]
         self.assertEqual(rows, [["low", "0", "100", "100", "99"], ["slow", "0", "300", "400", "280"], ["top", "10", "40", "450", "39"],
                                 ["sum", "10", "440", "450", "418"]])

@@ -82,7 +82,7 @@ class Outcomes(InTree):
     """What makes a check fail."""
 
     def failing(self, line: str) -> str:
-        """Wants that a part whose line this is makes the whole fail, and answers what it prints."""
+        """Checks that a part whose line this is makes the whole fail, and returns what it prints."""
         self.stand_in(part("well", WELL), part("other", line))
         done = self.check("quick")
         self.assertEqual((done.returncode, done.stdout.splitlines()[-1]), (1, "1 passed, 1 failed"), line)
@@ -115,7 +115,7 @@ class Outcomes(InTree):
         self.assertIn("not done, since the proofs failed: well, wrong\n", done.stdout)
 
     def test_what_is_missing(self) -> None:
-        """It is named with its Debian package; where nothing may be left out it is asked for, and then fails."""
+        """It is named with its Debian package; if nothing may be left out it is asked for, and then fails."""
         self.stand_in(part("well", WELL), part("needy", WELL, needs=("nothing",)), part("choosy", WELL, likes=("nothing",)))
         bin = self.room / "bin"
         bin.mkdir()
@@ -153,13 +153,13 @@ class Beside(InTree):
     """Wrong bodies beside the proofs."""
 
     def wrong_tells(self, proofs: str, last: str = "echo 7 passed, 0 failed") -> str:
-        """What the wrong bodies are told beside such proofs, by which they begin, and what the check prints."""
+        """Returns the input of the wrong bodies beside such proofs, by which they begin, and what the check prints."""
         self.stand_in(part("well", WELL), wrong=f'touch "$ROOM/begun"; cat > "$ROOM/told"; {last}', proofs=proofs)
         self.said = self.check().stdout
         return (self.room / "told").read_text(encoding="utf-8")
 
     def test_crates_that_stand(self) -> None:
-        """Each crate is told while the proofs go on, and nothing after their end."""
+        """Each crate is reported while the proofs go on, and nothing after their end."""
         told = self.wrong_tells("""
             echo "rt: one proved"; until [ -s "$ROOM/told" ]; do sleep 0.05; done
             echo "rt: one: its tests are proved"; echo "== two"; echo "rt: two is kept: an earlier run proved it"; echo "rt: three NOT PROVED"
@@ -185,7 +185,7 @@ class Beside(InTree):
         self.assertEqual([pid for pid in pids if is_there(pid)], [])
 
     def test_both_ended(self) -> None:
-        """Nothing is left of either where the check is ended."""
+        """Nothing is left of either if the check is ended."""
         self.stand_in(part("well", WELL), wrong=GOES_ON, proofs="sleep 1000")
         going = self.begun()
         going.send_signal(signal.SIGTERM)
@@ -199,7 +199,7 @@ class Ends(InTree):
     """A check that is ended, and two at once."""
 
     def ended(self, number: signal.Signals, whole_group: bool) -> None:
-        """Wants that nothing is left of a check that such a signal ends."""
+        """Checks that nothing is left of a check that such a signal ends."""
         for name in ("begun", "pids"):
             (self.room / name).unlink(missing_ok=True)
         self.stand_in(part("well", WELL), part("on", GOES_ON))
@@ -244,7 +244,8 @@ class Ends(InTree):
         self.assertEqual(self.check("quick").returncode, 0)
 
     def killed(self, kill: Callable[[int], None]) -> int:
-        """Wants that nothing is left of a check of which something is killed at once, and another runs; answers its status."""
+        """Checks that nothing is left of a check of which something is killed at once, and another runs; answers its
+        status."""
         for name in ("begun", "pids"):
             (self.room / name).unlink(missing_ok=True)
         self.stand_in(part("on", GOES_ON))

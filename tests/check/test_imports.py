@@ -17,25 +17,25 @@ Sources = dict[str, str]  # the text of each module
 
 
 def sources() -> Sources:
-    """All modules of `classroom`."""
+    """Returns all modules of `classroom`."""
     files = sorted((TOP / "classroom").rglob("*.py"))
     return {name_of(file): file.read_text(encoding="utf-8") for file in files}
 
 
 def name_of(file: Path) -> str:
-    """A module's name."""
+    """Returns a module's name."""
     return ".".join(file.relative_to(TOP).with_suffix("").parts).removesuffix(".__init__")
 
 
 def height(module: str) -> int:
-    """How high a module stands: a package is as high as its modules."""
+    """Returns how high a module stands: a package is as high as its modules."""
     if module in (BOTTOM, "classroom"):
         return -1
     return len(PACKAGES) if module == TOPMOST else PACKAGES.index(module.split(".")[1])
 
 
 def origin(module: str, node: ast.ImportFrom, is_package: bool) -> str:
-    """From where a statement imports, also where its name begins with dots."""
+    """Returns the module from which a statement imports, even if its name begins with dots."""
     parts = module.split(".")
     near = parts[:len(parts) + is_package - node.level] if node.level else []
     return ".".join([*near, *([node.module] if node.module else [])])
@@ -43,7 +43,7 @@ def origin(module: str, node: ast.ImportFrom, is_package: bool) -> str:
 
 @cache
 def statements(module: str, text: str, is_package: bool) -> tuple[tuple[str, str], ...]:
-    """From where a module imports which name, wherever in it the statement stands: `?` for what is named only as it
+    """Returns from which module a module imports each name, wherever in it the statement stands: `?` for what is named only as it
     runs."""
     found: list[tuple[str, str]] = []
     for node in ast.walk(ast.parse(text)):
@@ -57,14 +57,14 @@ def statements(module: str, text: str, is_package: bool) -> tuple[tuple[str, str
 
 
 def imported(module: str, known: Sources) -> list[str]:
-    """The modules that a module imports."""
+    """Returns the modules that a module imports."""
     is_package = any(it.startswith(f"{module}.") for it in known)
     found = statements(module, known[module], is_package)
     return [f"{whole}.{name}" if f"{whole}.{name}" in known else whole for whole, name in found]
 
 
 def circle(uses: dict[str, list[str]]) -> list[str]:
-    """Modules each of which the one before it imports, from one back to itself; none where there is no such circle."""
+    """Modules each of which the one before it imports, from one back to itself; none if there is no such circle."""
     try:
         TopologicalSorter(uses).prepare()
     except CycleError as error:
@@ -73,14 +73,14 @@ def circle(uses: dict[str, list[str]]) -> list[str]:
 
 
 def faults(known: Sources) -> list[str]:
-    """What is wrong with the imports."""
+    """Returns what is wrong with the imports."""
     found, uses = [], dict[str, list[str]]()
     for module in known:
         every = imported(module, known)
         uses[module] = [it for it in every if it in known and height(it) == height(module)]
         found += [f"{module} imports {it}: that isn't a part of what is released" for it in every if it.split(".")[0] in ("tests", "tools", "bench")]
         found += [f"{module} imports {it}: that is above it" for it in every if it in known and height(it) > height(module)]
-        found += [f"{module} imports what only its run tells" for it in every if it == "?" and module != TOPMOST]
+        found += [f"{module} imports what only a run shows" for it in every if it == "?" and module != TOPMOST]
     way = circle(uses)
     return found + ([f"a circle of imports: {' '.join(way)}"] if way else [])
 
@@ -108,7 +108,7 @@ class Imports(unittest.TestCase):
             self.assertEqual(self.planted(name, line), [f"classroom.{name} imports {target}: that is above it"], line)
         self.assertEqual(self.planted("run.run", "from tests.model import lab"),
                          ["classroom.run.run imports tests.model: that isn't a part of what is released"])
-        self.assertEqual(self.planted("core.lab", "importlib.import_module(f'classroom.{name}')"), ["classroom.core.lab imports what only its run tells"])
+        self.assertEqual(self.planted("core.lab", "importlib.import_module(f'classroom.{name}')"), ["classroom.core.lab imports what only a run shows"])
 
     def test_a_circle_is_refused(self) -> None:
         found = self.planted("run.closing", "if TYPE_CHECKING:\n    from classroom.run.desk import Desk")
@@ -124,7 +124,7 @@ class Imports(unittest.TestCase):
         self.assertEqual({it.suffix for it in files if it.parent.name != "pages"}, {".py"})
 
     def planted(self, name: str, line: str) -> list[str]:
-        """What is wrong where a module has one more line."""
+        """Returns what is wrong if a module has one more line."""
         known = sources()
         known[f"classroom.{name}"] += f"\n{line}\n"
         return faults(known)

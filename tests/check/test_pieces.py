@@ -15,7 +15,7 @@ SHELL = ("sh", "-c")
 
 
 def done(output: str, status: int = 0) -> Done:
-    """A part that ended so."""
+    """Returns a part that ended so."""
     return Done(Part("it", ("true",), 1, 1), status, 1.0, 0.5, output)
 
 
@@ -86,7 +86,7 @@ class Sharing(unittest.TestCase):
         self.assertEqual(minutes_of([[work], [Part("b", (), 40, 2, ALL, is_beside=True)]], 4), [4, 8])
 
     def test_some_crates(self) -> None:
-        """What some crates take is told by their sizes."""
+        """What some crates take is estimated by their sizes."""
         self.assertAlmostEqual(sum(wrong_of([it]).work for it in uses()), WRONG.work)
         low, high = (proofs_of([it]).work for it in ("mml_ids", "mml_host"))
         self.assertTrue(0 < low < high < proofs_of([]).work == PROOFS.work, (low, high))

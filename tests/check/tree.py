@@ -28,7 +28,7 @@ Quick = tuple[str, str, int, tuple[str, ...], tuple[str, ...]]
 
 
 def part(name: str, line: str, width: int = 1, needs: tuple[str, ...] = (), likes: tuple[str, ...] = ()) -> Quick:
-    """A part of the stand-in tables."""
+    """Returns a part of the stand-in tables."""
     return name, line, width, needs, likes
 
 
@@ -58,11 +58,11 @@ class InTree(unittest.TestCase):
         self.stood = self.files()
 
     def files(self) -> list[str]:
-        """The paths of all files of the tree."""
+        """Returns the paths of all files of the tree."""
         return sorted(str(it.relative_to(self.tree)) for it in self.tree.rglob("*"))
 
     def environment(self, **more: str) -> dict[str, str]:
-        """The environment of a check: no gate, and temporary files where they are counted."""
+        """Returns the environment of a check: no gate, and temporary files if they are counted."""
         kept = {name: it for name, it in os.environ.items() if name != "CI"}
         return {**kept, "TMPDIR": str(self.temporary), "ROOM": str(self.room), **more}
 
@@ -80,7 +80,7 @@ class InTree(unittest.TestCase):
         )
 
     def nothing_left(self) -> None:
-        """Wants no temporary file, and no file that wasn't there."""
+        """Checks for no temporary file, and no file that wasn't there."""
         self.assertEqual([*self.temporary.iterdir()], [])
         self.assertEqual(self.files(), self.stood)
 
@@ -113,7 +113,7 @@ def ended(going: subprocess.Popen[str]) -> None:
 
 
 def is_there(pid: int) -> bool:
-    """Whether a process hasn't ended."""
+    """Returns whether a process hasn't ended."""
     try:
         return Path(f"/proc/{pid}/stat").read_text(encoding="utf-8").rpartition(") ")[2][0] != "Z"
     except OSError:

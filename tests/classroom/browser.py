@@ -32,7 +32,7 @@ return [{...document.getElementById('drawing').dataset}, nodes, document.getElem
 
 
 def started() -> Any:
-    """A browser without a window."""
+    """Returns a browser without a window."""
     made: Any = Options
     options = made()
     options.binary_location = "/usr/bin/chromium"
@@ -50,14 +50,14 @@ def started() -> Any:
 
 @cache
 def browser() -> Any:
-    """The one of this process."""
+    """Returns the one of this process."""
     driver = started()
     atexit.register(driver.quit)
     return driver
 
 
 def is_ready(driver: Any) -> bool:
-    """Whether the page shows something."""
+    """Returns whether the page shows something."""
     found: bool = driver.execute_script("return document.body !== null && document.body.dataset.ready === 'true'")
     return found
 
@@ -75,13 +75,13 @@ def press(driver: Any, *keys: str) -> None:
 
 
 def shown(driver: Any) -> Shown:
-    """What the page shows."""
+    """Returns what the page shows."""
     root, nodes, line = driver.execute_script(ATTRIBUTES)
     return root, sorted(nodes, key=lambda node: int(node["node"])), line
 
 
 def told(state: State, frame: Frame) -> Shown:
-    """What a page has to show of a state."""
+    """Returns what a page has to show of a state."""
     root = {
         "place": str(state.place), "number": str(state.number), "privileged": str(len(state.privileged)),
         "pairs": str(len(state.pairs)),
@@ -99,9 +99,9 @@ def told(state: State, frame: Frame) -> Shown:
     return root, sorted(nodes, key=lambda node: int(node["node"])), line
 
 
-# Each text that is seen, in its colour over what lies behind it. On paper no background of HTML is printed. Behind
-# a text of the drawing is the ground that surrounds its letters, but for those that stand in a disc or a frame. A colour that
-# is changing little by little is taken as it will be.
+# Each text that is seen, in its colour over what lies below it. On paper no background of HTML is printed. Behind a text of
+# the drawing is the ground that surrounds its letters, but for those that stand in a disc or a frame. A colour that is
+# changing little by little is taken as it will be.
 TEXTS = """
 const onPaper = arguments[0];
 for (const change of document.getAnimations()) change.finish();
@@ -140,7 +140,7 @@ def show_as(driver: Any, theme: str = "light", media: str = "") -> None:
 
 
 def pale(driver: Any, on_paper: bool = False) -> tuple[int, list[tuple[str, float]]]:
-    """How many texts a page shows, and those whose contrast is under 4.5 to 1."""
+    """Returns how many texts a page shows, and those whose contrast is under 4.5 to 1."""
     texts = driver.execute_script(TEXTS, on_paper)
     told = [(text, contrast(front, back)) for text, front, back in texts]
     return len(told), [(text, ratio) for text, ratio in told if ratio < LEAST]
@@ -165,7 +165,7 @@ class Played(unittest.TestCase):
         return output
 
     def open(self, page: Path, fragment: str = "") -> float:
-        """Opens a page, and answers the seconds until it shows something."""
+        """Opens a page, and returns the seconds until it shows something."""
         start = time.monotonic()
         self.driver.get("about:blank")
         self.driver.get(page.as_uri() + fragment)

@@ -44,7 +44,8 @@ def words(*given: str | Path, typed: str | None = None, **more: str) -> subproce
 
 
 def a_port() -> int:
-    """A port that is free, below those that Linux gives to connections, so that it is free as well where a class goes on."""
+    """Returns a port that is free, below those that Linux gives to connections, so that it is free as well if a class goes
+    on."""
     while True:
         port = random.randint(20000, 32000)
         with socket.socket() as it:
@@ -58,7 +59,7 @@ def a_port() -> int:
 
 @contextmanager
 def no_server() -> Iterator[int]:
-    """A port at which nobody listens, and that nobody else gets meanwhile."""
+    """Yields a port at which nobody listens, and that nobody else gets meanwhile."""
     with socket.socket() as it:
         it.bind(("127.0.0.1", 0))
         yield it.getsockname()[1]
@@ -72,7 +73,7 @@ def stop(process: int) -> None:
 
 
 def state(task: Path) -> str:
-    """The letter of a thread's state."""
+    """Returns the letter of a thread's state."""
     return (task / "stat").read_text(encoding="utf-8", errors="replace").rpartition(") ")[2][:1]
 
 
@@ -85,7 +86,7 @@ class InRoom(unittest.TestCase):
         self.room = Path(room.name)
 
     def file(self, name: str, text: str) -> Path:
-        """A new file."""
+        """Returns a new file."""
         path = self.room / name
         path.write_text(text, encoding="utf-8")
         return path
@@ -112,7 +113,7 @@ class Going:
         self.until(ready)
 
     def until(self, pattern: str) -> str:
-        """Reads lines until one has the pattern; a run that doesn't tell it is ended."""
+        """Reads lines until one has the pattern; a run that doesn't print it is ended."""
         for line in self.read():
             if re.search(pattern, line):
                 return line
@@ -126,7 +127,7 @@ class Going:
             left = [pattern for pattern in left if not re.search(pattern, line)]
 
     def read(self) -> Iterator[str]:
-        """The next lines; a run that goes on for too long is ended."""
+        """Yields the next lines; a run that goes on for too long is ended."""
         assert self.process.stdout is not None
         late = threading.Timer(LIMIT, self.process.terminate)
         late.start()
@@ -144,18 +145,18 @@ class Going:
         self.process.stdin.flush()
 
     def ended(self) -> int:
-        """Ends the class by its word, which is typed twice, and gives the status."""
+        """Ends the class by its word, which is typed twice, and returns the status."""
         self.type("end\nend")
         return self.ends()
 
     def ends(self) -> int:
-        """Reads to the end, and gives the status."""
+        """Reads to the end, and returns the status."""
         for _ in self.read():
             pass
         return self.process.wait(LIMIT)
 
     def server(self) -> int:
-        """The process of the server."""
+        """Returns the process of the server."""
         children = Path(f"/proc/{self.process.pid}/task/{self.process.pid}/children").read_text(encoding="ascii").split()
         assert len(children) == 1
         return int(children[0])
@@ -194,20 +195,20 @@ class Rows:
                 return row
 
     def at(self, number: int) -> dict[str, Any]:
-        """The line of that configuration."""
+        """Returns the line of that configuration."""
         while (row := self.next())["at"] != number:
             pass
         return row
 
     def rest(self) -> list[dict[str, Any]]:
-        """All lines to the end."""
+        """Returns all lines to the end."""
         text = self.answer.read()
         self.bytes += text
         return [json.loads(line) for line in text.splitlines()]
 
 
 class InTerminal:
-    """A run in a terminal of its own, up to its words; over the cycle, closed by hand, where none are given."""
+    """A run in a terminal of its own, up to its words; over the cycle, closed by hand, if none are given."""
 
     def __init__(self, test: InRoom, *words: str | Path) -> None:
         self.ours, theirs = pty.openpty()
@@ -241,7 +242,7 @@ class Cycle(InRoom):
     """Runs over the cycle of `examples/`, or a lab with its students."""
 
     def bot(self, going: Going, name: str, *command: str | Path) -> subprocess.Popen[bytes]:
-        """A student's bot."""
+        """Returns a student's bot."""
         bot = subprocess.Popen(
             [*(command or (sys.executable, EXAMPLES / "bot.py")), self.slip(going.port, name)],
             stdin=subprocess.DEVNULL, stdout=subprocess.DEVNULL, stderr=subprocess.DEVNULL,
@@ -251,13 +252,13 @@ class Cycle(InRoom):
         return bot
 
     def slip(self, port: int, name: str) -> Path:
-        """A student's slip."""
+        """Returns a student's slip."""
         nodes = ",".join(map(str, read(CYCLE).nodes_of(name)))
         made = self.room / f"{name}-{port}.slip"  # Who was given it before may still be about to read it.
         return made if made.exists() else self.file(made.name, f"port {port}\nname {name}\nkey {KEYS[name]}\nnodes {nodes}\n")
 
     def whole(self, folder: Path) -> int:
-        """Wants a finished folder, which nobody else reads; gives the number of its events."""
+        """Checks for a finished folder, which nobody else reads. Returns the number of its events."""
         self.assertEqual(folder.stat().st_mode & 0o777, 0o700)
         for name in ("lab.toml", "journal", "audit.txt", "marks.txt", "marks.json", "run.html", "run.txt", "server.txt"):
             self.assertTrue((folder / name).is_file(), name)

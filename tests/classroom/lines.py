@@ -1,24 +1,37 @@
-"""Every line that a teacher or a student can see while a class goes on, as a table: `kept/lines.txt`.
+"""Every line that a teacher or a student can see, as a table: `kept/lines.txt`.
 
     python3 -B -m tests.classroom.lines      writes the table anew
 
-Each line is a text of the program's source, in which `{}` stands for a value. A change of a line is a change of the table, in which it
-is read by itself.
+It has the lines of the programs, of `class`, of the bots and of the pages. Each is a text of a source, in which `{}`
+stands for a value. A change of a line is a change of the table, in which it is read by itself. The help of options
+stands in `operate/class.1`.
 """
 from __future__ import annotations
 
 import ast
 import re
 from collections.abc import Iterator
+from html.parser import HTMLParser
 from pathlib import Path
 
 TOP = Path(__file__).resolve().parents[2]
 TABLE = Path(__file__).parent / "kept" / "lines.txt"
-# What prints lines while a class goes on, and after it.
-SOURCES = ("classroom/run/*.py", "classroom/marks/*.py", "classroom/core/folders.py", "classroom/core/classes.py", "classroom/client.py",
-           "examples/bot.py")
+# The sources of all lines, and those of them whose texts are no lines.
+SOURCES = (
+    "classroom/**/*.py", "classroom/pages/*.html", "classroom/pages/*.js", "examples/*.py", "examples/bot.*", "examples/Bot.java",
+    "student/*.py", "crates/mml_policy/src/denial.rt", "crates/mml_program/src/*.rt", "crates/mml_host_program/src/*.rt",
+    "crates/mml_judging_program/src/*.rt", "crates/mml_ports/src/*.rt", "crates/mml_recording/src/*.rt", "crates/mml_serving/src/*.rt",
+)
+NO_SOURCES = ("classroom/setup/word_list.py", "crates/mml_program/src/built_in.rt")
 NOT_LINES = ("add_argument", "add_parser", "compile", "fullmatch", "match", "search", "sub", "findall", "strftime")  # calls
 WORDS = re.compile(r"[a-z]{2,}.* .*[a-z{]|[a-z{].* .*[a-z]{2,}")
+# Texts of other languages than Python, and what stands for a value in them.
+COMMENTS = re.compile(r"^\s*(?://|/?\*|ghost |#\[(?!error)).*$|/\*.*?\*/", re.MULTILINE)
+LITERALS = re.compile(r"\"((?:[^\"\\\n]|\\.|\\\n)*)\"|`((?:[^`\\]|\\.)*)`")
+VALUE = re.compile(r"\$\{[^{}]*\}|\{[\w.:$]*\}|%l*[sduc]")
+# Parts of a picture or of a style: tags, attributes, and names of classes.
+STYLE = re.compile(r"\{ .*\}$|^[\w-]+-src |^use strict$|^\w+ %\d+s$")
+MARKUP = re.compile(r"</?[a-z][^<>]*>?|[\w:-]+=\\?\"[^\"]*\\?\"?")
 
 
 def template(node: ast.JoinedStr | ast.Constant) -> str:
@@ -29,7 +42,7 @@ def template(node: ast.JoinedStr | ast.Constant) -> str:
 
 
 def is_call_of(node: ast.AST, names: tuple[str, ...]) -> bool:
-    """Whether a node calls a function of one of these names."""
+    """Returns whether a node calls a function of one of these names."""
     return isinstance(node, ast.Call) and ast.unparse(node.func).rpartition(".")[2] in names
 
 
@@ -44,14 +57,49 @@ def texts(node: ast.AST) -> Iterator[str]:
             yield from texts(child)
 
 
+class Page(HTMLParser):
+    """The texts of a page: those that it shows, and those that a screen reader says."""
+
+    def __init__(self) -> None:
+        super().__init__()
+        self.found: list[str] = []
+
+    def handle_data(self, data: str) -> None:
+        """Keeps a text between tags."""
+        self.found.append(" ".join(data.split()))
+
+    def handle_starttag(self, tag: str, attrs: list[tuple[str, str | None]]) -> None:
+        """Keeps the texts of a tag that are read aloud, or shown at the mouse."""
+        self.found += [value for name, value in attrs if name in ("title", "aria-label", "placeholder") and value]
+
+
+def literals(source: str) -> Iterator[str]:
+    """Yields the texts of a source in another language than Python, without its comments."""
+    for found in LITERALS.finditer(COMMENTS.sub("", source)):
+        yield VALUE.sub("{}", next(text for text in (*found.groups(), "") if text is not None).replace("\\\n", ""))
+
+
+def texts_of(file: Path) -> Iterator[str]:
+    """Yields the texts of a source."""
+    source = file.read_text(encoding="utf-8")
+    if file.suffix == ".py":
+        yield from texts(ast.parse(source))
+    elif file.suffix == ".html":
+        page = Page()
+        page.feed(source)
+        yield from page.found
+    else:
+        yield from literals(source)
+
+
 def lines() -> list[str]:
-    """Returns a line of the table for each text: the module and the text."""
+    """Returns a line of the table for each text: the source without its suffix, or with it if it isn't Python, and the text."""
     found = set()
-    for pattern in SOURCES:
-        for file in TOP.glob(pattern):
-            module = file.relative_to(TOP).with_suffix("").as_posix()
-            for text in texts(ast.parse(file.read_text(encoding="utf-8"))):
-                found |= {f"{module}: {line.strip()}" for line in text.splitlines() if WORDS.search(line)}
+    for file in {file for pattern in SOURCES for file in TOP.glob(pattern)}:
+        name = file.relative_to(TOP).as_posix()
+        for text in texts_of(file) if name not in NO_SOURCES else ():
+            shown = (" ".join(MARKUP.sub(" ", line).split()) for line in text.splitlines())
+            found |= {f"{name.removesuffix('.py')}: {line}" for line in shown if WORDS.search(line) and not STYLE.search(line)}
     return sorted(found)
 
 

@@ -19,7 +19,7 @@ class Machine:
 
     @property
     def on(self) -> tuple[str, ...]:
-        """The words before a command."""
+        """Returns the words before a command."""
         return "nsenter", f"--net=/proc/{self.process}/ns/net"
 
     def call(self, *words: str) -> None:
@@ -28,7 +28,7 @@ class Machine:
 
 
 def can_be_made() -> bool:
-    """Whether machines can be made here."""
+    """Returns whether machines can be made here."""
     if os.geteuid() != 0 or not all(map(shutil.which, ("ip", "unshare", "nsenter"))):
         return False
     return subprocess.run(["unshare", "--net", "true"], check=False, capture_output=True).returncode == 0
@@ -36,7 +36,7 @@ def can_be_made() -> bool:
 
 @contextmanager
 def two() -> Iterator[tuple[Machine, Machine]]:
-    """The teacher's machine and the students'."""
+    """Yields the teacher's machine and the students'."""
     holders = [subprocess.Popen(["unshare", "--net", "sh", "-c", "echo; exec sleep 100000"], stdout=subprocess.PIPE) for _ in range(2)]
     try:
         for it in holders:

@@ -14,20 +14,20 @@ STUDENTS = (("ana", "a-key"), ("ben", "b-key"))
 
 
 def journal_of(lab: Path, script: Path, journal: Path) -> Path:
-    """The journal that a script makes over a lab."""
+    """Returns the journal that a script makes over a lab."""
     subprocess.run([PROGRAM, "script", lab, script, journal], stdout=subprocess.DEVNULL, check=True)
     return journal
 
 
 def examples(room: Path) -> list[tuple[Path, Path]]:
-    """Each lab of examples/ that has a run, with the run's journal, and the built-in one with its own."""
+    """Returns each lab of examples/ that has a run, with the run's journal, and the built-in one with its own."""
     runs = [(lab, lab.with_name(f"{lab.stem}-run.script")) for lab in sorted(EXAMPLES.glob("*.toml"))]
     made = [(lab, journal_of(lab, script, room / f"{lab.stem}.journal")) for lab, script in runs if script.exists()]
     return [*made, (BUILT_IN, EXAMPLES / "whole-run.journal")]
 
 
 def lab_text(nodes: int, links: list[tuple[int, int]], events: int) -> str:
-    """A lab whose nodes ana and ben own together, but for those with an odd identifier, which are ana's."""
+    """Returns a lab whose nodes ana and ben own together, but for those with an odd identifier, which are ana's."""
     rows = [f"events = {events}", "sessions = 2", f"links = {[list(link) for link in links]}"]
     rows += ["[teacher]", 'name = "tess"', 'key = "chalk"']
     for name, key in STUDENTS:
@@ -38,7 +38,8 @@ def lab_text(nodes: int, links: list[tuple[int, int]], events: int) -> str:
 
 
 def many_owners(room: Path, nodes: int) -> Path:
-    """A cycle of so many nodes: names with the same initial, another one, and two owners for each third node."""
+    """Returns a cycle of so many nodes: names with the same initial, another one, and two owners for each third
+    node."""
     names = [f"student-{number}" for number in range(1, 13)] + ["zoe"]
     lab = room / f"owners-{nodes}.toml"
     rows = ["events = 9", "sessions = 2", "links = [" + ", ".join(f"[{a}, {a % nodes + 1}]" for a in range(1, nodes + 1)) + "]"]
@@ -51,7 +52,7 @@ def many_owners(room: Path, nodes: int) -> Path:
 
 
 def edited_run(room: Path) -> tuple[Path, Path]:
-    """A run with every kind of event: moves, a release, closes, faults, a link and a cut."""
+    """Returns a run with every kind of event: moves, a release, closes, faults, a link and a cut."""
     lab, script = room / "edited.toml", room / "edited.script"
     lab.write_text(lab_text(5, [(1, 2), (2, 3), (3, 4), (4, 5)], 100))
     ana, tess = '1 {"do":"hello","name":"ana","key":"a-key"}', '2 {"do":"hello","name":"tess","key":"chalk"}'

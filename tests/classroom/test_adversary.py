@@ -27,7 +27,7 @@ class Search(unittest.TestCase):
     """The search alone."""
 
     def over(self, made: labs.Lab) -> tuple[Adversary, list[int]]:
-        """An adversary with its program, and who is privileged."""
+        """Returns an adversary with its program, and who is privileged."""
         it = Adversary("test")
         self.addCleanup(it.close)
         report = it.bench_over(made).begin(made)

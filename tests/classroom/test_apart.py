@@ -1,4 +1,4 @@
-"""`./class grade` among bots that read, copy, spoil and fill: each is kept apart where the system lets it, or tried alone."""
+"""`./class grade` among bots that read, copy, spoil and fill: each is kept apart if the system lets it, or tried alone."""
 from __future__ import annotations
 
 import json
@@ -20,7 +20,7 @@ WITHOUT = ("unshare", "-U", "--map-root-user", "sh", "-c", 'echo 0 > /proc/sys/u
 
 
 def can_be_without() -> bool:
-    """Whether a program can be run here that gets no namespaces."""
+    """Returns whether a program can be run here that gets no namespaces."""
     return shutil.which("unshare") is not None and subprocess.run([*WITHOUT, "true"], capture_output=True, check=False).returncode == 0
 
 
@@ -38,7 +38,7 @@ class Grades(InRoom):
         shutil.copy(EXAMPLES / "path.toml", self.room / "labs")
 
     def grades(self, *faults: str, before: tuple[str, ...] = (), more: tuple[str | Path, ...] = ()) -> str:
-        """What a grade of these over the three usual daemons tells."""
+        """Returns what a grade of these over the three usual daemons prints."""
         bots = [f"python3 {FAULTY} {fault}" for fault in faults]
         call: list[str | Path] = [*before, sys.executable, TOP / "class", "grade", *bots, "--labs", self.room / "labs", "--timeout", "60",
                                   "--memory", "200", "--into", self.room / "grades", "--json", self.room / "cases.json", *more]
@@ -48,7 +48,7 @@ class Grades(InRoom):
         return done.stdout
 
     def passed(self, output: str, fault: str) -> int:
-        """How many of its cases a bot passed."""
+        """Returns how many of its cases a bot passed."""
         found = re.search(rf"(?m)^python3 faulty.py {fault}: (\d) of 3 cases passed$", output)
         assert found is not None, output
         return int(found[1])
@@ -86,7 +86,7 @@ class Apart(Grades):
         self.assertEqual(len(seen), 2 * len(files) + 3)
 
     def peeked(self, *bots: str, more: tuple[str | Path, ...] = ()) -> str:
-        """What the first bot printed last."""
+        """Returns what the first bot printed last."""
         call: list[str | Path] = [sys.executable, TOP / "class", "grade", *bots, "--labs", self.room / "labs", "--daemon", "central",
                                   "--into", self.room / "grades", "--json", self.room / "cases.json", "--timeout", "60", *more]
         done = subprocess.run(call, stdin=subprocess.DEVNULL, capture_output=True, text=True, check=False, timeout=LIMIT)

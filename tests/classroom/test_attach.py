@@ -19,7 +19,7 @@ class Attach(Cycle):
     """Runs over the cycle of `examples/`."""
 
     def killed(self, *more: str) -> Going:
-        """A run that was killed after a move, a close and a fault; its server lives."""
+        """Returns a run that was killed after a move, a close and a fault; its server lives."""
         going = Going(self, CYCLE, "--close", "by-hand", *more)
         server = going.server()
         self.addCleanup(self.end, server)
@@ -40,7 +40,7 @@ class Attach(Cycle):
             os.kill(server, signal.SIGKILL)
 
     def marks(self, folder: Path) -> dict[str, int]:
-        """How many moves each student had applied."""
+        """Returns how many moves each student had applied."""
         students = json.loads((folder / "marks.json").read_text(encoding="utf-8"))["runs"][0]["students"]
         return {name: sum(it["applied"].values()) for name, it in students.items()}
 

@@ -32,7 +32,7 @@ class Broken(Cycle):
     """Whatever ends a run, its folder is whole."""
 
     def lab(self, name: str, sessions: int) -> Path:
-        """A lab of `examples/` with so many seats."""
+        """Returns a lab of `examples/` with so many seats."""
         text = (EXAMPLES / name).read_text(encoding="utf-8")
         return self.file(name, re.sub(r"(?m)^sessions = \d+", f"sessions = {sessions}", text))
 
@@ -124,7 +124,8 @@ class Broken(Cycle):
         self.assertEqual(self.whole(going.folder), 60)
 
     def lost(self, act: Callable[[Path], object], status: int = 4) -> Going:
-        """A run of three events, to whose journal something was done, and which has ended by that with a status."""
+        """Returns a run of three events, to whose journal something was done, and which has ended by that with a
+        status."""
         going = Going(self, CYCLE, "--close", "by-hand", "--beside")
         for number in range(1, 4):
             going.type("fault 1 2 true")
@@ -136,7 +137,7 @@ class Broken(Cycle):
 
     @unittest.skipUnless(host(), "not tried: no host is built")
     def test_a_journal_that_is_removed_moved_or_replaced(self) -> None:
-        """Nobody asks for anything: the teacher is told all the same, and nothing is lost."""
+        """Nobody asks for anything: the teacher is still informed, and nothing is lost."""
         for act in (self.remove, self.move, self.replace):
             going = self.lost(act)
             told = f"its file was removed, moved or replaced; put back what stood there, then {CLASS} run --resume {going.folder}"

@@ -77,17 +77,17 @@ class Playing(InRoom):
         until(self.driver, lambda driver: driver.execute_script("return document.body.dataset.played === 'true'"))
 
     def is_told(self, text: str) -> None:
-        """Waits until the page tells that of its connection, and lets one come in again."""
+        """Waits until the page shows that of its connection, and lets one come in again."""
         until(self.driver, lambda driver: text in driver.find_element("id", "connection").text)
         until(self.driver, lambda driver: driver.find_element("id", "come").is_displayed() and driver.find_element("id", "come").is_enabled())
 
     def card(self, node: int) -> dict[str, Any]:
-        """What the page tells of a node."""
+        """Returns what the page shows of a node."""
         found: dict[str, Any] = self.driver.execute_script(CARD, str(node))
         return found
 
     def press(self, node: int, rule: str) -> str:
-        """Presses a rule's button; gives what is replied."""
+        """Presses a rule's button. Returns what is replied."""
         self.driver.execute_script("for (const it of document.querySelectorAll('.reply')) it.textContent = ''")
         for card in self.driver.find_elements("css selector", "#nodes section"):
             if card.find_element("class name", "id").text == str(node):
@@ -99,7 +99,7 @@ class Playing(InRoom):
         return reply
 
     def act(self, node: int) -> str:
-        """Presses the large button of a node; gives what is replied."""
+        """Presses the large button of a node. Returns what is replied."""
         self.driver.execute_script("for (const it of document.querySelectorAll('.reply')) it.textContent = ''")
         for button in self.driver.find_elements("css selector", ".btn.act"):
             if button.text.startswith(f"Node {node}: "):
@@ -119,19 +119,19 @@ class Playing(InRoom):
         until(self.driver, lambda driver: driver.find_element("id", "number").text == str(number))
 
     def seats(self, wanted: str) -> None:
-        """Waits until the desk tells that of who has a seat."""
+        """Waits until the desk prints that of who has a seat."""
         end = time.monotonic() + LIMIT
         while wanted not in (told := self.who()):
             self.assertLess(time.monotonic(), end, told)
             time.sleep(0.2)
 
     def who(self) -> str:
-        """What the desk tells of who has a seat."""
+        """Returns what the desk prints of who has a seat."""
         self.going.type("who")
         return self.going.until("^connected: .* seats: ")
 
     def compare(self, client: Client, nodes: list[int]) -> None:
-        """Wants of these nodes what the server tells them, in words and in the picture."""
+        """Checks of these nodes what the server answers them, in words and in the picture."""
         looks = {node: client.look(node) for node in nodes}
         drawn = {int(each["node"]): each for each in self.driver.execute_script(DRAWN)}
         self.assertEqual(drawn.keys(), {*nodes, *(near.node for look in looks.values() for near in look.near)})
@@ -192,13 +192,13 @@ class Playing(InRoom):
         self.keeps_no_key()
 
     def enter_beside(self, name: str) -> Client:
-        """A student's program beside the page."""
+        """Returns a student's program beside the page."""
         client = Client(self.going.port, name, KEYS[name])
         self.addCleanup(client.hang_up)
         return client
 
     def keeps_no_key(self) -> None:
-        """Wants no key in what the run keeps, but in its lab."""
+        """Checks for no key in what the run keeps, but in its lab."""
         for file in self.going.folder.iterdir():
             if file.is_file() and file.name not in ("lab.toml", "journal.lab"):
                 for key in (*KEYS.values(), read(CYCLE).teacher[1]):
@@ -288,7 +288,7 @@ class Wire(InRoom):
     """The page's bytes, asked without a browser."""
 
     def ask(self, hands: str, verb: str, path: str, body: object = None, **head: str) -> tuple[http.client.HTTPResponse, bytes]:
-        """An answer that is whole."""
+        """Returns an answer that is whole."""
         parts = urlsplit(hands)
         connection = http.client.HTTPConnection("127.0.0.1", parts.port or 0, timeout=LIMIT)
         self.addCleanup(connection.close)
@@ -298,7 +298,7 @@ class Wire(InRoom):
         return answer, answer.read()
 
     def enter(self, address: str, name: str, key: str) -> Rows:
-        """The lines that come to who comes in."""
+        """Returns the lines that come to who comes in."""
         rows = Rows(address, name, key)
         self.addCleanup(rows.connection.close)
         return rows
@@ -410,7 +410,7 @@ class Wire(InRoom):
         self.assertIn("no server at port", text)
 
     def nobody(self, hands: Hands) -> tuple[int, str]:
-        """What is told where no server listens."""
+        """Returns what is printed if no server listens."""
         with served(self) as other:
             other.show(hands.students, print)
             answer, told = self.ask(other.address, "POST", "/enter", {"name": "gus", "key": "a"})
@@ -426,7 +426,7 @@ class Wire(InRoom):
 
 
 class Host:
-    """What answers as a server does, and ends each connection as it is told, when it is told."""
+    """What answers as a server does, and ends each connection as a test asks, when it asks."""
 
     def __init__(self, ends: list[str]) -> None:
         self.ends, self.go, self.lines = ends, threading.Event(), list[bytes]()
@@ -478,7 +478,7 @@ def served(test: unittest.TestCase) -> Iterator[Hands]:
 
 
 def without_number(row: dict[str, Any]) -> dict[str, Any]:
-    """A row without the number of its configuration."""
+    """Returns a row without the number of its configuration."""
     return row | {"at": 0, "picture": re.sub('data-number="[0-9]+"', "", row["picture"])}
 
 

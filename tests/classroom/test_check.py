@@ -12,7 +12,7 @@ from tests.classroom.help import EXAMPLES, InRoom, words
 
 
 def table(head: str, *lines: str) -> str:
-    """A table of a lab's file, behind an empty line."""
+    """Returns a table of a lab's file, after an empty line."""
     return "\n".join(("", head, *lines, ""))
 
 
@@ -32,7 +32,7 @@ class Check(InRoom):
     """A good lab, and one change each."""
 
     def says(self, status: int, *wanted: str, change: tuple[str, str] = ("", ""), text: str = GOOD) -> str:
-        """Wants a status and lines."""
+        """Checks for a status and lines."""
         self.assertTrue(change[0] in text)
         done = words("check", self.file("lab.toml", text.replace(*change, 1) if change[0] else text))
         self.assertEqual(done.returncode, status, done.stdout + done.stderr)
@@ -41,7 +41,7 @@ class Check(InRoom):
         return done.stdout
 
     def warns(self, *wanted: str, change: tuple[str, str]) -> None:
-        """Wants these warnings and no other."""
+        """Checks for these warnings and no other."""
         self.assertEqual(self.says(5, *wanted, change=change).count("warning: "), len(wanted))
 
     def test_nothing_to_say(self) -> None:
@@ -107,7 +107,7 @@ class Check(InRoom):
         self.warns("node 17 has no neighbour", "the network is in 2 parts", change=(", [12, 17]", ""))
 
     def test_pairs(self) -> None:
-        self.warns("warning: two students own node 12: a mark by counts of granted moves is there one for the quicker program",
+        self.warns("warning: two students own node 12: a mark by granted moves favours the quicker program there",
                    change=PAIR)
         students = self.file("students", "Ana\nBen\nCyd\n")
         self.assertEqual(words("new", self.room / "pairs.toml", "--students", students, "--pairs", "--nodes", "10").returncode, 0)
@@ -141,14 +141,14 @@ class Check(InRoom):
 
 
 class Tables(unittest.TestCase):
-    """The lines of a lab's tables and keys, and what is told of those that the format doesn't name."""
+    """The lines of a lab's tables and keys, and what is printed of those that the format doesn't name."""
 
     def hints(self, *lines: str) -> list[tuple[int, str, str | None]]:
-        """What is told of a file of these lines."""
+        """Returns what is printed of a file of these lines."""
         return list(strange("\n".join(lines) + "\n"))
 
     def is_told_alone(self, *lines: str) -> None:
-        """Wants the key `note` told in the first line, once, and one below it, and no other."""
+        """Checks that the key `note` is reported in the first line, once, and one below it, and no other."""
         below = len(lines) + 1
         self.assertEqual(self.hints(*lines, "sesions = 4"), [(1, "note", "node"), (below, "sesions", "sessions")])
 

@@ -37,7 +37,7 @@ class Palette(unittest.TestCase):
     """Needs no browser: what it computes holds for each of them."""
 
     def readable(self, pairs: set[tuple[str, str]]) -> None:
-        """Wants the contrast of a text in both themes."""
+        """Checks for the contrast of a text in both themes."""
         for theme in colours.THEMES:
             for front, back in sorted(pairs):
                 one, other = ([float(int(colours.value(f"--{name}", theme)[at:at + 2], 16)) for at in (1, 3, 5)] for name in (front, back))

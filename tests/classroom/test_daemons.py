@@ -1,4 +1,4 @@
-"""Daemons and faults at the desk of `./class run`, and how it is told that the class came back."""
+"""Daemons and faults at the desk of `./class run`, and how it is reported that the class came back."""
 from __future__ import annotations
 
 import os
@@ -116,7 +116,7 @@ class Desk(Cycle):
     """Runs with the four bots of the cycle."""
 
     def comes_back(self, daemon: str, *words: str) -> Path:
-        """Does the words, waits for the class each time, and ends; gives the folder."""
+        """Does the words, waits for the class each time, and ends. Returns the folder."""
         going = Going(self, CYCLE, "--daemon", daemon, *SERVE)
         for name in KEYS:
             self.bot(going, name)

@@ -56,7 +56,7 @@ class Completed(unittest.TestCase):
     """What the tab key offers."""
 
     def offers(self, line: str) -> list[str]:
-        """What the tab key offers at the end of a line, where nodes are 1, 12 and 7."""
+        """Returns what the tab key offers at the end of a line, if nodes are 1, 12 and 7."""
         terminal = object.__new__(Terminal)
         terminal.words, terminal.readline = ["1", "12", "7"], unittest.mock.Mock()
         terminal.readline.get_line_buffer.return_value = line
@@ -74,7 +74,7 @@ class Completed(unittest.TestCase):
 
 
 class Words(Cycle):
-    """Runs that are told what to do."""
+    """Runs that take words."""
 
     def test_the_end_is_asked_for_twice(self) -> None:
         going = Going(self, CYCLE, "--close", "by-hand")
@@ -288,20 +288,20 @@ class Kept(InRoom):
 
 
 class Disk(InRoom):
-    """What is told of a disk."""
+    """What is printed of a disk."""
 
     def test_little_room_none_and_room_again(self) -> None:
         told = self.told(self.disk(), 10**9, 65536, 65535, 4096, 0, 0, 10**9, 10**9)
         self.assertEqual(told, [[], [], ["the disk has little room"], [], ["the disk is full"], [], ["the disk has room again"], []])
 
     def disk(self) -> Room:
-        """The room on the disk of the test's folder."""
+        """Returns the room on the disk of the test's folder."""
         room = Room(self.room)
         self.addCleanup(room.close)
         return room
 
     def told(self, room: Room, *free: int) -> list[list[str]]:
-        """The beginnings of what is told where so many bytes are free, one after the other."""
+        """Returns the beginnings of what is printed if so many bytes are free, one after the other."""
         told = []
         for left in free:
             room.due = 0.0
@@ -362,10 +362,10 @@ class Memory(InRoom):
 
 
 class NotDone(Cycle):
-    """What can't be done is told in a line, and no folder is left."""
+    """What can't be done is reported in a line, and no folder is left."""
 
     def says(self, status: int, line: str, *asked: str | Path) -> None:
-        """Wants a status and one line of error."""
+        """Checks for a status and one line of error."""
         done = words(*asked)
         self.assertEqual((done.returncode, done.stdout), (status, ""), done.stderr)
         self.assertRegex(done.stderr, f"^{line}\n$")
@@ -373,11 +373,11 @@ class NotDone(Cycle):
     def test_a_line_each(self) -> None:
         into = self.room / "runs"
         for word, port in (("--port", "65536"), ("--port", "0"), ("--page", "70000"), ("--page", "x")):
-            self.says(1, f"class run: argument {word}: {port} is no port: 1 to 65535; class run --help tells the words",
+            self.says(1, f"class run: argument {word}: {port} is no port: 1 to 65535; class run --help prints the words",
                       "run", CYCLE, word, port, "--into", into)
         self.says(4, f"class: {self.room}/none.toml: No such file or directory", "run", self.room / "none.toml", "--into", into)
         self.says(4, f"class: {self.room}: .*", "run", self.room, "--into", into)
-        self.says(1, "class: the following arguments are required: .*; class --help tells the words")
+        self.says(1, "class: the following arguments are required: .*; class --help prints the words")
         file = self.file("file", "")
         self.says(4, f"class: {file}/.*: Not a directory; --into FOLDER names another folder", "run", CYCLE, "--into", file)
         self.says(4, "class: /proc/none/.*; --into FOLDER names another folder", "run", CYCLE, "--into", "/proc/none")

@@ -134,12 +134,12 @@ class OnPage(unittest.TestCase):
         self.assertEqual(fields - {name for name in fields if f'id="{name}"' in page}, set())
 
     def filled(self, line: str) -> str:
-        """The line with the fields' values."""
+        """Returns the line with the fields' values."""
         return re.sub(r"#(\w+)", lambda found: FIELDS[found[1]], line)
 
 
 class InJournal(unittest.TestCase):
-    """What the table tells of a journal's events."""
+    """What the table says of a journal's events."""
 
     def test_events(self) -> None:
         for line, (asked, nodes, links, is_edit) in EVENTS.items():

@@ -121,7 +121,7 @@ class AtDoor(InRoom):
             time.sleep(0.02)
 
     def network(self, name: str, students: int, page: int | None = None, play: int | None = None) -> Path:
-        """A network whose run goes on, as this test does."""
+        """Returns a network whose run goes on, as this test does."""
         run = self.room / f"run-{name}"
         run.mkdir(exist_ok=True)
         routes.announce(self.door.folder, name, run, ["class.example"])
@@ -134,25 +134,25 @@ class AtDoor(InRoom):
         Record("lab.toml", students, 1, page, "by-hand", None, me, me, play, looks="look-token").write(run)
 
     def lines(self, name: str, last: bytes = b"") -> Lines:
-        """A network that answers lines."""
+        """Returns a network that answers lines."""
         it = Lines(name, last)
         self.addCleanup(it.listener.close)
         self.network(name, it.port)
         return it
 
     def slip(self, name: str, fingerprint: str = "") -> Slip:
-        """A slip that leads to a network."""
+        """Returns a slip that leads to a network."""
         return Slip(4711, "gus", "heron-31", (1,), f"127.0.0.1:{self.door.port}", name, fingerprint or self.known)
 
     def files(self, slip: Slip) -> Path:
-        """The file of a slip."""
+        """Returns the file of a slip."""
         path = self.room / "gus.slip"
         path.write_text(f"port {slip.port}\nname gus\nkey heron-31\nnodes 1\ndoor {slip.door}\nnetwork {slip.network}\n"
                         f"fingerprint {slip.fingerprint}\n", encoding="utf-8")
         return path
 
     def raw(self, name: str) -> ssl.SSLSocket:
-        """A connection after its handshake, with a server name or without."""
+        """Returns a connection after its handshake, with a server name or without."""
         context = ssl.SSLContext(ssl.PROTOCOL_TLS_CLIENT)
         context.check_hostname, context.verify_mode = False, ssl.CERT_NONE
         it = context.wrap_socket(socket.create_connection(("127.0.0.1", self.door.port), LIMIT), server_hostname=name or None)
@@ -234,7 +234,7 @@ class Bots(AtDoor):
         for words in ([str(self.files(other))], ["--tunnel", str(self.files(other))]):
             done = subprocess.run([sys.executable, CLIENT, *words], capture_output=True, text=True, check=False, timeout=LIMIT, input="")
             self.assertEqual((done.returncode, done.stdout), (4, ""))
-            self.assertRegex(done.stderr, "^client.py: the certificate of the door .*; your teacher tells the certificate\n$")
+            self.assertRegex(done.stderr, "^client.py: the certificate of the door .*; ask your teacher for the certificate\n$")
         self.assertEqual(seen, [])
 
     def test_last_words_reach_the_client(self) -> None:
@@ -301,7 +301,7 @@ class Tunnels(AtDoor):
 
     @contextmanager
     def tunnel(self, slip: Path, *more: str) -> Iterator[str]:
-        """A tunnel, once it has printed its line."""
+        """Yields a tunnel, once it has printed its line."""
         with subprocess.Popen([sys.executable, CLIENT, "--tunnel", slip, *more], stdout=subprocess.PIPE, stderr=subprocess.PIPE, text=True) as it:
             try:
                 assert it.stdout is not None
@@ -587,7 +587,7 @@ class Certificates(InRoom):
 
 
 def opening_port() -> int:
-    """A port that is free."""
+    """Returns a port that is free."""
     with socket.create_server(("127.0.0.1", 0)) as it:
         port: int = it.getsockname()[1]
     return port

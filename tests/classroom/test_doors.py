@@ -31,7 +31,7 @@ class Doors(unittest.TestCase):
         self.port = self.opened(a_port()).server_port
 
     def opened(self, port: int) -> Web:
-        """The page for the projector."""
+        """Returns the page for the projector."""
         pages = open_pages(port, "cycle", read(CYCLE), queue.SimpleQueue())
         pages.show(Present(State(0, 0, frozenset()), "by-hand"), self.told.append)
         self.addCleanup(pages.stop)
@@ -39,17 +39,17 @@ class Doors(unittest.TestCase):
         return pages
 
     def unserved(self) -> Web:
-        """The page as it is before its run is there: it listens, and takes nobody."""
+        """Returns the page as it is before its run is there: it listens, and takes nobody."""
         return open_pages(a_port(), "cycle", read(CYCLE), queue.SimpleQueue())
 
     def connect(self) -> socket.socket:
-        """A connection that says nothing yet."""
+        """Returns a connection that says nothing yet."""
         it = socket.create_connection(("127.0.0.1", self.port), LIMIT)
         self.addCleanup(it.close)
         return it
 
     def asks(self) -> int:
-        """The status of an answer, or 0 where there is none."""
+        """Returns the status of an answer, or 0 if there is none."""
         connection = http.client.HTTPConnection("127.0.0.1", self.port, timeout=LIMIT)
         try:
             connection.request("GET", self.path)
@@ -60,7 +60,7 @@ class Doors(unittest.TestCase):
             connection.close()
 
     def request(self, method: str, path: str, *heads: str) -> bytes:
-        """A request as its bytes."""
+        """Returns a request as its bytes."""
         return "\r\n".join([f"{method} {path} HTTP/1.1", f"Host: 127.0.0.1:{self.port}", *heads, "", ""]).encode("ascii")
 
     def test_a_size_of_many_digits_is_no_error_of_the_page(self) -> None:
@@ -75,7 +75,7 @@ class Doors(unittest.TestCase):
         numbers = iter(range(1000))
 
         def fails(_: object) -> bool:
-            """An error whose text is another each time."""
+            """Returns an error whose text is another each time."""
             raise ValueError(f"the {next(numbers)}th")
 
         with mock.patch("classroom.pages.web.Asked.is_elsewhere", fails):
@@ -151,7 +151,7 @@ class DoorsOfHands(Doors):
     path = "/events"
 
     def opened(self, port: int) -> Web:
-        """The page at which students play by hand."""
+        """Returns the page at which students play by hand."""
         hands = open_hands(port, "cycle", read(CYCLE))
         hands.show(1, self.told.append)
         self.addCleanup(hands.stop)
@@ -159,7 +159,7 @@ class DoorsOfHands(Doors):
         return hands
 
     def unserved(self) -> Web:
-        """The page as it is before its run is there: it listens, and takes nobody."""
+        """Returns the page as it is before its run is there: it listens, and takes nobody."""
         return open_hands(a_port(), "cycle", read(CYCLE))
 
 

@@ -1,4 +1,4 @@
-"""What can go wrong where bots are tried: full disks, no labs, no browser, programs that misbehave at home."""
+"""What can go wrong if bots are tried: full disks, no labs, no browser, programs that misbehave at home."""
 from __future__ import annotations
 
 import argparse
@@ -25,7 +25,7 @@ FULL = 'mount -t tmpfs -o size=64k none "$1" && head -c 1000000 /dev/zero > "$1/
 
 
 def full_disk(test: InRoom) -> tuple[Path, tuple[str, ...]]:
-    """A folder, and the words of a call in which it is a full disk."""
+    """Returns a folder, and the words of a call in which it is a full disk."""
     disk = test.room / "disk"
     disk.mkdir()
     for way in (["unshare", "-m"], ["unshare", "-rm"]):
@@ -103,7 +103,7 @@ class AtHome(InRoom):
     """Programs that misbehave while a student practises."""
 
     def practises(self, bot: str, seconds: str = "3") -> str:
-        """What is told of a bot that hangs or ends; one that does something before has more seconds."""
+        """Returns what is printed of a bot that hangs or ends; one that does something before has more seconds."""
         done = words("practise", bot, "--family", "path", "--nodes", "3", "--start", "clean", "--daemon", "synchronous", "--timeout", seconds,
                      "--into", self.room / "runs")
         self.assertEqual(done.returncode, 5, done.stdout + done.stderr)
@@ -134,7 +134,7 @@ class AtHome(InRoom):
 
 
 def cmdline(process: Path) -> list[bytes]:
-    """The words of a process."""
+    """Returns the words of a process."""
     try:
         return (process / "cmdline").read_bytes().split(b"\0") if process.name.isdecimal() else []
     except OSError:

@@ -29,7 +29,7 @@ TINY = ("--family", "path,star,random", "--nodes", "3..5", "--daemon", "central,
 
 
 def read(path: Path) -> list[dict[str, str]]:
-    """The rows of a table."""
+    """Returns the rows of a table."""
     with path.open(encoding="utf-8", newline="") as it:
         return list(csv.DictReader(it))
 

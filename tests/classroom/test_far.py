@@ -67,7 +67,7 @@ class Far(InRoom):
             time.sleep(0.1)
 
     def reaches(self, machine: Machine, port: int) -> bool:
-        """Whether the teacher's machine takes connections from a machine at a port."""
+        """Returns whether the teacher's machine takes connections from a machine at a port."""
         return subprocess.run([*machine.on, sys.executable, "-c", REACHES, TEACHERS, str(port)], check=False, capture_output=True).returncode == 0
 
     def gets(self, path: str) -> tuple[int, int]:

@@ -67,13 +67,13 @@ class Hostile(Disputed):
         self.whole_one = self.ended(going)
 
     def copy(self) -> Path:
-        """Another copy of the folder."""
+        """Returns another copy of the folder."""
         folder = self.room / f"copy-{len(list(self.room.iterdir()))}"
         shutil.copytree(self.whole_one, folder)
         return folder
 
     def says(self, done: subprocess.CompletedProcess[str], status: int, *named: Path | str) -> None:
-        """Wants a status, and one line that names these."""
+        """Checks for a status, and one line that names these."""
         told = done.stderr.strip()
         self.assertEqual((done.returncode, told.count("\n"), told.startswith("class: ")), (status, 0, True), told or done.stdout)
         for each in named:

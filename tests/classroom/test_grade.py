@@ -50,12 +50,12 @@ PLANS = {plan.name: plan for plan in suites.SMALL}
 
 
 def faulty(fault: str) -> Bot:
-    """The bot of a fault."""
+    """Returns the bot of a fault."""
     return Bot.of(f"{sys.executable} {FAULTY} {fault}")
 
 
 def case(bot: Bot, plan: str, limits: Limits, room: Path) -> Result:
-    """How a bot does in a case of `small`."""
+    """Returns how a bot does in a case of `small`."""
     it = PLANS[plan]
     with tempfile.TemporaryDirectory() as own:
         found = tried(bot, suites.planned(it, 1, it.daemon), limits, Path(own), room / bot.name / plan, threading.Event())
@@ -76,12 +76,12 @@ def left_behind() -> list[str]:
 
 
 def children(process: int) -> list[int]:
-    """The processes that a process started."""
+    """Returns the processes that a process started."""
     return sorted(child for child, parent in parents().items() if parent == process)
 
 
 def end(process: int) -> None:
-    """Kills a process, where it is still there."""
+    """Kills a process, if it is still there."""
     try:
         os.kill(process, signal.SIGKILL)
     except ProcessLookupError:
@@ -89,7 +89,7 @@ def end(process: int) -> None:
 
 
 def command_of(process: int) -> list[bytes]:
-    """The words of a process; none where it has ended."""
+    """Returns the words of a process; none if it has ended."""
     try:
         return Path(f"/proc/{process}/cmdline").read_bytes().split(b"\0")
     except OSError:
@@ -97,7 +97,7 @@ def command_of(process: int) -> list[bytes]:
 
 
 def nothing_left(test: unittest.TestCase) -> None:
-    """Wants that nothing goes on which a bot started. Other tests beside this one have such bots, for a moment."""
+    """Checks that nothing goes on which a bot started. Other tests beside this one have such bots, for a moment."""
     end = time.monotonic() + LIMIT
     while left := left_behind():
         test.assertLess(time.monotonic(), end, left)

@@ -1,4 +1,4 @@
-"""What `./class run` tells from the record: who comes and goes, guesses keys, asks in vain, floods."""
+"""What `./class run` prints from the record: who comes and goes, guesses keys, asks without success, floods."""
 from __future__ import annotations
 
 import unittest
@@ -38,7 +38,7 @@ class Listened(InRoom):
         self.say(seat, 0, HELLO % (name, "some-key"), f'{{"ok":"hello","who":"{name}"}}')
 
     def news(self, step: int = 0, seconds: float = 1.0) -> list[str]:
-        """What is told after so many seconds."""
+        """Returns what is printed after so many seconds."""
         self.now += seconds
         return self.heard.look(step, self.now)
 
@@ -95,8 +95,8 @@ class Listened(InRoom):
         for name in ("\x1b[2Jmallory", "heron-31", "tess"):
             self.say(5, 0, HELLO % (name.replace("\x1b", "\\u001b"), "x"), UNKNOWN)
         self.say(5, 0, '{"do":"hello","name":"gus","name":"hana","key":"k"}', UNKNOWN, 11)
-        self.assertEqual(self.news(), ["2 wrong keys for names that the lab hasn't", "1 wrong key for tess", "11 wrong keys for hana"])
-        self.assertEqual(self.heard.amiss(), ["wrong keys: 11 for gus, 2 for names that the lab hasn't, 1 for tess, 11 for hana"])
+        self.assertEqual(self.news(), ["2 wrong keys for names that aren't in the lab", "1 wrong key for tess", "11 wrong keys for hana"])
+        self.assertEqual(self.heard.amiss(), ["wrong keys: 11 for gus, 2 for names that aren't in the lab, 1 for tess, 11 for hana"])
 
     def test_who_asks_in_vain_since_the_last_step(self) -> None:
         self.greet(5, "gus")
@@ -132,7 +132,7 @@ class Listened(InRoom):
         self.assertEqual(self.news(seconds=3), ["no flood any longer of gus"])
         self.put(5, "5 0 !\n5 0 .\n")
         self.assertEqual(self.news(), [
-            "gone: gus", "the rest of what gus sends isn't recorded: it has taken its room in the record, or the disk is full"])
+            "gone: gus", "the rest of what gus sends isn't recorded: its share of the record is used up, or the disk is full"])
 
     def test_who_goes_on_is_told_only_what_is_new(self) -> None:
         self.greet(5, "gus")

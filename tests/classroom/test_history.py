@@ -1,4 +1,5 @@
-"""A class's record: what `run` tells from it, what `mark` says of it, and `./class history`, which shows a student's lines."""
+"""A class's record: what `run` prints from it, what `mark` says of it, and `./class history`, which shows a student's
+lines."""
 from __future__ import annotations
 
 import csv
@@ -60,7 +61,7 @@ class Raw:
             self.ask(hello(name, key or KEYS[name]))
 
     def ask(self, line: bytes) -> str:
-        """The reply to a line."""
+        """Returns the reply to a line."""
         self.socket.sendall(line)
         return self.replies.readline().decode("ascii").rstrip("\n")
 
@@ -73,7 +74,7 @@ class Raw:
 
 
 def hello(name: str, key: str) -> bytes:
-    """A greeting."""
+    """Returns a greeting."""
     return b'{"do":"hello","name":"%s","key":"%s"}\n' % (name.encode(), key.encode())
 
 
@@ -107,22 +108,22 @@ class Disputed(Cycle):
         return going
 
     def ended(self, going: Going) -> Path:
-        """Its folder, after its end."""
+        """Returns its folder, after its end."""
         self.assertEqual(going.ended(), 0, going.lines)
         return going.folder
 
     def seat(self, folder: Path) -> Path:
-        """The file of the seat in which gus was known."""
+        """Returns the file of the seat in which gus was known."""
         return next(file for file in (folder / "record").glob("*.record") if b'"who":"gus"' in file.read_bytes())
 
     def history(self, folder: Path, *more: str | Path, name: str = "gus") -> str:
-        """What is printed."""
+        """Returns what is printed."""
         done = words("history", folder, name, *more)
         self.assertEqual((done.returncode, done.stderr), (0, ""))
         return done.stdout
 
     def wanted(self, folder: Path) -> str:
-        """What the history of gus has to be, whichever seats were free."""
+        """Returns what the history of gus has to be, whichever seats were free."""
         seat = self.seat(folder).name.partition(".")[0]
         other = next(file.name.partition(".")[0] for file in (folder / "record").glob("*.record") if b"heron-13" in file.read_bytes())
         guessed, greeted = GUESSED.replace("SEAT", other), GREETED.replace("SEAT", seat)
@@ -131,7 +132,7 @@ class Disputed(Cycle):
 
 
 class Told(Disputed):
-    """What is told while a class goes on, and after it."""
+    """What is reported while a class goes on, and after it."""
 
     def test_a_student_is_answered(self) -> None:
         going = self.disputed()
@@ -224,7 +225,7 @@ class Verified(Disputed):
     """Records that aren't as they were, and what is said of them."""
 
     def denied(self, folder: Path) -> list[int | None]:
-        """What `mark` tells of gus: by each clause, and malformed."""
+        """Returns what `mark` prints about gus: by each clause, and malformed."""
         run = json.loads(words("mark", folder, "--json").stdout)["runs"][0]
         gus = run["students"]["gus"]
         return [*(gus[column] for column in COLUMNS), run["whole"]]
@@ -347,7 +348,7 @@ class Verified(Disputed):
 
 
 def squeezed(text: str) -> str:
-    """The text with one space for several."""
+    """Returns the text with one space for several."""
     return re.sub(r" +", " ", text)
 
 

@@ -28,14 +28,14 @@ class Hosted(Cycle):
         return going
 
     def ended(self, going: Going) -> None:
-        """Wants a run that was ended by the bye at its desk, and its folder whole."""
+        """Checks for a run that was ended by the bye at its desk, and its folder whole."""
         self.assertEqual(going.ends(), 0, going.lines)
         events = self.whole(going.folder)
         self.assertRegex((going.folder / "server.txt").read_text(encoding="utf-8"),
                          rf"^listening on port \d+, desk on port \d+\ndone: {events} events, configuration \d+\n$")
 
     def let_in(self, port: int, name: str, key: str) -> Client:
-        """A connection, as soon as a seat is free."""
+        """Returns a connection, as soon as a seat is free."""
         while True:
             try:
                 return Client(port, name, key)
@@ -44,7 +44,7 @@ class Hosted(Cycle):
                 time.sleep(0.01)
 
     def desk(self, going: Going) -> int:
-        """The desk's port."""
+        """Returns the desk's port."""
         return next(int(line.removeprefix("desk ")) for line in going.lines if line.startswith("desk "))
 
     def test_to_stable_with_bots_that_die_and_come_again(self) -> None:
@@ -66,7 +66,7 @@ class Hosted(Cycle):
         gus = self.bot(going, "gus")
         going.until("^connected: gus$")
         self.bot(going, "hana")
-        going.until_each("^connected: hana$", "^all seats are taken: who comes now is told so; who tells whose they are$")
+        going.until_each("^connected: hana$", "^all seats are taken: newcomers are turned away; type who to see whose they are$")
         going.type("who")
         going.until("^connected: 2 of 2 seats: gus, hana$")
         for _ in range(3):

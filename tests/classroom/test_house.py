@@ -1,4 +1,4 @@
-"""Who is absent: the house plays in its own name, and no student is marked by it."""
+"""Absent students: the house plays in its own name, and no student is marked by it."""
 from __future__ import annotations
 
 import csv
@@ -35,7 +35,7 @@ class Alone(unittest.TestCase):
         self.told: list[str] = []
 
     def house(self, seconds: float | None) -> House:
-        """One that plays, since somebody has come."""
+        """Returns one that plays, since somebody has come."""
         house = House(self.lab, 1, seconds, self.told.append)
         house.begun = True
         return house
@@ -108,11 +108,11 @@ class Standing(InRoom):
         self.addCleanup(bot.kill)
 
     def slip(self, name: str) -> Path:
-        """A student's slip."""
+        """Returns a student's slip."""
         return self.room / "maths-slips" / f"{name}.slip"
 
     def grants(self, folder: Path) -> dict[str, set[int]]:
-        """At which nodes each name was granted moves."""
+        """Returns at which nodes each name was granted moves."""
         found: dict[str, set[int]] = {}
         for event in events((folder / "journal").read_text(encoding="ascii")):
             if event.kind == "grant":
@@ -258,14 +258,14 @@ class Standing(InRoom):
         lab = self.file("one.toml", re.sub(r"(?m)^sessions = \d+", "sessions = 2", self.made.read_text(encoding="utf-8")))
         going = Going(self, lab, "--stand-in", "0.1s", "--daemon", "synchronous")
         with Client(going.port, "ana-lima", self.lab.students["ana-lima"]):
-            going.until("^no seat is free for the house, which would play now; who tells whose they are$")
+            going.until("^no seat is free for the house, which would play now; type who to see whose they are$")
         going.until("^stable after ")
         first = next(at for at, line in enumerate(going.lines) if line.startswith("configuration "))  # Then it has a seat now and then.
         self.assertEqual(sum("no seat is free" in line for line in going.lines[:first]), 1)
 
 
 class Refused(InRoom):
-    """Where nobody can stand in."""
+    """If nobody can stand in."""
 
     def test_labs_without_a_house_say_how_to_get_one(self) -> None:
         done = words("run", CYCLE, "--stand-in", "20s", "--into", self.room / "runs")

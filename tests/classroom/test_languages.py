@@ -1,4 +1,4 @@
-"""The example bots in other languages than Python, each where its compiler or interpreter is on this machine."""
+"""The example bots in other languages than Python, each if its compiler or interpreter is on this machine."""
 from __future__ import annotations
 
 import os
@@ -29,7 +29,7 @@ def tearDownModule() -> None:
 
 @cache
 def bots() -> dict[str, Command]:
-    """Each bot that can be tried here, by its file's name: the words to which a slip is added."""
+    """Returns each bot that can be tried here, by its file's name: the words to which a slip is added."""
     found: dict[str, Command] = {}
     for name, program in PROGRAMS.items():
         if shutil.which(program) is None:
@@ -77,7 +77,7 @@ class Bots(Cycle):
                 self.assertEqual((said.returncode, said.stderr.count("\n")), (status, 1), (name, text, said.stderr))
 
     def all_in(self, going: Going) -> list[tuple[str, subprocess.Popen[str]]]:
-        """A bot in each language, of one student, all of whom have greeted."""
+        """Returns a bot in each language, of one student, all of whom have greeted."""
         every: dict[str, Command] = {"bot.py": (sys.executable, EXAMPLES / "bot.py"), **bots()}
         playing = []
         for name, command in every.items():
@@ -90,7 +90,7 @@ class Bots(Cycle):
         return playing
 
     def are_ended(self, playing: list[tuple[str, subprocess.Popen[str]]], status: int, why: str) -> None:
-        """Wants that all end so."""
+        """Checks that all end so."""
         for name, bot in playing:
             said = bot.communicate(timeout=LIMIT)[1]
             self.assertEqual((bot.returncode, said.partition(": ")[2].partition(" (")[0].rstrip()), (status, why), (name, said))

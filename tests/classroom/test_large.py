@@ -7,9 +7,9 @@ from pathlib import Path
 from tests.classroom.browser import Played, is_ready, shown, until
 from tests.classroom.runs import largest_run
 
-# The limits are for the machine on which LOAD takes so many milliseconds where nothing else runs. A slower one has
-# as much more time as it is slower. There the page opens in 400 and steps in 56, so that a limit is met beside other
-# work too; a step that draws more than what changed is seen by what it touches.
+# The limits are for the machine on which LOAD takes so many milliseconds if nothing else runs. A slower one has as much
+# more time as it is slower. There the page opens in 400 and steps in 56, so that a limit is met beside other work too;
+# a step that draws more than what changed is seen by what it touches.
 OPENS, STEPS, LOADED = 2000, 250, 170
 LOAD = """
 for (let round = 0; round < 10; round += 1) {
@@ -48,24 +48,24 @@ class Large(Played):
         self.driver.set_script_timeout(300)
 
     def spent(self) -> float:
-        """The milliseconds of a processor that the page's tasks have taken: what else runs isn't in it."""
+        """Returns the milliseconds of a processor that the page's tasks have taken: what else runs isn't in it."""
         metrics = self.driver.execute_cdp_cmd("Performance.getMetrics", {})["metrics"]
         return 1000 * next(float(metric["value"]) for metric in metrics if metric["name"] == "TaskDuration")
 
     def slowness(self) -> float:
-        """How many times slower than that machine this one is now; 1 where it is quicker."""
+        """Returns how many times slower than that machine this one is now; 1 if it is quicker."""
         start = self.spent()
         self.driver.execute_script(LOAD)
         return max(1.0, (self.spent() - start) / LOADED)
 
     def step(self, place: int) -> float:
-        """The time of a step that ends at the place."""
+        """Returns the time of a step that ends at the place."""
         start = self.spent()
         self.driver.execute_async_script(STEP, place)
         return self.spent() - start
 
     def opened(self, page: Path) -> float:
-        """The time in which the page opens, on that machine."""
+        """Returns the time in which the page opens, on that machine."""
         self.driver.get("about:blank")
         slowness = self.slowness()
         self.driver.get(page.as_uri())
@@ -74,7 +74,7 @@ class Large(Played):
         return self.spent() / slowness
 
     def stepped(self, places: list[int]) -> list[float]:
-        """The time of a step to each place, on that machine."""
+        """Returns the time of a step to each place, on that machine."""
         slowness = self.slowness()
         self.step(places[0] - 1)
         return [self.step(place) / slowness for place in places]

@@ -22,20 +22,20 @@ SECONDS = 60  # of a processor for a network of 256 nodes, at most; this machine
 
 
 def network(word: str, size: int = 15) -> tuple[list[int], Links]:
-    """A network of a family."""
+    """Returns a network of a family."""
     count, links = family(word, None if ":" in word else size, size, random.Random(7))
     return list(range(1, count + 1)), sorted(links)
 
 
 def renamed(nodes: list[int], links: Links, seed: int) -> tuple[list[int], Links]:
-    """The same network under other identifiers."""
+    """Returns the same network under other identifiers."""
     drawn = random.Random(seed).sample(range(1, 60000), len(nodes))
     names = dict(zip(nodes, drawn))
     return drawn, [(names[a], names[b]) for a, b in links]
 
 
 def viewed(word: str, size: int = 15) -> tuple[View, Links]:
-    """A drawing of a family's network for a screen, with names."""
+    """Returns a drawing of a family's network for a screen, with names."""
     nodes, links = network(word, size)
     return view_of({node: [NAMES[node % len(NAMES)]] for node in nodes}, links, WIDE), links
 
@@ -44,7 +44,7 @@ class Shapes(unittest.TestCase):
     """What a network is, is recognised from its links alone, and is seen."""
 
     def shape(self, word: str, size: int = 15, seed: int = 0) -> tuple[str, Layout, list[int]]:
-        """The kind of a network, its layout, and its nodes as the family numbers them."""
+        """Returns the kind of a network, its layout, and its nodes as the family numbers them."""
         nodes, links = network(word, size)
         if seed:
             nodes, links = renamed(nodes, links, seed)
@@ -191,7 +191,7 @@ class Labels(unittest.TestCase):
     """Names and rules lie upon no disc, no link and no other label."""
 
     def boxes(self, view: View) -> dict[int, Box]:
-        """What each label takes at most: the name, and the widest rule."""
+        """Returns what each label takes at most: the name, and the widest rule."""
         form, found = view.form, {}
         for node, label in view.labels.items():
             x, y = view.layout.points[node]
@@ -262,7 +262,7 @@ class Labels(unittest.TestCase):
 
 
 def near(box: Box, point: tuple[float, float]) -> float:
-    """How far a point is from a box."""
+    """Returns how far a point is from a box."""
     return math.dist(point, (min(max(point[0], box.left), box.right), min(max(point[1], box.top), box.bottom)))
 
 

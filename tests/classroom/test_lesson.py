@@ -49,12 +49,12 @@ class Lesson(InRoom):
         return started
 
     def slip(self, name: str) -> Path:
-        """A student's slip."""
+        """Returns a student's slip."""
         return self.room / "maths-slips" / f"{name}.slip"
 
     def are_told_of_the_end(self, bots: list[subprocess.Popen[str]], *statuses: int) -> None:
-        """Wants that bots ended with one of these where their server or its grants did, and said so, one that came too late
-        for it too."""
+        """Checks that bots ended with one of these where their server or its grants did, and said so, one that came too
+        late for it too."""
         for bot in bots:
             said = bot.communicate(timeout=LIMIT)[1]
             why = {0: "the run is over\n", 4: f"no server at port {self.port}", 6: "nothing is granted any longer: tell your teacher"}
@@ -62,11 +62,11 @@ class Lesson(InRoom):
             self.assertIn(why[bot.returncode], said)
 
     def journal(self, folder: Path) -> list[str]:
-        """The whole lines of its journal."""
+        """Returns the whole lines of its journal."""
         return [line.decode("ascii") for line in (folder / "journal").read_bytes().split(b"\n")[:-1]]
 
     def applied(self, folder: Path) -> Counter[str]:
-        """How many moves of each student were applied, counted here."""
+        """Returns how many moves of each student were applied, counted here."""
         chosen: dict[str, str] = {}
         found: Counter[str] = Counter()
         for line in self.journal(folder):
@@ -109,7 +109,8 @@ class Lesson(InRoom):
         return going.folder
 
     def full_disk(self, folder: Path) -> None:
-        """Goes on, until the disk takes no more; so far each file has room, the record of a desk that closed in vain too."""
+        """Goes on, until the disk takes no more; so far each file has room, the record of a desk that closed without success
+        too."""
         journal = folder / "journal"
         most = max(file.stat().st_size for file in (journal, *(folder / "record").iterdir())) // 1024 + 1
         limited = self.file("host", f'#!/bin/bash\ntrap "" XFSZ\nulimit -f {most}\nexec "{host()}" "$@"\n')
@@ -123,7 +124,7 @@ class Lesson(InRoom):
         self.are_told_of_the_end(bots, 0, 4, 6)
 
     def second_half(self, folder: Path) -> None:
-        """Goes on in a terminal, which is closed; the desk is taken, and all end where the network is stable."""
+        """Goes on in a terminal, which is closed; the desk is taken, and all end if the network is stable."""
         terminal = InTerminal(self, "run", "--resume", folder)
         terminal.type(b"fault 3 null true\n", b": fault at node 3: p null, m true; ")
         bots = self.bots(list(self.lab.students))
@@ -152,7 +153,7 @@ class Lesson(InRoom):
         self.are_told_of_the_end(bots, 0, 4)
 
     def told(self, folder: Path, line: str) -> None:
-        """Waits until the run has told a line, with its hour and minute."""
+        """Waits until the run has printed a line, with its hour and minute."""
         end = time.monotonic() + LIMIT
         while not re.search(rf"(?m)^\d\d:\d\d {re.escape(line)}$", (folder / "run.txt").read_text(encoding="utf-8")):
             self.assertLess(time.monotonic(), end)

@@ -19,7 +19,7 @@ class Lines(unittest.TestCase):
     def test_it_has_every_line(self) -> None:
         kept = TABLE.read_text(encoding="utf-8").splitlines()
         self.assertEqual(kept, lines(), "python3 -B -m tests.classroom.lines writes the table anew; read what has changed")
-        self.assertGreater(len(kept), 200)
+        self.assertGreater(len(kept), 1000)
 
     def test_it_has_those_that_are_seen(self) -> None:
         """A few lines of each kind, so that the table isn't one of something else."""
@@ -29,6 +29,11 @@ class Lines(unittest.TestCase):
             "classroom/run/announcing: nothing more is granted: {}", "classroom/run/clock: the lesson ends at {}, in {}",
             "classroom/run/wording: fault at node {}: p {}, m {}", "classroom/run/heard: a flood: {} lines a second of {}",
             "classroom/client: node {}: {} granted in configuration {}, as event {}",
+            "crates/mml_program/src/fault.rt: command line: not understood", "crates/mml_policy/src/denial.rt: this node is not shown to you",
+            "crates/mml_host_program/src/journal_watch.rt: host: {}: nothing more is granted", "classroom/setup/check: warning: {}",
+            "classroom/bots/attempt: it ended by itself, status {}", "examples/bot.c: the connection was lost: start again",
+            "examples/Bot.java: the run is over", "examples/bot.js: the run is over", "examples/bot.rs: the run is over",
+            "classroom/pages/live.html: Freeze the picture", "classroom/pages/by_hand.js: this node isn't yours",
         ):
             self.assertIn(line, kept)
 

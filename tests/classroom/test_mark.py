@@ -42,14 +42,14 @@ class Mark(InRoom):
     """Journals of scripts."""
 
     def journal(self, lab: Path, script: Path) -> Path:
-        """The journal of a script."""
+        """Returns the journal of a script."""
         path = self.room / f"{script.stem}.journal"
         answer = program.call("script", lab, script, path)
         self.assertEqual(answer.status, 0, answer.error)
         return path
 
     def marks(self, lab: Path, *journals: Path) -> list[dict[str, Any]]:
-        """The runs of `--json`."""
+        """Returns the runs of `--json`."""
         done = words("mark", "--json", lab, *journals)
         self.assertEqual(done.returncode, 0, done.stderr)
         runs: list[dict[str, Any]] = json.loads(done.stdout)["runs"]
@@ -161,7 +161,7 @@ class Mark(InRoom):
         self.assertEqual(words("mark", lab, one, two, "--total").stdout.splitlines()[1], '"Müller, Zoë",s1,2,1,0,0,1,0,1,0,2,0,0,0,0,0,0,2,lab')
 
     def recorded(self) -> Path:
-        """A run's folder with a record: a hello that is denied, then a move that is granted, and a close."""
+        """Returns a run's folder with a record: a hello that is denied, then a move that is granted, and a close."""
         folder = self.room / "run"
         (folder / "record").mkdir(parents=True)
         run = Recording(read_lab(BUILT_IN.encode()))
@@ -185,7 +185,7 @@ class Mark(InRoom):
         done = words("mark", "--second", folder)
         self.assertEqual((done.returncode, done.stderr), (0, "class: the plain model agrees about all that is marked\n"))
         self.assertEqual(done.stdout, first.stdout)
-        # Programs that print one thing otherwise, and how both are told.
+        # Programs that print one thing otherwise, and how both are reported.
         for other, of, told in (
             ("s/^student ana 0 0 1/student ana 0 0 2/", "journal", "tally: the program prints 'student ana 0 0 2 "),
             ("s/^denied ana 1/denied ana 2/", "record", "tally: the program prints 'denied ana 2 "),

@@ -94,7 +94,7 @@ class New(InRoom):
     """Labs and slips."""
 
     def new(self, *more: str, students: int = 5, status: int = 0) -> str:
-        """Makes a lab, and gives what was printed."""
+        """Makes a lab, and returns what was printed."""
         list_file = self.file("students", "".join(f"Student {number}\n" for number in range(students)))
         done = words("new", self.room / "lab.toml", "--students", list_file, *more)
         self.assertEqual(done.returncode, status, done.stderr)

@@ -73,7 +73,7 @@ class Live(InRoom):
         return shown(self.driver)
 
     def ask(self, verb: str, path: str, body: str | bytes | None = None, **head: str) -> tuple[int, bytes]:
-        """The status and the bytes of an answer."""
+        """Returns the status and the bytes of an answer."""
         connection = http.client.HTTPConnection("127.0.0.1", urlsplit(self.address).port or 0, timeout=60)
         try:
             connection.request(verb, path, body, head)
@@ -94,7 +94,7 @@ class Live(InRoom):
         return folder
 
     def student(self, name: str) -> Client:
-        """A student's connection."""
+        """Returns a student's connection."""
         client = Client(self.going.port, name, self.keys[name])
         self.addCleanup(client.__exit__, OSError, None, None)
         return client
@@ -246,7 +246,7 @@ class Live(InRoom):
         self.end()
 
     def drawn(self) -> list[str]:
-        """The lines of links that are drawn."""
+        """Returns the lines of links that are drawn."""
         found: list[str] = self.driver.execute_script(
             "return [...document.querySelectorAll('g.links path, g.open path')]"
             ".flatMap((path) => (path.getAttribute('d') || '').split('M')).sort()"
@@ -386,7 +386,7 @@ class Live(InRoom):
 
 
 def hashed(text: str) -> str:
-    """What a policy calls a text."""
+    """Returns what a policy calls a text."""
     return f"'sha256-{base64.b64encode(hashlib.sha256(text.encode()).digest()).decode()}'"
 
 

@@ -58,7 +58,7 @@ class Experiments(InRoom):
         self.lacks_a_part(files)
 
     def lacks_a_part(self, files: list[Path]) -> None:
-        """Wants that a merge says what is missing, and refuses tables that differ or aren't there."""
+        """Checks that a merge says what is missing, and refuses tables that differ or aren't there."""
         done = words(*RUNS, "--merge", *files[:2], "--csv", self.room / "two.csv")
         self.assertEqual(done.returncode, 5)
         self.assertIn("36 of 54 runs, ", done.stdout)

@@ -22,7 +22,7 @@ BYTES = {2: 3, 6: 4}  # of a point by the kind of PNG: red, green, blue, and per
 
 
 def unfiltered(kind: int, row: bytes, above: bytes, step: int) -> bytes:
-    """A row's bytes, as a PNG has them: from what stands to the left, `step` bytes before, and above."""
+    """Returns a row's bytes, as a PNG has them: from what stands to the left, `step` bytes before, and above."""
     if kind == 0:
         return row
     if kind == 2:
@@ -43,7 +43,7 @@ def unfiltered(kind: int, row: bytes, above: bytes, step: int) -> bytes:
 
 
 def colours_of(png: bytes) -> Counter[str]:
-    """How many points of a picture have each colour."""
+    """Returns how many points of a picture have each colour."""
     wide, high, depth, kind, _, _, interlaced = struct.unpack(">IIBBBBB", png[16:29])
     assert depth == 8 and kind in BYTES and not interlaced, "another kind of PNG"
     data, at = b"", 8
@@ -61,14 +61,14 @@ def colours_of(png: bytes) -> Counter[str]:
 
 
 def rendered(picture: Path) -> Counter[str]:
-    """How many points of a drawing have each colour, in a program that is no browser."""
+    """Returns how many points of a drawing have each colour, in a program that is no browser."""
     done = subprocess.run([RENDERER, "--width", "1000", "--keep-aspect-ratio", picture], capture_output=True, check=False, timeout=LIMIT)
     assert done.returncode == 0, done.stderr
     return colours_of(done.stdout)
 
 
 def alike(found: Counter[str], colour: str) -> int:
-    """How many points have a colour, or nearly so: what is thin is mixed with what is beside it."""
+    """Returns how many points have a colour, or nearly so: what is thin is mixed with what is beside it."""
     wanted = bytes.fromhex(colour[1:])
     return sum(count for other, count in found.items() if math.dist(wanted, bytes.fromhex(other[1:])) < NEAR)
 
@@ -77,7 +77,7 @@ class Pictures(InRoom):
     """What `--svg` and `--plot` write."""
 
     def has(self, picture: Path, *names: str, theme: str = colours.LIGHT) -> None:
-        """Wants these colours in a picture, whose ground is that of a page in this theme."""
+        """Checks for these colours in a picture, whose ground is that of a page in this theme."""
         self.assertNotIn("var(", picture.read_text(encoding="utf-8"))
         found = rendered(picture)
         self.assertEqual(found.most_common(1)[0][0], colours.value("--ground", theme), picture)
@@ -86,7 +86,7 @@ class Pictures(InRoom):
         self.assertLess(found["#000000"], found.total() / 100, picture)
 
     def drawn(self, lab: Path, journal: Path, places: str, *more: str) -> Path:
-        """A picture of these places."""
+        """Returns a picture of these places."""
         output = self.room / f"{lab.stem}-{places.replace(',', '-')}.svg"
         done = words("play", lab, journal, "--svg", places, "-o", output, *more)
         self.assertEqual(done.returncode, 0, done.stderr)

@@ -129,12 +129,12 @@ class Play(Played):
 
 
 def attributes(picture: Path) -> tuple[dict[str, str], list[dict[str, str]]]:
-    """What stands in an SVG file as data."""
+    """Returns what stands in an SVG file as data."""
     return attributes_of(ElementTree.parse(picture).getroot())
 
 
 def attributes_of(root: ElementTree.Element) -> tuple[dict[str, str], list[dict[str, str]]]:
-    """What stands in a drawing as data."""
+    """Returns what stands in a drawing as data."""
     groups: list[Any] = [group for group in root.iter() if (group.get("class") or "").split(" ")[0] == "node"]
     nodes = [{name[5:]: value for name, value in group.items() if name.startswith("data-")} for group in groups]
     data = {name[5:]: value for name, value in root.items() if name.startswith("data-")}

@@ -27,7 +27,7 @@ class Practise(InRoom):
         return words("practise", *given, "--into", self.room / "runs")
 
     def folder(self, output: str) -> Path:
-        """The folder of a run that is over."""
+        """Returns the folder of a run that is over."""
         found = re.search(r"(?m)^page: (\S+)/run.html; what was said: (\S+)$", output)
         assert found is not None, output
         return Path(found[1])
@@ -87,7 +87,7 @@ class Practise(InRoom):
         self.assertEqual(going.wait(LIMIT), 0)
 
     def move(self, address: str, asked: dict[str, object]) -> str:
-        """Asks the page's server for a move; gives what is replied."""
+        """Asks the page's server for a move. Returns what is replied."""
         parts = urlsplit(address)
         connection = http.client.HTTPConnection("127.0.0.1", parts.port or 0, timeout=LIMIT)
         with contextlib.closing(connection):

@@ -1,4 +1,4 @@
-"""What serves pages, without a browser: errors are told, and news cost no more the longer a run goes on."""
+"""What serves pages, without a browser: errors are printed, and news cost no more the longer a run goes on."""
 from __future__ import annotations
 
 import contextlib
@@ -22,7 +22,7 @@ LAB = TOP / "examples/cycle.toml"
 
 
 def beginning(lab: labs.Lab) -> State:
-    """A state in which nothing was done."""
+    """Returns a state in which nothing was done."""
     return State(0, 0, frozenset(map(labs.ordered, lab.links)), {node.id: None for node in lab.nodes}, {node.id: False for node in lab.nodes})
 
 
@@ -42,7 +42,7 @@ class Served(unittest.TestCase):
         return pages
 
     def ask(self, pages: projector.Pages) -> int:
-        """The status of the page; 0 where no answer comes."""
+        """Returns the status of the page, or 0 if no answer comes."""
         connection = http.client.HTTPConnection("127.0.0.1", pages.server_port, timeout=60)
         with contextlib.closing(connection):
             try:

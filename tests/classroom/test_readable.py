@@ -1,4 +1,4 @@
-"""That the player can be read: the contrast of its texts in both themes, what colours tell, and what it prints."""
+"""That the player can be read: the contrast of its texts in both themes, what colours mean, and what it prints."""
 from __future__ import annotations
 
 import base64
@@ -108,7 +108,7 @@ class Readable(Played):
         self.assertGreater(len(b"".join(printed[0])), 5000)
 
     def drawn(self, document: str) -> list[bytes]:
-        """What a PDF draws: its streams of graphics."""
+        """Returns what a PDF draws: its streams of graphics."""
         found = []
         for stream in re.findall(rb"stream\r?\n(.*?)\r?\nendstream", base64.b64decode(document), re.DOTALL):
             try:

@@ -62,7 +62,7 @@ class Players:
             self.told = teacher.fault(1, None, True).place
 
     def ended(self) -> int:
-        """Ends it, and gives the greatest place that was told."""
+        """Ends it, and returns the greatest place that was reported."""
         self.over.set()
         self.thread.join()
         return self.told
@@ -86,7 +86,7 @@ class Resume(Cycle):
             pass
 
     def counted(self, folder: Path) -> dict[str, int]:
-        """How many moves of each student the journal's closes applied, counted by hand."""
+        """Returns how many moves of each student the journal's closes applied, counted by hand."""
         chosen: dict[str, str] = {}
         applied: Counter[str] = Counter()
         for line in (folder / "journal").read_text(encoding="ascii").splitlines():
@@ -101,7 +101,7 @@ class Resume(Cycle):
         return dict(applied)
 
     def marks(self, folder: Path) -> dict[str, int]:
-        """How many moves of each student were applied, by the folder's marks."""
+        """Returns how many moves of each student were applied, by the folder's marks."""
         students = json.loads((folder / "marks.json").read_text(encoding="utf-8"))["runs"][0]["students"]
         return {name: total for name, it in students.items() if (total := sum(it["applied"].values()))}
 
@@ -133,7 +133,8 @@ class Resume(Cycle):
                 self.assertEqual(len({line.partition(":")[0] for line in told}), len(told), told)
 
     def test_kills_at_random_points(self) -> None:
-        """`run` is killed, or both, ten times each: the desk is taken, or the journal gone on from, and nothing told is lost."""
+        """`run` is killed, or both, ten times each: the desk is taken, or the journal gone on from, and nothing reported is
+        lost."""
         lab = self.file("cycle.toml", re.sub(r"(?m)^events = \d+", "events = 100000", CYCLE.read_text(encoding="utf-8")))
         chance = random.Random(47)
         kinds = ["run", "run and host"] * KILLS
@@ -168,7 +169,7 @@ class Resume(Cycle):
         self.assertEqual(len(set(numbers)), len(numbers))
 
     def limited(self, kilobytes: int) -> Path:
-        """A host whose files take so many kilobytes, its copy of the lab too: to it, the disk is full then."""
+        """Returns a host whose files take so many kilobytes, its copy of the lab too: to it, the disk is full then."""
         limited = self.file("host", f'#!/bin/bash\ntrap "" XFSZ\nulimit -f {kilobytes}\nexec "{host()}" "$@"\n')
         limited.chmod(0o755)
         return limited

@@ -17,7 +17,7 @@ from classroom.core.lab import read
 from classroom.core.program import TOP, host
 from tests.classroom.help import CLASS, CYCLE, KEYS, LIMIT, Cycle, Going, a_port
 
-# A host that stays the process that was called, and whose first line is told by another one, which does before that
+# A host that stays the process that was called, and whose first line is printed by another one, which does before that
 # what the words ask for: a student sits down at the desk, or it waits until somebody has come there.
 RELAY = """#!/usr/bin/python3
 import os, sys
@@ -51,7 +51,7 @@ def relay(lines: int, what: str, told: str) -> None:
 
 
 def seated(desk: int) -> str:
-    """A student sits down at a desk, and stays. Returns what the student was told."""
+    """Greets at a desk as a student, and stays. Returns what the student was answered."""
     it = socket.create_connection(("127.0.0.1", desk), LIMIT)
     it.sendall(json.dumps({"do": "hello", "name": "gus", "key": KEYS["gus"]}).encode() + b"\n")
     reply = it.makefile("rb").readline().decode()
@@ -74,18 +74,18 @@ class Seated(Cycle):
     """Runs over the cycle of `examples/`."""
 
     def relayed(self, what: str) -> str:
-        """A host whose first line is told after that was done."""
+        """Returns a host whose first line is printed after that was done."""
         text = RELAY.format(top=str(TOP), host=str(host()), what=what, told=str(self.room / "told"))
         it = self.file("relayed", text)
         it.chmod(0o755)
         return str(it)
 
     def told(self) -> str:
-        """What became of the desk before the first line was told."""
+        """Returns what became of the desk before the first line was printed."""
         return (self.room / "told").read_text(encoding="utf-8")
 
     def killed(self) -> tuple[Going, Record]:
-        """A run that was killed after a fault, and its record; its server lives."""
+        """Returns a run that was killed after a fault, and its record; its server lives."""
         going = Going(self, CYCLE, "--close", "by-hand")
         going.type("fault 1 2 true")
         going.until("^configuration 1: fault at node 1: p 2, m true")
@@ -103,7 +103,7 @@ class Seated(Cycle):
             os.kill(server.number, signal.SIGKILL)
 
     def goes_on(self, going: Going, events: int) -> None:
-        """Wants a class that works, and ends well."""
+        """Checks for a class that works, and ends well."""
         with Client(going.port, "hana", KEYS["hana"]) as hana:
             hana.look(read(CYCLE).nodes_of("hana")[0])
         going.type("link 1 3")
@@ -138,7 +138,7 @@ class Seated(Cycle):
         self.goes_on(again, 1)
 
     def attached(self, going: Going, record: Record) -> tuple[Going, Client]:
-        """An `attach` that waits for the desk, which another program of the teacher's has."""
+        """Returns an `attach` that waits for the desk, which another program of the teacher's has."""
         tess = Client(record.desk, *TESS)
         self.addCleanup(tess.hang_up)
         again = Going(self, None, "attach", going.folder, ready="^somebody else has the desk; it is tried again for a minute$")
@@ -161,7 +161,7 @@ class Seated(Cycle):
         self.assertEqual(again.lines[-2:], [
             "the server: busy: all seats are taken; come again later",
             f"the server is left to itself, process {record.server.number}: while it goes on, {CLASS} attach {going.folder} takes its desk; "
-            f"then {CLASS} mark tells the marks",
+            f"then {CLASS} mark prints the marks",
         ])
         self.assertTrue(record.server.lives())
         self.assertTrue(tess.fault(2, None, True).place)

@@ -95,14 +95,14 @@ class OneDesk(Classes):
         self.taken_as_a_whole(desk)
 
     def table(self, desk: GoingClass) -> None:
-        """Wants the table at the start, and no line of a network before it."""
+        """Checks for the table at the start, and no line of a network before it."""
         rows = [line.split() for line in desk.lines if re.match(r"\d  ", line)]
         self.assertEqual(rows, [["1", "maths-1", "A", "104", str(desk.record("maths-1").port), "4", "15"],
                                 ["2", "maths-2", "B", "7", str(desk.record("maths-2").port), "4", "15"]])
         self.assertLess(len(desk.lines), 10, desk.lines)
 
     def taken_as_a_whole(self, desk: GoingClass) -> None:
-        """Wants that the words which take a run's folder take that of the class."""
+        """Checks that the words which take a run's folder take that of the class."""
         done = words("mark", "--csv", *(self.room / "runs").glob("*-maths"))
         self.assertEqual(done.returncode, 0, done.stderr)
         self.assertEqual(done.stdout.count(str(desk.folder / "maths-1/journal")), 4)

@@ -39,14 +39,14 @@ class Counted(unittest.TestCase):
         it = Comeback(read(CYCLE))
         self.assertEqual(it.close([1], [1, 2], [2]), "")
         it.miss()
-        self.assertEqual(it.close([2], [2], []), "stable after closes of which some came in one breath: the marks tell how many "
+        self.assertEqual(it.close([2], [2], []), "stable after closes of which some came at once: the marks say how many "
                                                  "moves and rounds it took")
         self.assertEqual(it.close([1], [1], []), "stable after 1 move, 1 close, 1 round; proved: at most 35 moves, 13 rounds")
 
 
 @unittest.skipUnless(host(), "not tried: no host is built")
 class AfterACrash(Cycle):
-    """What is told after the server died counts from before."""
+    """What is printed after the server died counts from before."""
 
     def test_live_and_in_the_marks_it_is_the_same(self) -> None:
         going = Going(self, CYCLE, "--daemon", "by-hand")

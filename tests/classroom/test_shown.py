@@ -83,12 +83,12 @@ def resize(driver: Any, size: tuple[int, int] | None) -> None:
 
 
 def counted(count: int, word: str) -> str:
-    """A count with its word."""
+    """Returns a count with its word."""
     return f"{count} {word}{'' if count == 1 else 's'}"
 
 
 def meet(a: list[float], b: list[float]) -> bool:
-    """Whether two boxes run into each other by more than a hair."""
+    """Returns whether two boxes run into each other by more than a hair."""
     return min(a[2], b[2]) - max(a[0], b[0]) > 1 and min(a[3], b[3]) - max(a[1], b[1]) > 1
 
 
@@ -107,17 +107,17 @@ class Told(InRoom):
         self.students = {name: self.client(name, key) for name, key in self.lab.students.items()}
 
     def client(self, name: str, key: str) -> Client:
-        """A connection."""
+        """Returns a connection."""
         client = Client(self.going.port, name, key)
         self.addCleanup(client.__exit__, OSError, None, None)
         return client
 
     def journal(self) -> list[list[str]]:
-        """The words of the journal's lines."""
+        """Returns the words of the journal's lines."""
         return [line.split(" ") for line in (self.going.folder / "journal").read_text(encoding="ascii").splitlines()]
 
     def wanted(self) -> dict[str, str]:
-        """What the page has to tell, by the program's report and the journal, counted here."""
+        """Returns what the page has to show, by the program's report and the journal, counted here."""
         report, lines = self.teacher.report(), self.journal()
         moves = since = chosen = 0
         links = len(self.lab.links)
@@ -138,7 +138,7 @@ class Told(InRoom):
         }
 
     def said(self) -> dict[int, str]:
-        """What is to be said of each node, by looks at it."""
+        """Returns what is to be said of each node, by looks at it."""
         report = self.teacher.report()
         partners = {a: b for pair in report.pairs for a, b in (pair, pair[::-1])}
         found = {}
@@ -152,7 +152,7 @@ class Told(InRoom):
         return found
 
     def compare(self) -> None:
-        """Compares all that the page tells with all that it has to."""
+        """Compares all that the page shows with all that it has to."""
         wanted = self.wanted()
         until(self.driver, lambda driver: driver.find_element("id", "event").text == wanted["event"])
         seen = {name: self.driver.find_element("id", name).text for name in TEXTS}
@@ -218,7 +218,7 @@ class Sizes(Played):
         self.addCleanup(resize, self.driver, None)
 
     def lab(self, seed: int, *family: str) -> Path:
-        """A lab of 14 students after a drawn start."""
+        """Returns a lab of 14 students after a drawn start."""
         lab, students = self.room / f"{seed}.toml", self.room / "names.txt"
         students.write_text("\n".join(NAMES) + "\n", encoding="utf-8")
         done = words("new", lab, "--students", students, "--start", "random", "--seed", str(seed), *family)
@@ -306,7 +306,7 @@ class Sizes(Played):
         self.assertLess(found["controls"][3] - found["controls"][1], 130 if has_controls else 70)
 
     def sized(self, size: tuple[int, int]) -> dict[str, Any]:
-        """What is where in a window of that size, once the picture that is meant for it is shown."""
+        """Returns what is where in a window of that size, once the picture that is meant for it is shown."""
         resize(self.driver, size)
         until(self.driver, lambda driver: driver.execute_script(FOR_WINDOW))
         found: dict[str, Any] = self.driver.execute_script(SIZES)

@@ -137,7 +137,7 @@ class Fake(InRoom):
     """Servers that are none, or that have no seat."""
 
     def answers(self, line: bytes, times: int = 1) -> int:
-        """Answers so many connections by a line, and gives the port."""
+        """Answers so many connections by a line, and returns the port."""
         listener = socket.create_server(("127.0.0.1", 0))
         self.addCleanup(listener.close)
 
@@ -155,11 +155,12 @@ class Fake(InRoom):
         return port
 
     def slip(self, port: int) -> Path:
-        """A slip for that port."""
+        """Returns a slip for that port."""
         return self.file(f"{port}.slip", f"port {port}\nname gus\nkey heron\nnodes 1\n")
 
     def talks(self, *replies: bytes, then: tuple[bytes, ...] = ()) -> int:
-        """Answers each line of one connection by the next of these, hangs up, and gives the port; `then` are those of a second one."""
+        """Answers each line of one connection by the next of these, hangs up, and returns the port; `then` are those of a second
+        one."""
         listener = socket.create_server(("127.0.0.1", 0))
         self.addCleanup(listener.close)
 
@@ -267,7 +268,7 @@ class Fake(InRoom):
             self.is_told(*BY_HAND, slip, *rest)
 
     def is_told(self, *command: str | Path) -> None:
-        """Wants a line about wrong words, and their status."""
+        """Checks for a line about wrong words, and their status."""
         said = call(*command)
         self.assertEqual((said.returncode, said.stdout), (1, ""), (command, said.stderr))
         self.assertEqual(said.stderr.count("\n"), 1, said.stderr)
@@ -278,7 +279,7 @@ class Talking(Cycle):
     """Programs at a run."""
 
     def edited(self, slip: Path, name: str, old: str, new: str) -> Path:
-        """A slip with another line."""
+        """Returns a slip with another line."""
         return self.file(name, slip.read_text(encoding="utf-8").replace(old, new))
 
     def test_a_wrong_key_and_a_wrong_node(self) -> None:

@@ -27,14 +27,14 @@ class Upgrade(Cycle):
     """Copies of what is kept."""
 
     def copied(self, name: str) -> Path:
-        """A folder of its own, which nobody else reads, as a run has it."""
+        """Returns a folder of its own, which nobody else reads, as a run has it."""
         folder = self.room / "runs" / f"2026-11-26T2144-{name}"
         shutil.copytree(KEPT / name, folder)
         folder.chmod(0o700)
         return folder
 
     def marks(self, folder: Path) -> tuple[dict[str, int], int]:
-        """What `mark` counts: applied moves by student, and events."""
+        """Returns what `mark` counts: applied moves by student, and events."""
         done = words("mark", "--json", folder)
         self.assertEqual(done.returncode, 0, done.stderr)
         run = json.loads(done.stdout)["runs"][0]

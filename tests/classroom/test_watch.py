@@ -20,12 +20,12 @@ class Late:
         self.is_granted = False
 
     def look(self, node: int) -> Look:
-        """A look at a node."""
+        """Returns a look at a node."""
         chosen: Rule | None = "update" if node == 4 and self.is_granted and self.acts else None
         return Look(node, None, False, 0, "update" if node == 4 else None, chosen, ())
 
     def link(self, a: int, b: int) -> Edit:
-        """A link that is denied."""
+        """Returns a link that is denied."""
         self.acts += 1
         raise Denied(2, "loop", "a node cannot be linked to itself")
 

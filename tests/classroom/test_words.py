@@ -26,7 +26,7 @@ printf '%s\\n' "${COMPREPLY[@]}"
 
 
 def all_words() -> list[str]:
-    """The words, as the parser has them."""
+    """Returns the words, as the parser has them."""
     found: dict[str, object] = next(action for action in parser()._actions if action.dest == "work" or action.choices).choices  # type: ignore[assignment]
     return list(found)
 
@@ -35,7 +35,7 @@ class Helped(InRoom):
     """Help and completion."""
 
     def completed(self, *typed: str) -> set[str]:
-        """What bash offers after these words."""
+        """Returns what bash offers after these words."""
         done = subprocess.run(["bash", "-c", COMPLETE, "bash", *typed], cwd=TOP, capture_output=True, text=True, check=True, timeout=LIMIT)
         self.assertEqual(done.stderr, "")
         return set(done.stdout.split())
@@ -75,7 +75,7 @@ class Version(InRoom):
 
 
 class Release(InRoom):
-    """Its words, where its programs can't be started."""
+    """Its words, if its programs can't be started."""
 
     def test_a_c_library_that_is_too_old(self) -> None:
         """Each word that starts a program says so in a line, as `mml` does; the others do their work."""

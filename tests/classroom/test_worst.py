@@ -18,15 +18,15 @@ Asked = tuple[int, str, int | None]  # a node, its rule, and with whom
 
 
 def made(family: str, nodes: int) -> labs.Lab:
-    """A network of that family, at its worst start."""
+    """Returns a network of that family, at its worst start."""
     it = network([labs.Node(node, []) for node in range(1, nodes + 1)], networks.plain(family, nodes))
     start(it, "worst", random.Random(1))
     return it
 
 
 def phases(nodes: int, links: set[tuple[int, int]], last: int) -> list[Asked]:
-    """The couples one after the other: all that may seduce the highest free node, it marries the lowest, both update, and the
-    others abandon. Who may seduce is at most `last`."""
+    """Returns the couples one after the other: all that may seduce the highest free node, it marries the lowest, both update,
+    and the others abandon. Who may seduce is at most `last`."""
     asked: list[Asked] = []
     for couple in range(nodes // 2):
         high = nodes - couple

@@ -33,7 +33,7 @@ with socket.create_connection(("127.0.0.1", int(sys.argv[1]))) as it, it.makefil
 
 
 def lab_of(room: Path, sessions: int, events: int = 1000) -> Path:
-    """The lab that is built into the program, with other limits."""
+    """Returns the lab that is built into the program, with other limits."""
     lab = room / f"{sessions}-{events}.toml"
     text = built_in(room).read_text(encoding="utf-8")
     text = text.replace("sessions = 4\n", f"sessions = {sessions}\n").replace("events = 100\n", f"events = {events}\n")
@@ -75,11 +75,11 @@ class Host:
         return Ended(self.process.returncode, out, error)
 
     def runs(self) -> bool:
-        """Whether the host hasn't ended."""
+        """Returns whether the host hasn't ended."""
         return self.process.poll() is None
 
     def end(self, seconds: float = LIMIT) -> Ended:
-        """How it ends by itself within so many seconds, and what it writes after its first line."""
+        """Returns how it ends by itself within so many seconds, and what it writes after its first line."""
         try:
             out, error = self.process.communicate(timeout=seconds)
         except subprocess.TimeoutExpired:
@@ -87,26 +87,27 @@ class Host:
         return Ended(self.process.returncode, out, error)
 
     def dismissed(self, teacher: "Caller", seconds: float = LIMIT) -> Ended:
-        """How the host ends after the bye of the teacher, who has greeted at the desk, and what it writes after its first line."""
+        """Returns how the host ends after the bye of the teacher, who has greeted at the desk, and what it writes after its first
+        line."""
         if (teacher.ask(BYE), teacher.line()) != (BID, b""):
             fail("host: another reply to the teacher's bye at the desk, or none")
         return self.end(seconds)
 
     def kilobytes(self) -> int:
-        """What it holds of memory."""
+        """Returns what it holds of memory."""
         status = Path(f"/proc/{self.process.pid}/status").read_text(encoding="ascii")
         return int(status.split("VmRSS:", 1)[1].split()[0])
 
     def threads(self) -> int:
-        """How many threads it has."""
+        """Returns how many threads it has."""
         return len(list(Path(f"/proc/{self.process.pid}/task").iterdir()))
 
     def files(self) -> int:
-        """How many files it has open."""
+        """Returns how many files it has open."""
         return len(list(Path(f"/proc/{self.process.pid}/fd").iterdir()))
 
     def settles(self, threads: int, files: int, when: str) -> None:
-        """Wants so many threads and files, as soon as what ends has ended."""
+        """Checks for so many threads and files, as soon as what ends has ended."""
         for _ in range(int(LIMIT / 0.05)):
             if (self.threads(), self.files()) == (threads, files):
                 return
@@ -122,14 +123,14 @@ class Caller:
         self.replies = self.socket.makefile("rb")
 
     def send(self, content: bytes) -> None:
-        """Sends bytes. Where the host has hung up, what it wrote before is still to be read."""
+        """Sends bytes. If the host has hung up, what it wrote before is still to be read."""
         try:
             self.socket.sendall(content)
         except ConnectionError:
             pass
 
     def line(self) -> bytes:
-        """The next line, or nothing where the host has hung up."""
+        """Returns the next line, or nothing if the host has hung up."""
         try:
             line = self.replies.readline()
         except ConnectionError:
@@ -139,7 +140,7 @@ class Caller:
         return line if line.endswith(b"\n") else b""
 
     def ask(self, line: bytes) -> bytes:
-        """The reply to a line."""
+        """Returns the reply to a line."""
         self.send(line)
         return self.line()
 
@@ -155,7 +156,8 @@ class Caller:
 
 
 def called(port: int, source: str = "127.0.0.1") -> Caller:
-    """A connection, as soon as the host takes it: one that is tried while the host has no room is tried again."""
+    """Returns a connection, as soon as the host takes it: one that is tried while the host has no room is tried
+    again."""
     end = time.monotonic() + LIMIT
     while True:
         try:
@@ -169,7 +171,8 @@ def called(port: int, source: str = "127.0.0.1") -> Caller:
 
 
 def let_in(port: int, line: bytes) -> tuple[Caller, bytes]:
-    """A connection that has a seat, and the reply to its first line; one that is told `busy` comes again."""
+    """Returns a connection that has a seat, and the reply to its first line; one that is answered `busy` comes
+    again."""
     end = time.monotonic() + LIMIT
     while time.monotonic() < end:
         caller = called(port)
@@ -209,7 +212,7 @@ class Talk:
         return reply
 
     def comes(self, port: int, line: bytes) -> Caller:
-        """A connection that is let in with its first line."""
+        """Returns a connection that is let in with its first line."""
         caller, reply = let_in(port, line)
         self.heard(caller, line, reply)
         return caller
@@ -227,11 +230,11 @@ class Talk:
         self.free.append(self.numbers.pop(caller))
 
     def events(self) -> int:
-        """How many events were granted."""
+        """Returns how many events were granted."""
         return sum(b'"place":' in reply for reply in self.found if reply)
 
     def check(self, journal: Path) -> None:
-        """Wants the rules' replies and their journal, which passes the audit."""
+        """Checks for the rules' replies and their journal, which passes the audit."""
         script, plain = self.room / "plain.script", self.room / "plain.journal"
         script.write_bytes(b"".join(self.script))
         plain.unlink(missing_ok=True)
@@ -245,7 +248,7 @@ class Talk:
 
 
 def audit(lab: Path, journal: Path, events: int) -> bytes:
-    """Wants that a journal of so many events passes the audit; answers what it says."""
+    """Checks that a journal of so many events passes the audit; answers what it says."""
     said = good(["audit", str(lab), str(journal)])
     if not said.startswith(b"ok: %d events, " % events):
         fail(f"host: the audit of a journal of {events} events says {said!r}")

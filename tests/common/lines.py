@@ -16,53 +16,53 @@ DENIALS = {
 
 
 def line_of(**members: object) -> bytes:
-    """A line with members in the order of their keys."""
+    """Returns a line with members in the order of their keys."""
     return json.dumps(members, separators=(",", ":"), sort_keys=True).encode() + b"\n"
 
 
 def hello(name: str) -> bytes:
-    """A greeting of one who takes part in the lab that is built into the program."""
+    """Returns a greeting of one who takes part in the lab that is built into the program."""
     return line_of(do="hello", key=KEYS[name], name=name)
 
 
 def look(name: str) -> bytes:
-    """A look at a student's node."""
+    """Returns a look at a student's node."""
     return line_of(do="look", node=NODES[name])
 
 
 def seduction(at: int, node: int = 1) -> bytes:
-    """A move by which a node points at its greatest candidate, asked for at a configuration."""
+    """Returns a move by which a node points at its greatest candidate, asked for at a configuration."""
     return line_of(at=at, do="move", node=node, rule="seduction")
 
 
 def fault_at(node: int, m: bool = False) -> bytes:
-    """A fault by which a node points at none."""
+    """Returns a fault by which a node points at none."""
     return line_of(do="fault", m=m, node=node, p=None)
 
 
 def greeted(name: str) -> bytes:
-    """The reply to a greeting."""
+    """Returns the reply to a greeting."""
     return line_of(ok="hello", who=name)
 
 
 def seduced(at: int, place: int, node: int = 1) -> bytes:
-    """The reply to a seduction that is granted."""
+    """Returns the reply to a seduction that is granted."""
     return line_of(at=at, node=node, ok="move", place=place, rule="seduction")
 
 
 def closed(at: int, place: int, *moved: int) -> bytes:
-    """The reply to a close that moved some nodes."""
+    """Returns the reply to a close that moved some nodes."""
     return line_of(at=at, moved=moved, ok="close", place=place)
 
 
 def denial_of(word: str, **more: object) -> bytes:
-    """A denial, with what it tells beside its text."""
+    """Returns a denial, with what it has beside its text."""
     clause, text = DENIALS[word]
     return line_of(clause=clause, deny=word, text=text, **more)
 
 
 def refusal_of(word: str) -> bytes:
-    """A refusal."""
+    """Returns a refusal."""
     return line_of(refuse=word)
 
 

@@ -33,7 +33,7 @@ def fail(why: str) -> NoReturn:
 
 
 def built(source: str, room: Path) -> Path:
-    """The library of a C source, named by its path below the tests' folder."""
+    """Returns the library of a C source, named by its path below the tests' folder."""
     rt = shutil.which("rt")
     if rt is None:
         fail("no rt on the path, so no clang")
@@ -55,24 +55,24 @@ class Preloaded:
         self.file = room / f"{self.library.stem}.counts"
 
     def variables(self, told: Mapping[str, str]) -> dict[str, str]:
-        """The variables of a run under the library. Its numbers begin at 0."""
+        """Returns the variables of a run under the library. Its numbers begin at 0."""
         self.file.write_bytes(bytes(16))
         return {"LD_PRELOAD": str(self.library), self.variable: str(self.file), **told}
 
     def counts(self) -> tuple[int, int]:
-        """How many calls the last run made, and how many were failed."""
+        """Returns how many calls the last run made, and how many were failed."""
         made, failed = struct.unpack("=QQ", self.file.read_bytes())
         return made, failed
 
 
 def run(words: list[str], given: bytes, variables: Mapping[str, str], program: Path = PROGRAM) -> Ended:
-    """A run of the program with these words and this standard input."""
+    """Returns a run of the program with these words and this standard input."""
     done = subprocess.run([program, *words], input=given, capture_output=True, env=variables, timeout=LIMIT, check=False)
     return Ended(done.returncode, done.stdout, done.stderr)
 
 
 def good(words: list[str], given: bytes = b"", program: Path = PROGRAM) -> bytes:
-    """What a plain run writes, which has to end well."""
+    """Returns what a plain run writes, which has to end well."""
     ended = run(words, given, {}, program)
     if ended.status != 0 or ended.error:
         fail(f"a plain run ended with {ended.status}: {words}")
@@ -80,7 +80,7 @@ def good(words: list[str], given: bytes = b"", program: Path = PROGRAM) -> bytes
 
 
 class Story:
-    """A script over a lab, whose plain replies and journal are asked for where some lines are left out."""
+    """A script over a lab, whose plain replies and journal are asked for if some lines are left out."""
 
     def __init__(self, lab: Path, script: bytes, room: Path) -> None:
         self.lab = lab
@@ -90,11 +90,11 @@ class Story:
         self.audited: dict[bytes, bytes] = {}
 
     def script(self, without: frozenset[int] = frozenset()) -> bytes:
-        """The script without these lines."""
+        """Returns the script without these lines."""
         return b"".join(line for index, line in enumerate(self.lines) if index not in without)
 
     def plain(self, without: frozenset[int]) -> tuple[list[bytes], bytes]:
-        """The replies of a plain run without these lines, an empty one instead of each; and its journal."""
+        """Returns the replies of a plain run without these lines, an empty one instead of each; and its journal."""
         if without not in self.known:
             script, journal = self.room / "plain.script", self.room / "plain.journal"
             script.write_bytes(self.script(without))
@@ -104,11 +104,11 @@ class Story:
         return self.known[without]
 
     def refused(self, replies: list[bytes]) -> frozenset[int]:
-        """Which lines were refused."""
+        """Returns which lines were refused."""
         return frozenset(at for at, reply in enumerate(replies) if reply.endswith(REFUSED))
 
     def expects(self, replies: list[bytes], unasked: frozenset[int], lost: frozenset[int] = frozenset()) -> str:
-        """What is wrong with the replies, if anything, where some lines weren't asked, and some replies are lost.
+        """Returns what is wrong with the replies, if anything, if some lines weren't asked, and some replies are lost.
 
         A refusal changes nothing, so the others are those of a plain run without its line.
         """
@@ -122,11 +122,11 @@ class Story:
         return ""
 
     def journal_of(self, replies: list[bytes], unasked: frozenset[int]) -> bytes:
-        """The journal of the plain run that these replies tell."""
+        """Returns the journal of the plain run in these replies."""
         return self.plain(self.refused(replies) | unasked)[1]
 
     def audit(self, journal: bytes) -> bytes:
-        """What an audit says of a journal, which has to pass."""
+        """Returns what an audit says of a journal, which has to pass."""
         if journal not in self.audited:
             file = self.room / "audited.journal"
             file.write_bytes(journal)
@@ -135,7 +135,7 @@ class Story:
 
 
 def built_in(room: Path) -> Path:
-    """The lab that is built into the program, in a file."""
+    """Returns the lab that is built into the program, in a file."""
     text = (TOP / "examples/built-in.toml").read_text(encoding="utf-8")
     lab = room / "built-in.toml"
     lab.write_text(text.partition("\n\n")[2], encoding="utf-8")
@@ -143,7 +143,7 @@ def built_in(room: Path) -> Path:
 
 
 def held_port() -> socket.socket:
-    """A socket that is bound to a port that nobody had, and doesn't listen.
+    """Returns a socket that is bound to a port that nobody had, and doesn't listen.
 
     While it is open, the system gives that port to no one who leaves the choice to it. Who asks for it by
     number may still listen there, since the program and this socket both allow it (SO_REUSEADDR).
@@ -184,7 +184,7 @@ class Server:
         return Ended(self.process.returncode, out, error)
 
     def end(self) -> Ended:
-        """How it ends by itself, and what it writes after its first line."""
+        """Returns how it ends by itself, and what it writes after its first line."""
         if self.listens:
             self.ended = self._end()
         return self.ended
@@ -202,7 +202,7 @@ class Client:
             pass
 
     def ask(self, line: bytes) -> bytes:
-        """The reply to a line, or nothing where the server has hung up."""
+        """Returns the reply to a line, or nothing if the server has hung up."""
         reply = b""
         if self.open is not None:
             try:
@@ -246,6 +246,6 @@ def play(story: Story, port: int, in_turn: bool = False) -> tuple[list[bytes], f
 
 
 def in_room(work: Callable[[Path], str]) -> None:
-    """Does the work in a folder that is removed after it, and prints what it tells."""
+    """Does the work in a folder that is removed after it, and prints the result."""
     with tempfile.TemporaryDirectory() as name:
         print(work(Path(name)))

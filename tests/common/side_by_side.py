@@ -21,7 +21,7 @@ def tried(test: Test) -> float:
 
 
 def try_all(of: str, tests: Sequence[Test]) -> None:
-    """All tests, or those with one of the words of the command line; tells of what they were."""
+    """All tests, or those with one of the words of the command line; prints how many there were."""
     if not HOST.is_file():
         fail("no host's program is built")
     chosen = [test for test in tests if not sys.argv[1:] or any(word in test.__name__ for word in sys.argv[1:])]

@@ -71,7 +71,7 @@ def classes() -> Iterator[tuple[str, str]]:
     yield TEACHER, f"A lab has {lab.MOST_SESSIONS} seats, one of them yours"
     yield TEACHER, f"starts the server at {default('run', 'port')} or the next free port"
     yield TEACHER, f"when nothing came for {WORDS[int(CLOSING.value)]} seconds, or as `--daemon` says"
-    yield TEACHER, (f"A word's status is 0 for done, {statuses.USAGE} not as the words are, {statuses.LAB} the lab or {statuses.JOURNAL} "
+    yield TEACHER, (f"A word's status is 0 for done, {statuses.USAGE} wrong words, {statuses.LAB} the lab or {statuses.JOURNAL} "
                     f"the journal is refused, {statuses.FAILED} failed, {statuses.WARNED} done with warnings.")
     status = {word: number for word, (number, _) in STOPS.items()}
     for number, what in ((0, "the run has ended"), (1, "the words of the command line are wrong"), (status["unknown"], "the name or the key is wrong"),

@@ -29,17 +29,17 @@ class Kind:
     is_short: bool = False
 
     def variables(self, nth: int) -> dict[str, str]:
-        """What the library is told of the nth call."""
+        """Returns what the library gets for the nth call."""
         told = {"FAIL": self.of, "FAIL_AT": str(nth), "FAIL_WITH": str(self.error)}
         return {**told, "FAIL_SHORT": "1"} if self.is_short else told
 
     @property
     def is_harmless(self) -> bool:
-        """Whether a run goes on as a plain one."""
+        """Returns whether a run goes on as a plain one."""
         return self.is_short or self.error == EINTR
 
     def fault(self, line: str, out: bytes = b"") -> Ended:
-        """An end at this error, which has that line where it isn't out of memory."""
+        """Returns an end at this error, which has that line if it isn't out of memory."""
         return told("out of memory", 5, out) if self.error == ENOMEM else told(line, 4, out)
 
     def __str__(self) -> str:
@@ -58,17 +58,17 @@ Use = Callable[[Kind, int, dict[str, str]], str]
 
 
 def told(line: str, status: int = 4, out: bytes = b"") -> Ended:
-    """An end with an error line."""
+    """Returns an end with an error line."""
     return Ended(status, out, line.encode() + b"\n")
 
 
 def wrong(ended: Ended, wanted: Ended) -> str:
-    """What is wrong with an end, if anything."""
+    """Returns what is wrong with an end, if anything."""
     return "" if ended == wanted else f"{ended}, not {wanted}"
 
 
 def unwritten(kind: Kind, ended: Ended, out: bytes) -> str:
-    """What is wrong with an end at which not all of this output could be written, if anything."""
+    """Returns what is wrong with an end at which not all of this output could be written, if anything."""
     if ended.out == out or not out.startswith(ended.out):
         return f"no front of what is written plainly: {ended.out!r}"
     return wrong(ended, kind.fault("write fault", ended.out))
@@ -82,12 +82,12 @@ class Reads:
         self.of_lab = library.counts()[0]
 
     def fault(self, nth: int, then: str) -> str:
-        """The error line of the nth read, where a file of that name is read after the lab."""
+        """Returns the error line of the nth read, if a file of that name is read after the lab."""
         return "read fault: lab" if nth <= self.of_lab else f"read fault: {then}"
 
 
 def shown(words: list[str], then: str, reads: Reads) -> Use:
-    """A use that writes one line: `check`, and `audit`, which reads a journal too."""
+    """Returns a use that writes one line: `check`, and `audit`, which reads a journal too."""
     out = good(words)
 
     def use(kind: Kind, nth: int, variables: dict[str, str]) -> str:
@@ -104,7 +104,7 @@ def shown(words: list[str], then: str, reads: Reads) -> Use:
 
 
 def journal_fault(story: Story, ended: Ended, journal: bytes, nth: int) -> str:
-    """What is wrong with a script whose nth put failed, if anything."""
+    """Returns what is wrong with a script whose nth put failed, if anything."""
     replies = ended.out.splitlines(keepends=True)
     granted = [b'"place":' in reply for reply in replies]
     return (
@@ -117,14 +117,14 @@ def journal_fault(story: Story, ended: Ended, journal: bytes, nth: int) -> str:
 
 
 def answered(story: Story, ended: Ended) -> tuple[list[bytes], frozenset[int]]:
-    """The replies to the first lines of a script, an empty one to each other line, and which these are."""
+    """Returns the replies to the first lines of a script, an empty one to each other line, and which these are."""
     replies = ended.out.splitlines(keepends=True)
     unread = frozenset(range(len(replies), len(story.lines)))
     return replies + [b""] * len(unread), unread
 
 
 def cut_off(story: Story, ended: Ended, journal: bytes, wanted: Ended) -> str:
-    """What is wrong with a script of which only the first lines were read, if anything."""
+    """Returns what is wrong with a script of which only the first lines were read, if anything."""
     replies, unread = answered(story, ended)
     return (
         wrong(Ended(ended.status, b"", ended.error), wanted)
@@ -134,7 +134,7 @@ def cut_off(story: Story, ended: Ended, journal: bytes, wanted: Ended) -> str:
 
 
 def scripted(story: Story, room: Path, reads: Reads) -> Use:
-    """A script with its journal."""
+    """Returns a script with its journal."""
     script, journal = room / "faulty.script", room / "faulty.journal"
     script.write_bytes(story.script())
     words = ["script", str(story.lab), str(script), str(journal)]
@@ -163,7 +163,7 @@ def scripted(story: Story, room: Path, reads: Reads) -> Use:
 
 
 def given(story: Story) -> Use:
-    """The script on standard input, which is read as it comes."""
+    """Returns the script on standard input, which is read as it comes."""
     replies, _ = story.plain(frozenset())
     out = b"".join(replies)
 
@@ -237,7 +237,7 @@ class Served:
         return f"it doesn't serve: {ended}"
 
     def done(self, journal: bytes) -> bytes:
-        """The last line of a run with that journal."""
+        """Returns the last line of a run with that journal."""
         return b"done:" + self.story.audit(journal).split(b":", 1)[1].rsplit(b",", 1)[0] + b"\n"
 
     def plain(self, talk: Talk) -> str:
@@ -254,7 +254,7 @@ class Served:
         closed = {self.story.lines[at].split(b" ", 1)[0] for at in talk.unasked}
         unasked = talk.unasked - lost
         done = self.done(talk.journal)
-        # Out of memory is told at the end, but for a read after the session, whose bytes nobody wants.
+        # Out of memory is reported at the end, but for a read after the session, whose bytes nobody wants.
         well = kind.error != ENOMEM or (not closed and talk.ended.status == 0)
         return (
             ("two connections were closed" if len(closed) > 1 else "")
@@ -291,7 +291,7 @@ class Served:
 
 
 def fail_all(name: str, use: Use, kinds: list[Kind], library: Preloaded) -> str:
-    """Makes all runs of a use, and tells how many errors they met."""
+    """Makes all runs of a use, and returns how many errors they met."""
     met = 0
     for kind in kinds:
         for nth in range(1, MOST):
@@ -308,7 +308,7 @@ def fail_all(name: str, use: Use, kinds: list[Kind], library: Preloaded) -> str:
 
 
 def stopped(story: Story, room: Path) -> str:
-    """A server that a signal ends while a client is connected: no last line, and a whole journal."""
+    """Returns a server that a signal ends while a client is connected: no last line, and a whole journal."""
     # A job in a shell's background ignores SIGINT, and so would what it starts.
     signal.signal(signal.SIGINT, signal.default_int_handler)
     journal = room / "stopped.journal"
@@ -330,7 +330,7 @@ def stopped(story: Story, room: Path) -> str:
 
 
 def work(room: Path) -> str:
-    """All uses."""
+    """Returns all uses."""
     library = Preloaded("faults/fail.c", room, "FAIL_COUNTS")
     lab = built_in(room)
     journal = TOP / "examples/whole-run.journal"

@@ -32,7 +32,7 @@ EIO, EMFILE = "5", "24"
 
 
 def failing(library: Preloaded, kind: str, nth: int, error: str) -> dict[str, str]:
-    """The variables of a run whose nth call of that kind fails."""
+    """Returns the variables of a run whose nth call of that kind fails."""
     return library.variables({"FAIL": kind, "FAIL_AT": str(nth), "FAIL_WITH": error})
 
 
@@ -72,7 +72,7 @@ def unaccepted(lab: Path, library: Preloaded) -> None:
 
 
 def halted(lab: Path, room: Path, library: Preloaded) -> str:
-    """All three."""
+    """Returns all three."""
     scripted(lab, room, library)
     served(lab, room, library)
     unaccepted(lab, library)

@@ -20,7 +20,7 @@ NONE = Ended(0, b"done: 0 events, configuration 0\n", b"")
 
 
 def move(at: int, node: int, rule: str) -> bytes:
-    """A move by that number."""
+    """Returns a move by that number."""
     return line_of(at=at, do="move", node=node, rule=rule)
 
 
@@ -70,8 +70,8 @@ def one_after_another(room: Path) -> None:
 
 
 def through_one_seat(room: Path) -> None:
-    """Who sees the end of a connection and comes again isn't told `busy`, where there is one seat, or hardly ever on a
-    slow machine: the seat is free within half a second."""
+    """A client that sees the end of a connection and comes again isn't answered `busy`, if there is one seat, or hardly
+    ever on a slow machine: the seat is free within half a second."""
     lab, told = lab_of(room, 2), 0
     with Host(lab, 0, 0) as host:
         for _ in range(200):
@@ -82,7 +82,7 @@ def through_one_seat(room: Path) -> None:
                 fail("host: a connection goes on after its bye")
             caller.close()
     if told > 5:
-        fail(f"host: after the end of the connection before {told} of 200 are told busy")
+        fail(f"host: after the end of the connection before {told} of 200 are answered `busy`")
 
 
 def killed_in_a_line(room: Path) -> None:
@@ -151,7 +151,7 @@ def connect_and_close(room: Path) -> None:
 
 def ends_after(caller: Caller, begun: float, piece: bytes, every: float, left: list[bytes]) -> float:
     """Sends a piece every so many seconds, ten at most, until the connection has ended; answers when it did, and keeps
-    the lines that it was told."""
+    the lines that it was answered."""
     sent, found = 0, b""
     while True:
         caller.socket.settimeout(every)
@@ -195,7 +195,7 @@ def deadlines(room: Path) -> None:
         if sorted(times) != [*range(len(kept))] or any(times[at] < least[at] for at in times):
             fail(f"host: connections without a greeting are ended after {times} seconds")
         if [lines[-1:] for lines in told] != [[LATE]] * len(kept):
-            fail(f"host: connections without a greeting are told {told}")
+            fail(f"host: connections without a greeting are answered {told}")
         # Who has greeted may be silent for longer than that.
         if early.ask(BYE) != BID:
             fail("host: who is silent after a greeting is ended too")
@@ -204,7 +204,7 @@ def deadlines(room: Path) -> None:
 
 
 def told_busy(port: int) -> None:
-    """Wants that who comes, and who comes and asks, is told `busy` and hung up on."""
+    """Checks that a newcomer, and one that asks, is answered `busy` and hung up on."""
     for line in (b"", hello("ana"), BYE):
         caller = Caller(port)
         if line:
@@ -216,7 +216,7 @@ def told_busy(port: int) -> None:
 
 
 def says_busy(room: Path) -> None:
-    """Where all seats are taken a host says so, at each port for itself, and lets one in when one leaves."""
+    """If all seats are taken a host says so, at each port for itself, and lets one in when one leaves."""
     lab = lab_of(room, 3)
     with Host(lab, 0, 0) as host:
         ana, _ = let_in(host.port, hello("ana"))
@@ -260,7 +260,8 @@ def two_of_one_name(room: Path) -> None:
 
 
 def raced(room: Path) -> None:
-    """Two moves and a close at once, over and over: each event is told once, and the journal is that of a legal run."""
+    """Two moves and a close at once, over and over: each event is reported once, and the journal is that of a legal
+    run."""
     lab, journal = lab_of(room, 3, 10_000), room / "journal"
     told: list[bytes] = []
     with Host(lab, 0, 0, journal) as host:
@@ -282,7 +283,7 @@ def raced(room: Path) -> None:
     places = sorted(int(place) for reply in told for place in re.findall(rb'"place":(\d+)', reply))
     events = len(journal.read_bytes().splitlines())
     if places != list(range(1, events + 1)) or events < 4 * 200:
-        fail(f"host: {len(places)} events of {events} are told, or not each once")
+        fail(f"host: {len(places)} events of {events} are reported, or not each once")
     number = audit(lab, journal, events).split(b"configuration ")[1].split(b",")[0]
     if ended != Ended(0, b"done: %d events, configuration %s\n" % (events, number), b""):
         fail(f"host: another end of raced moves: {ended}")
@@ -322,7 +323,7 @@ def byes_that_end_nothing(room: Path) -> None:
         if not host.runs() or host.dismissed(teacher) != Ended(0, b"done: 1 events, configuration 0\n", b""):
             fail("host: another end after byes that end nothing")
         if (student.line(), student.line()) != (OVER, b""):
-            fail("host: a student is still served, or isn't told that the class is over")
+            fail("host: a student is still served, or isn't answered that the class is over")
     talk.heard(teacher, BYE, BID)
     talk.check(journal)
 
@@ -394,7 +395,7 @@ def ended_while_asked(room: Path) -> None:
 
 
 def ports(room: Path) -> None:
-    """Where a port can't be had, or is both, nothing is served, and the journal is as it was."""
+    """If a port can't be had, or is both, nothing is served, and the journal is as it was."""
     lab, journal, kept = lab_of(room, 4), room / "journal", b"1 0 close\n"
     with socket.create_server(("127.0.0.1", 0)) as taken, socket.create_server(("127.0.0.1", 0)) as free:
         used, port = taken.getsockname()[1], free.getsockname()[1]
@@ -426,13 +427,13 @@ def ports(room: Path) -> None:
 
 
 def listeners(port: int) -> set[str]:
-    """The addresses at which somebody listens on a port, as the system spells them."""
+    """Returns the addresses at which somebody listens on a port, as the system spells them."""
     rows = [line.split() for name in ("tcp", "tcp6") for line in Path(f"/proc/net/{name}").read_text(encoding="ascii").splitlines()[1:]]
     return {address for row in rows for address, _, number in [row[1].partition(":")] if row[3] == "0A" and int(number, 16) == port}
 
 
 def own_address() -> str:
-    """The address by which this machine would reach others; one of its own, if it would reach none."""
+    """Returns the address by which this machine would reach others; one of its own, if it would reach none."""
     with socket.socket(socket.AF_INET, socket.SOCK_DGRAM) as it:
         try:
             it.connect(("192.0.2.1", 9))  # Nothing is sent.
@@ -469,7 +470,7 @@ def one_device(room: Path) -> None:
 
 
 def few_descriptors(room: Path) -> None:
-    """Where a host may have 24 files open, or twelve, thirty clients at once are all served in the end."""
+    """If a host may have 24 files open, or twelve, thirty clients at once are all served in the end."""
     for descriptors in (24, 12):
         lab, journal = lab_of(room, 16), room / f"{descriptors}.journal"
         limited = ["bash", "-c", f'ulimit -n {descriptors} && exec "$@"', "bash"]

@@ -40,7 +40,7 @@ Hostile = Callable[[int, float, random.Random], str]
 
 
 def opened(port: int) -> socket.socket:
-    """A connection that sends each piece at once; over a host one that has greeted."""
+    """Returns a connection that sends each piece at once; over a host one that has greeted."""
     it = let_in(port, hello("cyd"))[0].socket if OVER_HOST else socket.create_connection(("127.0.0.1", port), LIMIT)
     it.setsockopt(socket.IPPROTO_TCP, socket.TCP_NODELAY, 1)
     return it
@@ -70,7 +70,8 @@ def noise(port: int, until: float, draw: random.Random) -> str:
 
 
 def long_line(port: int, until: float, draw: random.Random) -> str:
-    """One byte more than a line may have: the connection is ended without a reply, over a host by a word of its own."""
+    """Returns one byte more than a line may have: the connection is ended without a reply, over a host by a word of its
+    own."""
     with opened(port) as it:
         begin(it, until, draw)
         it.sendall(b" " * (4097 - len(SEE) + 1) + SEE)
@@ -82,7 +83,7 @@ def long_line(port: int, until: float, draw: random.Random) -> str:
 
 
 def half_line(port: int, until: float, draw: random.Random) -> str:
-    """A line in two halves, the second at the end or after minutes, since a host bears ten without a line."""
+    """Returns a line in two halves, the second at the end or after minutes, since a host bears ten without a line."""
     middle = draw.randrange(1, len(SEE) - 1)
     with opened(port) as it, it.makefile("rb") as replies:
         it.sendall(SEE)
@@ -149,14 +150,14 @@ def flood(port: int, until: float, draw: random.Random) -> str:
 
 
 def gone(port: int, until: float, draw: random.Random) -> str:
-    """No line at all."""
+    """Returns no line at all."""
     with socket.create_connection(("127.0.0.1", port), LIMIT):
         time.sleep(max(0.0, until - time.monotonic()) * draw.uniform(0.3, 0.6))
     return ""
 
 
 def stands() -> str:
-    """The process of a hostile client has begun; nothing is wrong."""
+    """Returns the process of a hostile client has begun; nothing is wrong."""
     time.sleep(0.5)
     return ""
 
@@ -165,7 +166,7 @@ ALL: list[Hostile] = [noise, long_line, half_line, byte_by_byte, reset, flood, g
 
 
 def honest_lines() -> bytes:
-    """What two honest clients ask in turn: views and denials, and now and then a move and its close."""
+    """Returns what two honest clients ask in turn: views and denials, and now and then a move and its close."""
     lines = ['1 {"do":"hello","key":"a-key","name":"ana"}', '2 {"do":"hello","key":"chalk","name":"tess"}']
     number = 0
     while len(lines) < MOST_LINES:
@@ -180,13 +181,13 @@ def honest_lines() -> bytes:
 
 
 def kilobytes(server: Program) -> int:
-    """What the server holds of memory."""
+    """Returns what the server holds of memory."""
     status = Path(f"/proc/{server.process.pid}/status").read_text(encoding="ascii")
     return int(status.split("VmRSS:", 1)[1].split()[0])
 
 
 def threads(server: Program) -> int:
-    """How many threads the server has."""
+    """Returns how many threads the server has."""
     return len(list(Path(f"/proc/{server.process.pid}/task").iterdir()))
 
 
@@ -201,7 +202,7 @@ class Honest:
         self.at = 0
 
     def ask(self) -> float:
-        """Asks one line, which has to be answered as in a quiet run, and tells what time that took."""
+        """Asks one line, which has to be answered as in a quiet run, and returns what time that took."""
         number, line = self.lines[self.at]
         begun = time.monotonic()
         reply = self.clients[number].ask(line)
@@ -229,7 +230,7 @@ class Honest:
 
 
 def serving(lab: Path, connections: int) -> Program:
-    """A server for so many connections, or a host."""
+    """Returns a server for so many connections, or a host."""
     server: Program
     if OVER_HOST:
         server = Host(lab, 0, 0)
@@ -241,13 +242,13 @@ def serving(lab: Path, connections: int) -> Program:
 
 
 def served(story: Story, connections: int) -> tuple[Program, Honest]:
-    """A server with its honest clients."""
+    """Returns a server with its honest clients."""
     server = serving(story.lab, connections)
     return server, Honest(story, server)
 
 
 def ended(honest: Honest, server: Program) -> None:
-    """Wants that the server ends with the events of the honest ones alone."""
+    """Checks that the server ends with the events of the honest ones alone."""
     events = sum(b'"place":' in reply for reply in honest.wanted[:honest.at])
     end = honest.end(server)
     if end.status != 0 or end.error or not end.out.startswith(b"done: %d events, " % events):
@@ -255,14 +256,14 @@ def ended(honest: Honest, server: Program) -> None:
 
 
 def answered(futures: list[Future[str]]) -> None:
-    """Wants that nothing is wrong with what the hostile ones met."""
+    """Checks that nothing is wrong with what the hostile ones met."""
     for future in futures:
         if future.result():
             fail(f"hostile: {future.result()}")
 
 
 def wait_for_threads(server: Program, wanted: int, when: str) -> None:
-    """Wants so many threads: one for each connection that is open, beside those that there always are."""
+    """Checks for so many threads: one for each connection that is open, beside those that there always are."""
     for _ in range(int(LIMIT / 0.05)):
         if threads(server) == wanted:
             return
@@ -271,12 +272,12 @@ def wait_for_threads(server: Program, wanted: int, when: str) -> None:
 
 
 def handles(server: Program) -> int:
-    """How many files the server has open."""
+    """Returns how many files the server has open."""
     return len(list(Path(f"/proc/{server.process.pid}/fd").iterdir()))
 
 
 def wait_for_handles(server: Program, wanted: int, when: str) -> None:
-    """Wants so many open files."""
+    """Checks for so many open files."""
     for _ in range(int(LIMIT / 0.05)):
         if handles(server) == wanted:
             return
@@ -322,7 +323,7 @@ class Silent:
 
 
 def resting(server: Program) -> tuple[int, int]:
-    """How many threads and open files a server has with its two honest clients alone, once it takes no others:
+    """Returns how many threads and open files a server has with its two honest clients alone, once it takes no others:
     the main thread, two more, the standard streams, and two files for each. A host always takes others."""
     return (threads(server), handles(server)) if isinstance(server, Host) else (3, 7)
 
@@ -363,7 +364,7 @@ def work(room: Path) -> str:
     wait_for_threads(server, rest[0], "once the hostile clients have gone")
     wait_for_handles(server, rest[1], "once the hostile clients have gone")
     holds = kilobytes(server)
-    # A host gives back what the threads of those connections held, which may be more than a tenth.
+    # A host returns what the threads of those connections held, which may be more than a tenth.
     if holds * 10 > held * 11 or isinstance(server, Server) and holds * 10 < held * 9:
         fail(f"hostile: the server holds {holds} kB, not {held} kB as after a hundred lines")
     ended(honest, server)

@@ -21,7 +21,7 @@ def says(row: Row, room: Path) -> None:
 
 
 def work(room: Path) -> str:
-    """All rows."""
+    """Returns all rows."""
     rows = all_rows() + computed_rows()
     for row in rows:
         says(row, room)

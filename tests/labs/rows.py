@@ -40,19 +40,19 @@ class Row:
 
 
 def built_in() -> str:
-    """The lab that is built into the program."""
+    """Returns the lab that is built into the program."""
     return (TOP / "examples/built-in.toml").read_text(encoding="utf-8").partition("\n\n")[2]
 
 
 def changed(name: str, base: str, row: dict[str, Any]) -> str:
-    """A document with a new text instead of one that stands there once."""
+    """Returns a document with a new text instead of one that stands there once."""
     if base.count(row["old"]) != 1:
         fail(f"{name}: {row['old']!r} doesn't stand once in its document")
     return base.replace(row["old"], row["new"])
 
 
 def document_of(name: str, table: dict[str, Any], row: dict[str, Any], last: str) -> bytes:
-    """The document of a row, where the document of the row before is the last one."""
+    """Returns the document of a row, if the document of the row before is the last one."""
     if "old" in row:
         base = last if row.get("goes_on") else table.get("base", built_in())
         return changed(name, base, row).encode()
@@ -63,7 +63,7 @@ def document_of(name: str, table: dict[str, Any], row: dict[str, Any], last: str
 
 
 def rows_of(path: Path) -> list[Row]:
-    """The rows of a table."""
+    """Returns the rows of a table."""
     table = tomllib.loads(path.read_text(encoding="utf-8"))
     rows: list[Row] = []
     last = b""
@@ -77,5 +77,5 @@ def rows_of(path: Path) -> list[Row]:
 
 
 def all_rows() -> list[Row]:
-    """The rows of all tables of this folder."""
+    """Returns the rows of all tables of this folder."""
     return [row for path in sorted(HERE.glob("*.toml")) for row in rows_of(path)]

@@ -17,12 +17,12 @@ PART = 100
 
 
 def hello(name: str, key: str) -> str:
-    """A greeting on the first connection."""
+    """Returns a greeting on the first connection."""
     return f'1 {json.dumps({"do": "hello", "name": name, "key": key})}\n'
 
 
 def looks(people: Sequence[tuple[str, str]], nodes: list[int]) -> list[str]:
-    """Each of these looks at each node."""
+    """Returns each of these looks at each node."""
     lines = []
     for name, key in people:
         lines += [hello(name, key), *(f'1 {{"do":"look","node":{i}}}\n' for i in nodes), '1 {"do":"bye"}\n']
@@ -42,7 +42,7 @@ class Shown:
         fail(f"{self.row.name}: {why}")
 
     def size(self) -> list[str]:
-        """The counts of nodes, links and students, by `check`."""
+        """Returns the counts of nodes, links and students, by `check`."""
         said = run(["check", str(self.lab)], b"", {})
         words = said.out.decode().split()
         if said.status != 0 or len(words) != 7:
@@ -50,7 +50,7 @@ class Shown:
         return words[1::2]
 
     def replies(self, people: Sequence[tuple[str, str]], nodes: list[int], sessions: int) -> list[dict[str, Any]]:
-        """The replies to all looks of these.
+        """Returns the replies to all looks of these.
 
         At the end a line of the last connection is answered, and one of a connection more is no line of the script.
         """
@@ -64,7 +64,7 @@ class Shown:
         return [json.loads(line.split(b" ", 1)[1]) for line in found.out.splitlines()[:-1]]
 
     def all_replies(self, students: int, nodes: list[int], sessions: int) -> list[dict[str, Any]]:
-        """Those to the looks of the teacher and of each student, over scripts that aren't too large."""
+        """Returns those to the looks of the teacher and of each student, over scripts that aren't too large."""
         people = [self.row.teacher, *self.row.students[:students]]
         replies = []
         for start in range(0, len(people), PART):
@@ -72,13 +72,13 @@ class Shown:
         return replies
 
     def takes(self, node: int, events: int) -> Ended:
-        """The audit of a journal of so many events."""
+        """Returns the audit of a journal of so many events."""
         lines = (f"{place} {place - 1} fault {node} - false\n" for place in range(1, events + 1))
         self.journal.write_text("".join(lines), encoding="ascii")
         return run(["audit", str(self.lab), str(self.journal)], b"", {})
 
     def limit(self, node: int, events: int) -> None:
-        """Wants that so many events may be, and not one more."""
+        """Checks that so many events may be, and not one more."""
         found = self.takes(node, events)
         if not found.out.startswith(b"ok: %d events, configuration %d, " % (events, events)):
             self.fail(f"fewer events than {events}: {found.error!r}")
@@ -87,14 +87,14 @@ class Shown:
 
 
 def mark(look: Look, node: int) -> str:
-    """How a node that is looked at stands to another."""
+    """Returns how a node that is looked at stands to another."""
     if not any(other["node"] == node for other in look["near"]):
         return "."
     return ">" if look["p"] == node else "-"
 
 
 def text_of(nodes: list[int], students: list[str], replies: list[dict[str, Any]]) -> str:
-    """What the replies to all looks show of the nodes."""
+    """Returns what the replies to all looks show of the nodes."""
     width = len(nodes) + 2
     seen = [replies[start + 1 : start + 1 + len(nodes)] for start in range(0, width * (len(students) + 1), width)]
     text = ""
@@ -106,7 +106,7 @@ def text_of(nodes: list[int], students: list[str], replies: list[dict[str, Any]]
 
 
 def compare(row: Row, room: Path) -> None:
-    """Wants that the lab of a row shows what the row says."""
+    """Checks that the lab of a row shows what the row says."""
     shown = Shown(row, room)
     head, *parts = row.shows.split("; ")
     events, sessions = (int(word) for word in head.split()[:2])

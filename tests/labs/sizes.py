@@ -10,12 +10,12 @@ MOST = "events = 100000\n"
 
 
 def student(number: int) -> tuple[str, str]:
-    """A student with a name and a key of the greatest lengths."""
+    """Returns a student with a name and a key of the greatest lengths."""
     return f"s{number:031}", f"{number:064}"
 
 
 def students(count: int) -> str:
-    """The lines of so many students with the longest names and keys."""
+    """Returns the lines of so many students with the longest names and keys."""
     return "".join('[[student]]\nname = "{}"\nkey = "{}"\n'.format(*student(number)) for number in range(count))
 
 
@@ -55,7 +55,7 @@ def loose() -> Row:
 
 
 def lengths() -> list[Row]:
-    """The lengths of the teacher's name and key, and the sessions, on both sides of each limit."""
+    """Returns the lengths of the teacher's name and key, and the sessions, on both sides of each limit."""
     bad, sessions = "lab: principal 0: bad name or key", "lab: sessions is out of its limits"
     wanted = [
         (1, 1, 1, ""), (32, 64, 16, ""), (33, 64, 16, bad), (32, 65, 16, bad), (0, 64, 16, bad),
@@ -98,5 +98,5 @@ def greatest() -> Row:
 
 
 def computed_rows() -> list[Row]:
-    """All rows that are computed."""
+    """Returns all rows that are computed."""
     return [*sizes(), *lengths(), loose(), greatest()]

@@ -22,7 +22,7 @@ from tests.memory.refusing import OUT_OF_MEMORY, Tried, Use, memories, refuse_al
 
 
 def told_of(story: Story, ended: Ended) -> tuple[str, list[bytes]]:
-    """What is wrong with how a script ended, if anything, and its replies."""
+    """Returns what is wrong with how a script ended, if anything, and its replies."""
     replies = ended.out.splitlines(keepends=True)
     if ended.status != 0 or ended.error:
         return "another end", replies
@@ -32,7 +32,7 @@ def told_of(story: Story, ended: Ended) -> tuple[str, list[bytes]]:
 
 
 def scripted(story: Story, room: Path, name: str) -> Use:
-    """A script, by standard input where it has no name, or from a file and with a journal."""
+    """Returns a script, by standard input if it has no name, or from a file and with a journal."""
     script, journal, with_words = room / f"{name}.script", room / f"{name}.journal", bool(name)
     script.write_bytes(story.script())
     words = ["script", str(story.lab), str(script), str(journal)] if with_words else []
@@ -54,16 +54,16 @@ def scripted(story: Story, room: Path, name: str) -> Use:
 
 
 def fault_of_end(ended: Ended, replies: list[bytes], audited: bytes) -> str:
-    """What is wrong with how a server ended that answered so, if anything."""
+    """Returns what is wrong with how a server ended that answered so, if anything."""
     done = b"done:" + audited.split(b":", 1)[1].rsplit(b",", 1)[0] + b"\n"
-    # Where a session got no memory to begin with, its connection is closed, and that is told at the end.
+    # If a session got no memory to begin with, its connection is closed, and that is reported at the end.
     wanted = Ended(5, done, b"out of memory\n") if b"" in replies else Ended(0, done, b"")
-    # Where no thread can be made, those that were taken are served to their ends, and nothing more is told.
+    # If no thread can be made, those that were taken are served to their ends, and nothing more is printed.
     return "" if ended in (wanted, OUT_OF_MEMORY) else "another end"
 
 
 def first_unanswered_late(story: Story, unasked: frozenset[int]) -> str:
-    """The connection that was closed after its first line was answered, if there is one."""
+    """Returns the connection that was closed after its first line was answered, if there is one."""
     begun = set()
     for at, line in enumerate(story.lines):
         number = line.split(b" ", 1)[0]
@@ -75,7 +75,7 @@ def first_unanswered_late(story: Story, unasked: frozenset[int]) -> str:
 
 
 def served(story: Story, room: Path) -> Use:
-    """Two clients of a server that keeps a journal."""
+    """Returns two clients of a server that keeps a journal."""
     journal = room / "served.journal"
 
     def use(variables: dict[str, str]) -> Tried:
@@ -141,7 +141,7 @@ def refused_hosts(library: Preloaded, room: Path) -> str:
 
 
 def work(room: Path) -> str:
-    """What the words ask for."""
+    """Returns what the words ask for."""
     library = Preloaded("memory/refuse.c", room, "REFUSE_COUNTS")
     parts: dict[str, Callable[[Preloaded, Path], str]] = {
         "uses": refused_uses, "hosts": refused_hosts, "tests": lambda library, _: refused_tests(library),

@@ -27,7 +27,7 @@ def play(story: Story, host: Host) -> None:
 
 
 def host_uses(room: Path) -> dict[str, Use]:
-    """The uses of the host's program."""
+    """Returns the uses of the host's program."""
     lab = lab_of(room, 4)
     story = Story(lab, b"".join((number + line) * 2 for number, line in SAID), room)
     journal, record = room / "kept.journal", room / "kept record"
@@ -45,7 +45,8 @@ def host_uses(room: Path) -> dict[str, Use]:
 
 
 def answered(story: Story) -> Use:
-    """A script that is answered as its lines come; they are all there, and each is answered before the next is read."""
+    """Returns a script that is answered as its lines come; they are all there, and each is answered before the next is
+    read."""
     def use(variables: dict[str, str]) -> Tried:
         ended = run(["answer", str(story.lab)], story.script(), variables, HOST)
         replies = ended.out.splitlines(keepends=True)

@@ -27,7 +27,7 @@ def memories(replies: list[bytes]) -> int:
 
 
 def whole(words: list[str], given: bytes = b"", program: Path = PROGRAM) -> Use:
-    """A use that writes what a plain run writes, or nothing."""
+    """Returns a use that writes what a plain run writes, or nothing."""
     wanted = good(words, given, program)
 
     def use(variables: dict[str, str]) -> Tried:

@@ -30,14 +30,14 @@ FREE = ["setpriv", "--reuid", "65534", "--regid", "65534", "--clear-groups"] if 
 
 
 def ends(host: Host, teacher: Caller, wanted: Ended = NONE) -> None:
-    """Wants that the teacher's bye ends a host well."""
+    """Checks that the teacher's bye ends a host well."""
     ended = host.dismissed(teacher)
     if (ended.status, ended.out) != (wanted.status, wanted.out):
         fail(f"outsiders: a host ends with {ended}")
 
 
 def ended_soon(words: list[str | Path]) -> Ended:
-    """How a call ends by itself, which has to be soon."""
+    """Returns how a call ends by itself, which has to be soon."""
     try:
         done = subprocess.run(words, stdin=subprocess.DEVNULL, capture_output=True, timeout=60, check=False)
     except subprocess.TimeoutExpired:
@@ -46,8 +46,8 @@ def ended_soon(words: list[str | Path]) -> Ended:
 
 
 def refused_threads(room: Path) -> None:
-    """A student for whom no thread can be made is told `busy` at once; the teacher is served without one, and
-    the teacher's bye ends the class for all."""
+    """A student for whom no thread can be made is answered `busy` at once; the teacher is served without one, and the
+    teacher's bye ends the class for all."""
     library = Preloaded("faults/fail.c", room, "FAIL_COUNTS")
     lab = lab_of(room, 5)
     for at in range(LOOKS + 2, LOOKS + 5):
@@ -62,11 +62,11 @@ def refused_threads(room: Path) -> None:
                 said.append(caller.ask(hello(name)))
                 students += [caller] if said[-1] not in (b"", BUSY) else []
             if library.counts()[1] != 1 or said.count(BUSY) != (at > LOOKS + 2) or b"" in said:
-                fail(f"outsiders: without thread {at} students are told {said}")
+                fail(f"outsiders: without thread {at} students are answered {said}")
             students.append(let_in(host.port, hello("ana"))[0])
             ends(host, teacher)
             if any((caller.line(), caller.line()) != (OVER, b"") for caller in students):
-                fail(f"outsiders: without thread {at} the class's end isn't told")
+                fail(f"outsiders: without thread {at} the class's end isn't reported")
 
 
 def asks_after_the_bye(room: Path) -> None:
@@ -86,12 +86,12 @@ def asks_after_the_bye(room: Path) -> None:
             fail("outsiders: another reply to the teacher's bye")
         said = [caller.ask(line) for caller, line in zip(students[1:], moves[1:])]
         if said != [OVER] * 2 or host.end() != Ended(0, b"done: 1 events, configuration 0\n", b""):
-            fail(f"outsiders: moves after the teacher's bye are told {said}")
+            fail(f"outsiders: moves after the teacher's bye are answered {said}")
     audit(lab, journal, 1)
 
 
 def few(room: Path) -> None:
-    """A host that may have too few threads or files says so, and makes nothing; so where a class goes on."""
+    """A host that may have too few threads or files says so, and makes nothing; so if a class goes on."""
     lab, folder, program = lab_of(room, 4), room / "made", room / "host"
     folder.mkdir()
     program.write_bytes(HOST.read_bytes())
@@ -111,17 +111,18 @@ def few(room: Path) -> None:
 
 
 def comes_again(room: Path) -> None:
-    """Who closes and comes again at once isn't told `busy`, at either port, or hardly ever on a slow machine."""
+    """A client that closes and comes again at once isn't answered `busy`, at either port, or hardly ever on a slow
+    machine."""
     lab, told = lab_of(room, 2), 0
     with Host(lab, 0, 0) as host:
         for port, name in [(host.desk, "tess"), (host.port, "ana")] * 150:
             caller = Caller(port)
             if b'"ok":"hello"' not in (said := caller.ask(hello(name))) and said not in (b"", BUSY):
-                fail(f"outsiders: who comes again at once is told {said!r}")
+                fail(f"outsiders: who comes again at once is answered {said!r}")
             told += said in (b"", BUSY)
             caller.close()
         if told > 30:
-            fail(f"outsiders: who comes again at once is told busy {told} times of 300")
+            fail(f"outsiders: who comes again at once is answered `busy` {told} times of 300")
         ends(host, let_in(host.desk, hello("tess"))[0])
 
 
@@ -134,7 +135,7 @@ def a_web_form(room: Path) -> None:
             caller.send(b"POST / HTTP/1.1\r\nHost: 127.0.0.1\r\nContent-Type: text/plain\r\n\r\n" + hello("tess") + BYE)
             said = caller.line(), caller.line()
             if said != (MALFORMED, b""):
-                fail(f"outsiders: a web form is told {said}")
+                fail(f"outsiders: a web form is answered {said}")
             caller.close()
         # A line that is an object, and no request, ends nothing.
         caller = Caller(host.port)
@@ -144,7 +145,7 @@ def a_web_form(room: Path) -> None:
 
 
 def words_at_the_end(room: Path) -> None:
-    """A line that is too long, and the class's end, are told."""
+    """A line that is too long, and the class's end, are reported."""
     lab = lab_of(room, 4)
     with Host(lab, 0, 0) as host:
         for first in (b"", hello("ana")):
@@ -153,16 +154,16 @@ def words_at_the_end(room: Path) -> None:
                 caller.ask(first)
             caller.send(b" " * 5000)
             if (caller.line(), caller.line()) != (LONG, b""):
-                fail("outsiders: a line that is too long isn't told so")
+                fail("outsiders: a line that is too long gets no such line")
         greeted, silent = let_in(host.port, hello("ana"))[0], Caller(host.port)
         ends(host, let_in(host.desk, hello("tess"))[0])
         # On a slow machine ten seconds may have passed for who hasn't greeted.
         if (told := greeted.line()) != OVER or (told := silent.line()) not in (OVER, LATE):
-            fail(f"outsiders: of the class's end is told {told!r}")
+            fail(f"outsiders: of the class's end is answered {told!r}")
 
 
 def three_hellos(room: Path) -> None:
-    """The third hello in vain ends a connection."""
+    """The third hello without success ends a connection."""
     lab = lab_of(room, 4)
     with Host(lab, 0, 0) as host:
         for port in (host.port, host.desk):
@@ -174,13 +175,13 @@ def three_hellos(room: Path) -> None:
             caller, first = let_in(port, WRONG)
             said = [first, *(caller.ask(line) for line in (WRONG, hello("tess"), look("ana")))]
             if said[:2] != [UNKNOWN] * 2 or b'"ok":"hello"' not in said[2] or b'"ok":"look"' not in said[3]:
-                fail(f"outsiders: two hellos in vain and a right one are told {said}")
+                fail(f"outsiders: two hellos without success and a right one are answered {said}")
             caller.close()
         ends(host, let_in(host.desk, hello("tess"))[0])
 
 
 def comes(port: int, line: bytes, taken: list[float]) -> Caller:
-    """Who has a key gets a seat, coming again where there is none; notes how many seconds that took."""
+    """Gets a seat by a key, coming again if there is none, and notes how many seconds that took."""
     begun = time.monotonic()
     while True:
         caller = Caller(port)
@@ -188,7 +189,7 @@ def comes(port: int, line: bytes, taken: list[float]) -> Caller:
         if b'"ok":"hello"' in said:
             break
         if said not in (BUSY, b""):
-            fail(f"outsiders: an honest hello is told {said!r}")
+            fail(f"outsiders: an honest hello is answered {said!r}")
         caller.close()
         if time.monotonic() - begun > LIMIT:
             fail("outsiders: an honest client isn't let in")
@@ -197,7 +198,7 @@ def comes(port: int, line: bytes, taken: list[float]) -> Caller:
 
 
 def alone(host: Host) -> float:
-    """What an honest hello takes where nobody disturbs it, at most of five."""
+    """Returns what an honest hello takes if nobody disturbs it, at most of five."""
     taken: list[float] = []
     for _ in range(5):
         comes(host.port, hello("ana"), taken).close()
@@ -205,7 +206,7 @@ def alone(host: Host) -> float:
 
 
 def waits_little(taken: list[float], quiet: float, most: float = 2.0) -> None:
-    """Wants that most honest clients wait for less than so many seconds, and what a slow machine makes of that."""
+    """Checks that most honest clients wait for less than so many seconds, and what a slow machine makes of that."""
     if sorted(taken)[len(taken) // 2] > most + 20 * quiet:
         fail(f"outsiders: honest clients wait for a seat: {taken} seconds, alone {quiet}")
 
@@ -272,9 +273,9 @@ def a_third(room: Path) -> None:
                 newcomer, reply = let_in(port, b"{}\n")
                 strangers.append(newcomer)
                 said = reply, strangers[turn].line(), strangers[turn].line()
-                # Who is still writing a reply after a tenth of a second is hung up without a word.
+                # A client that is still writing a reply after a tenth of a second is hung up without a word.
                 if said not in ((MALFORMED, BUSY, b""), (MALFORMED, b"", b"")):
-                    fail(f"outsiders: {share + 1} who haven't greeted are told {said}")
+                    fail(f"outsiders: {share + 1} who haven't greeted are answered {said}")
             if any(caller.ask(b"{}\n") != MALFORMED for caller in strangers[3:]):
                 fail("outsiders: another than the first who hasn't greeted leaves")
             for caller in strangers:
@@ -283,13 +284,13 @@ def a_third(room: Path) -> None:
 
 
 def told_busy(port: int, count: int) -> float:
-    """How many seconds pass until so many who come at once to a full port are all told `busy`."""
+    """Returns how many seconds pass until so many who come at once to a full port are all answered `busy`."""
     begun = time.monotonic()
     callers = [Caller(port) for _ in range(count)]
     for caller in callers:
         caller.send(hello("cyd"))
     if any((caller.line(), caller.line()) != (BUSY, b"") for caller in callers):
-        fail("outsiders: who comes to a full port isn't told so")
+        fail("outsiders: who comes to a full port gets no such line")
     return time.monotonic() - begun
 
 
@@ -308,8 +309,8 @@ def nobody_behind(room: Path) -> None:
 
 def guesses(host: Host, quiet: float) -> tuple[int, int, float]:
     """Beside those who guess keys, fifteen at the students' port and then fourteen at the desk too, honest hellos at both
-    are told within a tenth of a second. Answers how many guesses were denied, how many who guess were told something
-    else, and how many seconds it took."""
+    are answered within a tenth of a second. Answers how many guesses were denied, how many who guess got another answer,
+    and how many seconds it took."""
     stop, denied, others = threading.Event(), [0] * 29, [0] * 29
 
     def guess(at: int) -> None:
@@ -341,21 +342,21 @@ def guesses(host: Host, quiet: float) -> tuple[int, int, float]:
 
 
 def guessed_keys(room: Path) -> None:
-    """Those who guess keys have less than a hundred denials a second in all, and are told most of them; the teacher's
-    program is told of the guesses."""
+    """Those who guess keys have less than a hundred denials a second in all, and get most of them; the teacher's
+    program hears of the guesses."""
     with Host(lab_of(room, 16), 0, 0) as host:
         denied, others, seconds = guesses(host, alone(host))
         if denied / seconds > 100 or denied < 100:
             fail(f"outsiders: {denied} keys are guessed in {seconds} seconds")
         if others * 4 > denied:
-            fail(f"outsiders: {others} who guess aren't told that they are wrong, and {denied} are")
+            fail(f"outsiders: {others} who guess aren't answered that they are wrong, and {denied} are")
         ended = host.dismissed(let_in(host.desk, hello("tess"))[0])
         if ended.out != NONE.out or b"hellos had no right key" not in ended.error:
-            fail(f"outsiders: nobody is told of guesses: {ended}")
+            fail(f"outsiders: nobody hears of guesses: {ended}")
 
 
 def one_of_many(room: Path) -> None:
-    """Where a name has more than four seats and none is free, its last one goes to a newcomer; four are its own."""
+    """If a name has more than four seats and none is free, its last one goes to a newcomer; four are its own."""
     lab = lab_of(room, 7)
     with Host(lab, 0, 0) as host:
         many = [let_in(host.port, hello("ana"))[0] for _ in range(6)]
@@ -373,7 +374,7 @@ def one_of_many(room: Path) -> None:
 
 
 def queues(host: Host, caller: Caller) -> str:
-    """How many bytes the system holds at the host's end of a connection, to be sent and to be read."""
+    """Returns how many bytes the system holds at the host's end of a connection, to be sent and to be read."""
     ends = f":{host.port:04X}", f":{caller.socket.getsockname()[1]:04X}"
     for line in Path("/proc/net/tcp").read_text(encoding="ascii").splitlines()[1:]:
         words = line.split()
@@ -383,7 +384,7 @@ def queues(host: Host, caller: Caller) -> str:
 
 
 def never_reads(room: Path) -> None:
-    """Who takes nothing of its replies for ten seconds is cut off, and not much later."""
+    """A client that takes nothing of its replies for ten seconds is cut off, and not much later."""
     lab = lab_of(room, 4)
     with Host(lab, 0, 0) as host:
         deaf = let_in(host.port, hello("ana"))[0]
@@ -410,11 +411,12 @@ def never_reads(room: Path) -> None:
 
 
 def next_wait(library: Preloaded, caller: Caller, piece: bytes) -> float:
-    """How many seconds the host's next read may wait after these bytes, which are answered where they are a line."""
+    """Returns how many seconds the host's next read may wait after these bytes, which are answered if they are a
+    line."""
     before, end = library.counts()[0], time.monotonic() + LIMIT
     caller.send(piece)
     if piece.endswith(b"\n") and b'"ok"' not in (said := caller.line()):
-        fail(f"outsiders: {piece!r} is told {said!r}")
+        fail(f"outsiders: {piece!r} is answered {said!r}")
     while True:
         count, wait = library.counts()
         # Until it is greeted a read waits for ten seconds at most.
@@ -433,7 +435,7 @@ def ten_minutes(room: Path) -> None:
         for piece in (hello("ana"), look("ana"), look("ana"), b" ", b" "):
             waits.append(next_wait(library, student, piece))
             time.sleep(5)
-        # Where a line's time isn't its own five seconds are missing, and where it begins anew with bytes they are there.
+        # If a line's time isn't its own five seconds are missing, and where it begins anew with bytes they are there.
         if any(not 595.1 < wait <= 600 for wait in waits[:3]) or not 500 < waits[3] <= 595 or not 500 < waits[4] <= 590:
             fail(f"outsiders: a student's lines have {waits} seconds")
         teacher = Caller(host.desk)
@@ -443,8 +445,8 @@ def ten_minutes(room: Path) -> None:
 
 
 def journals(room: Path) -> None:
-    """A journal is nobody's output, nor a pipe without a reader, and is for its owner alone to read where nobody has
-    said otherwise; the one that replaces it has the mode of the one before."""
+    """A journal is nobody's output, nor a pipe without a reader, and is for its owner alone to read if nobody has said
+    otherwise; the one that replaces it has the mode of the one before."""
     lab, journal = lab_of(room, 4), room / "journal"
     for stream in ("", "2"):
         journal.unlink(missing_ok=True)
@@ -470,7 +472,7 @@ def journals(room: Path) -> None:
 
 
 def limits_of_files(room: Path) -> None:
-    """Where the journal may not grow further, events are refused, and the host goes on; started by `./mml` too."""
+    """If the journal may not grow further, events are refused, and the host goes on; started by `./mml` too."""
     lab = lab_of(room, 4)
     # If a soft limit and a hard one differ, the soft one is what counts.
     for name, limit, start in (("program", "-f", 'exec "$@"'), ("soft", "-S -f", 'exec "$@"'), ("mml", "-f", 'shift && exec "$0" "$@"')):
@@ -500,7 +502,8 @@ def limits_of_files(room: Path) -> None:
 
 
 def limited(kilobytes: int, limit: str = "-s") -> list[str]:
-    """What calls a program so that each stack may have so many kilobytes, and all together 64 MB of addresses."""
+    """Returns what calls a program so that each stack may have so many kilobytes, and all together 64 MB of
+    addresses."""
     return ["bash", "-c", f'ulimit {limit} {kilobytes} && ulimit -v 65536 && exec "$@"', "bash"]
 
 
@@ -514,14 +517,14 @@ def deepest(port: int, count: int) -> None:
     for caller in callers:
         said = [caller.line() for _ in range(6)]
         if [b'"ok":"look"' in line for line in said] != [False, True, True, False, False, False]:
-            fail(f"outsiders: nested lines over small stacks are told {said}")
+            fail(f"outsiders: nested lines over small stacks are answered {said}")
         if said[3:] != [MALFORMED, MALFORMED, BID]:
-            fail(f"outsiders: lines that are nested too deep are told {said}")
+            fail(f"outsiders: lines that are nested too deep are answered {said}")
 
 
 def small_stacks(room: Path) -> None:
-    """Stacks of 256 kB are enough for the deepest line, and then little address space is; where they may be smaller
-    no program begins."""
+    """Stacks of 256 kB are enough for the deepest line, and then little address space is; if they may be smaller no
+    program begins."""
     lab = lab_of(room, 16)
     with Host(lab, 0, 0, before=limited(256)) as host:
         teacher = let_in(host.desk, hello("tess"))[0]

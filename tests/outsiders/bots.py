@@ -31,7 +31,7 @@ GUESS = line_of(do="hello", key="no-key", name="s-1")
 
 
 def lab_of_bots(room: Path) -> Path:
-    """A cycle in which each student owns a node."""
+    """Returns a cycle in which each student owns a node."""
     rows = ["events = 100000", "sessions = 16"]
     rows += [f"links = {[[node, node % STUDENTS + 1] for node in range(1, STUDENTS + 1)]}"]
     rows += ['teacher = {name = "tess", key = "chalk"}']
@@ -115,13 +115,13 @@ class Honest:
         begun = time.monotonic()
         while b'"ok":"hello"' not in (said := self.greets()):
             if said not in (b"", BUSY):
-                fail(f"outsiders: an honest hello is told {said!r}")
+                fail(f"outsiders: an honest hello is answered {said!r}")
             if time.monotonic() - begun > LIMIT:
                 fail("outsiders: an honest client isn't let in")
         found.append(time.monotonic() - begun)
 
     def greets(self) -> bytes:
-        """What a hello over a new connection is told."""
+        """Returns what a hello over a new connection is answered."""
         self.caller = Caller(self.port)
         said = self.caller.ask(self.line)
         if b'"ok"' not in said:
@@ -129,13 +129,13 @@ class Honest:
         return said
 
     def ask(self, line: bytes) -> dict[str, object]:
-        """The reply to a line."""
+        """Returns the reply to a line."""
         begun = time.monotonic()
         reply = self.caller.ask(line)
         self.waits.replies.append(time.monotonic() - begun)
         found: dict[str, object] = json.loads(reply or b"{}")
         if not found or "refuse" in found:
-            fail(f"outsiders: an honest client is told {reply!r}")
+            fail(f"outsiders: an honest client is answered {reply!r}")
         return found
 
 
@@ -173,7 +173,7 @@ class Class:
             it.caller.close()
 
     def come_to_rest(self) -> Honest:
-        """The teacher closes steps until no node is privileged; answers the teacher's connection."""
+        """Returns the teacher closes steps until no node is privileged; answers the teacher's connection."""
         it, end = Honest(self.host.desk, hello("tess"), self.waits), time.monotonic() + LIMIT
         while not it.ask(REPORT)["stable"]:
             it.ask(CLOSE)
@@ -184,7 +184,7 @@ class Class:
 
 
 def bounded(waits: Waits, quiet: Waits) -> None:
-    """Wants that hardly an honest client waits for longer than it may, on a slow machine for longer than it would."""
+    """Checks that hardly an honest client waits for longer than it may, on a slow machine for longer than it would."""
     for of, found in vars(waits).items():
         most = WAIT + SLOWER * max(vars(quiet)[of])
         late = sum(each > most for each in found)
@@ -193,7 +193,7 @@ def bounded(waits: Waits, quiet: Waits) -> None:
 
 
 def work(room: Path) -> str:
-    """A class alone for a moment, then beside the outsiders, to its end."""
+    """Returns a class alone for a moment, then beside the outsiders, to its end."""
     seconds = float(sys.argv[1]) if sys.argv[1:] else SECONDS
     lab, journal = lab_of_bots(room), room / "journal"
     with Host(lab, 0, 0, journal) as host:

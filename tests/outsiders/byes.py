@@ -26,7 +26,7 @@ class Piece:
 
     @property
     def whole(self) -> bytes:
-        """All its bytes."""
+        """Returns all its bytes."""
         return self.before + BYE
 
 
@@ -63,8 +63,9 @@ class Asker:
 
 
 def ends_all(lab: Path, piece: Piece, parts: list[bytes], variables: Mapping[str, str], how: str, stays: bool = False) -> None:
-    """Wants that nothing is answered but `over` once the reply to the bye has come, and that the host ends by itself. The
-    client of the teacher keeps its side open until students are told, or, if it stays, until the host has ended."""
+    """Checks that nothing is answered but `over` once the reply to the bye has come, and that the host ends by itself.
+    The client of the teacher keeps its side open until students are answered, or, if it stays, until the host has
+    ended."""
     with Host(lab, 0, 0, variables=variables) as host:
         ana, _ = let_in(host.port, hello("ana"))
         if b'"place":1' not in ana.ask(seduction(0)):
@@ -77,7 +78,7 @@ def ends_all(lab: Path, piece: Piece, parts: list[bytes], variables: Mapping[str
         replies = [teacher.line() for _ in piece.whole.splitlines()]
         moment = time.monotonic()
         if replies[-1] != BID or b"" in replies or teacher.line() != b"":
-            fail(f"outsiders: {piece.name} and a bye {how} are told {replies}")
+            fail(f"outsiders: {piece.name} and a bye {how} are answered {replies}")
         said = asker.after(moment)
         if any(reply not in (OVER, b"") for reply in said):
             fail(f"outsiders: after {piece.name} and a bye {how} {len(said)} lines are answered, as by {said[0]!r}")
@@ -91,7 +92,7 @@ def ends_all(lab: Path, piece: Piece, parts: list[bytes], variables: Mapping[str
 
 
 def cut_at(library: Preloaded, at: int, is_each: bool) -> dict[str, str]:
-    """The variables of a host whose reply to a bye is cut there."""
+    """Returns the variables of a host whose reply to a bye is cut there."""
     return library.variables({"CUT": str(at), **({"CUT_EACH": "1"} if is_each else {})})
 
 

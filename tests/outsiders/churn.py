@@ -41,13 +41,13 @@ class Held:
 
     @classmethod
     def of(cls, number: int) -> "Held":
-        """What the process with that number holds now."""
+        """Returns what the process with that number holds now."""
         root = Path(f"/proc/{number}")
         size = int((root / "status").read_text(encoding="ascii").split("VmRSS:", 1)[1].split()[0])
         return cls(len(list((root / "task").iterdir())), len(list((root / "fd").iterdir())), size)
 
     def is_as(self, first: "Held") -> bool:
-        """Whether that is what was held before, but for the memory of a few events."""
+        """Returns whether that is what was held before, but for the memory of a few events."""
         return (self.threads, self.files) == (first.threads, first.files) and self.kilobytes <= first.kilobytes * 1.1 + MORE
 
     def __str__(self) -> str:
@@ -81,7 +81,7 @@ class Class:
         self.host, self.port, self.desk = record.server.number, record.port, record.desk
 
     def address(self) -> tuple[str, ...]:
-        """The page's port and path, once they are printed."""
+        """Returns the page's port and path, once they are printed."""
         told = re.search(r"page http://127\.0\.0\.1:(\d+)(/[^/\s]+/)", "".join(self.printed))
         return told.groups() if told else ()
 
@@ -136,7 +136,7 @@ class Comings:
         caller.close()
 
     def is_no_one(self, draw: random.Random) -> None:
-        """Who has no key, is no client, or says too much."""
+        """Comes without a key, as no client, or says too much."""
         caller = Caller(self.port)
         caller.send(draw.choice([WRONG * 3, FORM + hello("tess"), b"{}\n" * 5, b" " * 5000, b'{"do":']))
         caller.line()
@@ -156,19 +156,19 @@ class Comings:
         caller.close()
 
     def asked(self, what: str) -> socket.socket:
-        """A connection to the page that has asked for something."""
+        """Returns a connection to the page that has asked for something."""
         it = socket.create_connection(("127.0.0.1", self.page), LIMIT)
         it.sendall(f"GET {self.path}{what} HTTP/1.1\r\nHost: 127.0.0.1:{self.page}\r\nConnection: close\r\n\r\n".encode())
         return it
 
     def looks_at_page(self, draw: random.Random) -> None:
-        """Who opens the page, or what isn't there."""
+        """Opens the page, or what isn't there."""
         with self.asked(draw.choice(["", "", "none"])) as it:
             while it.recv(65536):
                 pass
 
     def hears_news(self, draw: random.Random) -> None:
-        """Who is told the news for a moment, and reads them or not."""
+        """Gets the news for a moment, and reads them or not."""
         with self.asked("events") as it:
             if draw.random() < 0.7:
                 it.recv(65536)
@@ -194,7 +194,7 @@ class Comings:
 
 
 def comes_to_rest(of: Callable[[], Held], first: Held | None) -> Held:
-    """What a process holds once nobody is there: what it held first, as soon as it does."""
+    """Returns what a process holds once nobody is there: what it held first, as soon as it does."""
     end = time.monotonic() + 30
     while True:
         time.sleep(1)
@@ -206,7 +206,7 @@ def comes_to_rest(of: Callable[[], Held], first: Held | None) -> Held:
 
 
 def churn(room: Path, seconds: float) -> None:
-    """Comes and goes for so long, and tells what was held after each minute."""
+    """Comes and goes for so long, and prints what was held after each minute."""
     it = Class(room)
     comings = Comings(it)
     first: tuple[Held, Held] | None = None

@@ -37,12 +37,12 @@ def greeted_within(port: int, name: str, most: float) -> float:
         if b'"ok":"hello"' in said:
             return time.monotonic() - begun
         if said not in (b"", BUSY):
-            fail(f"outsiders: an honest hello is told {said!r}")
+            fail(f"outsiders: an honest hello is answered {said!r}")
     return float("inf")
 
 
 def nine_in_ten(port: int, name: str, most: float, beside: str) -> None:
-    """Wants that of some hellos nine in ten are granted in so many seconds."""
+    """Checks that of some hellos nine in ten are granted in so many seconds."""
     late: list[float] = []
     for _ in range(HELLOS):
         taken = greeted_within(port, name, most)
@@ -85,7 +85,7 @@ def crowds_of_braces(room: Path) -> None:
 
 
 def alive(callers: list[Caller], name: str) -> list[Caller]:
-    """Those of some connections of a name that still have their seat."""
+    """Returns those of some connections of a name that still have their seat."""
     return [caller for caller in callers if b'"ok":"look"' in caller.ask(look(name))]
 
 

@@ -18,7 +18,7 @@ SHORT, PAUSE = 0.005, 0.1  # seconds from one accept that fails to the next, whi
 
 
 def padded(line: bytes, size: int) -> bytes:
-    """A request with so many bytes before its newline, of which those that were added are spaces."""
+    """Returns a request with so many bytes before its newline, of which those that were added are spaces."""
     return line[:-2] + b" " * (size + 1 - len(line)) + line[-2:]
 
 
@@ -77,7 +77,7 @@ def told_guesses(room: Path) -> None:
 
 
 def waits_between(host: Host, library: Preloaded, pause: float, when: str) -> None:
-    """Wants that a host's accepts that fail are few: it waits between two of them."""
+    """Checks that a host's accepts that fail are few: it waits between two of them."""
     begun, before = time.monotonic(), library.counts()[0]
     time.sleep(SECONDS)
     tries, seconds = library.counts()[0] - before, time.monotonic() - begun

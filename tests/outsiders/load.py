@@ -54,7 +54,7 @@ class Load:
         self.counts: Counter[str] = Counter()
 
     def run(self, rate: float, seconds: float) -> None:
-        """Has so many come a second, for so long; fewer where the machine is too slow."""
+        """Has so many come a second, for so long; fewer if the machine is too slow."""
         begun = time.monotonic()
         due = begun
         while (now := time.monotonic()) < begun + seconds:

@@ -15,7 +15,7 @@ GUESSES = 8  # by as many connections, of whom each sends the one before it away
 
 
 def slowed(room: Path) -> dict[str, str]:
-    """The variables of a host whose clock goes slower."""
+    """Returns the variables of a host whose clock goes slower."""
     return {"LD_PRELOAD": str(built("outsiders/slow.c", room)), "SLOW": str(SLOW)}
 
 
@@ -29,7 +29,7 @@ def taken(host: Host, files: int, more: int) -> None:
 
 
 def ended(host: Host, teacher: Caller) -> None:
-    """Wants that the teacher's bye ends a host well."""
+    """Checks that the teacher's bye ends a host well."""
     if (found := host.dismissed(teacher)) != NONE:
         fail(f"outsiders: with a slow clock a host ends with {found}")
 
@@ -66,7 +66,7 @@ def over_for_all(room: Path) -> None:
         ended(host, teacher)
         said = [(caller.line(), caller.line()) for caller in callers[2:]]
         if told != [(UNKNOWN, BUSY)] * 2 or said[-4:] != [(OVER, b"")] * 4:
-            fail(f"outsiders: of those who guess before the class's end the host tells {told}, and at its end {said}")
+            fail(f"outsiders: of those who guess before the class's end the host prints {told}, and at its end {said}")
     with Host(lab_of(room, 3), 0, 0, variables=variables) as host:
         teacher = let_in(host.desk, hello("tess"))[0]
         held = [let_in(host.port, hello(name))[0] for name in ("ana", "ben")]

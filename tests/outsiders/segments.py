@@ -33,12 +33,12 @@ def in_groups(size: int) -> Split:
 
 
 def in_bytes(lines: list[bytes]) -> list[bytes]:
-    """A part for each byte."""
+    """Returns a part for each byte."""
     return [bytes([byte]) for byte in b"".join(lines)]
 
 
 def cut_near(line: int, off: int) -> Split:
-    """Two parts, cut so many bytes after the end of a line."""
+    """Returns two parts, cut so many bytes after the end of a line."""
     def split(lines: list[bytes]) -> list[bytes]:
         whole, end = b"".join(lines), len(b"".join(lines[:line])) + off
         return [part for part in (whole[:end], whole[end:]) if part]
@@ -46,7 +46,7 @@ def cut_near(line: int, off: int) -> Split:
 
 
 def ways() -> list[Way]:
-    """All ways in which lines are sent."""
+    """Returns all ways in which lines are sent."""
     longest = max(len(STUDENTS), len(TEACHERS))
     groups = [Way(f"in parts of {size} lines", in_groups(size)) for size in (2, 3, longest)]
     cuts = [Way(f"cut {off} bytes after line {line}", cut_near(line, off)) for line in range(1, longest) for off in (-1, 0, 1)]
@@ -54,7 +54,8 @@ def ways() -> list[Way]:
 
 
 def told(port: int, lines: list[bytes], parts: list[bytes] | None) -> list[bytes]:
-    """The replies on a connection, up to its end: to these parts, or to whole lines, each after the reply before it."""
+    """Returns the replies on a connection, up to its end: to these parts, or to whole lines, each after the reply
+    before it."""
     caller = Caller(port)
     replies: list[bytes] = []
     if parts is None:
@@ -69,7 +70,7 @@ def told(port: int, lines: list[bytes], parts: list[bytes] | None) -> list[bytes
 
 
 def replies_by(lab: Path, split: Split | None) -> tuple[list[bytes], list[bytes], bytes]:
-    """What a student and then the teacher read, and what the host writes at its end."""
+    """Returns what a student and then the teacher read, and what the host writes at its end."""
     with Host(lab, 0, 0) as host:
         student = told(host.port, STUDENTS, split(STUDENTS) if split else None)
         teacher = told(host.desk, TEACHERS, split(TEACHERS) if split else None)

@@ -62,7 +62,7 @@ def told(name: str, found: list[float]) -> str:
 
 
 def lab_of_bots(room: Path) -> Path:
-    """A cycle in which each student owns a node."""
+    """Returns a cycle in which each student owns a node."""
     rows = ["events = 100000", f"sessions = {STUDENTS + 1}"]
     rows += [f"links = {[[node, node % STUDENTS + 1] for node in range(1, STUDENTS + 1)]}", '[teacher]\nname = "tess"\nkey = "chalk"']
     for node in range(1, STUDENTS + 1):
@@ -89,7 +89,7 @@ class Class:
         self.port, self.desk = (int(re.findall(rf"(?m)^{word} (\d+)", text)[0]) for word in ("port", "desk"))
 
     def read(self) -> None:
-        """Reads what the class tells."""
+        """Reads what the class prints."""
         for line in self.process.stdout or ():
             self.lines.append(line.rstrip("\n"))
 

@@ -22,25 +22,25 @@ def a_student_at_the_desk(room: Path) -> None:
             begun = time.monotonic()
             teacher = Caller(host.desk)
             if HELLO not in (said := teacher.ask(hello("tess"))):
-                fail(f"outsiders: after {line!r} at the desk the teacher is told {said!r}")
+                fail(f"outsiders: after {line!r} at the desk the teacher is answered {said!r}")
             if time.monotonic() - begun > STAYS / 2 + SLOW:
                 fail("outsiders: a student at the desk has the teacher wait")
             if (told := student.line()) not in (BUSY, b"") or student.line() != b"":
-                fail(f"outsiders: a student who leaves the desk is told {told!r}")
+                fail(f"outsiders: a student who leaves the desk is answered {told!r}")
             student.close()
             teacher.close()
         host.dismissed(let_in(host.desk, hello("tess"))[0])
 
 
 def five_seconds_at_the_desk(room: Path) -> None:
-    """Nobody comes later: who isn't the teacher is told after five seconds that it is late."""
+    """Nobody comes later: who isn't the teacher gets the line after five seconds that it is late."""
     with Host(lab_of(room, 4), 0, 0) as host:
         for line in (hello("ana"), b"", b'{"do":"hel'):
             begun = time.monotonic()
             if line == hello("ana"):
                 stranger, reply = let_in(host.desk, line)
                 if HELLO not in reply:
-                    fail(f"outsiders: a student who greets at the desk is told {reply!r}")
+                    fail(f"outsiders: a student who greets at the desk is answered {reply!r}")
             else:
                 stranger = Caller(host.desk)
                 stranger.send(line)
@@ -60,18 +60,19 @@ def a_busy_student_at_the_desk(room: Path) -> None:
             if time.monotonic() - begun > STAYS + SLOW:
                 fail("outsiders: a student who asks without pause keeps the desk")
         if said not in (LATE, b""):
-            fail(f"outsiders: a student who asks at the desk without pause is told {said!r}")
+            fail(f"outsiders: a student who asks at the desk without pause is answered {said!r}")
         host.dismissed(let_in(host.desk, hello("tess"))[0])
 
 
 def the_teacher_stays(room: Path) -> None:
-    """The teacher keeps the desk, however long nothing is asked, and whoever comes later is told that it is busy."""
+    """The teacher keeps the desk, however long nothing is asked, and whoever comes later is answered that it is
+    busy."""
     with Host(lab_of(room, 4), 0, 0) as host:
         teacher, _ = let_in(host.desk, hello("tess"))
         for line in (hello("tess"), hello("ana"), b"{}\n"):
             newcomer = Caller(host.desk)
             if (said := newcomer.ask(line)) != BUSY:
-                fail(f"outsiders: beside the teacher {line!r} at the desk is told {said!r}")
+                fail(f"outsiders: beside the teacher {line!r} at the desk is answered {said!r}")
             newcomer.close()
         time.sleep(STAYS + 2)
         if LOOK not in teacher.ask(look("ana")):

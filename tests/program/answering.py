@@ -16,7 +16,8 @@ FAULTS = 5000
 
 
 def scripts(room: Path) -> list[tuple[Path, Path]]:
-    """Each script beside an output of its own, with its lab: that of its name without `-run`, or the built-in one."""
+    """Returns each script beside an output of its own, with its lab: that of its name without `-run`, or the built-in
+    one."""
     plain = built_in(room)
     found = []
     for script in sorted([*(TOP / "examples").glob("*.script"), *(TOP / "tests/scripts").glob("*.script")]):
@@ -26,7 +27,8 @@ def scripts(room: Path) -> list[tuple[Path, Path]]:
 
 
 def line_by_line(room: Path) -> int:
-    """Each reply is there before the next line is written; all are those of the script's own output. Answers how many."""
+    """Returns each reply is there before the next line is written; all are those of the script's own output. Answers how
+    many."""
     lines = 0
     for script, lab in scripts(room):
         wanted = script.with_suffix(".out").read_bytes().splitlines(keepends=True)
@@ -54,7 +56,7 @@ def line_by_line(room: Path) -> int:
 
 
 def answered(words: list[str], given: bytes) -> Ended:
-    """How a call with a script on its standard input ends."""
+    """Returns how a call with a script on its standard input ends."""
     done = subprocess.run([HOST, *words], input=given, capture_output=True, timeout=LIMIT, check=False)
     return Ended(done.returncode, done.stdout, done.stderr)
 
@@ -81,7 +83,7 @@ def ends(room: Path) -> int:
     with open("/dev/full", "wb") as full:
         done = subprocess.run([HOST, "answer", lab], input=HELLO, stdout=full, stderr=subprocess.PIPE, timeout=LIMIT, check=False)
     if (done.returncode, done.stderr) != (4, b"write fault\n"):
-        fail(f"a full disk is told as {done.returncode}, {done.stderr!r}")
+        fail(f"a full disk is reported as {done.returncode}, {done.stderr!r}")
     large = room / "large.toml"
     large.write_text(Path(lab).read_text(encoding="utf-8").replace("events = 100", f"events = {FAULTS}"), encoding="utf-8")
     found = answered(["answer", str(large)], HELLO + b'1 {"do":"fault","node":1,"p":2,"m":true}\n' * (FAULTS + 1))

@@ -44,7 +44,7 @@ ROWS = [
     (ANA + "2 0 close\n3 0 grant ben 2 seduction\n", "audit: line 3: wrong place or configuration"),
 ]
 
-# The same where node 2 is of ana too, and two events are allowed. What is false is told before the limit.
+# The same if node 2 is of ana too, and two events are allowed. What is false is reported before the limit.
 SHARED = [
     ("1 0 grant ana 2 seduction\n", "ok: 1 events, configuration 0, not stable"),
     ("1 0 grant ben 2 seduction\n", "ok: 1 events, configuration 0, not stable"),
@@ -81,13 +81,13 @@ class Auditor:
         return found
 
     def wants(self, journal: bytes, line: str) -> None:
-        """Wants this line of an audit: on standard output with status 0, or as an error with status 3."""
+        """Checks for this line of an audit: on standard output with status 0, or as an error with status 3."""
         found = self.audited(journal)
         if found != said(line):
             fail(f"an audit of {journal!r} says {found}, not {line!r}")
 
     def all_of(self, rows: list[tuple[str, str]]) -> None:
-        """Wants what the rows say."""
+        """Checks for what the rows say."""
         for text, line in rows:
             self.wants(text.encode(), line)
 
@@ -106,7 +106,7 @@ def fronts(auditor: Auditor) -> None:
 
 
 def replaced(auditor: Auditor) -> None:
-    """Each byte of the journal is replaced by others; it passes only where the byte is the one that stood there."""
+    """Each byte of the journal is replaced by others; it passes only if the byte is the one that stood there."""
     before = auditor.passed
     for at in range(len(JOURNAL)):
         for other in OTHERS:
@@ -117,7 +117,7 @@ def replaced(auditor: Auditor) -> None:
 
 
 def shared_lab(room: Path, lab: Path) -> Path:
-    """The built-in lab where node 2 is of ana too, and two events are allowed."""
+    """Returns the built-in lab where node 2 is of ana too, and two events are allowed."""
     text = lab.read_text(encoding="ascii")
     for old, new in (("events = 100", "events = 2"), ('owner = "ben"', 'owners = ["ana", "ben"]')):
         if text.count(old) != 1:
@@ -129,7 +129,7 @@ def shared_lab(room: Path, lab: Path) -> Path:
 
 
 def work(room: Path) -> str:
-    """All audits."""
+    """Returns all audits."""
     lab, cycle = built_in(room), room / "cycle.toml"
     cycle.write_text(CYCLE, encoding="ascii")
     auditor, shared, gone_on = Auditor(room, lab), Auditor(room, shared_lab(room, lab)), Auditor(room, cycle)

@@ -30,12 +30,12 @@ ABANDONMENT: dict[str, object] = {"rule": "abandonment"}
 
 
 def marriage(partner: int) -> dict[str, object]:
-    """The words of a marriage."""
+    """Returns the words of a marriage."""
     return {"rule": "marriage", "with": partner}
 
 
 def lab(room: Path, links: list[tuple[int, int]], nodes: list[tuple[int, int | None]]) -> Path:
-    """A lab in which one student owns all nodes, and m is true at each."""
+    """Returns a lab in which one student owns all nodes, and m is true at each."""
     file = room / "bound.toml"
     listed = ", ".join(f"[{low}, {high}]" for low, high in links)
     rows = (f'{{ id = {node}, owner = "ana", m = true{"" if p is None else f", p = {p}"} }}' for node, p in nodes)
@@ -60,7 +60,7 @@ def phases(size: int, are_low: range) -> Iterator[Step]:
 
 
 def told(words: list[str | Path], given: bytes = b"") -> str:
-    """What the host's program prints, which has to end well."""
+    """Returns what the host's program prints, which has to end well."""
     done = subprocess.run([HOST, *words], input=given, capture_output=True, timeout=LIMIT, check=False)
     if done.returncode != 0 or done.stderr:
         fail(f"{words[0]} ended with {done.returncode}: {done.stderr!r}")
@@ -68,7 +68,8 @@ def told(words: list[str | Path], given: bytes = b"") -> str:
 
 
 def played(file: Path, steps: list[Step]) -> list[dict[str, Any]]:
-    """The reports before the first step and after each; every move is granted, and moves alone at each close."""
+    """Returns the reports before the first step and after each; every move is granted, and moves alone at each
+    close."""
     ask: dict[str, object] = {"do": "report"}
     lines: list[tuple[int, dict[str, object]]] = [
         (1, {"do": "hello", "key": "a-key", "name": "ana"}), (2, {"do": "hello", "key": "chalk", "name": "tess"}), (2, ask),
@@ -87,7 +88,7 @@ def played(file: Path, steps: list[Step]) -> list[dict[str, Any]]:
 
 
 def journal_of(steps: list[Step]) -> str:
-    """The journal of these steps."""
+    """Returns the journal of these steps."""
     events: list[str] = []
     for at, step in enumerate(steps):
         for node, words in step:
@@ -98,7 +99,7 @@ def journal_of(steps: list[Step]) -> str:
 
 @dataclass(frozen=True)
 class Counted:
-    """What a run has, about which all who count agree, and what the tally says that one may have at the most."""
+    """What a run has, about which all who count agree, and what the tally says that one may have at most."""
 
     moves: int
     rounds: int
@@ -108,7 +109,7 @@ class Counted:
 
 
 def counted(file: Path, steps: list[Step]) -> Counted:
-    """A run that comes to rest with its last step, and not before."""
+    """Returns a run that comes to rest with its last step, and not before."""
     reports = played(file, steps)
     if [report["stable"] for report in reports] != [False] * len(steps) + [True]:
         fail(f"{file.name}: not stable where the run ends, or before")
@@ -128,7 +129,8 @@ def counted(file: Path, steps: list[Step]) -> Counted:
 
 
 def moves(room: Path, size: int) -> int:
-    """Two nodes are linked where their sum is more than the size; the run has as many moves as any may have, or one less."""
+    """Returns two nodes are linked where their sum is more than the size; the run has as many moves as any may have, or one
+    less."""
     half = size // 2
     pointers = {node: size + 1 - node for node in range(1, half + 1)}
     pointers |= {node: node + 1 for node in range(half + 1, size)} | {size: 2}
@@ -142,7 +144,8 @@ def moves(room: Path, size: int) -> int:
 
 
 def rounds(room: Path, size: int) -> int:
-    """The lower half is linked to the upper where the sum is more than the size; each step is of all privileged nodes."""
+    """Runs over two halves, linked if the sum is more than the size; each step is of all privileged
+    nodes."""
     low = range(1, (size + 1) // 2 + 1)
     links = [(node, high) for node in low for high in range(low.stop, size + 1) if node + high > size]
     nodes: list[tuple[int, int | None]] = [(node, None) for node in range(1, size + 1)]
@@ -157,6 +160,6 @@ def rounds(room: Path, size: int) -> int:
 
 
 def work(room: Path) -> str:
-    """All of it, and what it counted."""
+    """Returns all of it, and what it counted."""
     counts = sum(moves(room, size) for size in MOVES), sum(rounds(room, size) for size in ROUNDS)
     return f"bounds: {counts[0]} moves and {counts[1]} rounds, as many as the laws say"

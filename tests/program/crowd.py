@@ -25,7 +25,7 @@ Heard = list[tuple[bytes, bytes]]
 
 
 def lab_text() -> str:
-    """A cycle, half of it ana's and half ben's."""
+    """Returns a cycle, half of it ana's and half ben's."""
     links = ", ".join(f"[{node}, {node % NODES + 1}]" for node in range(1, NODES + 1))
     owned = [f'{{ id = {node}, owner = "{"ana" if 2 * node <= NODES else "ben"}" }}' for node in range(1, NODES + 1)]
     return (
@@ -36,7 +36,7 @@ def lab_text() -> str:
 
 
 def line_of(**keys: object) -> bytes:
-    """A request."""
+    """Returns a request."""
     return json.dumps(keys, sort_keys=True, separators=(",", ":")).encode() + b"\n"
 
 
@@ -98,7 +98,7 @@ class Replay:
         return True
 
     def tells(self, line: bytes, reply: bytes) -> bool:
-        """Returns whether the model answers a line so at this point, where a grant has to be the list's next event."""
+        """Returns whether the model answers a line so at this point, if a grant has to be the list's next event."""
         found = answer(self.lab, self.world, self.known, line[:-1])
         if found.reply.encode() + b"\n" != reply:
             return False
@@ -116,7 +116,7 @@ class Replay:
         return event_line(self.world, event.who, event.asked)
 
     def meets(self, heard: Heard) -> str:
-        """The first answer that isn't met, if there is one."""
+        """Returns the first answer that isn't met, if there is one."""
         for line, reply in heard:
             while not self.tells(line, reply):
                 if not self.step():
@@ -143,7 +143,7 @@ def played(server: Server, seed: int) -> list[Player]:
 
 
 def crowd(room: Path, seed: int) -> int:
-    """One run; answers how many events it had."""
+    """Returns one run; answers how many events it had."""
     file, kept = room / "crowd.toml", room / "crowd.journal"
     file.write_text(lab_text(), encoding="ascii")
     lab = read_lab(file.read_bytes())
@@ -155,16 +155,16 @@ def crowd(room: Path, seed: int) -> int:
         replay = Replay(lab, kept.read_bytes())
         fault = replay.meets(player.heard)
         if fault or player.name == "tess" and replay.world.place != len(replay.events):
-            fail(f"crowd {seed}: {player.name} is told what no beginning of the list tells from there on: {fault}")
+            fail(f"crowd {seed}: {player.name} is answered what no beginning of the list gives from there on: {fault}")
     told = sum(b'"place":' in reply for player in players for _, reply in player.heard)
     events, number = len(replay.events), replay.world.number
     if told != events or number == 0 or ended != Ended(0, b"done: %d events, configuration %d\n" % (told, number), b""):
-        fail(f"crowd {seed}: {told} events were told of {events}, and it ended so: {ended}")
+        fail(f"crowd {seed}: {told} events were reported of {events}, and it ended so: {ended}")
     return told
 
 
 def work(room: Path) -> str:
-    """All runs."""
+    """Returns all runs."""
     seeds = [int(word) for word in sys.argv[1:] if word.isdigit()] or SEEDS
     return f"three at once, {len(seeds)} times: {sum(crowd(room, seed) for seed in seeds)} events"
 

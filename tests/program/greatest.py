@@ -16,12 +16,12 @@ TESS, WELCOME = '{"do":"hello","key":"chalk","name":"tess"}', '{"ok":"hello","wh
 
 
 def name(number: int) -> str:
-    """The name of a student, of 32 bytes."""
+    """Returns the name of a student, of 32 bytes."""
     return f"s{number:031}"
 
 
 def document() -> str:
-    """The lab: each node is of the student of its number and of the next."""
+    """Returns the lab: each node is of the student of its number and of the next."""
     links = ",\n".join(f"[{a},{b}]" for a in NODES for b in NODES if b < a)
     people = "".join(f'[[student]]\nname = "{name(number)}"\nkey = "{number:064}"\n' for number in range(256))
     nodes = "".join(
@@ -32,7 +32,8 @@ def document() -> str:
 
 
 def report(has_suitors: bool) -> str:
-    """The report before the moves, or after them: each link is open, and its witness is its lower end, or the last node."""
+    """Returns the report before the moves, or after them: each link is open, and its witness is its lower end, or the last
+    node."""
     links = [(a, b) for a in NODES for b in NODES if a < b]
     if has_suitors:
         opened = ",".join(f'[{a},{b},{LAST},"marriage"]' for a, b in links)
@@ -87,7 +88,8 @@ class Tale:
 
 
 def told() -> Tale:
-    """The teacher has a report, all but the last student move, in turn on all connections, and it is looked round."""
+    """Returns the teacher has a report, all but the last student move, in turn on all connections, and it is looked
+    round."""
     tale = Tale()
     for has_moved in (False, True):
         tale.say(SESSIONS, TESS, WELCOME)

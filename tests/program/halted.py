@@ -62,7 +62,7 @@ class Limited:
         self.lab, self.script, self.journal = built_in(room), room / "limited.script", room / "limited.journal"
 
     def run(self, script: bytes, most: int) -> tuple[Ended, bytes]:
-        """How a script ends where the journal takes so many bytes, and the journal."""
+        """Returns how a script ends if the journal takes so many bytes, and the journal."""
         self.script.write_bytes(script)
         self.journal.unlink(missing_ok=True)
 
@@ -77,19 +77,19 @@ class Limited:
 
 
 def first_part(script: bytes, replies: bytes) -> tuple[list[bytes], list[bytes]]:
-    """The lines of a script that make its events and those that only look, left out; with their replies."""
+    """Returns the lines of a script that make its events and those that only look, left out; with their replies."""
     pairs = list(zip(script.splitlines(keepends=True), replies.splitlines(keepends=True)))
     acts = [(line, reply) for line, reply in pairs if b'"place":' in reply or b'"hello"' in reply]
     return [line for line, _ in acts], [reply for _, reply in acts]
 
 
 def is_refused(reply: bytes) -> bool:
-    """Whether a reply denies, or tells that the journal takes no line."""
+    """Returns whether a reply denies, or tells that the journal takes no line."""
     return reply.endswith(HALT) or b'"deny":' in reply
 
 
 def fault_of(ended: Ended, most: int, replies: list[bytes]) -> str:
-    """What is wrong with a run of the whole acts where so many bytes of the journal are taken, if anything."""
+    """Returns what is wrong with a run of the whole acts where so many bytes of the journal are taken, if anything."""
     if most >= len(JOURNAL):
         return "" if ended == Ended(0, b"".join(replies), b"") else "it doesn't end well"
     granted = 4 + JOURNAL[:most].count(b"\n")
@@ -104,7 +104,7 @@ def fault_of(ended: Ended, most: int, replies: list[bytes]) -> str:
 
 
 def work(room: Path) -> str:
-    """Each byte the last, and what is refused after a halt."""
+    """Checks that each byte may be the last, and what is refused after a halt."""
     limited = Limited(room)
     ended, journal = limited.run(GREETINGS + ASKED, JOURNAL.index(b"\n") + 1)
     if ended != Ended(4, WELCOMES + ANSWERED, b"journal fault\n") or journal != b"1 0 grant ana 1 seduction\n":
@@ -116,7 +116,7 @@ def work(room: Path) -> str:
         fault = fault_of(ended, most, replies) or ("" if journal == JOURNAL[:most] else f"another journal {journal!r}")
         if fault:
             fail(f"where {most} bytes of the journal are taken: {fault}: {ended}")
-    return f"{len(JOURNAL) + 2} journals that were cut off have each byte that was taken, and no event behind it"
+    return f"{len(JOURNAL) + 2} journals that were cut off have each byte that was taken, and no event after it"
 
 
 if __name__ == "__main__":

@@ -24,7 +24,7 @@ student = [{ name = "ana", key = "a-key" }]
 
 
 def lab(room: Path, nodes: Iterable[str], links: str, events: int) -> Path:
-    """A lab of these nodes, and one session."""
+    """Returns a lab of these nodes, and one session."""
     file = room / "large.toml"
     file.write_text(
         f"events = {events}\nsessions = 1\n{PEOPLE}links = [{links}]\nnode = [{', '.join(nodes)}]\n", encoding="ascii"
@@ -33,7 +33,7 @@ def lab(room: Path, nodes: Iterable[str], links: str, events: int) -> Path:
 
 
 def report(room: Path, file: Path, wanted: str) -> None:
-    """Wants this report of a lab, to the teacher, and a denial to a student, who may then go on."""
+    """Checks for this report of a lab, to the teacher, and a denial to a student, who may then go on."""
     script = room / "large.script"
     lines = [HELLO, '{"do":"report"}\n', '{"do":"bye"}\n', '{"do":"hello","key":"a-key","name":"ana"}\n',
              '{"do":"report"}\n', '{"do":"bye"}\n']
@@ -80,7 +80,7 @@ def changes(places: Iterable[int]) -> tuple[list[str], list[str]]:
 
 
 def pair(room: Path) -> Path:
-    """A lab of two nodes with a link, and as many events as a lab may allow."""
+    """Returns a lab of two nodes with a link, and as many events as a lab may allow."""
     return lab(room, [f'{{ id = {node}, owner = "ana" }}' for node in (1, 2)], "[1, 2]", EVENTS)
 
 
@@ -110,7 +110,7 @@ def events(room: Path) -> None:
 
 
 def work(room: Path) -> str:
-    """All runs."""
+    """Returns all runs."""
     greatest(room)
     reports(room)
     scripted(room)

@@ -1,4 +1,4 @@
-"""Scripts with lines that are none: what is answered before them, and which line is told.
+"""Scripts with lines that are none: what is answered before them, and which line is reported.
 
     python3 -B -m tests.program.lines
 
@@ -18,7 +18,7 @@ UNKNOWN = '1 {"clause":2,"deny":"unknown","text":"name and key do not match"}\n'
 
 
 def long_bye(length: int, end: str) -> str:
-    """A bye on connection 1 whose request has so many bytes."""
+    """Returns a bye on connection 1 whose request has so many bytes."""
     return "1 " + '{"do":"bye"}'.ljust(length) + end
 
 
@@ -52,7 +52,7 @@ ROWS = [
 
 
 def on_each(connections: int, text: str) -> str:
-    """The text on each connection up to a number."""
+    """Returns the text on each connection up to a number."""
     return "".join(f"{connection} {text}\n" for connection in range(1, connections + 1))
 
 
@@ -65,7 +65,7 @@ SIXTEEN = [
 
 
 def wants(room: Path, lab: Path, rows: list[tuple[str, str, int | None]]) -> None:
-    """Wants these answers and ends."""
+    """Checks for these answers and ends."""
     script = room / "lines.script"
     for text, answers, bad in rows:
         script.write_text(text, encoding="ascii")
@@ -114,7 +114,7 @@ def others(rng: Random) -> str:
 
 
 def drawn_line(rng: Random) -> bytes:
-    """A request's members with others before or after them; one line of three has a byte replaced."""
+    """Returns a request's members with others before or after them; one line of three has a byte replaced."""
     after = f',{others(rng)}"x":0' if rng.random() < 0.5 else ""
     line = bytearray(f"{{{others(rng)}{rng.choice(REQUESTS)}{after}}}".encode())
     offset = rng.randrange(3 * len(line))
@@ -124,36 +124,36 @@ def drawn_line(rng: Random) -> bytes:
 
 
 def with_array(line: bytes) -> bytes:
-    """The line with a nested array as its first member, where it has a brace."""
+    """Returns the line with a nested array as its first member, if it has a brace."""
     return line.replace(b"{", b'{"":[{},[0.5]],', 1)
 
 
 def number(text: str) -> float:
-    """A number that isn't of 64 bits, unless it is too great for a float."""
+    """Returns a number that isn't of 64 bits, unless it is too great for a float."""
     if math.isinf(float(text)):
         raise ValueError(text)
     return float(text)
 
 
 def integer(text: str) -> float:
-    """An integer, where it is of 64 bits and without a sign."""
+    """Returns an integer, if it is of 64 bits and without a sign."""
     return int(text) if text.isdigit() and int(text) < 2**64 else number(text)
 
 
 def refused(text: str) -> float:
-    """What JSON hasn't, and Python reads."""
+    """Returns what JSON hasn't, and Python reads."""
     raise ValueError(text)
 
 
 def levels(value: object) -> int:
-    """How deep arrays and objects nest; a string with half a pair is refused."""
+    """Returns how deep arrays and objects nest; a string with half a pair is refused."""
     if isinstance(value, str):
         value.encode()
     return 1 + max(map(levels, value), default=0) if isinstance(value, list) else 0
 
 
 class Members(list[object]):
-    """The keys and values of an object, one after another, of which none is lost where a key comes twice."""
+    """The keys and values of an object, one after another, of which none is lost if a key comes twice."""
 
     def __init__(self, pairs: list[tuple[str, object]]) -> None:
         super().__init__(part for pair in pairs for part in pair)
@@ -161,7 +161,7 @@ class Members(list[object]):
 
 
 def as_python_reads(line: bytes) -> bytes:
-    """The plain members that Python's own reader finds in a line, as a compact object; or no object."""
+    """Returns the plain members that Python's own reader finds in a line, as a compact object; or no object."""
     try:
         value = json.loads(
             line.decode(), object_pairs_hook=Members, parse_float=number, parse_int=integer, parse_constant=refused
@@ -175,7 +175,7 @@ def as_python_reads(line: bytes) -> bytes:
 
 
 def answered(room: Path, lab: Path, lines: list[bytes]) -> tuple[bytes, bytes]:
-    """The replies to lines of connections, and the journal."""
+    """Returns the replies to lines of connections, and the journal."""
     script, journal = room / "lines.script", room / "lines.journal"
     script.write_bytes(b"".join(line + b"\n" for line in lines))
     found = run(["script", str(lab), str(script), str(journal)], b"", {})
@@ -185,7 +185,8 @@ def answered(room: Path, lab: Path, lines: list[bytes]) -> tuple[bytes, bytes]:
 
 
 def each_way(room: Path, lab: Path) -> tuple[int, int]:
-    """How many drawn lines are requests, and how many events they make; each is answered the same in each way."""
+    """Returns how many drawn lines are requests, and how many events they make; each is answered the same in each
+    way."""
     rng = Random(5)
     requests = events = 0
     greetings = [b'1 {"do":"hello","key":"chalk","name":"tess"}', b'2 {"do":"hello","key":"a-key","name":"ana"}']
@@ -204,7 +205,7 @@ def each_way(room: Path, lab: Path) -> tuple[int, int]:
 
 
 def work(room: Path) -> str:
-    """All rows, and all drawn lines."""
+    """Returns all rows, and all drawn lines."""
     lab = built_in(room)
     wants(room, lab, ROWS)
     sixteen = room / "sixteen.toml"

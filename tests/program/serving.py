@@ -13,14 +13,14 @@ ROUNDS = 300
 
 
 def lab_of(room: Path, old: str, new: str) -> Path:
-    """The built-in lab with one text instead of another."""
+    """Returns the built-in lab with one text instead of another."""
     lab = room / "changed.toml"
     lab.write_text(built_in(room).read_text(encoding="utf-8").replace(old, new, 1), encoding="utf-8")
     return lab
 
 
 def serving(lab: Path, connections: int, *journal: str) -> Server:
-    """A server that listens."""
+    """Returns a server that listens."""
     server = Server(lambda port: ["serve", str(lab), str(port), str(connections), *journal], {})
     if not server.listens:
         fail(f"serving: it doesn't listen: {server.end()}")
@@ -28,19 +28,19 @@ def serving(lab: Path, connections: int, *journal: str) -> Server:
 
 
 def ends(server: Server, done: bytes) -> None:
-    """Wants that a server ends well, with that last line."""
+    """Checks that a server ends well, with that last line."""
     ended = server.end()
     if ended != Ended(0, done, b""):
         fail(f"serving: another end: {ended}, not {done!r}")
 
 
 def opened(server: Server) -> socket.socket:
-    """A connection."""
+    """Returns a connection."""
     return socket.create_connection(("127.0.0.1", server.port), LIMIT)
 
 
 def whole(it: socket.socket) -> bytes:
-    """All that a connection is sent until its end."""
+    """Returns all that a connection is sent until its end."""
     with it.makefile("rb") as replies:
         return replies.read()
 
@@ -111,7 +111,7 @@ def won(one: Client, two: Client, line: bytes, granted: bytes, denied: bytes) ->
         client.open.sendall(line)
     found = [client.replies.readline() for client in (one, two)]
     if sorted(found) != sorted([granted, denied]):
-        fail(f"serving: a race is told {found}, not {granted!r} and {denied!r}")
+        fail(f"serving: a race is answered {found}, not {granted!r} and {denied!r}")
     return found.index(granted)
 
 
@@ -143,13 +143,13 @@ def races(room: Path) -> None:
 
 
 def lab_of_more(lab: Path) -> Path:
-    """A lab with more events, in its own file."""
+    """Returns a lab with more events, in its own file."""
     lab.write_text(lab.read_text(encoding="utf-8").replace("events = 100\n", "events = 10000\n"), encoding="utf-8")
     return lab
 
 
 def work(room: Path) -> str:
-    """All servers."""
+    """Returns all servers."""
     for case in (in_a_line, gone, sixteen, races):
         case(room)
     return f"servers of clients that meet, race and go away: 4, {2 * ROUNDS} races"

@@ -137,7 +137,7 @@ TAKEN = [
 
 
 def called(line: str, folder: Path) -> Ended:
-    """How a call with the words of a line ends in a folder."""
+    """Returns how a call with the words of a line ends in a folder."""
     words: list[str | Path] = [PROGRAM.resolve(), *line.split(" ")]
     done = subprocess.run(
         words, stdin=subprocess.DEVNULL, capture_output=True, cwd=folder, timeout=LIMIT, check=False
@@ -146,7 +146,7 @@ def called(line: str, folder: Path) -> Ended:
 
 
 def wants(line: str, folder: Path, wanted: Ended) -> None:
-    """Wants a call to end so."""
+    """Checks for a call to end so."""
     ended = called(line, folder)
     if ended != wanted:
         fail(f"{ended}, not {wanted}: {line!r}")
@@ -169,7 +169,7 @@ def words_of(folder: Path) -> int:
 
 
 def writes(words: list[str], given: bytes) -> list[bytes]:
-    """What each write of a call to its standard output has, which is a socket that keeps them apart."""
+    """Returns what each write of a call to its standard output has, which is a socket that keeps them apart."""
     ours, theirs = socket.socketpair(socket.AF_UNIX, socket.SOCK_SEQPACKET)
     with ours, theirs:
         ours.settimeout(LIMIT)
@@ -187,8 +187,8 @@ def writes(words: list[str], given: bytes) -> list[bytes]:
 
 
 def in_one_write(folder: Path) -> int:
-    """The replies to lines that come in one read go out in one write, those before a bad line too. A read has at most
-    4096 bytes, so 273 of these byes. Answers how many calls there were."""
+    """Returns the replies to lines that come in one read go out in one write, those before a bad line too. A read has
+    at most 4096 bytes, so 273 of these byes. Answers how many calls there were."""
     bye, left = b'1 {"do":"bye"}\n', b'1 {"ok":"bye"}\n'
     look, told = ((TOP / f"examples/first-look.{end}").read_bytes() for end in ("script", "out"))
     bad = bye + b'5 {"do":"bye"}\n'
@@ -209,7 +209,7 @@ def in_one_write(folder: Path) -> int:
 
 
 def work(room: Path) -> str:
-    """All calls."""
+    """Returns all calls."""
     return f"words: {words_of(room)} as wanted; outputs by write: {in_one_write(room)}"
 
 

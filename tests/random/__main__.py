@@ -39,7 +39,7 @@ LISTED = re.compile(rb'"(open|pairs)":\[\[')
 
 
 def hurt(rng: Random, journal: bytes) -> bytes:
-    """A journal with a byte changed, left out or put twice."""
+    """Returns a journal with a byte changed, left out or put twice."""
     at = rng.randrange(len(journal))
     digits = b"0123456789"
     byte = bytes([rng.choice(digits if journal[at] in digits else b" \n-0aestz\r\xff")])
@@ -54,7 +54,7 @@ def audit_hurt(rng: Random, files: Files) -> None:
 
 
 def compare(room: Path, seed: int) -> Counter[bytes]:
-    """Plays and audits the run of a seed. Returns what its replies tell."""
+    """Plays and audits the run of a seed. Returns the contents of its replies."""
     rng = Random(seed)
     document = drawn_lab(rng)
     script = drawn_script(rng, read_lab(document.encode()), LINES)
@@ -65,19 +65,19 @@ def compare(room: Path, seed: int) -> Counter[bytes]:
 
 
 def scripts(room: Path) -> None:
-    """All drawn scripts, in which each word of a reply is told."""
+    """All drawn scripts, in which each word of a reply stands."""
     told: Counter[bytes] = Counter()
     for seed in SEEDS:
         told += compare(room, seed)
     missing = [word for word in WORDS if not told[word.encode()]]
     if missing:
-        fail(f"no drawn run is told {missing}")
+        fail(f"no drawn run is answered {missing}")
     if min(told[b"pairs"], told[b"open"]) < REPORTS:
         fail(f"only {told[b'pairs']} reports have pairs, and {told[b'open']} open links")
 
 
 def runs_to_an_end(room: Path, worlds: range) -> str:
-    """All drawn runs to an end, nine of ten with a move."""
+    """Returns all drawn runs to an end, nine of ten with a move."""
     moving, dense = 0, 0
     for seed in worlds:
         for daemon in ends.DAEMONS:
@@ -111,7 +111,8 @@ def meshes(room: Path) -> None:
 
 
 def replaced(room: Path) -> int:
-    """The journal of docs/JOURNAL.md with each byte replaced by each of some others; how many audits that were."""
+    """Returns the journal of docs/JOURNAL.md with each byte replaced by each of some others; how many audits that
+    were."""
     files = Files("docs/JOURNAL.md", room, (TOP / "examples/built-in.toml").read_text(encoding="ascii"), b"")
     journal = (TOP / "examples/whole-run.journal").read_bytes()
     for at in range(len(journal)):
@@ -121,7 +122,7 @@ def replaced(room: Path) -> int:
 
 
 def work(room: Path) -> str:
-    """All comparisons."""
+    """Returns all comparisons."""
     tables.compare()
     scripts(room)
     meshes(room)

@@ -1,4 +1,4 @@
-"""Runs to where no node is privileged, under four daemons, from worlds that are drawn."""
+"""Runs to if no node is privileged, under four daemons, from worlds that are drawn."""
 import json
 from collections.abc import Callable
 from dataclasses import dataclass
@@ -19,23 +19,23 @@ sessions = 2
 
 
 def single(rng: Random, nodes: list[int]) -> list[int]:
-    """One privileged node moves."""
+    """Returns one privileged node moves."""
     return [rng.choice(nodes)]
 
 
 def full(rng: Random, nodes: list[int]) -> list[int]:
-    """All privileged nodes move."""
+    """Returns all privileged nodes move."""
     return nodes
 
 
 def drawn(rng: Random, nodes: list[int]) -> list[int]:
-    """A set of privileged nodes moves, which is drawn and not empty."""
+    """Returns a set of privileged nodes moves, which is drawn and not empty."""
     some = [i for i in nodes if rng.random() < 0.5]
     return some or single(rng, nodes)
 
 
 def unfair(rng: Random, nodes: list[int]) -> list[int]:
-    """The highest privileged node moves: who is lower waits for as long as there is one."""
+    """Returns the highest privileged node moves: who is lower waits for as long as there is one."""
     return [max(nodes)]
 
 
@@ -43,7 +43,7 @@ DAEMONS: list[Daemon] = [single, full, drawn, unfair]
 
 
 def lab_of(links: list[Link], found: Registers) -> str:
-    """The file of a lab with these links and registers, all nodes of one student."""
+    """Returns the file of a lab with these links and registers, all nodes of one student."""
     text = f"{PEOPLE}links = {json.dumps(links)}\nnode = [\n"
     for i, p in found.p.items():
         pointer = "" if p is None else f", p = {p}"
@@ -52,8 +52,8 @@ def lab_of(links: list[Link], found: Registers) -> str:
 
 
 def drawn_lab(rng: Random, count: int) -> str:
-    """A lab of so many nodes, with links and registers that are drawn; some nodes point at none and hold
-    themselves married. Of five networks one may have all links, the others two a node at the most."""
+    """Returns a lab of so many nodes, with links and registers that are drawn; some nodes point at none and hold
+    themselves married. Of five networks one may have all links, the others two a node at most."""
     nodes = list(range(1, count + 1))
     every = complete(rng, nodes)
     most = len(every) if rng.random() < 0.2 else min(len(every), 2 * count)
@@ -75,21 +75,21 @@ class Course:
     rounds: int
 
     def is_dense(self) -> bool:
-        """Whether the network has more links than the bound on moves counts."""
+        """Returns whether the network has more links than the bound on moves counts."""
         return self.links > self.nodes * self.nodes // 4
 
     def moves(self, replies: list[dict[str, Any]]) -> int:
-        """How many moves the closes applied, as these replies tell."""
+        """Returns how many moves the closes applied, by these replies."""
         return sum(len(reply["moved"]) for reply in replies if reply.get("ok") == "close")
 
     def fault(self, text: str) -> str:
-        """What is wrong with the end of a run with these replies, if anything."""
+        """Returns what is wrong with the end of a run with these replies, if anything."""
         replies = [json.loads(line.split(" ", 1)[1]) for line in text.splitlines()]
         last = replies[-1]
         if not last["stable"] or last["privileged"] or last["open"]:
             return "it doesn't end in a maximal matching where no node is privileged"
         if 2 * len(last["pairs"]) + len(last["free"]) != self.nodes:
-            return "its end tells another number of nodes"
+            return "its end has another number of nodes"
         if self.moves(replies) > 3 * self.nodes + 2 * min(self.links, self.nodes * self.nodes // 4):
             return "it takes more moves than three for each node and two for each link, of which a quarter of n² counts at the most"
         if self.rounds > 2 * self.nodes - self.nodes % 2:
@@ -139,13 +139,13 @@ class Runner:
 
 
 def moves_of(world: World) -> dict[int, list[Move]]:
-    """The privileged nodes, each with the moves whose guard holds there."""
+    """Returns the privileged nodes, each with the moves whose guard holds there."""
     found = {i: world.moves(i) for i in world.nodes()}
     return {i: moves for i, moves in found.items() if moves}
 
 
 def course(rng: Random, document: str, daemon: Daemon) -> Course:
-    """A run over a lab under a daemon."""
+    """Returns a run over a lab under a daemon."""
     lab = read_lab(document.encode())
     runner = Runner(rng, lab, daemon)
     links = sum(len(near) for near in lab.world.links.values()) // 2

@@ -10,33 +10,33 @@ GREATEST = 65535
 
 
 def path(rng: Random, nodes: list[int]) -> list[Link]:
-    """Each node is linked to the next."""
+    """Returns each node is linked to the next."""
     return list(zip(nodes, nodes[1:]))
 
 
 def cycle(rng: Random, nodes: list[int]) -> list[Link]:
-    """A path whose ends are linked, where it has three nodes."""
+    """Returns a path whose ends are linked, if it has three nodes."""
     return path(rng, nodes) + ([(nodes[-1], nodes[0])] if len(nodes) > 2 else [])
 
 
 def star(rng: Random, nodes: list[int]) -> list[Link]:
-    """All nodes are linked to one."""
+    """Returns all nodes are linked to one."""
     return [(nodes[0], other) for other in nodes[1:]]
 
 
 def complete(rng: Random, nodes: list[int]) -> list[Link]:
-    """Each two nodes are linked."""
+    """Returns each two nodes are linked."""
     return [(a, b) for at, a in enumerate(nodes) for b in nodes[at + 1 :]]
 
 
 def bipartite(rng: Random, nodes: list[int]) -> list[Link]:
-    """Each node of the first part is linked to each of the second."""
+    """Returns each node of the first part is linked to each of the second."""
     half = rng.randrange(len(nodes) + 1)
     return [(a, b) for a in nodes[:half] for b in nodes[half:]]
 
 
 def tree(rng: Random, nodes: list[int]) -> list[Link]:
-    """Each node is linked to one that comes before it."""
+    """Returns each node is linked to one that comes before it."""
     return [(rng.choice(nodes[:at]), nodes[at]) for at in range(1, len(nodes))]
 
 
@@ -49,14 +49,15 @@ def grid(rng: Random, nodes: list[int]) -> list[Link]:
 
 
 def drawn_links(rng: Random, nodes: list[int]) -> list[Link]:
-    """Each two nodes are linked or not, by a chance that is drawn; at most four links a node in large networks."""
+    """Returns each two nodes are linked or not, by a chance that is drawn; at most four links a node in large
+    networks."""
     links = complete(rng, nodes)
     count = rng.randint(0, min(len(links), 4 * len(nodes)))
     return rng.sample(links, count)
 
 
 def empty(rng: Random, nodes: list[int]) -> list[Link]:
-    """No node is linked."""
+    """Returns no node is linked."""
     return []
 
 
@@ -76,13 +77,13 @@ def identifiers(rng: Random, count: int) -> list[int]:
 
 
 def name(rng: Random) -> str:
-    """A name: mostly short, now and then as long as may be."""
+    """Returns a name: mostly short, now and then as long as may be."""
     length = rng.choice([1, 3, 3, 5, 32])
     return rng.choice("abc") + "".join(rng.choice("abcxyz0189-") for _ in range(length - 1))
 
 
 def key(rng: Random) -> str:
-    """A key: any ASCII that isn't space or control, quotes and backslashes among them."""
+    """Returns a key: any ASCII that isn't space or control, quotes and backslashes among them."""
     return "".join(chr(rng.randint(33, 126)) for _ in range(rng.choice([1, 4, 8, 64])))
 
 
@@ -114,19 +115,19 @@ def registers(rng: Random, nodes: list[int], links: list[Link]) -> Registers:
 
 
 def size(rng: Random) -> int:
-    """How many nodes: mostly few."""
+    """Returns how many nodes: mostly few."""
     if rng.random() < 0.02:
         return rng.choice([64, 65, 255, 256])
     return rng.choice([1, 2, 2, 3, 3, 3, 4, 4, 5, 6, 8, 12, 20])
 
 
 def quoted(text: str) -> str:
-    """A string of TOML: for ASCII it is written as in JSON."""
+    """Returns a string of TOML: for ASCII it is written as in JSON."""
     return json.dumps(text)
 
 
 def node_line(rng: Random, i: int, owners: list[str], found: Registers) -> str:
-    """A node, with what isn't null or false, and now and then a plain false."""
+    """Returns a node, with what isn't null or false, and now and then a plain false."""
     is_short = len(owners) == 1 and rng.random() < 0.8
     owner = f"owner = {quoted(owners[0])}" if is_short else f"owners = {json.dumps(owners)}"
     p = "" if found.p[i] is None else f", p = {found.p[i]}"
@@ -135,7 +136,7 @@ def node_line(rng: Random, i: int, owners: list[str], found: Registers) -> str:
 
 
 def document(rng: Random, nodes: list[int], links: list[Link], found: Registers, events: int, sessions: int) -> str:
-    """A lab's file over a network with its registers."""
+    """Returns a lab's file over a network with its registers."""
     people = list(dict.fromkeys(name(rng) for _ in range(rng.choice([2, 2, 3, 4, 6]))))
     students = people[1:] or [people[0] + "x" if len(people[0]) < 32 else "x"]
     ends = [[a, b] if rng.random() < 0.5 else [b, a] for a, b in links]
@@ -152,7 +153,7 @@ def document(rng: Random, nodes: list[int], links: list[Link], found: Registers,
 
 
 def drawn_lab(rng: Random) -> str:
-    """The file of a lab of any family."""
+    """Returns the file of a lab of any family."""
     nodes = identifiers(rng, size(rng))
     links = rng.choice(FAMILIES)(rng, nodes)
     events = rng.choice([1, 2, 5, 20, 100, 1000, 100000])

@@ -1,4 +1,4 @@
-"""Runs over large meshes, whose events are drawn and always granted, with what the teacher is told after each."""
+"""Runs over large meshes, whose events are drawn and always granted, with what the teacher is answered after each."""
 import json
 from random import Random
 from typing import Any, Optional
@@ -16,7 +16,7 @@ HELLOS = ['{"do":"hello","key":"s-key","name":"student"}', '{"do":"hello","key":
 
 
 def mesh(count: int) -> str:
-    """A ring of so many nodes, each linked with one further on too, all of one student."""
+    """Returns a ring of so many nodes, each linked with one further on too, all of one student."""
     ids = range(1, count + 1)
     links = [[i, i % count + 1] for i in ids] + [[i, (i + count // 3) % count + 1] for i in ids]
     nodes = "".join(f'  {{ id = {i}, owner = "student" }},\n' for i in ids)
@@ -37,11 +37,11 @@ class Meshing:
         self.model.answer(connection, line.encode())
 
     def after(self, start: int, steps: int) -> int:
-        """The node so many steps after another, round the end."""
+        """Returns the node so many steps after another, round the end."""
         return (start + steps - 1) % len(self.model.world.links) + 1
 
     def grant(self, start: int) -> Optional[Asked]:
-        """A move of the first node from here on that may move and isn't chosen."""
+        """Returns a move of the first node from here on that may move and isn't chosen."""
         world = self.model.world
         for steps in range(len(world.links)):
             i = self.after(start, steps)
@@ -52,18 +52,18 @@ class Meshing:
         return None
 
     def release(self, start: int) -> Optional[Asked]:
-        """A release of the first chosen node from here on."""
+        """Returns a release of the first chosen node from here on."""
         chosen = self.model.world.chosen
         nodes = [i for i in (self.after(start, steps) for steps in range(len(self.model.world.links))) if i in chosen]
         return {"do": "release", "node": nodes[0]} if nodes else None
 
     def fault(self, start: int) -> Asked:
-        """A fault with a pointer to a neighbour, or none."""
+        """Returns a fault with a pointer to a neighbour, or none."""
         p = self.rng.choice([None, *self.model.world.near(start)])
         return {"do": "fault", "node": start, "p": p, "m": self.rng.random() < 0.5}
 
     def drawn(self) -> Asked:
-        """What is asked next: mostly a move, now and then a close of all that are chosen."""
+        """Returns what is asked next: mostly a move, now and then a close of all that are chosen."""
         world, start = self.model.world, self.rng.choice(self.model.world.nodes())
         kind = self.rng.randrange(16)
         asked: Optional[Asked] = None
@@ -92,7 +92,7 @@ class Meshing:
 
 
 def mesh_script(rng: Random, lab: Lab, events: int) -> bytes:
-    """A script with so many events."""
+    """Returns a script with so many events."""
     meshing = Meshing(rng, lab)
     for connection, line in enumerate(HELLOS, 1):
         meshing.ask(connection, line)

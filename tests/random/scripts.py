@@ -1,4 +1,4 @@
-"""Scripts that are drawn over a lab: what connections ask mostly fits the world, as the model tells it."""
+"""Scripts that are drawn over a lab: what connections ask mostly fits the world, by the model."""
 from random import Random
 from typing import Any
 
@@ -25,13 +25,13 @@ class Drawing:
         self.nodes = self.model.world.nodes()
 
     def node(self) -> int:
-        """A node, now and then one that isn't there."""
+        """Returns a node, now and then one that isn't there."""
         if self.rng.random() < 0.04:
             return self.rng.choice([0, 1, 65535, 65536, GREATEST])
         return self.rng.choice(self.nodes)
 
     def hello(self) -> Asked:
-        """A greeting, mostly of one who isn't there, with a right key."""
+        """Returns a greeting, mostly of one who isn't there, with a right key."""
         names = list(self.lab.keys)
         absent = [name for name in names if name not in self.model.names.values()]
         name = self.rng.choice(absent if absent and self.rng.random() < 0.8 else names)
@@ -39,7 +39,7 @@ class Drawing:
         return {"do": "hello", "name": name if self.rng.random() < 0.97 else "nobody", "key": key}
 
     def move(self, who: str) -> Asked:
-        """A move, mostly of a node of one's own, which is current and whose guard holds."""
+        """Returns a move, mostly of a node of one's own, which is current and whose guard holds."""
         world, rng = self.model.world, self.rng
         own = [i for i in self.nodes if who in self.lab.owners[i]]
         some = rng.sample(own, min(len(own), 8))
@@ -53,14 +53,14 @@ class Drawing:
         return {**asked, "with": move.partner} if move.rule == "marriage" else asked
 
     def fault(self) -> Asked:
-        """A fault, mostly with a pointer to a neighbour or none."""
+        """Returns a fault, mostly with a pointer to a neighbour or none."""
         i = self.node()
         near = self.model.world.near(i) if i in self.model.world.links else []
         p = self.rng.choice([None, *near]) if self.rng.random() < 0.8 else self.node()
         return {"do": "fault", "node": i, "p": p, "m": self.rng.random() < 0.5}
 
     def change(self) -> Asked:
-        """A link or a cut, mostly of two nodes that aren't, or are, linked."""
+        """Returns a link or a cut, mostly of two nodes that aren't, or are, linked."""
         do = self.rng.choice(["link", "cut"])
         a, b = self.node(), self.node()
         near = self.model.world.near(a) if a in self.model.world.links else []
@@ -69,12 +69,12 @@ class Drawing:
         return {"do": do, "a": a, "b": b}
 
     def release(self) -> Asked:
-        """A release, mostly of a node that is chosen."""
+        """Returns a release, mostly of a node that is chosen."""
         chosen = list(self.model.world.chosen)
         return {"do": "release", "node": self.rng.choice(chosen) if chosen and self.rng.random() < 0.8 else self.node()}
 
     def asked(self, connection: int) -> Asked:
-        """What a connection asks next."""
+        """Returns what a connection asks next."""
         rng = self.rng
         who = self.model.names.get(connection)
         if who is None:
@@ -91,19 +91,19 @@ class Drawing:
         return self.move(who) if rng.random() < 0.7 else rng.choice(views)
 
     def drawn(self, connection: int) -> bytes:
-        """The next line of a connection."""
+        """Returns the next line of a connection."""
         asked = self.asked(connection)
         return odd(self.rng, asked) if self.rng.random() < 0.06 else spelled(self.rng, asked)
 
     def line(self, connection: int) -> bytes:
-        """The next line of a connection, which the model answers."""
+        """Returns the next line of a connection, which the model answers."""
         line = self.drawn(connection)
         self.model.answer(connection, line)
         return line
 
 
 def drawn_script(rng: Random, lab: Lab, lines: int) -> bytes:
-    """A script of so many lines; some end in a line that is none, or in one without its newline."""
+    """Returns a script of so many lines; some end in a line that is none, or in one without its newline."""
     drawing = Drawing(rng, lab)
     connections = [rng.randint(1, lab.sessions) for _ in range(4)]
     text = b""

@@ -32,7 +32,7 @@ student = [{ name = "ana", key = "a-key" }, { name = "ben", key = "b-key" }]
 
 
 def cycle(count: int) -> str:
-    """The lab file of so many nodes in a cycle, the first half of ana, the others of ben."""
+    """Returns the lab file of so many nodes in a cycle, the first half of ana, the others of ben."""
     links = [[1, count], *([i, i + 1] for i in range(1, count))]
     owners = ("ana" if 2 * i <= count else "ben" for i in range(1, count + 1))
     return PEOPLE + f"links = {links}\n" + "".join(f'[[node]]\nid = {i}\nowner = "{name}"\n' for i, name in enumerate(owners, 1))
@@ -45,13 +45,13 @@ class Numbers:
         self.state = seed
 
     def below(self, limit: int) -> int:
-        """The next one, below a limit."""
+        """Returns the next one, below a limit."""
         self.state = (self.state * 6364136223846793005 + 1442695040888963407) % 2**64
         return (self.state >> 33) % limit
 
 
 def drawn(numbers: Numbers, world: World, index: int) -> tuple[str, Request]:
-    """What is asked for next, and who asks; most of it isn't legal."""
+    """Returns what is asked for next, and who asks; most of it isn't legal."""
     count = len(world.links)
     at = (index // 8 + numbers.below(8)) % count
     i, j = at + 1, (at + count - 2 + numbers.below(6)) % count + 1
@@ -69,7 +69,8 @@ def drawn(numbers: Numbers, world: World, index: int) -> tuple[str, Request]:
 
 
 def refused_before(count: int) -> str:
-    """How many drawn events are illegal before each legal one, over a cycle: a letter, from `a` for none to `z`."""
+    """Returns how many drawn events are illegal before each legal one, over a cycle: a letter, from `a` for none to
+    `z`."""
     lab = read_lab(cycle(count).encode())
     world, numbers = lab.opening(), Numbers(count)
     text, refused, words = "", 0, set[str]()
@@ -88,13 +89,13 @@ def refused_before(count: int) -> str:
 
 
 def is_shaped(line: bytes) -> bool:
-    """Whether an event is spelled so, be it of the lab or not."""
+    """Returns whether an event is spelled so, be it of the lab or not."""
     found = LINE.fullmatch(line.decode("latin-1"))
     return found is not None and max(int(found[1]), int(found[2])) <= GREATEST
 
 
 def event_of(lab: Lab, line: bytes) -> str:
-    """The event of a line, as Rust shows it: a grant, a close, or a fault of the line."""
+    """Returns the event of a line, as Rust shows it: a grant, a close, or a fault of the line."""
     read = read_line(line, lab)
     if read is None:
         return "?" if is_shaped(line) else "."
@@ -108,13 +109,13 @@ def event_of(lab: Lab, line: bytes) -> str:
 
 
 def rank(node: int) -> str:
-    """A node of the built-in lab, as Rust shows its rank."""
+    """Returns a node of the built-in lab, as Rust shows its rank."""
     return f"Rank {{ index: {node - 1} }}"
 
 
 def replaced() -> str:
-    """Under each line of the journal its event, and for each byte that replaces each of its bytes: `.` where no event
-    is spelled so, `?` where one is, but not of the lab, `=` where it is that one, `!` where it is another, which follows."""
+    """Under each line of the journal its event, and for each byte that replaces each of its bytes: `.` if no event is
+    spelled so, `?` where one is, but not of the lab, `=` if it is that one, `!` if it is another, which follows."""
     lab = read_lab((TOP / "examples/built-in.toml").read_bytes())
     text = ""
     for line in (TOP / "examples/whole-run.journal").read_bytes().splitlines():
@@ -128,12 +129,12 @@ def replaced() -> str:
 
 
 def rows(text: str) -> str:
-    """A text as the pieces of a Rust constant."""
+    """Returns a text as the pieces of a Rust constant."""
     return "".join(f'    "{text[at : at + ROW]}",\n' for at in range(0, len(text), ROW))
 
 
 def kept(file: str, pattern: str) -> str:
-    """What a table has."""
+    """Returns what a table has."""
     found = re.search(pattern, (TESTS / file).read_text(encoding="utf-8"), re.DOTALL)
     if found is None:
         fail(f"no table in {file}")

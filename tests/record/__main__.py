@@ -80,7 +80,7 @@ class Files:
 
 
 def short_run(lab: Lab) -> Recording:
-    """A run of two seats, in which each kind of reply is told but few are grants."""
+    """Returns a run of two seats, in which each kind of reply stands but few are grants."""
     run = Recording(lab)
     for seat, line in TALK:
         run.answer(seat, line)
@@ -94,19 +94,19 @@ def see_reply(lab: Lab) -> str:
 
 
 def replaced(text: bytes, old: bytes, new: bytes) -> bytes:
-    """The text with that changed which stands there once."""
+    """Returns the text with that changed which stands there once."""
     if text.count(old) != 1:
         fail(f"{old!r} stands {text.count(old)} times in the short record")
     return text.replace(old, new)
 
 
 def in_seat(seat: int, other: int, text: bytes) -> bytes:
-    """A seat's record as one of another seat."""
+    """Returns a seat's record as one of another seat."""
     return re.sub(rb"(?m)^%d " % seat, b"%d " % other, text)
 
 
 def pauses(lab: Lab, run: Recording) -> list[tuple[str, dict[int, bytes], str]]:
-    """Pauses behind the short record, in a seat of their own."""
+    """Pauses after the short record, in a seat of their own."""
     ana = b'3 2 > {"do":"hello","name":"ana","key":"a-key"}\n3 2 < {"ok":"hello","who":"ana"}\n'
     again = ana.replace(b'{"ok":"hello","who":"ana"}', b'{"clause":1,"deny":"greeted","text":"this connection has a name already"}')
     noise = b'3 2 > x\n3 2 < {"refuse":"malformed"}\n'
@@ -118,17 +118,17 @@ def pauses(lab: Lab, run: Recording) -> list[tuple[str, dict[int, bytes], str]]:
     found: list[tuple[str, bytes, str]] = [
         ("paused for nobody", noise + b"3 2 -\n3 2 + 7\n3 2 .\n", told(1, 1)),
         ("paused to the end", b"3 2 -\n", told(0, 0)),
-        ("paused behind a bye", b'3 2 > {"do":"bye"}\n3 2 < {"ok":"bye"}\n3 2 -\n3 2 + 0\n3 2 .\n', told(1, 1)),
+        ("paused after a bye", b'3 2 > {"do":"bye"}\n3 2 < {"ok":"bye"}\n3 2 -\n3 2 + 0\n3 2 .\n', told(1, 1)),
         ("resumed at a hello", noise + b"3 2 -\n3 2 + 2600\n" + ana + noise + b"3 2 .\n" + noise, told(1, 4)),
         ("paused for ana", ana + b"3 2 -\n3 2 + 5\n3 2 .\n" + noise, told(1, 2, "ana")),
         ("paused and cut", ana + b"3 2 -\n3 2 !\n3 2 .\n", told(1, 1, *lab.keys)),
         ("resumed without a hello", b"3 2 -\n3 2 + 1\n" + noise, "seat 3, line 3: not a hello that is granted"),
-        ("resumed at a hello in vain", b"3 2 -\n3 2 + 1\n" + ana.replace(b"a-key", b"b-key"),
+        ("resumed at a hello without success", b"3 2 -\n3 2 + 1\n" + ana.replace(b"a-key", b"b-key"),
          "seat 3, line 3: not a hello that is granted"),
         ("resumed at a second hello", ana + b"3 2 -\n3 2 + 1\n" + again, "seat 3, line 5: not a hello that is granted"),
         ("resumed without a pause", noise + b"3 2 + 1\n3 2 .\n", "seat 3, line 3: not after a pause"),
         ("resumed twice", b"3 2 -\n3 2 + 1\n3 2 + 1\n", "seat 3, line 3: not after a pause"),
-        ("resumed behind a cut", b"3 2 !\n3 2 + 1\n", "seat 3, line 2: not after a pause"),
+        ("resumed after a cut", b"3 2 !\n3 2 + 1\n", "seat 3, line 2: not after a pause"),
         ("said in a pause", b"3 2 -\n" + noise, "seat 3, line 2: not the session's end"),
         ("greeted in a pause", b"3 2 -\n" + ana, "seat 3, line 2: not the session's end"),
         ("a count with a zero", b"3 2 -\n3 2 + 01\n", "seat 3, line 2: not an entry"),
@@ -189,7 +189,7 @@ def without_a_node(room: Path, lab: str) -> int:
 
 
 def by_hand(files: Files, lab: Lab) -> int:
-    """The short record, whole, and with one thing changed each; how many records that were."""
+    """Returns the short record, whole, and with one thing changed each; how many records that were."""
     run = short_run(lab)
     journal, one, two = run.journal, run.texts[1], run.texts[2]
     rest = {seat: b"" for seat in run.texts}
@@ -201,7 +201,7 @@ def by_hand(files: Files, lab: Lab) -> int:
         ("torn in a reply", {1: one, 2: two[: two.index(b'{"ok":"bye"}') + 5]}, "seat 2, line 11: torn"),
         ("not an entry", {1: one, 2: b"2 0 ?\n" + two}, "seat 2, line 1: not an entry"),
         ("goes back", {1: one + b"1 1 .\n", 2: two}, "seat 1, line 8: goes back"),
-        ("goes back behind a grant", {1: replaced(one, b"1 2 .\n", b"1 1 .\n"), 2: two}, "seat 1, line 7: goes back"),
+        ("goes back after a grant", {1: replaced(one, b"1 2 .\n", b"1 1 .\n"), 2: two}, "seat 1, line 7: goes back"),
         ("past the end", {1: one + b"1 3 .\n", 2: two}, "seat 1, line 8: past the journal's end"),
         ("after a bye", {1: one, 2: replaced(two, b'2 1 .\n', b'2 1 > x\n2 1 < {"refuse":"malformed"}\n')},
          "seat 2, line 13: not the session's end"),
@@ -225,9 +225,9 @@ def by_hand(files: Files, lab: Lab) -> int:
          "place 2: granted in no record"),
         ("a lost grant, cut", {1: b"".join(one.splitlines(keepends=True)[:4]) + b"1 2 !\n1 2 .\n", 2: two},
          f"ok: 2 sessions, {run.lines - 1} lines, 2 events, not whole\n{whole_line(lab, cut=True)}"),
-        ("a grant told again by its seat", {1: one + replaced(one, b"1 2 .\n", b"").replace(b"1 0 ", b"1 2 "), 2: two},
+        ("a grant repeated by its seat", {1: one + replaced(one, b"1 2 .\n", b"").replace(b"1 0 ", b"1 2 "), 2: two},
          "seat 1, line 10: not the reply of the rules at place 2"),
-        ("a grant told twice", {1: one, 2: two, 3: in_seat(1, 3, one)}, "place 1: granted twice"),
+        ("a grant repeated", {1: one, 2: two, 3: in_seat(1, 3, one)}, "place 1: granted twice"),
         ("cut twice", {1: one + b"1 2 !\n1 2 !\n1 2 .\n", 2: two}, run.told(False).replace("ok: 2 ", "ok: 3 ")),
     ]
     shown = b'2 0 > {"do":"see","node":1}\n2 0 < %s\n' % see_reply(lab).encode()
@@ -270,7 +270,8 @@ def other_files(files: Files, lab: Lab) -> None:
 
 
 def most_held(files: Files) -> int:
-    """The most kB of memory that the program had when it came to its line, for which the pipe has no room yet."""
+    """Returns the most kB of memory that the program had when it came to its line, for which the pipe has no room
+    yet."""
     call: list[str | Path] = [HOST, "verify", files.lab, files.journal, files.folder]
     reader, writer = os.pipe()
     os.set_blocking(writer, False)
@@ -289,12 +290,13 @@ def most_held(files: Files) -> int:
             told = it.read()[held:]
     found = re.search(r"VmHWM:\s+(\d+) kB", status)
     if process.returncode or not told.startswith(b"ok: ") or found is None:
-        fail(f"the program ends with {process.returncode} before it is let tell its line, and tells {told!r}")
+        fail(f"the program ends with {process.returncode} before it may print its line, and prints {told!r}")
     return int(found[1])
 
 
 def waits(process: int) -> bool:
-    """Whether a process waits for room in a pipe, as far as the system says it: it sleeps, with all of its record read."""
+    """Returns whether a process waits for room in a pipe, as far as the system says it: it sleeps, with all of its record
+    read."""
     stat = Path(f"/proc/{process}/stat").read_text(encoding="ascii", errors="replace")
     files = {os.readlink(it) for it in Path(f"/proc/{process}/fd").iterdir() if it.is_symlink()}
     return stat.rpartition(") ")[2][:1] == "S" and not any(it.endswith(".record") for it in files)
@@ -319,7 +321,7 @@ def by_pieces(files: Files, lab: Lab) -> None:
 
 
 def at_each_byte(files: Files, lab: Lab) -> int:
-    """One byte of the short record changed, at each position; how many records that were."""
+    """Returns one byte of the short record changed, at each position; how many records that were."""
     run = short_run(lab)
     texts = dict(run.texts)
     count = 0
@@ -362,7 +364,7 @@ def hurt(rng: Random, run: Recording) -> dict[int, bytes]:
 
 
 def compare(room: Path, seed: int) -> Counter[str]:
-    """The records of a seed's run; what the verdicts tell."""
+    """Returns the records of a seed's run; the verdicts."""
     rng = Random(seed)
     document = drawn_lab(rng)
     lab = read_lab(document.encode("ascii"))
@@ -380,7 +382,7 @@ def compare(room: Path, seed: int) -> Counter[str]:
 
 
 def drawn(room: Path) -> Counter[str]:
-    """All drawn runs; what mostly comes of a hurt has to be among the verdicts."""
+    """Returns all drawn runs; what mostly comes of a hurt has to be among the verdicts."""
     told: Counter[str] = Counter()
     for seed in SEEDS:
         told += compare(room, seed)
@@ -407,7 +409,7 @@ def slipped(room: Path) -> int:
 
 
 def work(room: Path) -> str:
-    """All comparisons."""
+    """Returns all comparisons."""
     lab_file = lab_of(room, 4, 100)
     document = lab_file.read_text(encoding="ascii")
     lab = read_lab(document.encode("ascii"))

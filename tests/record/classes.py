@@ -18,7 +18,7 @@ STUDENT = SEATS  # the first who comes to the port has the last seat
 WRONG = b'{"do":"hello","name":"ana","key":"wrong"}\n'
 MOVE = seduction(0)
 OTHER = seduction(1, node=2)
-# What ana at the port and tess at the desk say and are told, in the class that is played first.
+# What ana at the port and tess at the desk say and are answered, in the class that is played first.
 ANA = b"""\
 4 0 > {"do":"hello","name":"ana","key":"wrong"}
 4 0 < {"clause":2,"deny":"unknown","text":"name and key do not match"}
@@ -44,8 +44,8 @@ TESS = b"""\
 
 
 def verified(lab: Path, journal: Path, record: Path, line: bytes) -> None:
-    """Wants that line of the record's verifying, and after it that all is recorded of everybody, or of nobody where
-    it isn't whole, and how many events came before."""
+    """Checks that line of the record's verifying, and after it that all is recorded of everybody, or of nobody if it
+    isn't whole, and how many events came before."""
     begun = int((record / "begun").read_bytes())
     line += f"{whole_line(read_lab(lab.read_bytes()), b'not whole' in line, begun=begun)}\n".encode("ascii")
     call: list[str | Path] = [HOST, "verify", lab, journal, record]
@@ -55,7 +55,7 @@ def verified(lab: Path, journal: Path, record: Path, line: bytes) -> None:
 
 
 def texts(record: Path) -> dict[str, bytes]:
-    """What each file of a record holds, which nobody else may read."""
+    """Returns what each file of a record holds, which nobody else may read."""
     found = {file.name: file.read_bytes() for file in record.iterdir()}
     modes = {file.stat().st_mode & 0o777 for file in record.iterdir()}
     if record.stat().st_mode & 0o777 != 0o700 or modes != {0o600}:
@@ -64,7 +64,7 @@ def texts(record: Path) -> dict[str, bytes]:
 
 
 def wants(record: Path, lab: Path, said: dict[int, bytes]) -> None:
-    """Wants that the files hold what was said in the seats, from the class's beginning."""
+    """Checks that the files hold what was said in the seats, from the class's beginning."""
     wanted = {f"{seat}.record": said.get(seat, b"") for seat in range(1, SEATS + 1)}
     found = texts(record)
     if found != {**wanted, "begun": b"0\n", "lab": lab.read_bytes()}:
@@ -82,7 +82,8 @@ def begin(host: Host) -> tuple[Caller, Caller]:
 
 
 def whole_class(room: Path) -> tuple[Path, Path, Path]:
-    """A class from its beginning to its end is recorded but for what was shown; answers its lab, journal and record."""
+    """Returns a class from its beginning to its end is recorded but for what was shown; answers its lab, journal and
+    record."""
     lab, journal, record = lab_of(room, SEATS), room / "whole.journal", room / "whole record"
     with Host(lab, 0, 0, journal, record) as host:
         tess, _ = let_in(host.desk, hello("tess"))
@@ -151,8 +152,8 @@ def torn_entries(room: Path) -> None:
 
 
 def full_disk(room: Path) -> None:
-    """Where a seat's file takes no more the class goes on, and the host says so at its end: where the limit was there
-    before, though nobody ignores the signal of it, and where it comes later, as a disk that is full in an entry."""
+    """If a seat's file takes no more the class goes on, and the host says so at its end: if the limit was there before,
+    though nobody ignores the signal of it, and where it comes later, as a disk that is full in an entry."""
     lab = lab_of(room, SEATS)
     for name, start in (("before", "ulimit -f 1"), ("later", 'trap "" XFSZ')):
         journal, record = room / f"{name}.journal", room / f"full {name}"
@@ -178,7 +179,7 @@ def fills(host: Host, name: str) -> None:
 
 
 def cut(lab: Path, journal: Path, record: Path) -> None:
-    """Wants a record that says where it is cut."""
+    """Checks for a record that says where it is cut."""
     text = texts(record)[f"{STUDENT}.record"]
     entries = text.splitlines(keepends=True)
     if len(text) > 1024 or b"".join(entries[:8]) != b"".join(ANA.splitlines(True)[:8]) or entries[-1] != b"%d 1 !\n" % STUDENT:
@@ -212,7 +213,7 @@ def kept_and_held(room: Path) -> None:
 
 
 def hosted(room: Path, words: Sequence[str] = ()) -> int:
-    """All tests of classes, or those whose names have one of these words; how many there were."""
+    """Returns all tests of classes, or those whose names have one of these words; how many there were."""
     tests = [kept_and_held, killed_and_resumed, torn_entries, full_disk, flooded, outsiders_first, *PLACES]
     chosen = [test for test in tests if not words or any(word in test.__name__ for word in words)]
     for test in chosen:

@@ -9,7 +9,7 @@ LINES = 60
 
 
 def drawn_run(rng: Random, lab: Lab) -> Recording:
-    """A run of several seats, some of which are left and taken again."""
+    """Returns a run of several seats, some of which are left and taken again."""
     run = Recording(lab)
     drawing = Drawing(rng, lab)
     drawing.model = run.model

@@ -34,16 +34,16 @@ class Session:
     missed: int = 0
 
     def is_of(self, name: str) -> bool:
-        """Whether the session begins with this one's hello."""
+        """Returns whether the session begins with this one's hello."""
         return bool(self.said) and b'"ok":"hello","who":"%s"' % name.encode() in self.said[1]
 
     def size(self) -> int:
-        """How many bytes its lines and replies have."""
+        """Returns how many bytes its lines and replies have."""
         return sum(map(len, self.said))
 
 
 def sessions_in(record: Path) -> list[Session]:
-    """The sessions of all seats' files, each of which has an end."""
+    """Returns the sessions of all seats' files, each of which has an end."""
     found = []
     for seat in range(1, SEATS + 1):
         session = Session([], [])
@@ -79,11 +79,11 @@ def leave(caller: Caller) -> None:
 
 
 def whole_visit(host: Host, name: str) -> None:
-    """Somebody comes, asks in vain, and says bye."""
+    """Somebody comes, asks without success, and says bye."""
     caller, reply = let_in(host.port, hello(name))
     said = caller.ask(CLOSE)
     if b'"ok":"hello"' not in reply or b'"deny"' not in said:
-        fail(f"record: after a flood {name} is told {reply!r} and {said!r}")
+        fail(f"record: after a flood {name} is answered {reply!r} and {said!r}")
     leave(caller)
 
 
@@ -99,21 +99,21 @@ def unknown_flood(host: Host, lines: int, at_once: int) -> int:
 
 
 def wants_budget(who: str, sessions: list[Session]) -> None:
-    """Wants of somebody's sessions that they are recorded up to the budget, and not beyond."""
+    """Checks of somebody's sessions that they are recorded up to the budget, and not beyond."""
     size = sum(session.size() for session in sessions)
     if not BUDGET - 2 * ENTRY < size <= BUDGET:
         fail(f"record: {size} bytes are recorded of {who}, who may have {BUDGET}")
 
 
 def wants_whole(name: str, found: list[Session], count: int) -> None:
-    """Wants that each visit of somebody who doesn't flood is recorded whole."""
+    """Checks that each visit of somebody who doesn't flood is recorded whole."""
     visits = [session for session in found if session.is_of(name)]
     if len(visits) != count or any((len(v.said), v.marks) != (6, [b".\n"]) for v in visits):
         fail(f"record: beside a flood {name}'s visits are recorded as {[(len(v.said), v.marks) for v in visits]}")
 
 
 def verified(lab: Path, journal: Path, record: Path, found: list[Session], lacking: tuple[str, ...] = ()) -> None:
-    """Wants that the record is verified as one that isn't whole, of whom all is recorded but of those."""
+    """Checks that the record is verified as one that isn't whole, of whom all is recorded but of those."""
     lines = sum(len(session.said) // 2 for session in found)
     call: list[str | Path] = [HOST, "verify", lab, journal, record]
     done = subprocess.run(
@@ -153,7 +153,7 @@ def flooded(room: Path) -> None:
     if len(large) != 1 or all(session.said for session in cut) or any(b"!\n" in session.marks for session in found):
         fail(f"record: beside a flood these are cut: {[(len(session.said), session.marks) for session in cut]}")
     if sum(session.missed for session in found if session in large) < LINES - BUDGET // ENTRY:
-        fail(f"record: a flood of {LINES} lines is told to have missed {large[0].missed}")
+        fail(f"record: a flood of {LINES} lines is recorded as having missed {large[0].missed}")
     wants_budget("ana", floods)
     if not unknown or any(session.size() > STRANGER for session in unknown):
         fail(f"record: of a connection before a hello {[session.size() for session in unknown]} bytes are recorded")
@@ -163,34 +163,35 @@ def flooded(room: Path) -> None:
 
 
 def asks_in_vain(caller: Caller) -> None:
-    """A student asks so often in vain, and then is granted a move."""
+    """A student asks so often without success, and then is granted a move."""
     said = [caller.ask(seduction(7)) for _ in range(DENIED)]
     if any(b'"deny":"stale"' not in reply for reply in said) or b'"place":1' not in caller.ask(MOVE):
-        fail(f"record: behind outsiders a student is answered {said[-1]!r}")
+        fail(f"record: after outsiders a student is answered {said[-1]!r}")
 
 
 def outsiders_first(room: Path) -> None:
     """Who doesn't greet uses up what is recorded of all who aren't known, and then a student's session begins with a line
-    like that: from the hello on all is recorded, how many lines weren't is told, and so is that nobody lacks a line."""
+    like that: from the hello on all is recorded, how many lines weren't is recorded, and so is that nobody lacks a
+    line."""
     lab, journal, record = lab_of(room, SEATS), room / "outsiders.journal", room / "outsiders"
     with Host(lab, 0, 0, journal, record) as host:
         tess, _ = let_in(host.desk, hello("tess"))
         asked = unknown_flood(host, OUTSIDERS, AT_ONCE)
         ana, _ = let_in(host.port, LONG)
         if b'"ok":"hello"' not in ana.ask(hello("ana")):
-            fail("record: behind outsiders a student isn't greeted")
+            fail("record: after outsiders a student isn't greeted")
         asks_in_vain(ana)
         leave(ana)
         ended = host.dismissed(tess)
     if ended != Ended(0, b"done: 1 events, configuration 0\n", b""):
-        fail(f"record: a class behind outsiders ends with {ended}")
+        fail(f"record: a class after outsiders ends with {ended}")
     found = sessions_in(record)
     unknown = [session for session in found if session.said and b'"refuse"' in session.said[1]]
     recorded = sum(len(session.said) // 2 for session in unknown)
     wants_budget("outsiders", unknown)
     (own,) = [session for session in found if session.is_of("ana")] or [Session([], [])]
     if len(own.said) != 2 * (1 + DENIED + 1 + 1) or b'"place":1' not in own.said[-3] or own.marks[-2:] != [b"+", b".\n"]:
-        fail(f"record: behind outsiders a student's session has {len(own.said)} lines, and {own.marks}")
+        fail(f"record: after outsiders a student's session has {len(own.said)} lines, and {own.marks}")
     if sum(session.missed for session in found) != asked + 1 - recorded:
         fail(f"record: of {asked + 1} lines of outsiders {recorded} are recorded, and {[session.missed for session in found]} missed")
     verified(lab, journal, record, found)

@@ -13,14 +13,14 @@ Kept = dict[str, tuple[int, bytes]]
 
 
 def listed(room: Path) -> Kept:
-    """What is in a folder: of each path its inode, and what the file or the link there has."""
+    """Returns what is in a folder: of each path its inode, and what the file or the link there has."""
     found = [(path, path.lstat()) for path in sorted(room.rglob("*"))]
     return {str(path.relative_to(room)): (it.st_ino, os.readlink(path).encode() if path.is_symlink() else
                                           path.read_bytes() if path.is_file() else b"folder") for path, it in found}
 
 
 def refuses(room: Path, lab: Path, record: object, ended: Ended = REFUSED, journal: object = "", start: str = "") -> None:
-    """Wants a host in a folder that doesn't listen, and leaves all in it as it was."""
+    """Checks for a host in a folder that doesn't listen, and leaves all in it as it was."""
     before = listed(room)
     call = ["bash", "-c", f'cd "$0" && {start or "true"} && exec "$@"', str(room)]
     with Host(lab, 0, 0, journal or room / "run.journal", record, before=call) as host:
@@ -32,7 +32,7 @@ def refuses(room: Path, lab: Path, record: object, ended: Ended = REFUSED, journ
 
 
 def takes(room: Path, lab: Path, record: Path) -> None:
-    """Wants a host that keeps its record there."""
+    """Checks for a host that keeps its record there."""
     with Host(lab, 0, 0, room / "run.journal", record) as host:
         if not host.listens:
             fail(f"record: with {record} the host ends with {host.end()}")
@@ -45,7 +45,7 @@ def takes(room: Path, lab: Path, record: Path) -> None:
 
 
 def filled(folder: Path, *names: str) -> Path:
-    """A folder with files of these names."""
+    """Returns a folder with files of these names."""
     folder.mkdir(parents=True)
     for name in names:
         (folder / name).parent.mkdir(exist_ok=True)
@@ -104,7 +104,7 @@ def failures_rename_nothing(room: Path) -> None:
     for start, told, at in (('trap "" XFSZ && ulimit -f 0', REFUSED, lab), ("true", NO_JOURNAL, own)):
         with Host(at, 0, 0, here / "run", here / "empty", before=["bash", "-c", f'{start} && exec "$@"', "bash"]) as host:
             if host.listens or host.end() != told or sorted(listed(here)) != before:
-                fail(f"record: an empty folder isn't left where {told} is told")
+                fail(f"record: an empty folder isn't left where {told} is reported")
     if {name: it for name, it in listed(here).items() if name in inodes and name != "empty"} != {
             name: it for name, it in inodes.items() if name != "empty"}:
         fail("record: if a host fails, an older record is changed")

@@ -63,7 +63,7 @@ class Recording:
 
     @property
     def journal(self) -> bytes:
-        """The journal so far."""
+        """Returns the journal so far."""
         return self.model.written()
 
     def told(self, whole: bool = True) -> str:

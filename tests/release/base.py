@@ -13,7 +13,7 @@ LEFT_OUT = re.compile(r"/usr/share/(doc|doc-base|man|info|locale|i18n|lintian|ba
 
 
 def installed() -> dict[str, dict[str, str]]:
-    """The fields of each installed package by its name."""
+    """Returns the fields of each installed package by its name."""
     packages: dict[str, dict[str, str]] = {}
     for text in (DPKG / "status").read_text(encoding="utf-8").split("\n\n"):
         fields = dict(line.split(": ", 1) for line in text.splitlines() if re.match(r"[A-Za-z-]+: ", line))
@@ -23,12 +23,12 @@ def installed() -> dict[str, dict[str, str]]:
 
 
 def names(field: str) -> list[str]:
-    """The packages that a field names, each alternative too."""
+    """Returns the packages that a field names, each alternative too."""
     return [name for name in re.findall(r"(?:^|[,|])\s*([a-z0-9][a-z0-9+.-]*)", field)]
 
 
 def closure(wanted: list[str], packages: dict[str, dict[str, str]]) -> set[str]:
-    """The wanted packages, and all installed ones that they depend on."""
+    """Returns the wanted packages, and all installed ones that they depend on."""
     providers: dict[str, list[str]] = {}
     for name, fields in packages.items():
         for provided in [name, *names(fields.get("Provides", ""))]:
@@ -44,7 +44,7 @@ def closure(wanted: list[str], packages: dict[str, dict[str, str]]) -> set[str]:
 
 
 def files(name: str, packages: dict[str, dict[str, str]]) -> list[str]:
-    """The paths of a package's files."""
+    """Returns the paths of a package's files."""
     lists = [DPKG / "info" / f"{name}.list", DPKG / "info" / f"{name}:{packages[name]['Architecture']}.list"]
     return next(path for path in lists if path.exists()).read_text(encoding="utf-8").splitlines()
 

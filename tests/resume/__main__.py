@@ -32,25 +32,25 @@ KILLS = 80  # of hosts alone; tests/classroom/test_resume.py kills `run`, and bo
 
 
 def kept(journal: Path) -> dict[str, bytes]:
-    """What stands beside a journal, and in it."""
+    """Returns what stands beside a journal, and in it."""
     return {file.name: file.read_bytes() for file in journal.parent.glob(f"{journal.name}*")}
 
 
 def resumed(host: Host) -> bytes:
-    """The line that says where a class goes on."""
+    """Returns the line that says where a class goes on."""
     assert host.process.stdout is not None
     return host.process.stdout.readline()
 
 
 def place_of(line: bytes) -> int:
-    """The place in such a line."""
+    """Returns the place in such a line."""
     if not line.startswith(b"resumed at place "):
         fail(f"resume: another line after that on the ports: {line!r}")
     return int(line[17:line.index(b",")])
 
 
 def refused(lab: Path, journal: Path, wanted: Ended, why: str, before: Sequence[str] = ()) -> None:
-    """Wants that a journal is refused with this end, and that nothing is changed."""
+    """Checks that a journal is refused with this end, and that nothing is changed."""
     was = kept(journal) if journal.is_file() else {}
     with Host(lab, 0, 0, journal, word="resume", before=before) as host:
         ended = None if host.listens else host.end()
@@ -61,7 +61,7 @@ def refused(lab: Path, journal: Path, wanted: Ended, why: str, before: Sequence[
 
 
 def goes_on(lab: Path, journal: Path, line: bytes, error: bytes, why: str) -> None:
-    """Wants that a class goes on with this line, tells this on standard error, and ends as it began."""
+    """Checks that a class goes on with this line, prints this on standard error, and ends as it began."""
     with Host(lab, 0, 0, journal, word="resume") as host:
         said = resumed(host) if host.listens else b""
         ended = host.dismissed(let_in(host.desk, hello("tess"))[0]) if host.listens else host.end()
@@ -78,7 +78,8 @@ def killed_at(host: Host, seconds: float) -> threading.Timer:
 
 
 def slowness(lab: Path, room: Path) -> float:
-    """How much longer a class takes here to come and play three steps than where the times of kills were chosen."""
+    """Returns how much longer a class takes here to come and play three steps than where the times of kills were
+    chosen."""
     begun = time.monotonic()
     with Host(lab, 0, 0, room / "pace.journal") as host:
         players = Players(1)
@@ -99,7 +100,7 @@ def kills(room: Path) -> None:
                 fail(f"resume: after {turn} kills it ends with {host.end()}")
             at = place_of(resumed(host)) if turn else 0
             if at < players.told:
-                fail(f"resume: after {turn} kills it goes on at place {at}, and place {players.told} was told")
+                fail(f"resume: after {turn} kills it goes on at place {at}, and place {players.told} was reported")
             timer = killed_at(host, pace * players.random.uniform(0.02, 0.4))
             players.play_on(host)
             timer.join()
@@ -174,7 +175,8 @@ def failed_sync_after_a_resume(room: Path) -> None:
 
 
 def told_until_halted(ana: Caller, tess: Caller) -> int:
-    """How many events they are told of until the journal halts: a move, its step and a fault again and again."""
+    """Returns how many events are reported to them until the journal halts: a move, its step and a fault again and
+    again."""
     told = 0
     for turn in range(200):
         move = seduction(2 * turn)
@@ -194,7 +196,7 @@ def one_more(lab: Path, journal: Path) -> tuple[int, bytes, Ended]:
 
 
 def full_disk(room: Path) -> None:
-    """Where a file may not take a whole line more the class halts, and goes on when there is room."""
+    """If a file may not take a whole line more the class halts, and goes on when there is room."""
     lab, journal = lab_of(room, 4), room / "journal"
     limited = ["bash", "-c", 'trap "" XFSZ && ulimit -f 1 && exec "$@"', "bash"]
     with Host(lab, 0, 0, journal, before=limited) as host:
@@ -204,12 +206,12 @@ def full_disk(room: Path) -> None:
     content = journal.read_bytes()
     is_full = len(content) <= 1024 < len(content) + LONGEST
     if ended != FAULT or not is_full or not content.endswith(b"\n") or content.count(b"\n") != told:
-        fail(f"resume: on a full disk it ends with {ended}, {len(content)} bytes, {told} events told")
+        fail(f"resume: on a full disk it ends with {ended}, {len(content)} bytes, {told} events reported")
     place, reply, ended = one_more(lab, journal)
     if place != told or b'"place":%d' % (told + 1) not in reply or ended.status != 0:
         fail(f"resume: after a full disk it goes on at {place}, not {told}: {reply!r}, {ended}")
     if ended.error or not journal.read_bytes().startswith(content) or sorted(kept(journal)) != ["journal", "journal.lab"]:
-        fail(f"resume: after a full disk {sorted(kept(journal))} are kept, and it tells {ended.error!r}")
+        fail(f"resume: after a full disk {sorted(kept(journal))} are kept, and it prints {ended.error!r}")
     audit(lab, journal, told + 1)
 
 
@@ -230,7 +232,7 @@ def in_mid_line(room: Path) -> None:
     content = journal.read_bytes()
     whole, found, torn = content.rpartition(b"\n")
     if ended != FAULT or len(content) != 4096 or not torn or content.count(b"\n") != told:
-        fail(f"resume: on a full disk it ends with {ended}, {len(content)} bytes, {told} events told")
+        fail(f"resume: on a full disk it ends with {ended}, {len(content)} bytes, {told} events reported")
     place, reply, ended = one_more(lab, journal)
     if place != told or b'"place":%d' % (told + 1) not in reply or not journal.read_bytes().startswith(whole + found):
         fail(f"resume: after a line that broke off it goes on at {place}, not {told}: {reply!r}")
@@ -362,7 +364,7 @@ def copies_are_kept(room: Path) -> None:
 
 
 def asks_again(room: Path) -> None:
-    """Who asks again for what was granted before is told that it is chosen, or stale."""
+    """A client that asks again for what was granted before is answered that it is chosen, or stale."""
     lab, journal = lab_of(room, 4), room / "journal"
     journal.write_bytes(FIRST[:26])
     with Host(lab, 0, 0, journal, word="resume") as host:

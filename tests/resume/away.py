@@ -69,7 +69,7 @@ WAYS: list[tuple[Callable[[Path], None], bytes]] = [
 
 
 def name_of(way: Callable[[Path], None]) -> str:
-    """What a way is called."""
+    """Returns what a way is called."""
     return f"a journal that is {way.__name__}"
 
 
@@ -78,7 +78,7 @@ def refused_soon(ana: Caller, tess: Caller, way: str) -> int:
     end, events = time.monotonic() + NOTICED, 0
     while (said := tess.ask(fault_at(2))) != REFUSED:
         if b'"place":' not in said or time.monotonic() > end:
-            fail(f"resume: {way}: a fault is told {said!r}")
+            fail(f"resume: {way}: a fault is answered {said!r}")
         events += 1
         time.sleep(0.05)
     if tess.ask(CLOSE) != REFUSED and b'"deny":"empty"' not in tess.ask(CLOSE):
@@ -148,7 +148,7 @@ def left_alone(room: Path) -> None:
 
 
 def gone_after_a_resume(room: Path) -> None:
-    """The same where a class has gone on from its journal, of which a torn line was taken off."""
+    """The same if a class has gone on from its journal, of which a torn line was taken off."""
     lab, journal = lab_of(room, 4), room / "journal"
     journal.write_bytes(b"1 0 grant ana 1 seduction\n2 0 cl")
     with Host(lab, 0, 0, journal, word="resume") as host:

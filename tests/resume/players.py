@@ -14,7 +14,7 @@ class Gone(Exception):
 
 
 class Players:
-    """A class, and the greatest place that one of its replies has told."""
+    """A class, and the greatest place that one of its replies has reported."""
 
     def __init__(self, seed: int) -> None:
         self.random = random.Random(seed)
@@ -22,7 +22,7 @@ class Players:
         self.callers: dict[str, Caller] = {}
 
     def ask(self, name: str, line: bytes) -> dict[str, Any]:
-        """The reply to a line of this one."""
+        """Returns the reply to a line of this one."""
         reply = self.callers[name].ask(line)
         if not reply:
             raise Gone
@@ -79,7 +79,7 @@ class Players:
 
 
 def asked(seen: dict[str, Any], node: int) -> bytes:
-    """The move that a look shows as enabled. Who marries says whom: the neighbour that points at the node."""
+    """Returns the move that a look shows as enabled. Who marries says whom: the neighbour that points at the node."""
     line: dict[str, Any] = {"at": seen["at"], "do": "move", "node": node, "rule": seen["rule"]}
     if seen["rule"] == "marriage":
         line["with"] = partner_of(seen, node)
@@ -87,5 +87,5 @@ def asked(seen: dict[str, Any], node: int) -> bytes:
 
 
 def partner_of(seen: dict[str, Any], node: int) -> Optional[int]:
-    """A neighbour that points at the node."""
+    """Returns a neighbour that points at the node."""
     return next((near["node"] for near in seen["near"] if near["p"] == node), None)

@@ -20,12 +20,12 @@ class Changes:
         self.library, self.log = built("resume/changes.c", room), room / "changes"
 
     def variables(self) -> dict[str, str]:
-        """The variables of a host, of which nothing is known yet."""
+        """Returns the variables of a host, of which nothing is known yet."""
         self.log.unlink(missing_ok=True)
         return {"LD_PRELOAD": str(self.library), "CHANGES": str(self.log)}
 
     def unsynced(self) -> set[str]:
-        """The files and folders that were changed after they had been synced last."""
+        """Returns the files and folders that were changed after they had been synced last."""
         found = set[str]()
         for line in self.log.read_text(encoding="utf-8").splitlines():
             what, _, path = line.partition(" ")
@@ -33,12 +33,12 @@ class Changes:
         return found
 
     def none_left(self, when: str) -> None:
-        """Wants that all is synced."""
+        """Checks that all is synced."""
         if left := self.unsynced():
             fail(f"resume: {when} a host hasn't synced {sorted(left)}")
 
     def none_left_soon(self, when: str) -> None:
-        """Wants that all is synced before long, though nothing happens."""
+        """Checks that all is synced before long, though nothing happens."""
         end = time.monotonic() + SOON
         while self.unsynced() and time.monotonic() < end:
             time.sleep(0.1)
@@ -46,7 +46,7 @@ class Changes:
 
 
 def plays(host: Host, changes: Changes, journal: Path) -> tuple[Caller, Caller]:
-    """A move and its step, each of which is synced once it is answered."""
+    """Returns a move and its step, each of which is synced once it is answered."""
     ana, tess = let_in(host.port, hello("ana"))[0], let_in(host.desk, hello("tess"))[0]
     for who, line in ((ana, MOVE), (tess, CLOSE)):
         if b'"place":' not in who.ask(line):
@@ -57,7 +57,7 @@ def plays(host: Host, changes: Changes, journal: Path) -> tuple[Caller, Caller]:
 
 
 def leaves(host: Host, ana: Caller, tess: Caller) -> Ended:
-    """The class's last lines, and its end."""
+    """Returns the class's last lines, and its end."""
     ana.ask(look("ana"))
     if (ana.ask(BYE), ana.line()) != (BID, b""):
         fail("resume: another reply to a student's bye")

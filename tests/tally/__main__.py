@@ -110,7 +110,7 @@ def test(room: Path) -> str:
     denied = sum(recorded.drawn(room, seed) for seed in range(1, count + 1))
     if 2 * denied < count:
         fail(f"only in {denied} of {count} drawn runs a student is denied something")
-    return f"{hands} runs by hand, {some} drawn ones and {count} with records are told as the model tells them"
+    return f"{hands} runs by hand, {some} drawn ones and {count} with records are printed as by the model"
 
 
 if __name__ == "__main__":

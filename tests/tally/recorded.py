@@ -71,7 +71,7 @@ def with_record(tally: str) -> str:
 
 
 def by_hand(room: Path, document: str) -> int:
-    """The run by hand, also where memory was refused, cut, and hurt; how many these are."""
+    """Returns the run by hand, also if memory ran out, cut, and hurt; how many these are."""
     run = Recording(read_lab(document.encode()))
     for seat, line in TALK:
         run.answer(seat, line)

@@ -22,7 +22,7 @@ from tools.wrong.libraries import Tree
 TOP = Path(__file__).resolve().parents[2]
 MUCH = checks.MOST_HELD + checks.LEFT_FREE + 1
 LIMIT = 300.0
-# Leaves a line in a file and waits for another, but for once, where it is killed.
+# Leaves a line in a file and waits for another, but for once, if it is killed.
 KILLED_ONCE = 'echo begun >> log; [ -e once ] || { touch once; kill -9 $$; }; echo ended'
 
 
@@ -102,7 +102,7 @@ class Turns(InRoom):
             time.sleep(0.02)
 
     def test_who_may_begin(self) -> None:
-        """Beside proofs as many as the number, where memory is free; alone all."""
+        """Beside proofs as many as the number, if memory is free; alone all."""
         running = Running(beside=1)
         for free, may in ((MUCH, True), (MUCH - 1, False), (0, False)):
             with mock.patch.object(checks, "free_memory", return_value=free):

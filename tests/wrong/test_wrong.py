@@ -53,7 +53,7 @@ UNTYPED_KIND = Edit(UNTYPED.name, OTHER_KIND.wanted, (Pair(FILE, OTHER_KIND.pair
 
 
 def text_of(edit: Edit) -> str:
-    """An edit's file."""
+    """Returns an edit's file."""
     lines = [it.line() for it in edit.wanted]
     for pair in edit.pairs:
         lines += [f"file: {pair.file}", f"old: {pair.old}", f"new: {pair.new}"]
@@ -61,12 +61,12 @@ def text_of(edit: Edit) -> str:
 
 
 def kept(name: str) -> str:
-    """An output of the prover that was kept."""
+    """Returns an output of the prover that was kept."""
     return (KEPT / name).read_text(encoding="utf-8")
 
 
 def judged(output: str, *edits: Edit, status: int = 1) -> Judged:
-    """What comes of edits by an output."""
+    """Returns what comes of edits by an output."""
     return judge(list(edits), status, read_output(CRATE, output))
 
 
@@ -115,7 +115,7 @@ class Judging(unittest.TestCase):
         self.assertEqual(found.failed([NEVER]), [NEVER.name])
 
     def test_not_compiled(self) -> None:
-        """A text that doesn't compile is told by its error, and fails all edits of the check."""
+        """A text that doesn't compile is reported with its error, and fails all edits of the check."""
         found = judged(kept("not_compiled.txt"), UNTYPED, THERE)
         self.assertEqual(
             found.of_round,
@@ -222,7 +222,7 @@ class Reading(unittest.TestCase):
                 parse_edit("it.edit", text)
 
     def test_a_text_that_does_not_stand_once(self) -> None:
-        """Such an edit is told, and the others are tried."""
+        """Such an edit is reported, and the others are tried."""
         self.write("good.edit", "# refused: f g", "file: src/lib.rt", "old: one", "new: 1")
         self.write("twice.edit", "# refused: f g", "file: src/lib.rt", "old: two", "new: 2")
         self.write("gone.edit", "# refused: f g", "file: src/lib.rt", "old: four", "new: 4")
@@ -272,7 +272,7 @@ class Trying(unittest.TestCase):
     """The prover itself, over a copy of the smallest crate that has wrong bodies."""
 
     def try_edits(self, *edits: Edit) -> Tried:
-        """What comes of some edits of the crate."""
+        """Returns what comes of some edits of the crate."""
         with tempfile.TemporaryDirectory() as room:
             top, folder = Path(room), Path(room) / "crates" / CRATE
             for part in ("src", "proofs"):
@@ -300,7 +300,7 @@ class Trying(unittest.TestCase):
         self.assertRegex(tried.faults[0], r"an error of no goal: src/retrying\.rt:\d+:\d+: error\[mismatched-types\]")
 
     def test_libraries_that_are_not_built(self) -> None:
-        """Nothing is tried where a library below isn't built."""
+        """Nothing is tried if a library below isn't built."""
         with tempfile.TemporaryDirectory() as room:
             top, folder = Path(room), Path(room) / "crates/above"
             for part in ("src", "wrong"):

@@ -70,7 +70,7 @@ def sweep() -> None:
 
 @contextmanager
 def room() -> Iterator[Room]:
-    """Gives a room for repositories, and removes it at the end."""
+    """Returns a room for repositories, and removes it at the end."""
     sweep()
     folders = []
     try:
@@ -113,7 +113,7 @@ def take_library(top: Path, crate: str) -> None:
 
 
 def take(top: Path, program: str) -> bool:
-    """Puts a program of that repository where it belongs in this clone; returns whether it was there."""
+    """Puts a program of that repository in its place in this clone. Returns whether it was there."""
     made, to = top / "crates" / program / "out" / program, TOP / "crates" / program / "out" / program
     if not made.is_file():
         return False

@@ -24,7 +24,7 @@ MEMORY = 4_000_000_000  # bytes that have to be free for one more proof side by 
 
 
 def asked() -> int:
-    """Returns by how many processes `rt` is to prove, each a crate; 0 if it chooses."""
+    """Returns by how many processes `rt` is to prove, each a crate, or 0 if it chooses."""
     number = os.environ.get("RT_JOBS", "")
     return int(number) if number.isdigit() else 0
 

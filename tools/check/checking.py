@@ -19,7 +19,7 @@ Stages = list[list[Part]]
 
 
 def is_gate() -> bool:
-    """Whether nothing may be left out."""
+    """Returns whether nothing may be left out."""
     return bool(os.environ.get("CI"))
 
 
@@ -37,7 +37,7 @@ class Count:
         self.left_out = left_out
 
     def add(self, done: Done) -> bool:
-        """Tells what became of a part, and all that it wrote where it failed; answers whether it passed."""
+        """Returns what became of a part, and all that it wrote if it failed; answers whether it passed."""
         it = result(done)
         self.passed += it.passed
         self.failed += it.failed
@@ -49,7 +49,7 @@ class Count:
         return not it.failed
 
     def with_needs(self, parts: list[Part]) -> list[Part]:
-        """The parts that have what they need; the others are told, or fail where none may be left out."""
+        """Returns the parts that have what they need; the others are reported, or fail if none may be left out."""
         lacks = missing(parts)
         for name, need in lacks.items():
             names = [it.name for it in parts if name in it.needs + it.likes]
@@ -62,7 +62,7 @@ class Count:
         return [it for it in parts if not set(it.needs) & set(lacks)]
 
     def close(self, crew: Crew) -> int:
-        """What was left out, what all took, and the last line; answers the status."""
+        """Returns what was left out, what all took, and the last line; answers the status."""
         for line in self.left_out:
             tell(f"left out: {line}")
         tell(figures(crew.checks, self.minutes).rstrip("\n"))
@@ -77,7 +77,7 @@ class Count:
 
 
 def begin(stages: Stages, processors: int) -> None:
-    """Gets what is missing, where nothing may be left out; tells how long it will take."""
+    """Gets what is missing, if nothing may be left out; prints how long it will take."""
     if is_gate():
         install([part for stage in stages for part in stage])
     names = [stage[0].name if len(stage) == 1 else "scripts" for stage in stages]
@@ -87,7 +87,7 @@ def begin(stages: Stages, processors: int) -> None:
 
 
 def run(stages: Stages, crew: Crew, count: Count) -> None:
-    """Runs the stages one after another, and from the first on what runs beside; where the proofs fail, there is no
+    """Runs the stages one after another, and from the first on what runs beside; if the proofs fail, there is no
     program to go on with."""
     beside = [it for stage in stages for it in stage if it.is_beside]
     for number, stage in enumerate(stages):
@@ -104,7 +104,7 @@ def run(stages: Stages, crew: Crew, count: Count) -> None:
 
 
 def forget_records() -> None:
-    """Removes the records beside programs that `rt ci` has made anew: they tell of older ones."""
+    """Removes the records beside programs that `rt ci` has made anew: they are about older ones."""
     for record in TOP.glob("crates/*/out/*.sources"):
         record.unlink()
 

@@ -16,8 +16,8 @@ PATIENCE = 8.0  # seconds that processes of a check that was killed have to clea
 
 
 def guarded(work: Callable[[Path], int]) -> int:
-    """The status of some work in a child, which has a folder of its own. Signals go on to the child; where it is
-    killed at once, all processes below it are ended here, and where this process is, the child is asked to end."""
+    """Returns the status of some work in a child, which has a folder of its own. Signals go on to the child; if it is
+    killed at once, all processes below it are ended here, and if this process is, the child is asked to end."""
     adopt_orphans()
     room = Path(tempfile.mkdtemp(prefix="check-"))
     signal.pthread_sigmask(signal.SIG_BLOCK, ALL)

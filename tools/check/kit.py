@@ -16,7 +16,8 @@ KIT = re.compile(r"`([^`]+ logic ([0-9a-f]+))`")
 
 
 def fault(readme: str, version: str) -> str:
-    """What is wrong with the toolchain that a page names, if anything: kits of one logic, of which this is one."""
+    """Returns what is wrong with the toolchain that a page names, if anything: kits of one logic, of which this is
+    one."""
     lines = NAMED.findall(readme)
     named = KIT.findall(lines[0]) if len(lines) == 1 else []
     if not named:

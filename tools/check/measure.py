@@ -14,7 +14,7 @@ import time
 from tools.check.processes import TICKS, Process, processes
 
 KINDS = ("proof", "tests", "wrong")
-PROVING = ("proofs", "wrong")  # The parts whose checks are told by crate; all others are scripts.
+PROVING = ("proofs", "wrong")  # The parts whose checks are listed by crate; all others are scripts.
 PAUSE = 0.5
 
 Check = tuple[int, str]
@@ -22,7 +22,7 @@ Work = tuple[str, str]
 
 
 def work_of(pid: int, part: str) -> Work | None:
-    """The crate and the kind of a check, once it is known."""
+    """Returns the crate and the kind of a check, once it is known."""
     with open(f"/proc/{pid}/cmdline", encoding="utf-8", errors="replace") as it:
         words = it.read().split("\0")
     if "--crate-name" not in words:
@@ -44,7 +44,7 @@ class Checks:
         self.looked = 0.0
 
     def look(self, parts: dict[int, str]) -> None:
-        """Looks at all checks below these parts, where that was last done half a second ago."""
+        """Looks at all checks below these parts, if that was last done half a second ago."""
         if time.monotonic() < self.looked + PAUSE:
             return
         self.looked = time.monotonic()
@@ -80,7 +80,7 @@ class Checks:
         return int(check[1]) / TICKS
 
     def minutes(self) -> dict[Work, float]:
-        """The processor minutes of each crate and kind."""
+        """Returns the processor minutes of each crate and kind."""
         sums: dict[Work, float] = {}
         for check, used in self.used.items():
             work = self.works[check]
@@ -89,7 +89,7 @@ class Checks:
 
 
 def check_above(pid: int, found: dict[int, Process], parts: dict[int, str]) -> tuple[Check | None, str]:
-    """The check that a process is or was started by, and its part."""
+    """Returns the check that a process is or was started by, and its part."""
     check = None
     while pid in found and pid not in parts:
         if found[pid].name == "rattle":
@@ -99,7 +99,7 @@ def check_above(pid: int, found: dict[int, Process], parts: dict[int, str]) -> t
 
 
 def figures(checks: Checks, parts: dict[str, float]) -> str:
-    """The table of the crates and that of the parts, whose processor minutes are given."""
+    """Returns the table of the crates and that of the parts, whose processor minutes are given."""
     sums = checks.minutes()
     crates = sorted({crate for crate, _ in sums})
     of_kind = {kind: sum(it for (_, its), it in sums.items() if its == kind) for kind in KINDS}

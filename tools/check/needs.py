@@ -21,7 +21,7 @@ NEVER_INSTALLED = "openssh-server"  # Its installation would start a server.
 
 @dataclass(frozen=True)
 class Need:
-    """What has to be there, how that is told, and the Debian packages that bring it."""
+    """What has to be there, how that is reported, and the Debian packages that bring it."""
 
     what: str
     is_there: Callable[[], bool]
@@ -30,12 +30,12 @@ class Need:
 
 
 def on_path(*programs: str) -> Callable[[], bool]:
-    """Whether all these programs are on the path."""
+    """Returns whether all these programs are on the path."""
     return lambda: all(shutil.which(it) for it in programs)
 
 
 def is_installed(package: str) -> bool:
-    """Whether Debian's package manager says so."""
+    """Returns whether Debian's package manager says so."""
     words = ["dpkg-query", "-W", "-f", "${Status}", package]
     try:
         return subprocess.run(words, capture_output=True, text=True, check=False).stdout == "install ok installed"
@@ -44,29 +44,29 @@ def is_installed(package: str) -> bool:
 
 
 def installed(*packages: str) -> Callable[[], bool]:
-    """Whether all these packages are installed."""
+    """Returns whether all these packages are installed."""
     return lambda: all(map(is_installed, packages))
 
 
 @cache
 def is_built() -> bool:
-    """Whether both programs are built from these sources."""
+    """Returns whether both programs are built from these sources."""
     calls = (("./mml", "--built"), ("./mml", "host", "--built"))
     return all(subprocess.run(it, cwd=TOP, capture_output=True, check=False).returncode == 0 for it in calls)
 
 
 def is_built_or_named() -> bool:
-    """Whether both programs are built from these sources, or the environment names others."""
+    """Returns whether both programs are built from these sources, or the environment names others."""
     return bool(os.environ.get("MML_PROGRAM") and os.environ.get("MML_HOST")) or is_built()
 
 
 def has_tests() -> bool:
-    """Whether there is a program of a crate's tests."""
+    """Returns whether there is a program of a crate's tests."""
     return any(TOP.glob("crates/*/out/*_tests"))
 
 
 def can_be_fetched() -> bool:
-    """Whether the package that is never installed is here, or can be had."""
+    """Returns whether the package that is never installed is here, or can be had."""
     return is_installed(NEVER_INSTALLED) or apt("--print-uris", "install", NEVER_INSTALLED)
 
 
@@ -76,7 +76,7 @@ RELEASE = ("python3", "stunnel4", "openssl", "openssh-client", "systemd")
 NEEDS = {
     "rt": Need("the command rt of the Rattle toolchain on the path (README.md)", on_path("rt")),
     "programs": Need("both programs, built from these sources: ./mml build", is_built_or_named, is_a_must=True),
-    "built": Need("both programs where they belong, built from these sources: ./mml build", is_built, is_a_must=True),
+    "built": Need("both programs in their places, built from these sources: ./mml build", is_built, is_a_must=True),
     "tests": Need("the tests inside the crates, as ./check proofs leaves them", has_tests),
     "git": Need("the command git", on_path("git"), ("git",)),
     "python3": Need("Debian's own Python", on_path("/usr/bin/python3"), ("python3",)),
@@ -103,20 +103,20 @@ def apt(*words: str) -> bool:
 
 
 def missing(parts: list[Part]) -> dict[str, Need]:
-    """What these parts need or like and isn't there, by its name."""
+    """Returns what these parts need or like and isn't there, by its name."""
     is_built.cache_clear()
     names = dict.fromkeys(name for part in parts for name in (*part.needs, *part.likes))
     return {name: NEEDS[name] for name in names if not NEEDS[name].is_there()}
 
 
 def told(need: Need) -> str:
-    """A need as a reader can fill it."""
+    """Returns a need as a reader can fill it."""
     lacking = [it for it in need.packages if not is_installed(it)] or [*need.packages]
     return f"{need.what} (Debian's {' '.join(lacking)})" if lacking else need.what
 
 
 def install(parts: list[Part]) -> None:
-    """Installs the packages that these parts need or like, where that can be done."""
+    """Installs the packages that these parts need or like, if that can be done."""
     needs = [NEEDS[name] for part in parts for name in (*part.needs, *part.likes) if NEEDS[name].packages]
     packages = {it for need in needs if not need.is_there() for it in need.packages if not is_installed(it)}
     if packages and os.geteuid() == 0 and apt("update"):

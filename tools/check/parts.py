@@ -1,7 +1,7 @@
 """The parts of a check: another one is a line of QUICK.
 
-A part is a call at the top whose status is 0 where it passed, and whose last line tells how much it tried.
-Its figures were measured on four processors: they tell beforehand what a check takes, and bound nothing.
+A part is a call at the top whose status is 0 if it passed, and whose last line says how much it tried.
+Its figures were measured on four processors: they estimate what a check takes, and bound nothing.
 """
 from __future__ import annotations
 
@@ -22,29 +22,29 @@ class Part:
     command: tuple[str, ...]
     work: float  # processor minutes
     least: float  # minutes of the clock, however many processors there are
-    width: float = 1  # how many processors it keeps busy: less than one where it mostly waits
+    width: float = 1  # how many processors it keeps busy: less than one if it mostly waits
     needs: tuple[str, ...] = ()  # names of `needs.NEEDS`
     likes: tuple[str, ...] = ()  # what a few of its tests need, which are left out without it
     shows: str = ""  # the lines of its output that are shown as they come
-    hands_on: str = ""  # what in its lines is written to the parts beside, which are told of no more once it has ended
+    hands_on: str = ""  # what in its lines is written to the parts beside, which get no more once it has ended
     is_beside: bool = False  # whether it runs from the beginning on, beside the others, with what they leave idle
 
     def minutes(self, processors: int) -> float:
-        """How many minutes of the clock the part takes."""
+        """Returns how many minutes of the clock the part takes."""
         return max(self.least, self.work / min(self.width, processors))
 
     def over(self, crates: list[str], share: float) -> Part:
-        """The part over some crates, which have that share of its work."""
+        """Returns the part over some crates, which have that share of its work."""
         return replace(self, command=(*self.command, *crates), work=self.work * share, least=self.least * share)
 
 
 def module(name: str, *words: str, of: str = "tests") -> tuple[str, ...]:
-    """The call of a module, of tests or of tools."""
+    """Returns the call of a module, of tests or of tools."""
     return ("python3", "-B", "-m", f"{of}.{name}", *words)
 
 
 def cases(*names: str, python: str = "python3") -> tuple[str, ...]:
-    """The call of modules of test cases."""
+    """Returns the call of modules of test cases."""
     return (python, "-B", "-m", "unittest", "-v", *(f"tests.{name}" for name in names))
 
 
@@ -59,7 +59,7 @@ LAST_CRATES = 5  # minutes of the wrong bodies of the crates that are proved las
 
 
 def classroom() -> Iterator[Part]:
-    """The modules of tests/classroom, each with servers, and some with a browser, of its own."""
+    """Yields the modules of tests/classroom, each with servers, and some with a browser, of its own."""
     for it in sorted((TOP / "tests/classroom").glob("test_*.py")):
         text = it.read_text(encoding="utf-8")
         needs = (*BUILT, "python3", *["browser"] * ("tests.classroom.browser" in text), *["pictures"] * ('"rsvg-convert"' in text))
@@ -105,7 +105,7 @@ QUICK = [
 
 
 def uses() -> dict[str, list[str]]:
-    """All crates, each with what it uses."""
+    """Returns all crates, each with what it uses."""
     lines = re.findall(r"(?m)^(\w+):(.*)$", (TOP / "crates.txt").read_text(encoding="utf-8"))
     return {crate: used.split() for crate, used in lines}
 
@@ -122,29 +122,29 @@ def with_those_below(crates: list[str]) -> set[str]:
 
 
 def share(crates: set[str], pattern: str) -> float:
-    """What part of the bytes of these files of all crates is in some crates."""
+    """Returns what part of the bytes of these files of all crates is in some crates."""
     sizes = {it: sum(file.stat().st_size for file in (TOP / "crates" / it).glob(pattern)) for it in uses()}
     whole = sum(sizes.values())
     return sum(sizes[it] for it in crates) / whole if crates and whole else 1.0
 
 
 def proofs_of(crates: list[str]) -> Part:
-    """The proofs of some crates and those below them, or of all."""
+    """Returns the proofs of some crates and those below them, or of all."""
     return PROOFS.over(crates, share(with_those_below(crates), PROVED))
 
 
 def wrong_of(crates: list[str]) -> Part:
-    """The wrong bodies of some crates, or of all."""
+    """Returns the wrong bodies of some crates, or of all."""
     return WRONG.over(crates, share({*crates}, EDITS))
 
 
 def wrong_beside() -> Part:
-    """The wrong bodies of all crates, each as it is proved."""
+    """Returns the wrong bodies of all crates, each as it is proved."""
     return replace(WRONG, command=(*WRONG.command, "--as-proved"), least=min(WRONG.least, LAST_CRATES), is_beside=True)
 
 
 def minutes_of(stages: list[list[Part]], processors: int) -> list[float]:
-    """What stages take of the clock: a part beside only what the others don't leave idle."""
+    """Returns what stages take of the clock: a part beside only what the others don't leave idle."""
     takes = [minutes([part for part in stage if not part.is_beside], processors) for stage in stages]
     idle = sum(takes) * processors - sum(part.work for stage in stages for part in stage if not part.is_beside)
     for number, stage in enumerate(stages):
@@ -155,7 +155,7 @@ def minutes_of(stages: list[list[Part]], processors: int) -> list[float]:
 
 
 def minutes(parts: list[Part], processors: int) -> float:
-    """What these take of the clock: those that fill the machine one after another, the others side by side."""
+    """Returns what these take of the clock: those that fill the machine one after another, the others side by side."""
     alone = [it.minutes(processors) for it in parts if it.width >= processors]
     beside = [it for it in parts if it.width < processors]
     shared = sum(it.width * it.minutes(processors) for it in beside) / processors

@@ -1,4 +1,4 @@
-"""What the system tells of processes, and the end of all that stand below this one."""
+"""What the system reports of processes, and the end of all that stand below this one."""
 from __future__ import annotations
 
 import ctypes
@@ -28,7 +28,7 @@ class Process:
 
 
 def process(pid: int) -> Process:
-    """What the system tells of a process."""
+    """Returns what the system reports of a process."""
     with open(f"/proc/{pid}/stat", encoding="utf-8", errors="replace") as it:
         text = it.read()
     name = text[text.index("(") + 1 : text.rindex(")")]
@@ -38,7 +38,7 @@ def process(pid: int) -> Process:
 
 
 def processes() -> dict[int, Process]:
-    """All of them, but for those that end meanwhile."""
+    """Returns all of them, but for those that end meanwhile."""
     found = {}
     for pid in map(int, filter(str.isdigit, os.listdir("/proc"))):
         try:
@@ -49,7 +49,7 @@ def processes() -> dict[int, Process]:
 
 
 def below(top: int) -> list[int]:
-    """The processes below one that haven't ended."""
+    """Returns the processes below one that haven't ended."""
     found = processes()
     near = {top}
     while True:

@@ -2,7 +2,7 @@
 
     python3 -B -m tools.check.python
 
-The settings are those of `pyproject.toml` and `.flake8`, so that who calls a tool by hand, or by an editor, is told the same.
+The settings are those of `pyproject.toml` and `.flake8`, so a tool that is called by hand, or by an editor, says the same.
 """
 from __future__ import annotations
 
@@ -20,14 +20,14 @@ CALLS = (("class", "bench", "classroom", "model", "tests", "tools"), ("check",),
 
 
 def python_files() -> list[str]:
-    """The Python that git knows of, or would."""
+    """Returns the Python that git knows of, or would."""
     listed = subprocess.run(["git", "ls-files", "-co", "--exclude-standard"], cwd=TOP, capture_output=True, text=True, check=True)
     files = [file for file in listed.stdout.splitlines() if (TOP / file).is_file()]
     return [file for file in files if file.endswith(".py") or file in ("class", "check")]
 
 
 def faults_of(command: list[str]) -> list[str]:
-    """What a tool says, where it isn't content."""
+    """Returns what a tool says, if it isn't content."""
     environment = {**os.environ, "MYPYPATH": "classroom"} if command[-1].startswith(("examples", "student")) else None
     done = subprocess.run(command, cwd=TOP, capture_output=True, text=True, check=False, env=environment)
     return [line for line in (done.stdout + done.stderr).splitlines() if line] if done.returncode else []

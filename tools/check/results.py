@@ -19,7 +19,7 @@ class Result:
 
 
 def of_cases(output: str) -> str | None:
-    """What a run of test cases tells, without those that were left out; None where it isn't one."""
+    """Returns the result of a run of test cases, without those that were left out, or None if it isn't one."""
     ran = re.search(r"^Ran (\d+) tests? in (.*)$", output, re.MULTILINE)
     if ran is None:
         return None
@@ -28,12 +28,12 @@ def of_cases(output: str) -> str | None:
 
 
 def last_line(output: str) -> str:
-    """The last line that says something."""
+    """Returns the last line that says something."""
     return next((line for line in reversed(output.splitlines()) if line.strip()), "")
 
 
 def result(done: Done) -> Result:
-    """What became of a part. One that doesn't tell of a test, or of none, has failed."""
+    """Returns what became of a part. One whose output has no test, or says that there was none, has failed."""
     line = of_cases(done.output) or last_line(done.output)
     counted = SUM.fullmatch(line)
     passed, failed = (int(counted[1]), int(counted[2])) if counted else (int(done.status == 0), 0)
@@ -45,5 +45,5 @@ def result(done: Done) -> Result:
 
 
 def not_tried(output: str) -> list[str]:
-    """Why test cases were left out."""
+    """Returns why test cases were left out."""
     return sorted(set(re.findall(r"^.* skipped [\"'](.*)[\"']$", output, re.MULTILINE)))

@@ -16,7 +16,7 @@ from tools.check.processes import end_all
 from tools.check.signals import HEED
 
 POLL = 0.1
-PATIENCE = 8.0  # seconds that parts have to clear up where they are ended
+PATIENCE = 8.0  # seconds that parts have to clear up if they are ended
 
 
 @dataclass(frozen=True)
@@ -75,7 +75,7 @@ class Crew:
         self.checks = Checks()
 
     def fits(self, part: Part) -> bool:
-        """Whether so many processors are free as a part keeps busy; one beside takes none."""
+        """Returns whether so many processors are free as a part keeps busy; one beside takes none."""
         taken = sum(min(it.part.width, self.processors) for it in self.running.values() if not it.part.is_beside)
         return part.is_beside or taken + min(part.width, self.processors) <= self.processors
 
@@ -94,7 +94,7 @@ class Crew:
             self.running[process.pid] = Running(part, process, output)
 
     def ended(self) -> Iterator[Done]:
-        """The parts that have ended; processes that they left and that end are taken leave of."""
+        """Yields the parts that have ended; processes that they left and that end are taken leave of."""
         while True:
             try:
                 pid, status, used = os.wait4(-1, os.WNOHANG)
@@ -112,15 +112,15 @@ class Crew:
                 yield Done(it.part, it.process.returncode, time.monotonic() - it.begun, minutes, text)
 
     def show(self, of: Running, is_all: bool = False) -> None:
-        """Prints what is to be shown of a part, and hands on to those beside what they are to be told."""
+        """Prints what is to be shown of a part, and passes to those beside what they need."""
         words = of.show()
         for it in self.running.values():
             if words or is_all:
                 it.told(words, is_all)
 
     def run(self, parts: list[Part]) -> Iterator[Done]:
-        """Runs parts, the first that fits first, to the end of all that aren't beside or, where there are none, of
-        those that are; gives each as it ends."""
+        """Runs parts, the first that fits first, to the end of all that aren't beside or, if there are none, of those
+        that are; gives each as it ends."""
         waiting = list(parts)
         is_last = not parts
         while waiting or any(is_last or not it.part.is_beside for it in self.running.values()):

@@ -42,7 +42,7 @@ class Heed:
 
     @contextmanager
     def held(self) -> Iterator[None]:
-        """A block that is done to its end."""
+        """Yields a block that is done to its end."""
         self.is_held = True
         try:
             yield

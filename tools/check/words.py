@@ -24,12 +24,12 @@ def taking(least: float) -> str:
 
 
 def parser() -> argparse.ArgumentParser:
-    """All words."""
+    """Returns all words."""
     whole = sum(minutes_of([[PROOFS], QUICK, [wrong_beside()]], 4))
     every = argparse.ArgumentParser(
         prog="check", description=f"Tests all of it, {taking(whole)}: proofs, scripts, wrong bodies.",
-        epilog="The last line is 'N passed, M failed'. The status is 0 where all passed, 1 where a part failed, "
-        f"2 where the words aren't understood, {TAKEN} where another check runs in this tree.",
+        epilog="The last line is 'N passed, M failed'. The status is 0 if all passed, 1 if a part failed, "
+        f"2 if the words aren't understood, {TAKEN} if another check runs in this tree.",
     )
     each = every.add_subparsers(title="words, for a part of it", dest="word", metavar="WORD")
     quick = each.add_parser("quick", help=f"what needs no proof, over the programs that are built: {taking(minutes(QUICK, 4))}")
@@ -45,7 +45,7 @@ def parser() -> argparse.ArgumentParser:
 
 
 def tell_chain(names: list[str], is_table: bool) -> int:
-    """Prints the chain of the last run, or the table, and answers the exit status."""
+    """Prints the chain of the last run, or the table, and returns the exit status."""
     spans = chain.kept()
     if not spans:
         print("check: no ./check has proved anything in this tree", file=sys.stderr)
@@ -55,14 +55,14 @@ def tell_chain(names: list[str], is_table: bool) -> int:
 
 
 def unknown(word: str | None, names: list[str]) -> str:
-    """What is wrong with names, if anything."""
+    """Returns what is wrong with names, if anything."""
     known = [it.name for it in QUICK] if word == "quick" else [*uses()] if names else []
     wrong = [it for it in names if it not in known]
     return f"there is no {'part' if word == 'quick' else 'crate'} {wrong[0]}; there are: {', '.join(known)}" if wrong else ""
 
 
 def stages_of(word: str | None, names: list[str]) -> tuple[Stages, list[str]]:
-    """What these words ask for, one stage after another, and what that leaves out."""
+    """Returns what these words ask for, one stage after another, and what that leaves out."""
     if word == "quick":
         return [[it for it in QUICK if not names or it.name in names]], [] if names else [*LEFT_OUT.values()]
     if word == "proofs":
@@ -73,7 +73,7 @@ def stages_of(word: str | None, names: list[str]) -> tuple[Stages, list[str]]:
 
 
 def main(words: list[str] | None = None) -> int:
-    """Does what the words say, and answers the exit status."""
+    """Does what the words say, and returns the exit status."""
     every = parser()
     asked = every.parse_args(words)
     names: list[str] = getattr(asked, "names", [])

@@ -36,7 +36,7 @@ LAST = 300  # characters of what a test says last
 
 
 def words() -> argparse.Namespace:
-    """The words of the command line."""
+    """Returns the words of the command line."""
     parser = argparse.ArgumentParser(prog="tools.plant", description=__doc__, formatter_class=argparse.RawDescriptionHelpFormatter)
     parser.add_argument("plants", nargs="*", metavar="PLANT", help="try these alone")
     parser.add_argument("--prove", action="store_true", help="ask the prover, and run no test")
@@ -48,12 +48,12 @@ def words() -> argparse.Namespace:
 
 
 def all_plants(tree: Tree) -> list[Plant]:
-    """The plants of all crates, in the order of `crates.txt`."""
+    """Returns the plants of all crates, in the order of `crates.txt`."""
     return [plant for crate in tree.uses for plant in plants_of(crate, tree.folder(crate))]
 
 
 def chosen(every: list[Plant], names: list[str]) -> list[Plant]:
-    """The plants that are named, each by its own name or by its crate's."""
+    """Returns the plants that are named, each by its own name or by its crate's."""
     for name in names:
         if not any(name in (it.name, it.crate) for it in every):
             raise PlantFault(f"{name}: there is no such plant, nor a crate that has one")
@@ -61,7 +61,7 @@ def chosen(every: list[Plant], names: list[str]) -> list[Plant]:
 
 
 def sees(plant: Plant, program: Path) -> tuple[bool, str]:
-    """Whether a plant's test fails over the program that has it, and what it says last."""
+    """Returns whether a plant's test fails over the program that has it, and what it says last."""
     given = {**os.environ, "MML_HOST": str(program)}
     done = subprocess.run([sys.executable, "-B", "-m", plant.module, plant.test], cwd=TOP, env=given, stdin=subprocess.DEVNULL,
                           stdout=subprocess.PIPE, stderr=subprocess.STDOUT, text=True, errors="replace", timeout=LIMIT, check=False)

@@ -39,12 +39,12 @@ class Plant:
 
     @property
     def name(self) -> str:
-        """What it is called."""
+        """Returns what it is called."""
         return f"{self.crate}/{self.edit.name.removesuffix('.edit')}"
 
 
 def marked(name: str, text: str, mark: str) -> list[str]:
-    """The words of the line that begins with a mark; empty ones if there is no such line."""
+    """Returns the words of the line that begins with a mark; empty ones if there is no such line."""
     found = [line.removeprefix(mark).split() for line in text.splitlines() if line.startswith(mark)]
     if len(found) > 1 or any(len(words) != len(WORDS[mark]) for words in found):
         raise PlantFault(f"{name}: not one line '{mark} {' '.join(WORDS[mark])}'")
@@ -52,7 +52,7 @@ def marked(name: str, text: str, mark: str) -> list[str]:
 
 
 def parse_plant(crate: str, name: str, text: str) -> Plant:
-    """The plant that a file's text spells."""
+    """Returns the plant that a file's text spells."""
     (function,), (module, test) = (marked(f"{crate}/{name}", text, mark) for mark in WORDS)
     if not function and not test:
         raise PlantFault(f"{crate}/{name}: neither a line '{IN} FUNCTION' nor a line '{SEEN} MODULE TEST'")
@@ -64,7 +64,7 @@ def parse_plant(crate: str, name: str, text: str) -> Plant:
 
 
 def planted(plant: Plant, folder: Path) -> dict[str, str]:
-    """The texts of the files that a plant changes, in the crate's folder."""
+    """Returns the texts of the files that a plant changes, in the crate's folder."""
     try:
         return apply_edit(plant.edit, {}, folder)
     except EditFault as fault:
@@ -72,7 +72,7 @@ def planted(plant: Plant, folder: Path) -> dict[str, str]:
 
 
 def plants_of(crate: str, folder: Path) -> list[Plant]:
-    """The plants of a crate, in the order of their names. Raises a fault if one of them has no place there."""
+    """Returns the plants of a crate, in the order of their names. Raises a fault if one of them has no place there."""
     found = [parse_plant(crate, path.name, path.read_text(encoding="utf-8")) for path in sorted((folder / "plants").glob("*"))]
     for plant in found:
         planted(plant, folder)

@@ -18,15 +18,15 @@ ANY = "any"
 
 
 def verdict(function: str, told: Told) -> str:
-    """What a check says of the plant in a function."""
+    """Returns what a check says of the plant in a function."""
     if function in told.open_goals:
         return REFUSED
     return LET_THROUGH if function in told.proved else UNDECIDED
 
 
 def prove_crate(tree: Tree, crate: str, plants: list[Plant], kept: str, running: Running) -> Iterator[tuple[Plant, str]]:
-    """The verdict on each plant of a crate that names its function. `kept` is the name under which the prover keeps what a
-    library holds. Raises a fault if a library below isn't built, or a check comes to no end."""
+    """Yields the verdict on each plant of a crate that names its function. `kept` is the name under which the prover keeps
+    what a library holds. Raises a fault if a library below isn't built, or a check comes to no end."""
     if missing := tree.missing(crate):
         raise PlantFault(f"{crate}: not built, which `rt ci` or `rt check` does: {', '.join(dict.fromkeys(missing))}")
     named = {plant.edit.name: plant for plant in plants if plant.function}
@@ -43,7 +43,7 @@ def prove_crate(tree: Tree, crate: str, plants: list[Plant], kept: str, running:
 
 
 def prove_all(tree: Tree, plants: list[Plant]) -> Iterator[tuple[Plant, str]]:
-    """The verdicts on plants, crate by crate."""
+    """Yields the verdicts on plants, crate by crate."""
     running, kept = Running(), find_name(tree)
     for crate in dict.fromkeys(plant.crate for plant in plants if plant.function):
         yield from prove_crate(tree, crate, [plant for plant in plants if plant.crate == crate], kept, running)

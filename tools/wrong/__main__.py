@@ -8,7 +8,7 @@
 Edits of a crate whose texts and functions are apart are put into one copy of it (a round), of which one check
 proves the functions that they name. A function is proved from the clauses of what it calls, so one that is
 refused opens no goal of its callers. Each round of a crate begins with what the crate's library holds; crates are
-tried side by side. What fails: an edit that can't be put where it belongs, a function that isn't refused at its
+tried side by side. What fails: an edit that can't be applied, a function that isn't refused at its
 goal, an error of no goal (a text that doesn't compile, a name that a proof lost), a function that is refused
 though no edit names it, and counts of the check that don't fit what it says.
 """
@@ -33,7 +33,7 @@ TOP = Path(__file__).resolve().parents[2]
 
 
 def words() -> argparse.Namespace:
-    """The words of the command line."""
+    """Returns the words of the command line."""
     parser = argparse.ArgumentParser(prog="tools.wrong", description=__doc__, formatter_class=argparse.RawDescriptionHelpFormatter)
     parser.add_argument("crates", nargs="*", metavar="CRATE", help="try these alone")
     parser.add_argument("--jobs", type=int, metavar="N", help="at most N checks side by side (else RT_JOBS, or the processors)")
@@ -45,7 +45,7 @@ def words() -> argparse.Namespace:
 
 
 def crates_of(tree: Tree, names: list[str]) -> list[str]:
-    """The crates that are named, or all that have wrong bodies, the longest to try first."""
+    """Returns the crates that are named, or all that have wrong bodies, the longest to try first."""
     for name in names:
         if name not in tree.uses or not tree.has_edits(name):
             sys.exit(f"tools.wrong: {name} is no crate with wrong bodies")
@@ -65,7 +65,7 @@ def say_rounds(tree: Tree, crates: list[str]) -> None:
 
 
 def tried_of(tree: Tree, crates: list[str], asked: argparse.Namespace) -> Iterator[Tried]:
-    """What comes of the edits of crates, at once or as the crates are proved."""
+    """Yields what comes of the edits of crates, at once or as the crates are proved."""
     lanes = lane_count(asked.jobs)
     if not asked.as_proved:
         yield from try_crates(tree, crates, lanes, asked.logs, Running())

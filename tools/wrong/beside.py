@@ -15,7 +15,7 @@ FIRST_TO_END = 500
 
 
 def give_way() -> None:
-    """Lets all others go first: for a processor, and in what the system ends where memory is short."""
+    """Lets all others go first: for a processor, and in what the system ends if memory is short."""
     os.nice(LAST_IN_TURN)
     changes = {"oom_score_adj": FIRST_TO_END}
     if os.getsid(0) == os.getpid():

@@ -1,4 +1,4 @@
-"""Checks that run side by side, and that end when this process is told to."""
+"""Checks that run side by side, and that end when this process gets the signal."""
 from __future__ import annotations
 
 import os
@@ -37,7 +37,7 @@ class Ended:
 
 @dataclass
 class Running:
-    """The checks that run now; beside proofs that do, as many as a number, and none where memory is short."""
+    """The checks that run now; beside proofs that do, as many as a number, and none if memory is short."""
 
     beside: int | None = None
     lock: threading.Condition = field(default_factory=threading.Condition)
@@ -45,7 +45,7 @@ class Running:
     is_over: bool = False
 
     def may_begin(self) -> bool:
-        """Whether another check may."""
+        """Returns whether another check may."""
         return self.beside is None or len(self.checks) < self.beside and free_memory() > MOST_HELD + LEFT_FREE
 
     def go_on_alone(self) -> None:
@@ -98,19 +98,19 @@ def try_round(tree: Tree, crate: str, tried: Round, room: Path, running: Running
     words = check_words(tree, crate, tried.functions(), kept)
     try:
         ended = running.run(words, copy)
-        # (killed, most likely for want of memory)
+        # (killed, most likely for running out of memory)
         return running.run(words, copy, is_alone=True) if ended.status == -signal.SIGKILL else ended
     finally:
         shutil.rmtree(copy, ignore_errors=True)
 
 
 def free_memory() -> int:
-    """The bytes of memory that programs can still take."""
+    """Returns the bytes of memory that programs can still take."""
     lines = Path("/proc/meminfo").read_text(encoding="ascii").splitlines()
     return next(int(line.split()[1]) * 1024 for line in lines if line.startswith("MemAvailable:"))
 
 
 def lane_count(wanted: int | None) -> int:
-    """How many checks run side by side: as many as are wanted or there are processors, where memory allows."""
+    """Returns how many checks run side by side: as many as are wanted or there are processors, if memory allows."""
     jobs = wanted or int(os.environ.get("RT_JOBS") or 0) or len(os.sched_getaffinity(0))
     return max(1, min(jobs, free_memory() // MOST_HELD))

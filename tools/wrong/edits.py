@@ -37,7 +37,7 @@ class Refusal:
     goal: str
 
     def line(self) -> str:
-        """The line of an edit that says so."""
+        """Returns the line of an edit that says so."""
         return f"{MARK} {self.function} {self.goal}"
 
 
@@ -52,7 +52,7 @@ class Pair:
 
 @dataclass(frozen=True)
 class Edit:
-    """A wrong body, where it is refused, and the first round that it may be tried in."""
+    """A wrong body, if it is refused, and the first round that it may be tried in."""
 
     name: str
     wanted: tuple[Refusal, ...]
@@ -60,7 +60,7 @@ class Edit:
     first: int = 1
 
     def functions(self) -> set[str]:
-        """The functions that refuse it."""
+        """Returns the functions that refuse it."""
         return {it.function for it in self.wanted}
 
 
@@ -72,12 +72,12 @@ class Round:
     texts: dict[str, str]
 
     def functions(self) -> set[str]:
-        """The functions that refuse one of them."""
+        """Returns the functions that refuse one of them."""
         return {function for edit in self.edits for function in edit.functions()}
 
 
 def refusal_of(name: str, text: str) -> Refusal:
-    """The refusal that a marked line wants."""
+    """Returns the refusal that a marked line wants."""
     words = text.split()
     if len(words) != 2:
         raise EditFault(f"{name}: not a line '{MARK} FUNCTION GOAL': {MARK}{text}")
@@ -85,14 +85,14 @@ def refusal_of(name: str, text: str) -> Refusal:
 
 
 def round_of(name: str, text: str) -> int:
-    """The number of a round that isn't the first."""
+    """Returns the number of a round that isn't the first."""
     if not text.strip().isdecimal() or int(text) < 2:
         raise EditFault(f"{name}: not a line '{ROUND} NUMBER' of a later round than the first: {ROUND}{text}")
     return int(text)
 
 
 def parse_pairs(name: str, text: str) -> tuple[Pair, ...]:
-    """The pairs that a file's text spells."""
+    """Returns the pairs that a file's text spells."""
     pairs: list[Pair] = []
     file, old = "", ""
     for line in text.split("\n"):
@@ -112,7 +112,7 @@ def parse_pairs(name: str, text: str) -> tuple[Pair, ...]:
 
 
 def parse_edit(name: str, text: str) -> Edit:
-    """The edit that a file's text spells."""
+    """Returns the edit that a file's text spells."""
     wanted: list[Refusal] = []
     first, rest = 1, list[str]()
     for line in text.split("\n"):
@@ -128,7 +128,8 @@ def parse_edit(name: str, text: str) -> Edit:
 
 
 def apply_edit(edit: Edit, texts: Mapping[str, str], folder: Path) -> dict[str, str]:
-    """The texts with what the edit makes of them; a file that isn't among them is read from the crate's folder."""
+    """Returns the texts with what the edit makes of them; a file that isn't among them is read from the crate's
+    folder."""
     after = dict(texts)
     for pair in edit.pairs:
         if pair.file not in after:
@@ -144,7 +145,7 @@ def apply_edit(edit: Edit, texts: Mapping[str, str], folder: Path) -> dict[str, 
 
 
 def read_edits(folder: Path) -> tuple[list[Edit], list[str]]:
-    """The edits of a crate in the order of their names, and what is wrong with those that can't be tried."""
+    """Returns the edits of a crate in the order of their names, and what is wrong with those that can't be tried."""
     edits, faults = [], []
     for path in sorted((folder / "wrong").iterdir()):
         try:
@@ -171,7 +172,8 @@ def joined(into: Round, edit: Edit, folder: Path) -> bool:
 
 
 def rounds_of(edits: Iterable[Edit], folder: Path) -> list[Round]:
-    """The rounds in which a crate's edits are tried: each edit in the first that takes it, of those that it may be in."""
+    """Returns the rounds in which a crate's edits are tried: each edit in the first that takes it, of those that it may
+    be in."""
     rounds: list[Round] = []
     for edit in sorted(edits, key=lambda it: it.first):
         if not any(joined(it, edit, folder) for it in rounds[edit.first - 1 :]):

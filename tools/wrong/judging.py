@@ -18,18 +18,18 @@ class Judged:
     of_edit: dict[str, list[str]] = field(default_factory=dict)
 
     def failed(self, edits: Iterable[Edit]) -> list[str]:
-        """The edits of which nothing is shown: all of them, where something else than an edit is wrong."""
+        """Returns the edits of which nothing is shown: all of them, where something else than an edit is wrong."""
         return [it.name for it in edits if self.of_round or it.name in self.of_edit]
 
 
 def right_lines(function: str, told: Told) -> str:
-    """The lines that an edit of a function may have, those of what it promises first."""
+    """Returns the lines that an edit of a function may have, those of what it promises first."""
     goals = sorted(told.open_goals.get(function, ()), key=lambda goal: (not goal.startswith("returns"), "clause" not in goal))
     return " or ".join(f"'{Refusal(function, goal).line()}'" for goal in goals[:3])
 
 
 def fault_of(wanted: Refusal, told: Told) -> str | None:
-    """Why a function isn't refused at a goal, if it isn't."""
+    """Returns why a function isn't refused at a goal, if it isn't."""
     if wanted.goal in told.open_goals.get(wanted.function, ()):
         return None
     if wanted.function in told.proved:
@@ -43,13 +43,13 @@ def fault_of(wanted: Refusal, told: Told) -> str | None:
 
 
 def judge_edits(edits: Iterable[Edit], told: Told) -> dict[str, list[str]]:
-    """What is wrong with each edit."""
+    """Returns what is wrong with each edit."""
     faults = {it.name: [fault for wanted in it.wanted if (fault := fault_of(wanted, told))] for it in edits}
     return {name: found for name, found in faults.items() if found}
 
 
 def judge_others(named: set[str], told: Told) -> list[str]:
-    """What is refused though no edit names it."""
+    """Returns what is refused though no edit names it."""
     faults = []
     for function in sorted(told.functions - told.proved - named):
         if function in told.open_goals:
@@ -60,12 +60,12 @@ def judge_others(named: set[str], told: Told) -> list[str]:
 
 
 def is_closure(function: str) -> bool:
-    """Whether a line is of a closure, or of how it is called: the check's counts leave these out."""
+    """Returns whether a line is of a closure, or of how it is called: the check's counts leave these out."""
     return "fn" in function.split("::")
 
 
 def judge_counts(named: set[str], told: Told) -> list[str]:
-    """Whether the check came to its end, and its counts are those of its lines."""
+    """Returns whether the check came to its end, and its counts are those of its lines."""
     if told.ending is None:
         return [f"the check came to no end: {told.last[:LONGEST]}"]
     asked, proved = told.ending
@@ -80,7 +80,7 @@ def judge_counts(named: set[str], told: Told) -> list[str]:
 
 
 def judge(edits: list[Edit], status: int, told: Told) -> Judged:
-    """What is wrong with a round, by its check's status and output."""
+    """Returns what is wrong with a round, by its check's status and output."""
     named = {function for edit in edits for function in edit.functions()}
     faults = [f"an error of no goal: {line[:LONGEST]}" for line in told.errors]
     faults += judge_others(named, told)

@@ -21,25 +21,25 @@ class Tree:
     libraries: Path | None = None
 
     def folder(self, crate: str) -> Path:
-        """A crate's folder."""
+        """Returns a crate's folder."""
         return self.top / "crates" / crate
 
     def has_edits(self, crate: str) -> bool:
-        """Whether a crate has wrong bodies."""
+        """Returns whether a crate has wrong bodies."""
         return (self.folder(crate) / "wrong").is_dir()
 
     def library(self, crate: str) -> Path:
-        """Where a library of the repository is read, or one of the kit's own."""
+        """If a library of the repository is read, or one of the kit's own."""
         if crate in self.uses:
             return self.libraries / f"{crate}.rlib" if self.libraries else self.left(crate)
         return self.kit / "rlibs" / f"{crate}.rlib"
 
     def left(self, crate: str) -> Path:
-        """Where `rt` leaves a library of the repository."""
+        """Returns the path at which `rt` leaves a library of the repository."""
         return self.folder(crate) / "out/rlib" / f"{crate}.rlib"
 
     def below(self, crate: str) -> list[str]:
-        """The crates of the repository that a crate is built from, lowest first."""
+        """Returns the crates of the repository that a crate is built from, lowest first."""
         found: list[str] = []
         for name in self.uses[crate]:
             if name in self.uses:
@@ -47,17 +47,17 @@ class Tree:
         return found
 
     def missing(self, crate: str) -> list[str]:
-        """The libraries below a crate that aren't built."""
+        """Returns the libraries below a crate that aren't built."""
         return [it for it in (*self.below(crate), *self.uses[crate]) if not (self.library(it) / "format").is_file()]
 
     def size(self, crate: str) -> int:
-        """How many bytes of sources and proofs a crate has."""
+        """Returns how many bytes of sources and proofs a crate has."""
         folder = self.folder(crate)
         return sum(it.stat().st_size for part in ("src", "proofs") for it in (folder / part).rglob("*.*") if it.is_file())
 
 
 def kit_of(command: str = "rt") -> Path:
-    """The kit that the command is of."""
+    """Returns the kit that the command is of."""
     found = shutil.which(command)
     if found is None:
         raise LibraryFault(f"the toolchain's command {command} is not on the path")
@@ -65,7 +65,7 @@ def kit_of(command: str = "rt") -> Path:
 
 
 def parse_uses(text: str) -> dict[str, list[str]]:
-    """The lines of `crates.txt`: each crate with what it uses."""
+    """Returns the lines of `crates.txt`: each crate with what it uses."""
     uses = {}
     for line in text.splitlines():
         names, colon, used = line.partition("#")[0].partition(":")
@@ -75,12 +75,13 @@ def parse_uses(text: str) -> dict[str, list[str]]:
 
 
 def tree_at(top: Path) -> Tree:
-    """The copy of the repository that stands in a folder."""
+    """Returns the copy of the repository that stands in a folder."""
     return Tree(top, kit_of(), parse_uses((top / "crates.txt").read_text(encoding="utf-8")))
 
 
 def check_words(tree: Tree, crate: str, functions: set[str], kept: Path) -> list[str]:
-    """A check of some functions of a crate, in a copy of its folder, that goes on from what an earlier one kept."""
+    """Returns a check of some functions of a crate, in a copy of its folder, that goes on from what an earlier one
+    kept."""
     root = "main" if (tree.folder(crate) / "src/main.rt").is_file() else "lib"
     words = [str(tree.kit / "bin/rattle"), "check", "--crate-name", crate, f"src/{root}.rt"]
     for name in ("std", *tree.uses[crate]):

@@ -38,7 +38,7 @@ class Told:
     def add_function(self, name: str, said: str) -> None:
         """The line of a function."""
         self.functions.add(name)
-        # ("proved, may wait" is of one that waits for others, "proved where its callers give what it asks" of a closure)
+        # ("proved, may wait" is of one that waits for others, "proved if its callers give what it asks" of a closure)
         if re.match(r"(proved|assumed)\b", said):
             self.proved.add(name)
         found = OPEN.search(said)
@@ -48,7 +48,7 @@ class Told:
             self.resting.add(name)
 
     def add_error(self, line: str) -> None:
-        """An error, which is of a goal where a proof's answer doesn't show it any more."""
+        """An error, which is of a goal if a proof's answer doesn't show it any more."""
         found = GOAL.fullmatch(line)
         if RESTS_ON_ANSWER.search(line):
             return
@@ -60,7 +60,7 @@ class Told:
 
 
 def read_output(crate: str, output: str) -> Told:
-    """What a check of a crate printed."""
+    """Returns what a check of a crate printed."""
     told = Told()
     for line in output.splitlines():
         if found := LINE.fullmatch(line):

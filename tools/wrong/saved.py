@@ -1,8 +1,8 @@
-"""What a crate's library holds of the check that proved it, put where the checks of its wrong bodies look for it.
+"""What a crate's library holds of the check that proved it, put in the place in which the checks of its wrong bodies look for it.
 
 A library has the modules that were checked for it. A check that goes on from a folder takes from there what is up
 to date, and checks the rest: so a function that no edit touches, and that calls none that one does, isn't proved
-once more. Where a library has no such modules, or the prover saves under no name, all are checked.
+once more. If a library has no such modules, or the prover saves under no name, all are checked.
 """
 from __future__ import annotations
 
@@ -19,7 +19,8 @@ TEXT = "#![tactic(auto)]\n\n/// Does nothing.\npub fn nothing() {}\n"
 
 
 def find_name(tree: Tree) -> str:
-    """The name of the folder in which the checks of this prover save modules, or none. It waits for no other check."""
+    """Returns the name of the folder in which the checks of this prover save modules, or none. It waits for no other
+    check."""
     with tempfile.TemporaryDirectory(prefix="mml-wrong-") as room:
         alone, kept = Tree(Path(room), tree.kit, {NOTHING: []}), Path(room) / "kept"
         (alone.folder(NOTHING) / "src").mkdir(parents=True)

@@ -27,7 +27,7 @@ class Tried:
     seconds: float = 0.0
 
     def line(self, with_times: bool) -> str:
-        """The line of a crate."""
+        """Returns the line of a crate."""
         failed = f", {self.failed} failed" if self.failed else ""
         times = f", {self.seconds:.0f} processor seconds" if with_times else ""
         return f"{self.crate}: {self.passed} wrong bodies refused{failed}, in {self.checks} checks{times}"

@@ -21,7 +21,7 @@ pub linked-cut : (w : World) (a b i j : ℕ) → IsWorld w → a < size w → b 
     → ((configuration_of (without_link w.network a b)).linked i j ≡ true) ↔ ((AreEnds a b i j → ⊥) × ((configuration w).linked i j ≡ true))
 linked-cut w a b i j k la lb = grind (arith, linked-without_link, and_parts, both_ways, not-true, are_both, and_from, both_are)
 
--- the registers, without their pointer where the test is true
+-- the registers, without their pointer if the test is true
 abbrev pub nulled : Bool → Regs → Regs
 nulled b r = record { p = cond b None r.p; m = r.m }
 

@@ -1,4 +1,4 @@
--- How what a board keeps gives its world, before and after an event.
+-- The world of a board's parts, before and after an event.
 use Rattle.std.proofs.Common.{◌≡◌, ℕ, zero, suc, ◌<◌, ◌≤◌, ◌+◌, Bool, true, false, not, ◌&&◌, eqb, Option, Some, List, length}
 use Rattle.std.proofs.Common.{None, replicate, sym, ap, ◌∙◌, subst, arith}
 use Rattle.std.proofs.lemmas.Bool.{lt-ltb, le-ltb, and_right, and_parts}
@@ -51,7 +51,7 @@ pub those_in : (n : ℕ) (t : ℕ → Bool) (s : FinSet nat_cmp) → ((i : ℕ) 
     → s ≡ those_below n t
 those_in n t s same within = grind (arith, same_ranks, has-those_below, lt-ltb, and_right)
 
--- ---- the readers
+-- ---- the getters
 
 -- the set that a board has is that of the chosen nodes
 pub chosen_nodes-is : (w : World) (s : FinSet nat_cmp) → IsWorld w → AreChosen w.chosen s → s ≡ chosen_nodes w

@@ -51,20 +51,20 @@ put-in s a j = grind (arith, has_insert)
 pub put-out : (s : FinSet nat_cmp) (a j : ℕ) → sets.contains (sets.remove s a) j ≡ cond (eqb j a) false (sets.contains s j)
 put-out s a j = grind (arith, has_remove)
 
--- a set of which one rank is told anew, and all others are as before, is the set with that rank or without it
+-- a set in which one rank is tested anew, and all others are as before, is the set with that rank or without it
 pub put_told : (s s' : FinSet nat_cmp) (a : ℕ) (b : Bool) → ((j : ℕ) → sets.contains s' j ≡ cond (eqb j a) b (sets.contains s j))
     → s' ≡ cond b (sets.insert s a) (sets.remove s a)
 put_told s s' a true h = same_ranks s' (sets.insert s a) (λ j. h j ∙ sym (put-in s a j))
 put_told s s' a false h = same_ranks s' (sets.remove s a) (λ j. h j ∙ sym (put-out s a j))
 
--- rows of which one is told so are the rows with that rank in it or without it
+-- rows of which one is tested so are the rows with that rank in it or without it
 pub row_told : (rows : List (FinSet nat_cmp)) (s' : FinSet nat_cmp) (i a : ℕ) (b : Bool)
     → ((j : ℕ) → sets.contains s' j ≡ cond (eqb j a) b (sets.contains (neighbours_at rows i) j))
     → set rows i s' ≡ cond b (with_neighbour rows i a) (without_neighbour rows i a)
 row_told rows s' i a true h = ap (set rows i) (put_told (neighbours_at rows i) s' a true h)
 row_told rows s' i a false h = ap (set rows i) (put_told (neighbours_at rows i) s' a false h)
 
--- a set has no greatest rank exactly where it is empty
+-- a set has no greatest rank exactly if it is empty
 pub none_greatest : (s : FinSet nat_cmp) (o : Option ℕ) (b : Bool) → b ≡ is_none o
     → IfNone o (s ≡ sets.empty) → IfSome o (λ r. sets.contains s r ≡ true) → (b ≡ true → s ≡ sets.empty) × (s ≡ sets.empty → b ≡ true)
 none_greatest s None b told none member = (λ t. none, λ e. told)
@@ -80,11 +80,11 @@ pub around_refreshed : (c : Configuration) (now next row left left' : FinSet nat
 around_refreshed c now next row left left' a lawful rows e h k j u =
     grind (arith, has_remove, ne_eqb, both_ways, has_insert, or_left, eq-eqb, or_none, false_from_ne_true)
 
--- where nothing was changed, each node is untouched
+-- if nothing was changed, each node is untouched
 pub none_touched : (c : Configuration) (s : FinSet nat_cmp) (j : ℕ) → s ≡ sets.empty → IsUntouched c s j
 none_touched c s j e = record { here = ap (λ t. sets.contains t j) e ∙ has_empty j; near = λ k l. ap (λ t. sets.contains t k) e ∙ has_empty k }
 
--- ---- where two configurations differ at some nodes alone
+-- ---- if two configurations differ at some nodes alone
 
 pub record DifferAt (s : FinSet nat_cmp) (c d : Configuration) : Type 0 where
   pub size : c.size ≡ d.size
@@ -137,7 +137,7 @@ in_one s a = has_insert s a a ∙ or_left (eqb a a) _ (eq-eqb a a refl)
 pub in_insert : (s : FinSet nat_cmp) (a i : ℕ) → sets.contains s i ≡ true → sets.contains (sets.insert s a) i ≡ true
 in_insert s a i h = has_insert s a i ∙ or_right (eqb i a) _ h
 
--- ---- where an event changes the configuration
+-- ---- if an event changes the configuration
 
 has_first : (s : FinSet nat_cmp) (a b : ℕ) → s ≡ sets.insert (sets.insert sets.empty a) b → sets.contains s a ≡ true
 has_first s a b e = ap (λ t. sets.contains t a) e ∙ in_insert (sets.insert sets.empty a) b a (in_one sets.empty a)
@@ -145,7 +145,7 @@ has_first s a b e = ap (λ t. sets.contains t a) e ∙ in_insert (sets.insert se
 has_second : (s : FinSet nat_cmp) (a b : ℕ) → s ≡ sets.insert (sets.insert sets.empty a) b → sets.contains s b ≡ true
 has_second s a b e = ap (λ t. sets.contains t b) e ∙ in_one (sets.insert sets.empty a) b
 
--- the privileged nodes before an event are right after it where it changes nothing
+-- the privileged nodes before an event are right after it if it changes nothing
 module _ (s privileged : FinSet nat_cmp) (n n' : Network) (k : IsNetwork n) (right : privileged ≡ privileged_set (configuration_of n)) where
   pub right_after_fault : (a : ℕ) (r : Regs) → a < length n.registers → ((j : ℕ) → r.p ≡ Some j → sets.contains (neighbours_at n.neighbours a) j ≡ true)
       → n' ≡ with_registers n a r → s ≡ sets.insert sets.empty a

@@ -44,7 +44,7 @@ pub has-without_suitor : (rows : List (FinSet nat_cmp)) (p : Option ℕ) (k i j 
     → sets.contains (neighbours_at (without_suitor rows p k) i) j ≡ (not (holds p i && eqb j k) && sets.contains (neighbours_at rows i) j)
 has-without_suitor rows p k i j l = grind (arith, has-without_neighbour, turned)
 
--- a test that is false exactly where a register points is true exactly where it is null
+-- a test that is false exactly if a register points is true exactly if it is null
 pub none_told : (o : Option ℕ) (b : Bool) → is_some o ≡ not b → b ≡ is_none o
 none_told o b h = grind arith
 
@@ -82,7 +82,7 @@ next_rows registers k p m rows rows' free believing free' believing' are l pk mk
 
 -- ---- rows that follow a node's registers
 
--- where registers are set, the node leaves the row of its old pointer and joins that of its new one
+-- if registers are set, the node leaves the row of its old pointer and joins that of its new one
 pub rows-set : (registers : List Regs) (a : ℕ) (p : Option ℕ) (x : Regs) (rows rows' rows'' : List (FinSet nat_cmp))
     (free believing free' believing' : FinSet nat_cmp)
     → AreRows registers (length registers) rows free believing → a < length registers
@@ -96,7 +96,7 @@ rows-set registers a p x rows rows' rows'' free believing free' believing' are l
 
 -- ---- what looks read from the rows
 
--- a node has a suitor exactly where its row isn't empty
+-- a node has a suitor exactly if its row isn't empty
 pub suitors-read : (n : Network) (rows : List (FinSet nat_cmp)) (free believing row : FinSet nat_cmp) (i : ℕ) → IsLawful (configuration_of n)
     → AreRows n.registers (length n.registers) rows free believing → i < length n.registers
     → row ≡ neighbours_at rows i → (b : Bool) → (b ≡ true → row ≡ sets.empty) × (row ≡ sets.empty → b ≡ true) → not b ≡ has_suitor (configuration_of n) i

@@ -64,7 +64,7 @@ none_at n i = go n i None
     go (suc k) zero o = refl
     go (suc k) (suc i) o = go k i o
 
--- where no move is chosen, the guards of all chosen moves hold
+-- if no move is chosen, the guards of all chosen moves hold
 pub hold-none : (n : ℕ) (c : Configuration) → AllHold c (chosen_at (replicate n None))
 hold-none n c i r h = let e : None ≡ Some r = sym (none_at n i) ∙ h in cc
 
@@ -81,7 +81,7 @@ hold-set : (c : Configuration) (chosen : List (Option Rule)) (a : ℕ) (o : Opti
     → AllHold c (chosen_at chosen) → AllHold c (chosen_at (set chosen a o))
 hold-set c chosen a o l h all i r e = grind (arith, chosen_at-set, eqb-true)
 
--- a lawful world stays so where a node's choice is a move whose guard holds, or none
+-- a lawful world stays so if a node's choice is a move whose guard holds, or none
 pub choosing-world : (w : World) (a : ℕ) (o : Option Rule) → a < size w → ((r : Rule) → o ≡ Some r → guard (configuration w) a r ≡ true) → IsWorld w
     → IsWorld (choosing w a o)
 choosing-world w a o l h k = grind (arith, length-set, hold-set)
@@ -99,7 +99,7 @@ chosen_within xs i h = grind (arith, cases_lt, both_ways, get_or_past)
 pub chosen_node : (w : World) (i : ℕ) → length w.chosen ≡ size w → is_some (chosen_at w.chosen i) ≡ true → i < size w
 chosen_node w i e h = let l = chosen_within w.chosen i h in omega (arith, e, l)
 
--- the partner that a rule names is a node, where its guard holds
+-- the partner that a rule names is a node, if its guard holds
 pub partner_within : (c : Configuration) (i : ℕ) (r : Rule) → IsLawful c → guard c i r ≡ true → IsWithin c.size r
 partner_within c i r l h = grind (arith, effect-linked)
 

@@ -33,7 +33,7 @@ impl Model for Choices {
 }
 
 impl Choices {
-    /// The choices of `count` nodes, none of which has a chosen move.
+    /// Returns the choices of `count` nodes, none of which has a chosen move.
     pub fn none(alloc: Global, count: usize) -> Result<Choices, Memory>
         ensures { IfOk result (λ choices. choices ≡ replicate count None) }
     {
@@ -44,7 +44,7 @@ impl Choices {
         })
     }
 
-    /// A copy of the choices.
+    /// Returns a copy of the choices.
     pub fn try_copy(&self, alloc: Global) -> Result<Choices, Memory>
         ensures { IfOk result (λ choices. choices ≡ self.now) }
     {
@@ -55,7 +55,7 @@ impl Choices {
         })
     }
 
-    /// The chosen move of a node, if it has one; none where it is past the last one.
+    /// Returns the chosen move of a node, or `None` if it has none or is past the last one.
     pub fn at(&self, node: Rank) -> Option<Rule>
         ensures { result ≡ chosen_at self.now node }
     {
@@ -65,26 +65,26 @@ impl Choices {
         }
     }
 
-    /// The nodes that have a chosen move.
+    /// Returns the nodes that have a chosen move.
     pub fn nodes(&self) -> NodeSet
         ensures { AreChosen self.now result }
     {
         self.nodes
     }
 
-    /// Whether some node has a chosen move.
+    /// Returns whether some node has a chosen move.
     pub fn is_any(&self) -> bool
         ensures { result ≡ list_any is_some self.now }
     {
         !is_empty(self.nodes)
     }
 
-    /// Makes `rule` the chosen move of a node, or, where it is `None`, leaves the node without one.
+    /// Makes `rule` the chosen move of a node, or, if it is `None`, leaves the node without one.
     pub fn choose(&mut self, node: Rank, rule: Option<Rule>)
         requires { node < length self.old }
         ensures { self.new ≡ slice_set self.old node rule }
     {
-        // By reference: a value with a rank inside isn't copied by the toolchain where it is used again.
+        // By reference: a value with a rank inside isn't copied by the toolchain if it is used again.
         let rule = &rule;
         self.rules[node.index() as usize] = *rule;
         self.nodes = with_or_without(self.nodes, node, rule.is_some());
@@ -99,7 +99,7 @@ impl Choices {
     }
 }
 
-/// Drops the chosen moves from the list `rules`; `nodes` are the nodes that have one.
+/// Drops the chosen moves from the list `rules`. `nodes` has the nodes that have one.
 fn drop_each(rules: &mut [Option<Rule>], nodes: NodeSet)
     requires { AreChosen rules.old nodes }
     ensures { rules.new ≡ replicate (length rules.old) None }

@@ -1,7 +1,7 @@
 use mml_ids::{NodeSet, Rank};
 use mml_rules::Kind;
 
-/// What an event does, beside the number and the place after it.
+/// The effect of an event, beside the number and the place after it.
 #[derive(Clone, Copy, Debug)]
 pub enum Done {
     /// A move of that kind is chosen for the node.
@@ -12,8 +12,8 @@ pub enum Done {
     Fault { node: Rank, dropped: u16 },
     /// The two nodes are linked, and `dropped` chosen moves were dropped.
     Link { a: Rank, b: Rank, dropped: u16 },
-    /// The two nodes are linked no longer, and `dropped` chosen moves were dropped.
+    /// The two nodes are no longer linked, and `dropped` chosen moves were dropped.
     Cut { a: Rank, b: Rank, dropped: u16 },
-    /// The node has no chosen move any longer.
+    /// The node no longer has a chosen move.
     Release { node: Rank },
 }

@@ -12,7 +12,8 @@ use crate::indexed_network::IndexedNetwork;
 use mml_ids::{NodeSet, Rank};
 use mml_rules::{Regs, Rule, Scene, effect};
 
-/// Applies the chosen moves at once. `effects` is room for the new registers: what it holds at first doesn't matter.
+/// Applies the chosen moves at once. `effects` is working memory for the new registers: what it holds at first doesn't
+/// matter.
 pub fn move_chosen(network: &mut IndexedNetwork, effects: &mut [Regs], chosen: &Choices)
     requires choices { length chosen.now ≡ length network.old.registers }
     requires room { length effects.old ≡ length network.old.registers }
@@ -30,8 +31,8 @@ pub fn move_chosen(network: &mut IndexedNetwork, effects: &mut [Regs], chosen: &
     write_effects(network, effects, nodes);
 }
 
-/// Writes into `effects`, by rank, the registers that each chosen move gives its node; `nodes` are the nodes that
-/// have one.
+/// Writes into `effects`, by rank, the registers of each node after its chosen move. `nodes` has the nodes that have
+/// one.
 fn compute_effects(network: &IndexedNetwork, effects: &mut [Regs], chosen: &Choices, nodes: NodeSet)
     requires choices { length chosen.now ≡ length network.now.registers }
     requires room { length effects.old ≡ length network.now.registers }
@@ -48,7 +49,7 @@ fn compute_effects(network: &IndexedNetwork, effects: &mut [Regs], chosen: &Choi
     }
 }
 
-/// A node's registers after its chosen move `rule`; as they are where it has none.
+/// Returns a node's registers after its chosen move `rule`, or unchanged if it has none.
 fn moved(network: &IndexedNetwork, node: Rank, rule: Option<Rule>) -> Regs
     requires node { node < length network.now.registers }
     requires holds { (r : Rule) → rule ≡ Some r →
@@ -63,7 +64,7 @@ fn moved(network: &IndexedNetwork, node: Rank, rule: Option<Rule>) -> Regs
     }
 }
 
-/// Gives each of `nodes` the registers that `effects` has for it.
+/// Writes to each of `nodes` the registers that `effects` has for it.
 fn write_effects(network: &mut IndexedNetwork, effects: &[Regs], nodes: NodeSet)
     requires room { length effects.now ≡ length network.old.registers }
     requires within { (i : ℕ) → set.contains nodes i ≡ true → i < length network.old.registers }

@@ -1,4 +1,4 @@
-//! A network with rows of bits beside it, so that a look at a node takes a few operations on words.
+//! A network with rows of bits beside it, so that a question about a node takes a few operations on words.
 ghost use Rattle.std.specs.Prelude.{◌≡◌, ◌≢◌, ℕ, ◌<◌, length, true, Some, IfOk, if◌then◌else◌};
 ghost use Rattle.std.specs.FinSet as set;
 ghost use Rattle.mml_rules.specs.Rules.{is_candidate};
@@ -11,13 +11,13 @@ use mml_rules::{Network, Regs, Scene};
 use std::alloc::Global;
 use std::marker::Model;
 
-/// A network with rows of bits beside it. Contracts see the network alone; the rows only make looks at it quick.
+/// A network with rows of bits beside it. Contracts see only the network; the rows make questions about it quick.
 #[derive(Debug, Drop)]
 pub struct IndexedNetwork {
     network: Network,
     // by rank: the nodes that point at the node
     suitors: Vec<NodeSet>,
-    // the nodes that point at nobody
+    // the nodes that point at no node
     free: NodeSet,
     // the nodes whose m is true
     believing: NodeSet,
@@ -42,20 +42,20 @@ impl Model for IndexedNetwork {
 impl Scene for IndexedNetwork {
     ghost shown = { λ network. network };
 
-    /// The network that the rows stand beside.
+    /// Returns the network.
     fn network(&self) -> &Network {
         &self.network
     }
 
-    /// Whether some neighbour points at the node: its row of suitors isn't empty.
+    /// Returns whether some neighbour points at the node: its row of suitors isn't empty.
     fn has_suitor(&self, node: Rank) -> bool {
         // By what this call ensures, the network is lawful.
         let _size = self.network.size();
         !is_empty(self.suitors[node.index() as usize])
     }
 
-    /// The neighbour that a seduction of the node would choose, the greatest of its candidates; `None` where it has no
-    /// candidate.
+    /// Returns the neighbour that a seduction of the node would choose, the greatest of its candidates, or `None` if it
+    /// has no candidate.
     #[tactic(auto, using(crate::proofs::RowsLemmas::greatest_told))]
     fn greatest_candidate(&self, node: Rank) -> Option<Rank> {
         // By what this call ensures, the network is lawful.
@@ -65,7 +65,7 @@ impl Scene for IndexedNetwork {
 }
 
 impl IndexedNetwork {
-    /// A copy of the network, with the rows that its registers give.
+    /// Returns a copy of the network, with the rows of its registers. Returns `Memory` if memory runs out.
     pub fn new(alloc: Global, network: &Network) -> Result<IndexedNetwork, Memory>
         ensures { IfOk result (λ indexed. indexed ≡ network.now) }
     {
@@ -75,7 +75,7 @@ impl IndexedNetwork {
         let mut believing = NodeSet::empty();
         for index in 0..network.size() {
             let node = Rank::at(index);
-            // By reference: a value with a rank inside isn't copied by the toolchain where it is used again.
+            // By reference: a value with a rank inside isn't copied by the toolchain if it is used again.
             let registers = &network.registers(node);
             put_suitor(&mut suitors, registers.p, node, true);
             free = with_or_without(free, node, registers.p.is_none());
@@ -89,7 +89,7 @@ impl IndexedNetwork {
         })
     }
 
-    /// An equal network with rows of its own.
+    /// Returns an equal network with rows of its own.
     pub fn try_copy(&self, alloc: Global) -> Result<IndexedNetwork, Memory>
         ensures { IfOk result (λ indexed. indexed ≡ self.now) }
     {
@@ -103,7 +103,8 @@ impl IndexedNetwork {
         })
     }
 
-    /// The nodes that a seduction of a node may choose: its neighbours above it that point at nobody, with m false.
+    /// Returns the nodes that a seduction of a node may choose: its neighbours above it that point at no node, with m
+    /// false.
     fn candidates(&self, node: Rank) -> NodeSet
         requires { node < length self.now.registers }
         ensures { (j : ℕ) → set.contains result j ≡
@@ -116,7 +117,7 @@ impl IndexedNetwork {
         unmarried.both(NodeSet::above(node))
     }
 
-    /// Writes a node's registers, of which p is null or a neighbour.
+    /// Writes a node's registers, whose p must be null or a neighbour.
     pub fn set_registers(&mut self, node: Rank, registers: Regs)
         requires node { node < length self.old.registers }
         requires linked { (j : ℕ) → registers.p ≡ Some j →
@@ -125,7 +126,7 @@ impl IndexedNetwork {
     {
         // By what this call ensures, the network is lawful.
         let _size = self.network.size();
-        // By reference: a value with a rank inside isn't copied by the toolchain where it is used again.
+        // By reference: a value with a rank inside isn't copied by the toolchain if it is used again.
         let registers = &registers;
         let from = self.network.registers(node).p;
         move_suitor(&mut self.suitors, node, from, registers.p);
@@ -144,7 +145,7 @@ impl IndexedNetwork {
         self.network.link(a, b);
     }
 
-    /// Takes the link between two nodes away, and the pointers over it: these first, by calls that keep the rows right.
+    /// Removes the link between two nodes, and the pointers over it: these first, by calls that keep the rows right.
     pub fn cut(&mut self, a: Rank, b: Rank)
         requires a { a < length self.old.registers }
         requires b { b < length self.old.registers }
@@ -155,7 +156,7 @@ impl IndexedNetwork {
         self.network.cut(a, b);
     }
 
-    /// Makes the pointer of `a` null where it was `b`, in the rows too; else nothing changes.
+    /// Makes the pointer of `a` null if it was `b`, in the rows too, and else changes nothing.
     fn unpoint(&mut self, a: Rank, b: Rank)
         requires { a < length self.old.registers }
         ensures neighbours { self.new.neighbours ≡ self.old.neighbours }
@@ -174,8 +175,8 @@ impl IndexedNetwork {
     }
 }
 
-/// Takes a node out of the suitors of the node `from`, at which it pointed, and puts it among those of `to`, at which
-/// it points now; null stands for no node.
+/// Moves a node from the suitors of the node `from`, at which it pointed, to those of `to`, at which it points now.
+/// Null stands for no node.
 fn move_suitor(suitors: &mut [NodeSet], node: Rank, from: Option<Rank>, to: Option<Rank>)
     requires from { (i : ℕ) → from ≡ Some i → i < length suitors.old }
     requires to { (i : ℕ) → to ≡ Some i → i < length suitors.old }
@@ -185,8 +186,8 @@ fn move_suitor(suitors: &mut [NodeSet], node: Rank, from: Option<Rank>, to: Opti
     put_suitor(suitors, to, node, true);
 }
 
-/// Puts a node among the suitors of the node that `p` names where `is_in` is true, and takes it out of them where not;
-/// nothing where `p` is null.
+/// Adds a node to the suitors of the node that `p` names if `is_in` is true, and else removes it. Does nothing if `p`
+/// is null.
 fn put_suitor(suitors: &mut [NodeSet], p: Option<Rank>, node: Rank, is_in: bool)
     requires { (i : ℕ) → p ≡ Some i → i < length suitors.old }
     ensures { suitors.new ≡

@@ -1,4 +1,4 @@
-//! The privilege monitor: which nodes are privileged, kept up to date where something changed.
+//! The privilege monitor: the set of privileged nodes, updated only near what changed.
 ghost use Rattle.std.specs.Prelude.{◌≡◌, ℕ, ◌<◌, true, length, if◌then◌else◌};
 ghost use Rattle.std.specs.FinSet as set;
 ghost use Rattle.mml_rules.specs.Network.{configuration_of};
@@ -9,7 +9,7 @@ use crate::node_sets::with_or_without;
 use mml_ids::{NodeSet, Rank};
 use mml_rules::{Scene, enabled};
 
-/// The privileged nodes, computed from scratch.
+/// Returns the privileged nodes, computed from scratch.
 pub fn privileged_set(network: &IndexedNetwork) -> NodeSet
     ensures { result ≡ privileged_set (configuration_of network.now) }
 {
@@ -22,8 +22,8 @@ pub fn privileged_set(network: &IndexedNetwork) -> NodeSet
     nodes
 }
 
-/// The privileged nodes after a change. The nodes in `changed` and their neighbours are looked at anew; of each other
-/// node `privileged` tells whether it is privileged.
+/// Returns the privileged nodes after a change. The nodes in `changed` and their neighbours are tested anew; of each
+/// other node `privileged` says whether it is privileged.
 pub fn refresh(network: &IndexedNetwork, privileged: NodeSet, changed: NodeSet) -> NodeSet
     requires { (j : ℕ) → IsUntouched (configuration_of network.now) changed j →
         set.contains privileged j ≡ is_privileged_node (configuration_of network.now) j }
@@ -40,7 +40,7 @@ pub fn refresh(network: &IndexedNetwork, privileged: NodeSet, changed: NodeSet) 
     privileged
 }
 
-/// The set `privileged` once each of `nodes` is looked at anew: it is in the set exactly where it is privileged now.
+/// Returns the set `privileged` after each of `nodes` is tested anew: it is in the set exactly if it is privileged now.
 fn refresh_each(network: &IndexedNetwork, privileged: NodeSet, nodes: NodeSet) -> NodeSet
     ensures { (j : ℕ) → set.contains result j ≡
         (if set.contains nodes j then is_privileged_node (configuration_of network.now) j
@@ -54,7 +54,7 @@ fn refresh_each(network: &IndexedNetwork, privileged: NodeSet, nodes: NodeSet) -
     privileged
 }
 
-/// Whether the rank is that of a node, and the node is privileged.
+/// Returns whether the rank is that of a node, and the node is privileged.
 fn is_privileged(network: &IndexedNetwork, node: Rank) -> bool
     ensures { result ≡ is_privileged_node (configuration_of network.now) node }
 {

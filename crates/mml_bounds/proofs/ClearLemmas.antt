@@ -1,4 +1,5 @@
--- A run from a world in which each node points somewhere or nowhere, with m true: each in turn updates, and abandons where it points.
+-- A run from a world in which each node points somewhere or nowhere, with m true: each in turn updates, and abandons if
+-- it points.
 use Rattle.std.proofs.Common.{◌≡◌, ℕ, zero, suc, ◌+◌, ◌<◌, ◌⊎◌, Bool, true, false, cond, not, Option, None, Some, is_some, sym, refl, ap, ◌∙◌, subst, arith}
 use Rattle.std.proofs.lemmas.Bool.{cases_lt, cases_eq, Decides.nat_tests}
 use Rattle.mml_rules.specs.{declared.rule.Rule.Rule, Configuration.Configuration, Configuration.IsLawful, Configuration.holds, Rules.is_married}
@@ -14,7 +15,8 @@ abbrev pub cleared : (f : ℕ → Option ℕ) (left i a : ℕ) → ℕ
 cleared f zero i a = a
 cleared f (suc left) i a = suc (cond (is_some (f i)) 1 0 + cleared f left (suc i) a)
 
--- f has where each node points at first, at another node that doesn't point back; what Shape says stays in each step
+-- the registers f in which each node points as at first, at another node that doesn't point back; what Shape says stays
+-- in each step
 module _ (n : ℕ) (f : ℕ → Option ℕ) (Shape : Configuration → Type 0) (sized : (c : Configuration) → Shape c → (c.size ≡ n) × IsLawful c)
     (shaped : (c d : Configuration) (x : ℕ) (rule : Rule) → Shape c → IsMoved c d (is x) rule → Shape d)
     (points : (i j : ℕ) → i < n → f i ≡ Some j → (j < n) × (i ≡ j → ⊥) × (holds (f j) i ≡ false)) where
@@ -38,7 +40,7 @@ module _ (n : ℕ) (f : ℕ → Option ℕ) (Shape : Configuration → Type 0) (
   advance : (i : ℕ) (c : Configuration) → i < n → Cleared i None false c → Cleared (suc i) (f (suc i)) true c
   advance i c lt k = grind (arith, nat_tests, cases_eq, Holds)
 
-  -- whom i points at doesn't answer
+  -- the node that i points at doesn't point back
   unanswered : (i j : ℕ) (p : Option ℕ) (m : Bool) (c : Configuration) → i < n → f i ≡ Some j → Cleared i p m c → (holds (c.p j) i ≡ false) × ((c.m j ≡ true) ⊎ (j < i))
   unanswered i j p m c lt e k = grind (arith, nat_tests, points i j lt e, cases_lt)
 

@@ -8,7 +8,7 @@ use Rattle.mml_bounds.specs.Comb.{first_pointer, is_comb, comb, comb_world}
 use Rattle.mml_bounds.proofs.MoveLemmas.{IsMoved, is}
 use Rattle.mml_bounds.proofs.OpeningLemmas as opening
 
--- ---- where the nodes point at first
+-- ---- the first pointers of the nodes
 
 abbrev pub Points : (n i j : ℕ) → Type 0
 Points n i j = first_pointer n i ≡ Some j

@@ -11,7 +11,7 @@ use Rattle.mml_bounds.specs.Comb.{first_pointer, is_comb, comb, comb_world}
 use Rattle.mml_bounds.proofs.{CountLemmas.count_one, CombLemmas.at_first, CombLemmas.comb_size, CombLemmas.halfway, CombLemmas.next_to, CombLemmas.linked-from}
 use Rattle.mml_bounds.proofs.OpeningLemmas as opening
 
--- where no number from h on passes
+-- if no number from h on passes
 count_further : (m h : ℕ) (t : ℕ → Bool) → h ≤ m → ((i : ℕ) → t i ≡ true → i < h) → count_below m t ≡ count_below h t
 count_further zero zero t le only = refl
 count_further zero (suc h) t le only = absurd (omega (arith, le))
@@ -43,7 +43,7 @@ module _ (n : ℕ) where
   links_sum zero le = refl
   links_sum (suc m) le = omega (arith, links_sum m (omega (arith, le)), links_at m (omega (arith, le)))
 
-  -- i points at one node, where it isn't the last
+  -- i points at one node, if it isn't the last
   mate : (i : ℕ) → i + 1 < n → (j : ℕ) × (j < n) × (i < j) × (first_pointer n i ≡ Some j)
   mate i lt = elim (cases_lt (2 * i + 1) n) [
     | inl half ↦ (n - (i + 1), omega (arith, half), omega (arith, half), halfway n i (n - (i + 1)) (omega (arith, half)) (omega (arith, half)))

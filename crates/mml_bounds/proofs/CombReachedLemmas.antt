@@ -14,7 +14,7 @@ use Rattle.mml_bounds.proofs.{PhaseLemmas.mate, PhaseLemmas.couples_kept, PhaseL
 use Rattle.mml_bounds.proofs.CombLemmas.{Points, points, halfway, next_to, Shape, shaped, first_registers, first_shape, comb_is_world}
 use Rattle.mml_lab.specs.declared.who.Who.TheVariants as who
 
--- before phase r: who isn't married points nowhere
+-- before phase r: a node that isn't married points nowhere
 record Seated (n r : ℕ) (c : Configuration) : Type 0 where
   shape : Shape n c
   couples : Couples n r c
@@ -128,7 +128,7 @@ module _ (n r b : ℕ) (sum : r + b + 1 ≡ n) (room : 2 * r + 2 ≤ n) where
   groom_updates : (at : ℕ → Option ℕ) (c : Configuration) → Stage (Some b) false (Some r) true at c → guard c r Rule.Update ≡ true
   groom_updates at c k = may_update c k.shape.lawful r (k.groom.1 ∙ sym (ap not (married-from c r b k.shape.lawful k.groom.0 k.bride.0)))
 
-  -- and so before the next phase, where nobody else points
+  -- and so before the next phase, if nobody else points
   end : (at : ℕ → Option ℕ) (c : Configuration) → Stage (Some b) true (Some r) true at c → ((i : ℕ) → r < i → i < b → at i ≡ None) → Seated n (suc r) c
   end at c k none = record {
     shape = k.shape;

@@ -1,4 +1,5 @@
--- In a step each node pays for its move by its part, but where some nodes are newly married: then each of these is lent 1, and each other 2.
+-- In a step each node pays for its move by its part, unless some nodes are newly married: then each of these is lent 1,
+-- and each other 2.
 use Rattle.std.proofs.Common.{◌≡◌, ℕ, ◌+◌, ◌<◌, ◌≤◌, true, false, cond, inl, inr, Option, None, Some, is_some, refl, ap, ◌∙◌, arith}
 use Rattle.std.proofs.lemmas.Bool.{and_parts, both_ways, ltb-true, cases_Bool, false_from_ne_true, not-true, Decides.nat_tests}
 use Rattle.mml_rules.specs.{declared.rule.Rule.Rule, Configuration.Configuration, Configuration.IsLawful, Configuration.holds, Rules.is_married, Rules.moved, Rules.step, Rules.AllHold}
@@ -84,7 +85,7 @@ module _ (c : Configuration) (chosen : ℕ → Option Rule) (l : IsLawful c) (h 
       grind (arith, free_part c i a, free_part next i b, pointer_most next i, null_part c i (seducing i e).null, m_after i (Some Rule.Seduction) e)
   free_pays i (Some Rule.Abandonment) e a b = grind (arith, nat_tests, null_part, p_after, free_part, m_after)
 
-  -- ---- where no node is newly married
+  -- ---- if no node is newly married
 
   module _ (calm : Calm c chosen) where
     stays_free : (j : ℕ) → is_married c j ≡ false → is_married next j ≡ false
@@ -96,7 +97,7 @@ module _ (c : Configuration) (chosen : ℕ → Option Rule) (l : IsLawful c) (h 
     after_free : (i : ℕ) → is_married c i ≡ false → node_part next i ≡ cond (next.m i) 1 0 + pointer_part next i
     after_free i a = free_part next i (stays_free i a)
 
-    -- who points at such a node courts it after the step
+    -- a node that points at such a node courts it after the step
     courts_then : (i j : ℕ) → next.p i ≡ Some j → i < j → is_married c j ≡ false → c.m j ≡ false → pointer_part next i ≡ 0
     courts_then i j e lt a off = court next i j e lt (stays_off j a off) (stays_free j a)
 

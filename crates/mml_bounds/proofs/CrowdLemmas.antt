@@ -1,4 +1,4 @@
--- The crowd at first.
+-- The dense network at first.
 use Rattle.std.proofs.Common.{◌≡◌, ℕ, ◌<◌, ◌≤◌, Bool, true, false, Some, sym, refl, ap, ◌∙◌, subst, arith}
 use Rattle.std.proofs.lemmas.{Bool.Decides.nat_tests, List.FromFn.get_or-map-range_with_len, List.FromFn.length-map-range_with_len}
 use Rattle.mml_ids.specs.declared.TheConstants.{MAX_NODES}
@@ -12,7 +12,7 @@ use Rattle.mml_bounds.proofs.OpeningLemmas as opening
 abbrev pub all : ℕ → Bool
 all i = true
 
--- where they point is another node, close enough, and nobody points back
+-- each node points at another that is close enough, and no node points back
 pub points : (n i j : ℕ) → 4 ≤ n → i < n → Some (first_pointer n i) ≡ Some j → (j < n) × (i ≡ j → ⊥) × (holds (Some (first_pointer n j)) i ≡ false)
 points n i j four lt e = grind (arith, nat_tests)
 

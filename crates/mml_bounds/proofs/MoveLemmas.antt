@@ -44,7 +44,7 @@ pub record IsMoved (c d : Configuration) (t : ℕ → Bool) (rule : Rule) : Type
   pub p : (i : ℕ) → i < c.size → d.p i ≡ (moved c i (cond (t i) (Some rule) None)).p
   pub m : (i : ℕ) → i < c.size → d.m i ≡ (moved c i (cond (t i) (Some rule) None)).m
 
--- where the rule is applied, and elsewhere
+-- at the nodes at which the rule is applied, and elsewhere
 module _ (c d : Configuration) (t : ℕ → Bool) (rule : Rule) (e : IsMoved c d t rule) where
   pub kept : (i : ℕ) → i < c.size → t i ≡ false → (d.p i ≡ c.p i) × (d.m i ≡ c.m i)
   kept i lt off = grind (arith, nat_tests)

@@ -1,4 +1,4 @@
--- The run in the crowd, and its moves: as many as any may take.
+-- The run in the dense network, and its moves: as many as any may take.
 use Rattle.std.proofs.Common.{◌≡◌, ℕ, zero, suc, ◌+◌, ◌*◌, ◌-◌, ◌<◌, ◌≤◌, Bool, true, false, cond, ◌==◌, Some, List, length, refl, ap, arith}
 use Rattle.std.{specs.List.list_all, proofs.lemmas.Bool.eqb-true, proofs.lemmas.Bool.ne_eqb, proofs.lemmas.Bool.Decides.nat_tests}
 use Rattle.mml_ids.specs.{declared.TheConstants.MAX_NODES, Search.count_below}

@@ -45,7 +45,7 @@ couples_pay : (n k : ℕ) → 2 * most_courtships n + (n + (n + 2 + k)) ≤ 2 * 
 couples_pay n zero = grind (arith, nat_tests)
 couples_pay n (suc k) = grind (arith, nat_tests, courtships_more, couples_pay n k)
 
--- where two nodes at the least are gone, the courtships pay 1 for each that is gone and 2 for each that is left
+-- if at least two nodes are gone, the courtships pay 1 for each that is gone and 2 for each that is left
 pub marriages_pay : (n u : ℕ) → n + 2 ≤ u → 2 * most_courtships n + (n + u) ≤ 2 * most_courtships u
 marriages_pay n u le =
     let e : n + 2 + (u - (n + 2)) ≡ u = omega (arith, le) in

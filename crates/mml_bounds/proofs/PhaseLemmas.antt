@@ -22,7 +22,7 @@ Couples n r c = (i j : ℕ) → i < r → i + j + 1 ≡ n → (c.p i ≡ Some j)
 abbrev pub Between : (r b : ℕ) (low : ℕ → Bool) (is_low : Bool) → Option ℕ → Configuration → Type 0
 Between r b low is_low at c = (i : ℕ) → r ≤ i → i < b → low i ≡ is_low → (c.p i ≡ at) × (c.m i ≡ false)
 
--- before phase r: who isn't married points nowhere
+-- before phase r: a node that isn't married points nowhere
 pub record Seated (n : ℕ) (low : ℕ → Bool) (r : ℕ) (c : Configuration) : Type 0 where
   pub shape : Shape n low c
   pub couples : Couples n r c
@@ -56,7 +56,7 @@ module _ (c d : Configuration) (t : ℕ → Bool) (rule : Rule) (e : IsMoved c d
     lowest = s.lowest;
   }
 
--- couples that stand where the rule isn't applied
+-- couples that stand if the rule isn't applied
 pub couples_kept : (n r : ℕ) (c d : Configuration) (t : ℕ → Bool) (rule : Rule) → IsMoved c d t rule → c.size ≡ n → 2 * r ≤ n → Couples n r c
     → ((i : ℕ) → i < n → (i < r) ⊎ (n ≤ i + r) → t i ≡ false) → Couples n r d
 couples_kept n r c d t rule e size few couples off i j lt sum =

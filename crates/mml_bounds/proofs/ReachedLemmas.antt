@@ -21,7 +21,7 @@ use Rattle.mml_bounds.proofs.OpeningLemmas as opening
 abbrev lower : ℕ → ℕ → Bool
 lower n i = nat_lt (2 * i) n
 
--- the run ends where some node is privileged
+-- the run ends with some node privileged
 abbrev Restless : World → ℕ → Type 0
 Restless u x = ¬ IsStable (configuration u)
 

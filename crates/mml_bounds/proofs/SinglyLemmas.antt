@@ -117,7 +117,7 @@ module _ (A : World → ℕ → Type 0) (r : RosterValue) (s k n : ℕ) (c : Con
       other : (i : ℕ) → i < suc m → t i ≡ true → t m ≡ false → i < m
       other i lt is off = grind (arith, nat_tests)
 
--- a round of moves by one rule, each in a close of its own, where no other node is privileged
+-- a round of moves by one rule, each in a close of its own, if no other node is privileged
 pub single_round : (A : World → ℕ → Type 0) (r : RosterValue) (s k n : ℕ) (t : ℕ → Bool) (rule : Rule) (w : World) → IsWorld w → IsQuiet w → size w ≡ n
     → ((i : ℕ) → i < n → owns r (who.Student s) i ≡ true) → Stands (configuration w) t rule
     → ((i : ℕ) → i < size w → t i ≡ false → is_privileged (configuration w) i ≡ false)

@@ -10,12 +10,12 @@ use Rattle.mml_convergence.specs.Potential.{sum_below}
 abbrev pub is_courting : Configuration → ℕ → Bool
 is_courting c i = option_map_or (λ j. nat_lt i j && (not (c.m j) && not (is_married c j))) (c.p i) false
 
--- what the pointer of i counts, where i isn't married: 0 where i courts, 2 where i points at a node without courting
--- it, 1 where i points at none
+-- what the pointer of i counts, if i isn't married: 0 if i courts, 2 if i points at a node without courting it, 1 if i
+-- points at none
 abbrev pub pointer_part : Configuration → ℕ → ℕ
 pointer_part c i = if is_courting c i then 0 else if is_some (c.p i) then 2 else 1
 
--- married: 0 where m is true, else 1; not married: 1 where m is true, and the pointer's part
+-- married: 0 if m is true, else 1; not married: 1 if m is true, and the pointer's part
 abbrev pub node_part : Configuration → ℕ → ℕ
 node_part c i =
     if is_married c i then (if c.m i then 0 else 1)
@@ -28,6 +28,6 @@ most_courtships zero = 0
 most_courtships (suc zero) = 0
 most_courtships (suc (suc n)) = n + 1 + most_courtships n
 
--- the parts of all nodes together, and 2 for each courtship that the nodes that aren't married may have at the most
+-- the parts of all nodes together, and 2 for each courtship that the nodes that aren't married may have at most
 unfoldable pub courting_potential : Configuration → ℕ
 courting_potential c = sum_below c.size (node_part c) + 2 * most_courtships (count_below c.size (λ i. not (is_married c i)))

@@ -1,11 +1,11 @@
--- The network of which each two nodes are linked that are close enough, on which a run takes as many moves as any may.
+-- The dense network: each two nodes are linked that are close enough. A run on it may take as many moves as any.
 use Rattle.std.specs.Prelude.{ℕ, ◌+◌, ◌*◌, ◌-◌, Bool, true, not, ◌&&◌, ◌==◌, nat_lt, nat_le, Some, map, if◌then◌else◌}
 use Rattle.std.specs.List.{range_with_len}
 use Rattle.mml_ids.specs.Sets.{those_below}
 use Rattle.mml_rules.specs.Network.{Network}
 use Rattle.mml_board.specs.World.{World, opening_of}
 
--- i and j are two nodes below n, and i + j + 1 is n at the least
+-- i and j are two nodes below n, and i + j + 1 is at least n
 abbrev pub is_near : ℕ → ℕ → ℕ → Bool
 is_near n i j = not (i == j) && (nat_lt i n && (nat_lt j n && nat_le n (i + j + 1)))
 
@@ -13,13 +13,13 @@ is_near n i j = not (i == j) && (nat_lt i n && (nat_lt j n && nat_le n (i + j + 
 abbrev pub first_pointer : ℕ → ℕ → ℕ
 first_pointer n i = if nat_lt (2 * i + 1) n then n - (i + 1) else if nat_lt (i + 1) n then i + 1 else 1
 
--- n nodes, linked where they are near; each points by first_pointer, with m true
+-- n nodes, linked if they are near; each points by first_pointer, with m true
 abbrev pub crowd : ℕ → Network
 crowd n = record {
   neighbours = map (λ i. those_below n (is_near n i)) (range_with_len 0 n);
   registers = map (λ i. record { p = Some (first_pointer n i); m = true }) (range_with_len 0 n);
 }
 
--- the world of the crowd at the beginning
+-- the world of the dense network at the beginning
 abbrev pub crowd_world : ℕ → World
 crowd_world n = opening_of (crowd n)

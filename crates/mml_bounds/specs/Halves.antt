@@ -1,11 +1,11 @@
--- The network in two halves, on which a run takes as many rounds as any may.
+-- The network in two halves, on which a run may take as many rounds as any.
 use Rattle.std.specs.Prelude.{ℕ, ◌+◌, ◌*◌, Bool, true, ◌&&◌, ◌||◌, nat_lt, nat_le, None, map, replicate}
 use Rattle.std.specs.List.{range_with_len}
 use Rattle.mml_ids.specs.Sets.{those_below}
 use Rattle.mml_rules.specs.Network.{Network}
 use Rattle.mml_board.specs.World.{World, opening_of}
 
--- i is in the lower half, j in the upper, and they are close enough: i + j + 1 is n at the least
+-- i is in the lower half, j in the upper, and they are close enough: i + j + 1 is at least n
 abbrev pub joins_halves : ℕ → ℕ → ℕ → Bool
 joins_halves n i j = nat_lt (2 * i) n && (nat_le n (2 * j) && (nat_lt j n && nat_le n (i + j + 1)))
 
@@ -13,7 +13,7 @@ joins_halves n i j = nat_lt (2 * i) n && (nat_le n (2 * j) && (nat_lt j n && nat
 abbrev pub is_joined : ℕ → ℕ → ℕ → Bool
 is_joined n i j = joins_halves n i j || joins_halves n j i
 
--- n nodes, linked where they are joined; p is null and m true at each
+-- n nodes, linked if they are joined; p is null and m true at each
 abbrev pub halves : ℕ → Network
 halves n = record {
   neighbours = map (λ i. those_below n (is_joined n i)) (range_with_len 0 n);

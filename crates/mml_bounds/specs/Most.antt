@@ -1,4 +1,4 @@
--- The most that a run takes on so many nodes with so many links, where no fault, link or cut comes.
+-- The most that a run takes on this many nodes with this many links, if no fault, link or cut comes.
 use Rattle.std.specs.Prelude.{ℕ, ◌+◌, ◌*◌, min}
 use Rattle.mml_bounds.specs.Courtships.{most_courtships}
 

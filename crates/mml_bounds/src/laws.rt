@@ -1,4 +1,4 @@
-//! Laws of how many moves there are at the most. Each is the clause of a function that does nothing.
+//! Laws of the most moves that a run has. Each is the contract of a function that does nothing.
 ghost use Rattle.std.specs.Prelude.{◌≡◌, ℕ, ◌+◌, ◌-◌, ◌*◌, ◌<◌, ◌≤◌, true, List, Option};
 ghost use Rattle.std.specs.List.{list_all};
 ghost use Rattle.mml_ids.specs.Search.{count_below};
@@ -46,7 +46,7 @@ pub fn step_lowers_courting_potential()
         courting_potential c ≤ 3 * c.size + 2 * most_courtships c.size }
 {}
 
-/// The bound on rounds, 2n or, where n is odd, 2n - 1, is reached for each number n of nodes from 2 on that a lab may
+/// The bound on rounds, 2n or, if n is odd, 2n - 1, is reached for each number n of nodes from 2 on that a lab may
 /// have: a student who owns each node of the two halves has a legal list of grants and closes with one round less,
 /// after which some node is privileged; and another such list in which each close applies one move.
 pub fn rounds_are_reached()
@@ -66,8 +66,8 @@ pub fn rounds_are_reached()
         (¬ IsStable (configuration (world_of (halves_world n) es))) }
 {}
 
-/// The bound on moves, 3 for each of n nodes and 2 for each of n²/4, rounded down, is reached for each even n
-/// from 4 on that a lab may have, and missed by one for each odd n from 5 on: a student who owns each node of the crowd
+/// The bound on moves, 3 for each of n nodes and 2 for each of n²/4, rounded down, is reached for each even n from 4 on
+/// that a lab may have, and missed by one for each odd n from 5 on: a student who owns each node of the dense network
 /// has a legal list of grants and closes that applies that many moves.
 pub fn moves_are_reached()
     ensures world { (n : ℕ) → 4 ≤ n → n ≤ MAX_NODES →
@@ -84,10 +84,9 @@ pub fn moves_are_reached()
         (applied_over (crowd_world (2 * k + 1)) es ≡ 3 * (2 * k + 1) + 2 * most_courtships (2 * k + 1) - 1) }
 {}
 
-/// From 4 nodes on the comb is a tree: it has one link less than nodes, and each node but the last is linked
-/// to a higher one. A student who owns each node has a legal list of grants and closes that applies one move less
-/// than 3 for each node and 2 for each link, and two less where the number of nodes is odd. That no tree takes
-/// more isn't stated.
+/// From 4 nodes on the comb is a tree: it has one link less than nodes, and each node but the last is linked to a
+/// higher one. A student who owns each node has a legal list of grants and closes that applies one move less than 3 for
+/// each node and 2 for each link, and two less if the number of nodes is odd. That no tree takes more isn't stated.
 pub fn a_comb_takes_nearly_the_most_moves()
     ensures world { (n : ℕ) → 4 ≤ n → n ≤ MAX_NODES →
         IsWorld (comb_world n) × (size (comb_world n) ≡ n) }

@@ -1,4 +1,4 @@
-//! How many moves a run may take at the most, whatever its links: a bound by courtships.
+//! The most moves that a run may take, whatever its links: a bound by courtships.
 #![tactic(auto)]
 
 pub mod laws;

@@ -1,4 +1,4 @@
--- Who a connection is known as after an answer.
+-- The participant that a connection is known as after an answer.
 use Rattle.std.proofs.lemmas.Bool.Decides.{nat_tests}
 use Rattle.std.proofs.Common.{◌≡◌, ◌↔◌, ℕ, List, Option, None, Some, sym, ap, ◌∙◌, arith}
 use Rattle.mml_lab.specs.declared.who.Who.{Who}
@@ -16,7 +16,7 @@ granted : (found : Option Who) (who : Who) (known : Option Who) → admitted fou
 granted None who known e = absurd cc
 granted (Some w) who known e = let same : w ≡ who = cc in let after : Some w ≡ known = cc in (ap Some same, sym after ∙ ap Some same)
 
--- where nobody is known yet, a hello is granted exactly to one who takes part under that name and key
+-- if nobody is known yet, a hello is granted exactly to one who takes part under that name and key
 pub hello_is_granted : (r : RosterValue) (name key : List ℕ) (who : Who) (known : Option Who) → IsRoster r
     → (greeting r None (requests.Hello name key) ≡ Answered (replies.Hello who) known) ↔ (IsKnownAs r who name key × (known ≡ Some who))
 hello_is_granted r name key who known roster = grind (arith, nat_tests, granted, principal-one)

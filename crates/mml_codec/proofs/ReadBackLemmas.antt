@@ -112,7 +112,7 @@ read_value n d few h = read-compact_text d h.text (omega (arith, h.shallow, few)
 
 -- ---- keys in byte order
 
--- the keys in an array rise where they rise in what is made of each element
+-- the keys in an array rise if they rise in what is made of each element
 pub items_rise : {A : Type 0} (f : A → Data) → ((x : A) → has_rising_keys (f x) ≡ true) → (xs : List A) → items_have_rising_keys (items_with (map f xs)) ≡ true
 items_rise f each [] = refl
 items_rise f each (x ∷ xs) = and_from _ _ (each x) (items_rise f each xs)

@@ -92,7 +92,7 @@ list_is g f same xs rest = ap (λ t. 91 ∷ t) (items_then g f same xs rest rest
 
 -- ---- a fact, and all fields
 
--- what is told by a word has no byte that is escaped
+-- no byte of a fact that is a word is escaped
 abbrev pub IsPlainFact : Fact → Type 0
 IsPlainFact (fact.word w) = is_bare w ≡ true
 IsPlainFact _ = Unit {0}

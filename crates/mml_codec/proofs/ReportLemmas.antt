@@ -8,11 +8,11 @@ pub on_ok : {T E P Q : Type 0} (r : Result T E) → (P → Q) → OnOk r P → O
 on_ok (Ok x) f h = f h
 on_ok (Err e) f h = tt
 
--- two parts that were put one after another stand behind the beginning in that order
+-- two parts that were put one after another stand after the beginning in that order
 pub then_put : (a b c x y : List ℕ) → b ≡ a ++ x → c ≡ b ++ y → c ≡ a ++ (x ++ y)
 then_put a b c x y first second = second ∙ ap (λ t. t ++ y) first ∙ append_assoc a x y
 
--- eight parts that were put one after another stand behind the beginning in that order
+-- eight parts that were put one after another stand after the beginning in that order
 pub parts_put : (a b c d e f g h i : List ℕ) (p q r s t u v w : List ℕ) → b ≡ a ++ p → c ≡ b ++ q → d ≡ c ++ r → e ≡ d ++ s → f ≡ e ++ t → g ≡ f ++ u
     → h ≡ g ++ v → i ≡ h ++ w
     → i ≡ a ++ (p ++ (q ++ (r ++ (s ++ (t ++ (u ++ (v ++ w)))))))

@@ -1,4 +1,4 @@
--- What is asked: a value asks a request exactly where it has its fields.
+-- What is asked: a value asks a request exactly if it has its fields.
 use Rattle.std.proofs.lemmas.Bool.Decides.{nat_tests}
 use Rattle.std.proofs.Common.{◌≡◌, ℕ, List, [], ◌∷◌, Bool, true, false, cond, codes, bytes_eq, Option, None, Some, option_map, refl, ap, ◌∙◌, subst, arith}
 use Rattle.std.proofs.lemmas.Option.{same_Some, option_and_then_some}

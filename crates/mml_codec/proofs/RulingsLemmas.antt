@@ -9,10 +9,10 @@ told_done : (at place : ℕ) (d : Done) → (place_in (reply_of_done at place d)
 told_done at place (done.Move node kind) = (refl, refl)
 told_done at place _ = (refl, refl)
 
--- the reply that tells an event names the event's place
+-- the reply to an event names the event's place
 pub place_of_done : (at place : ℕ) (d : Done) → place_in (reply_of_done at place d) ≡ Some place
 place_of_done at place d = (told_done at place d).0
 
--- the reply that tells an event is short
+-- the reply to an event is short
 pub short_done : (at place : ℕ) (d : Done) → is_short (reply_of_done at place d) ≡ true
 short_done at place d = (told_done at place d).1

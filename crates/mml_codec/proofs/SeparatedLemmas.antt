@@ -37,7 +37,7 @@ pub comma_without : (ids : List ℕ) (s : FinSet nat_cmp) (n i : ℕ) (comma : L
     → comma ≡ comma_after (texts ids s (n + 1))
 comma_without ids s n i comma e h so_far = so_far ∙ sym (ap comma_after (passing_without (set.contains s) (node_text ids) n (ap (set.contains s) (sym e) ∙ h)))
 
--- a comma, where one is due, and the rank's identifier go behind the texts so far
+-- a comma, if one is due, and the rank's identifier go after the texts so far
 pub text_with : (ids : List ℕ) (s : FinSet nat_cmp) (n i : ℕ) (start held put comma : List ℕ) → i ≡ n → set.contains s i ≡ true
     → comma ≡ comma_after (texts ids s n) → held ≡ start ++ separated (texts ids s n) → put ≡ held ++ (comma ++ node_text ids i)
     → put ≡ start ++ separated (texts ids s (n + 1))
@@ -52,12 +52,12 @@ text_without ids s n i start held e h so_far = grind (arith, nat_tests, passing_
 pub comma_more : {X : Type 0} (f : X → List ℕ) (xs : List X) (i : ℕ) (d : X) → i < length xs → 44 ∷ [] ≡ comma_after (map f (take (i + 1) xs))
 comma_more f xs i d h = grind (arith, nat_tests, take_more, map-append, comma_after-more)
 
--- a comma, where one is due, and the text of the next element go behind the texts so far
+-- a comma, if one is due, and the text of the next element go after the texts so far
 pub text_more : {X : Type 0} (f : X → List ℕ) (xs : List X) (i : ℕ) (d : X) (start held put comma : List ℕ) → i < length xs
     → comma ≡ comma_after (map f (take i xs)) → held ≡ start ++ separated (map f (take i xs)) → put ≡ held ++ (comma ++ f (get_or xs i d))
     → put ≡ start ++ separated (map f (take (i + 1) xs))
 text_more f xs i d start held put comma h comma_is so_far more = grind (arith, common_steps, nat_tests, append_assoc, take_more, map-append, separated-more)
 
--- a comma, where one is due, and then a text
+-- a comma, if one is due, and then a text
 pub with_comma_put : (held comma now taken text : List ℕ) → now ≡ taken ++ comma → taken ++ comma ≡ held ++ comma → now ++ text ≡ held ++ (comma ++ text)
 with_comma_put held comma now taken text is same = ap (λ t. t ++ text) (is ∙ same) ∙ append_assoc held comma text

@@ -1,4 +1,4 @@
--- What a key of a reply tells: its text, and the JSON value that the text spells.
+-- The facts in replies: the text of each, and the JSON value that the text spells.
 use Rattle.std.specs.Prelude.{ℕ, ◌<◌, ◌^◌, List, [], ◌∷◌, ◌++◌, length, map, filter, flat_map, Bool, Option, None, Some, codes, decimal, slice_index}
 use Rattle.std.specs.List.{concat, range_with_len, AllByRecursion}
 use Rattle.std.specs.Ordering.{nat_cmp}
@@ -12,8 +12,8 @@ use Rattle.mml_board.specs.Vocabulary.{rule_name}
 use Rattle.mml_stable.specs.declared.open_link.OpenLink.{OpenLink}
 use Rattle.mml_codec.specs.Objects.{items_with, array_of, object_with}
 
--- what a key of a reply tells; a clause's number is told apart from a count, since it is always small; nodes that
--- moved are a set, told in rising order
+-- a fact under a key of a reply; a clause's number has a kind of its own beside counts, since it is always small; nodes
+-- that moved are a set, written in rising order
 pub data Fact : Type 0 where
   count : ℕ → Fact
   clause : ℕ → Fact
@@ -30,7 +30,7 @@ pub data Fact : Type 0 where
   privileged : List (ℕ × Kind) → Fact
   open_links : List OpenLink → Fact
 
--- keys in byte order, and what each tells
+-- keys in byte order, and the fact of each
 abbrev pub Fields : Type 0
 Fields = List (List ℕ × Fact)
 
@@ -63,20 +63,20 @@ abbrev pub separated : List (List ℕ) → List ℕ
 separated [] = []
 separated (x ∷ xs) = x ++ flat_map (λ t. 44 ∷ t) xs
 
--- the object that tells of a node that is linked to the one that is looked at, as text
+-- the object for a node that is linked to the one that is looked at, as text
 unfoldable pub near_text : List ℕ → ℕ × Regs → List ℕ
 near_text ids n =
     concat (codes "{\"m\":" ∷ truth_text n.1.m ∷ codes ",\"node\":" ∷ node_text ids n.0 ∷ codes ",\"p\":" ∷ pointer_text ids n.1.p ∷ codes "}" ∷ [])
 
--- the array that tells of two nodes that point at each other, as text
+-- the array for two nodes that point at each other, as text
 unfoldable pub pair_text : List ℕ → ℕ × ℕ → List ℕ
 pair_text ids p = concat (codes "[" ∷ node_text ids p.0 ∷ codes "," ∷ node_text ids p.1 ∷ codes "]" ∷ [])
 
--- the array that tells of a privileged node with its rule, as text
+-- the array for a privileged node with its rule, as text
 unfoldable pub privileged_text : List ℕ → ℕ × Kind → List ℕ
 privileged_text ids n = concat (codes "[" ∷ node_text ids n.0 ∷ codes "," ∷ kind_text n.1 ∷ codes "]" ∷ [])
 
--- the array that tells of an open link with its witness and the rule there, as text
+-- the array for an open link with its witness and the rule there, as text
 unfoldable pub open_link_text : List ℕ → OpenLink → List ℕ
 open_link_text ids l =
     concat (codes "[" ∷ node_text ids l.a ∷ codes "," ∷ node_text ids l.b ∷ codes "," ∷ node_text ids l.node ∷ codes "," ∷ kind_text l.kind ∷ codes "]" ∷ [])
@@ -131,23 +131,23 @@ abbrev pub kind_or_null_value : Option Kind → Data
 kind_or_null_value None = null
 kind_or_null_value (Some k) = kind_value k
 
--- the keys that tell of a node that is linked to the one that is looked at, and their values
+-- the keys and values for a node that is linked to the one that is looked at
 abbrev pub near_keys : List ℕ → ℕ × Regs → List (List ℕ × Data)
 near_keys ids n = (codes "m", boolean n.1.m) ∷ (codes "node", node_value ids n.0) ∷ (codes "p", pointer_value ids n.1.p) ∷ []
 
--- the object that tells of a node that is linked to the one that is looked at
+-- the object for a node that is linked to the one that is looked at
 abbrev pub near_value : List ℕ → ℕ × Regs → Data
 near_value ids n = object_with (near_keys ids n)
 
--- the array that tells of two nodes that point at each other
+-- the array for two nodes that point at each other
 abbrev pub pair_value : List ℕ → ℕ × ℕ → Data
 pair_value ids p = array (items_with (node_value ids p.0 ∷ node_value ids p.1 ∷ []))
 
--- the array that tells of a privileged node with its rule
+-- the array for a privileged node with its rule
 abbrev pub privileged_value : List ℕ → ℕ × Kind → Data
 privileged_value ids n = array (items_with (node_value ids n.0 ∷ kind_value n.1 ∷ []))
 
--- the array that tells of an open link with its witness and the rule there
+-- the array for an open link with its witness and the rule there
 abbrev pub open_link_value : List ℕ → OpenLink → Data
 open_link_value ids l = array (items_with (node_value ids l.a ∷ node_value ids l.b ∷ node_value ids l.node ∷ kind_value l.kind ∷ []))
 
@@ -172,7 +172,7 @@ fact_value ids (open_links ls) = array_of (open_link_value ids) ls
 abbrev pub keys_of : List ℕ → Fields → List (List ℕ × Data)
 keys_of ids fs = map (λ f. (f.0, fact_value ids f.1)) fs
 
--- a count fits 64 bits; of any other fact nothing is wanted
+-- a count fits 64 bits; any other fact needs nothing
 abbrev pub FitsCount : Fact → Type 0
 FitsCount (count n) = n < 2 ^ 64
 FitsCount _ = Unit {0}

@@ -1,4 +1,4 @@
--- Flat objects: what each key holds.
+-- Flat objects: the value of each key.
 use Rattle.std.specs.Prelude.{◌≡◌, ℕ, ◌<◌, ◌^◌, List, map, Bool, None, Some, IsUtf8}
 use Rattle.std.specs.List.{AllByRecursion}
 use Rattle.serde_json.specs.Data as value
@@ -13,7 +13,7 @@ pub data Field : Type 0 where
   truth : Bool → Field
   null : Field
 
--- the JSON value of what a key holds
+-- the JSON value of a key's value
 abbrev pub value_of : Field → value.Data
 value_of (number n) = value.number (value.unsigned n)
 value_of (word w) = value.string w

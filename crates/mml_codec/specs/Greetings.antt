@@ -1,4 +1,4 @@
--- Who a connection is known as, and what it may ask.
+-- The participant that a connection is known as, and what it may ask.
 use Rattle.std.specs.Prelude.{ℕ, List, Option, None, Some, IfSome}
 use Rattle.mml_lab.specs.declared.who.Who.{Who}
 use Rattle.mml_lab.specs.Rosters.{RosterValue, principal, IsPrincipal}
@@ -27,12 +27,12 @@ refusal_of fault.Memory = refused.Memory
 abbrev pub denied : Denial → Option Who → Greeting
 denied d known = Answered (replies.Deny d) known
 
--- what comes of a hello, by whose name and key it has: those of nobody are denied
+-- the result of a hello, by the participant who has its name and key; a name and key of nobody are denied
 abbrev pub admitted : Option Who → Greeting
 admitted None = denied denial.Unknown None
 admitted (Some who) = Answered (replies.Hello who) (Some who)
 
--- what comes of a request on a connection that is known as someone, or as no one
+-- the result of a request on a connection that is known as a participant or as no one
 abbrev pub greeting : RosterValue → Option Who → Request → Greeting
 greeting roster None (requests.Hello name key) = admitted (principal roster name key)
 greeting roster (Some who) (requests.Hello name key) = denied denial.Greeted (Some who)
@@ -40,7 +40,7 @@ greeting roster known requests.Bye = Answered replies.Bye None
 greeting roster None (requests.Do c) = denied denial.NotGreeted None
 greeting roster (Some who) (requests.Do c) = LeftToJudge who c
 
--- what comes of a request, where its reply stands apart; no reply is told where a command is left to judge
+-- the result of a request, if its reply stands apart; there is no reply if a command is left to judge
 abbrev pub greeting_with : Greeted → Reply → Greeting
 greeting_with (greeted.Known known) r = Answered r known
 greeting_with (greeted.LeftToJudge who c) r = LeftToJudge who c

@@ -1,4 +1,4 @@
--- The replies: what each tells by which key, of which its text and its value are made.
+-- The replies: the keys of each, and their facts, from which the text and the value are made.
 use Rattle.std.specs.Prelude.{◌≡◌, ◌⊎◌, ℕ, ◌<◌, List, [], ◌∷◌, ◌++◌, length, Bool, true, false, Option, None, Some, codes}
 use Rattle.mml_board.specs.declared.done.Done.{Done}
 use Rattle.mml_board.specs.declared.done.Done.TheVariants as done
@@ -20,9 +20,9 @@ use Rattle.mml_codec.specs.declared.reply.Reply.TheVariants as replies
 use Rattle.mml_codec.specs.Facts as fact
 use Rattle.mml_codec.specs.Facts.{Fact, Fields, object_text}
 
--- ---- the table: each key where it comes, and what it tells
+-- ---- the table: each key that comes, and its fact
 
--- the key that tells which request was granted, by its word
+-- the key with the word of the granted request
 abbrev pub ok : List ℕ → List ℕ × Fact
 ok word = (codes "ok", fact.word word)
 
@@ -39,7 +39,7 @@ abbrev pub ends_fields : List ℕ → ℕ → ℕ → ℕ → ℕ → ℕ → Fi
 ends_fields word at place a b dropped =
     (codes "a", fact.node a) ∷ at_key at ∷ (codes "b", fact.node b) ∷ (codes "dropped", fact.count dropped) ∷ ok word ∷ place_key place ∷ []
 
--- what an event did, with the number and the place after it
+-- the effect of an event, with the number and the place after it
 abbrev pub done_fields : ℕ → ℕ → Done → Fields
 done_fields at place (done.Move node kind) =
     at_key at ∷ (codes "node", fact.node node) ∷ ok verb.move.told ∷ place_key place ∷ (codes "rule", fact.rule kind) ∷ []
@@ -58,21 +58,21 @@ hello_fields name = ok verb.hello ∷ (codes "who", fact.word name) ∷ []
 abbrev pub bye_fields : Fields
 bye_fields = ok verb.bye ∷ []
 
--- what a see tells
+-- the keys of the reply to a see
 abbrev pub see_fields : See → Fields
 see_fields s = at_key s.at ∷ (codes "m", fact.truth s.regs.m) ∷ (codes "node", fact.node s.node) ∷ ok verb.see ∷ (codes "p", fact.pointer s.regs.p) ∷ []
 
--- what a look tells
+-- the keys of the reply to a look
 abbrev pub look_fields : Look → Fields
 look_fields l = at_key l.at ∷ (codes "chosen", fact.rule_or_null l.chosen) ∷ (codes "m", fact.truth l.regs.m) ∷ (codes "near", fact.near l.near)
     ∷ (codes "node", fact.node l.node) ∷ ok verb.look ∷ (codes "p", fact.pointer l.regs.p) ∷ (codes "rule", fact.rule_or_null l.enabled) ∷ []
 
--- what a report tells
+-- the keys of a report
 abbrev pub report_fields : Report → Fields
 report_fields r = at_key r.at ∷ (codes "free", fact.nodes r.free) ∷ ok verb.report ∷ (codes "open", fact.open_links r.open_links)
     ∷ (codes "pairs", fact.pairs r.pairs) ∷ (codes "privileged", fact.privileged r.privileged) ∷ (codes "stable", fact.truth r.stable) ∷ []
 
--- the number of the current configuration, which only the denial `stale` tells
+-- the number of the current configuration, which only the denial `stale` has
 abbrev pub current_number : Denial → Option ℕ
 current_number (denial.Stale at) = Some at
 current_number _ = None
@@ -86,7 +86,7 @@ number_first (Some at) fs = at_key at ∷ fs
 abbrev pub told_fields : ℕ → List ℕ → List ℕ → Fields
 told_fields clause name said = (codes "clause", fact.clause clause) ∷ (codes "deny", fact.word name) ∷ (codes "text", fact.word said) ∷ []
 
--- what a denial tells
+-- the keys of a denial
 abbrev pub deny_fields : Denial → Fields
 deny_fields d = number_first (current_number d) (told_fields (clause_of d) (denials.denial_name d) (text_of d))
 
@@ -97,11 +97,11 @@ refusal_name refused.Full = codes "full"
 refusal_name refused.Journal = codes "journal"
 refusal_name refused.Memory = codes "memory"
 
--- what a refusal tells
+-- the keys of a refusal
 abbrev pub refuse_fields : Refused → Fields
 refuse_fields r = (codes "refuse", fact.word (refusal_name r)) ∷ []
 
--- the keys of each reply, and what each tells
+-- the keys of each reply, and their facts
 abbrev pub fields_of : RosterValue → Reply → Fields
 fields_of roster (replies.Hello who) = hello_fields (name_of roster who)
 fields_of roster replies.Bye = bye_fields
@@ -133,7 +133,7 @@ is_short (replies.Look l) = false
 is_short (replies.Report r) = false
 is_short _ = true
 
--- the reply that is told is the one that was given, or out of memory instead of one that isn't short
+-- the reply that is sent is the given one, or the refusal for memory instead of one that isn't short
 abbrev pub TellsFor : Reply → Reply → Type 0
 TellsFor reply told = (told ≡ reply) ⊎ ((is_short reply ≡ false) × (told ≡ replies.Refuse refused.Memory))
 

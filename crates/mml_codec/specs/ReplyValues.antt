@@ -13,7 +13,7 @@ use Rattle.mml_codec.specs.Replies.{fields_of}
 abbrev pub reply_value : List ℕ → RosterValue → Reply → Data
 reply_value ids roster r = object_with (keys_of ids (fields_of roster r))
 
--- the counts that a reply tells fit 64 bits: all its numbers but identifiers and a clause's
+-- the counts in a reply fit 64 bits: all its numbers but identifiers and a clause's
 abbrev pub AreWritableCounts : RosterValue → Reply → Type 0
 AreWritableCounts roster r = HaveFittingCounts (fields_of roster r)
 

@@ -58,7 +58,7 @@ fields_of (requests.Hello name key) = asks verb.hello ∷ (codes "key", text key
 fields_of requests.Bye = asks verb.bye ∷ []
 fields_of (requests.Do c) = command_fields c
 
--- ---- how a value is read: it asks a request exactly where it has each field of it, as a law says
+-- ---- how a value is read: it asks a request exactly if it has each field of it, as a law says
 
 -- a rule by its word, if it is that of one of the four, and for a marriage the partner
 unfoldable pub asked_at : Data → Option Asked

@@ -22,13 +22,13 @@ reply_of_done at place (done.Link a b dropped) = replies.Link at place a b dropp
 reply_of_done at place (done.Cut a b dropped) = replies.Cut at place a b dropped
 reply_of_done at place (done.Release node) = replies.Release at place node
 
--- how it is told that an act which all clauses allow doesn't happen, or that what was ruled can't be told
+-- the refusal of an act that all clauses allow but that doesn't happen, or of a ruling whose reply has no memory
 abbrev pub refusal_for : Refusal → Refused
 refusal_for refusal.Full = refused.Full
 refusal_for refusal.Journal = refused.Journal
 refusal_for refusal.Memory = refused.Memory
 
--- the reply to what came of a command, with the world after it
+-- the reply to the ruling on a command, with the world after it
 abbrev pub reply_of : World → Ruling → Reply
 reply_of w (ruling.Denied d) = replies.Deny d
 reply_of w (ruling.Seen s) = replies.See s

@@ -7,32 +7,32 @@ use crate::request::Request;
 use mml_lab::{Roster, Who};
 use mml_policy::{Command, Denial};
 
-/// What comes of a request on a connection.
+/// The result of a request on a connection.
 #[derive(Debug, Drop)]
 pub enum Greeting {
-    /// A reply, and who the connection is known as from then on.
+    /// A reply, and the participant that the connection is known as from then on.
     Answered { reply: Reply, known: Option<Who> },
-    /// A command of the one that the connection is known as, which is left to judge.
+    /// A command of a known participant, which is still to be judged.
     LeftToJudge { who: Who, command: Command },
 }
 
-/// What comes of a request on a connection, beside the reply to it.
+/// The result of a request on a connection, without the reply to it.
 #[derive(Clone, Copy, Debug)]
 pub enum Greeted {
-    /// The request is answered, and this is who the connection is known as from then on.
+    /// The request is answered, and this is the participant that the connection is known as from then on.
     Known(Option<Who>),
-    /// A command of the one that the connection is known as, which is left to judge.
+    /// A command of a known participant, which is still to be judged.
     LeftToJudge { who: Who, command: Command },
 }
 
-/// What comes of a request on a connection that is known as someone, or as no one: a hello and a bye are
-/// answered, a command is denied where no one is known, and else left to judge.
+/// Returns the result of a request on a connection that is known as a participant or as no one. A hello and a bye are
+/// answered. A command is denied if no one is known, and else left to judge.
 pub fn greet(roster: &Roster, known: Option<Who>, request: Request) -> Greeting
     requires { IfSome known (IsPrincipal roster.now) }
     ensures greeting { result ≡ greeting roster.now known request }
     ensures about { TakesPart roster.now result }
 {
-    // Room for the reply, which is read only where one was put there.
+    // Room for the reply, which is read only if one was put there.
     let mut reply = Reply::Bye;
     match greet_into(roster, known, &request, &mut reply) {
         Greeted::Known(known) => Greeting::Answered { reply, known },
@@ -40,8 +40,9 @@ pub fn greet(roster: &Roster, known: Option<Who>, request: Request) -> Greeting
     }
 }
 
-/// What comes of a request on a connection that is known as someone, or as no one: a hello, a bye and a command of
-/// no one are answered in `reply`, which stays as it was where the command of one who is known is left to judge.
+/// Returns the result of a request on a connection that is known as a participant or as no one. A hello, a bye and a
+/// command of no one are answered in `reply`. A command of a known participant is left to judge, and `reply` stays as
+/// it was.
 pub fn greet_into(
     roster: &Roster,
     known: Option<Who>,
@@ -69,8 +70,8 @@ pub fn greet_into(
     }
 }
 
-// What comes of a hello on a connection that is known as no one, with the reply put into `reply`: `found` is whose
-// name and key it has, if they are anyone's.
+// Returns the result of a hello on a connection that is known as no one, and puts the reply into `reply`. `found` is
+// the participant who has this name and key, if there is one.
 fn admit_into(found: Option<Who>, reply: &mut Reply) -> Greeted
     ensures { greeting_with result reply.new ≡ admitted found }
 {
@@ -83,7 +84,7 @@ fn admit_into(found: Option<Who>, reply: &mut Reply) -> Greeted
     }
 }
 
-// Puts a denial into `reply`, and tells that the connection is known as before: `known`.
+// Puts a denial into `reply`, and returns that the connection is known as before: as `known`.
 fn deny_into(denial: Denial, known: Option<Who>, reply: &mut Reply) -> Greeted
     ensures { greeting_with result reply.new ≡ denied denial known }
 {

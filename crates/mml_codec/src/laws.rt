@@ -1,4 +1,4 @@
-//! Laws of requests and replies. Each is the clause of a function that does nothing.
+//! Laws of requests and replies. Each is the contract of a function that does nothing.
 ghost use Rattle.std.specs.Prelude.{◌≡◌, ◌≢◌, ◌↔◌, List, ℕ, All, Ok, Option, Some, None, true};
 ghost use Rattle.mml_codec.specs.declared.request.Request.{Request};
 ghost use Rattle.mml_lab.specs.Rosters.{RosterValue, IsRoster};
@@ -34,8 +34,8 @@ ghost use Rattle.mml_rules.specs.Rules.{kind_of};
 
 use crate::reply::{FULL_LINE, JOURNAL_LINE, MALFORMED_LINE, MEMORY_LINE};
 
-/// A value asks a request exactly where it has each field by which the request is written: other keys
-/// don't count, and what has the fields of none asks nothing.
+/// A value asks a request exactly if it has each field by which the request is written. Other keys don't count, and a
+/// value that has the fields of no request asks nothing.
 pub fn a_request_is_asked_by_its_fields()
     ensures { (d : Data) (r : Request) → (request d ≡ Some r) ↔ HasEach d (fields_of r) }
 {}
@@ -68,8 +68,8 @@ pub fn a_reply_reads_back()
         has_rising_keys (reply_value ids roster r) ≡ true }
 {}
 
-/// Where a connection is known as no one, a hello is granted exactly to the one who takes part under that name
-/// and key, as whom it is then known; after a bye it is known as no one, and after a denial as it was.
+/// If a connection is known as no one, a hello is granted exactly to the participant who has that name and key, as whom
+/// it is then known. After a bye it is known as no one, and after a denial as before.
 pub fn a_greeting_tells_who_is_known()
     ensures hello { (r : RosterValue) (name key : List ℕ) (who : Who) (known : Option Who) →
         IsRoster r →
@@ -102,8 +102,9 @@ pub fn limits()
     ensures room { REPLY_ROOM ≡ 2048 }
 {}
 
-/// The reply to an event names the number and the place that `reply_of_done` is given, and the event's nodes: of a
-/// close those that were chosen. A move's names its rule's kind; a fault's, link's or cut's how many chosen moves end.
+/// The reply to an event names the number and the place that `reply_of_done` is called with, and the event's nodes: of
+/// a close those that were chosen. A move's reply names its rule's kind; a fault's, link's or cut's names how many
+/// chosen moves end.
 pub fn a_grant_is_told()
     ensures chosen { (at place : ℕ) (w : World) (s i : ℕ) (rule : Rule) →
         reply_of_done at place (done_by w (event.Grant s i rule))

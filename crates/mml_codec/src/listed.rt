@@ -1,4 +1,4 @@
-//! Lists of what a reply tells of nodes.
+//! Lists of nodes and links in replies.
 ghost use Rattle.std.specs.Prelude.{codes, ◌+◌, ◌≡◌, ◌≤◌, ◌<◌, ◌++◌, ℕ, List, All, length, map, OnOk, IfOk, MatchResult, vec_capacity};
 ghost use Rattle.mml_policy.specs.About.{IsNear};
 ghost use Rattle.mml_stable.specs.Reports.{IsPairOf, IsOpenLinkOf};
@@ -22,7 +22,7 @@ pub(crate) trait Listed {
     // The item's text, in a lab with these identifiers.
     ghost text: { List ℕ → Self → List ℕ };
 
-    // The line with the text of this item behind it.
+    // Returns the line with the text of this item after it.
     fn with_item(&self, line: Vec<u8>, ids: &IdTable) -> Vec<u8>
         requires names { names ids.now self.now }
         requires room { length line.items + 63 ≤ vec_capacity line }
@@ -30,8 +30,8 @@ pub(crate) trait Listed {
         ensures capacity { vec_capacity result ≡ vec_capacity line };
 }
 
-/// Puts the texts of a list behind what the vector holds, with commas between them and without brackets. Where
-/// memory runs out, the first texts, up to the one that lacks room, stand there, each whole.
+/// Appends the texts of a list to the vector, with commas between them and without brackets. If memory runs out, the
+/// first texts are appended, up to the one without room, each whole.
 pub(crate) fn put_list<T: Listed>(
     ids: &IdTable,
     items: &[T],
@@ -58,8 +58,8 @@ pub(crate) fn put_list<T: Listed>(
     Ok(())
 }
 
-// The line with room for one item more, or as `Err` the line as it was, where there is no memory for that.
-// The line comes by value, so that its length can stay in a processor's register.
+// Returns the line with room for one more item, or the unchanged line as `Err` if memory runs out. The line comes by
+// value, so that its length can stay in a processor's register.
 #[inline(always)]
 fn with_room(line: Vec<u8>) -> Result<Vec<u8>, Vec<u8>>
     ensures same { MatchResult result (λ l. l.items ≡ line.items) (λ l. l.items ≡ line.items) }
@@ -73,8 +73,8 @@ fn with_room(line: Vec<u8>) -> Result<Vec<u8>, Vec<u8>>
     Ok(line)
 }
 
-// The line, grown to have room for one item more, or as `Err` as it was, where there is no memory for that. This
-// rare case of `with_room` stands apart, so that `with_room` is short.
+// Returns the line, grown to have room for one more item, or the unchanged line as `Err` if memory runs out. This rare
+// case of `with_room` stands apart, so that `with_room` is short.
 #[inline(never)]
 fn grown(mut line: Vec<u8>) -> Result<Vec<u8>, Vec<u8>>
     ensures same { MatchResult result (λ l. l.items ≡ line.items) (λ l. l.items ≡ line.items) }
@@ -88,7 +88,7 @@ fn grown(mut line: Vec<u8>) -> Result<Vec<u8>, Vec<u8>>
     }
 }
 
-// The line with a comma behind it if `later`, where an item stands there already; else as it is.
+// Returns the line with a comma appended if `later`, which means that an item stands there already.
 #[inline(always)]
 pub(crate) fn with_comma(line: Vec<u8>, later: bool) -> Vec<u8>
     requires { length line.items + 1 ≤ vec_capacity line }
@@ -99,7 +99,7 @@ pub(crate) fn with_comma(line: Vec<u8>, later: bool) -> Vec<u8>
     if later { with_text(line, ",") } else { line }
 }
 
-// A node, told by its identifier.
+// A node, written as its identifier.
 impl Listed for Rank {
     ghost names = { λ ids i. i < length ids };
 
@@ -111,7 +111,7 @@ impl Listed for Rank {
     }
 }
 
-// A node that is linked to the one that is looked at, told with its registers as an object.
+// A node that is linked to the one that is looked at, written as an object with its registers.
 impl Listed for (Rank, Regs) {
     ghost names = { IsNear };
 
@@ -128,8 +128,8 @@ impl Listed for (Rank, Regs) {
     }
 }
 
-// The line with the beginning of an object behind it: a truth value by the key `m`, and the key `node`, as one
-// literal.
+// Returns the line with the beginning of an object appended: a truth value under the key `m`, and the key `node`, as
+// one literal.
 #[inline(always)]
 fn with_first_m_then_node(line: Vec<u8>, m: bool) -> Vec<u8>
     requires { length line.items + 18 ≤ vec_capacity line }
@@ -145,7 +145,7 @@ fn with_first_m_then_node(line: Vec<u8>, m: bool) -> Vec<u8>
     }
 }
 
-// Two nodes that point at each other, told by their identifiers as an array.
+// Two nodes that point at each other, written as an array of their identifiers.
 impl Listed for (Rank, Rank) {
     ghost names = { λ ids p. IsPairOf (length ids) p };
 
@@ -163,7 +163,7 @@ impl Listed for (Rank, Rank) {
     }
 }
 
-// A privileged node and the rule that is enabled there, told as an array.
+// A privileged node and the rule that is enabled there, written as an array.
 impl Listed for (Rank, Kind) {
     ghost names = { λ ids n. n.0 < length ids };
 
@@ -181,7 +181,7 @@ impl Listed for (Rank, Kind) {
     }
 }
 
-// A link between two free nodes, its witness and the rule that is enabled there, told as an array.
+// A link between two free nodes, its witness and the rule that is enabled there, written as an array.
 impl Listed for OpenLink {
     ghost names = { λ ids l. IsOpenLinkOf (length ids) l };
 

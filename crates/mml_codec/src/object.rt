@@ -1,4 +1,4 @@
-//! Flat objects as text. Where an error comes out, there was no memory for what was to be written.
+//! Flat objects as text. An error means that memory ran out.
 ghost use Rattle.std.specs.Prelude.{◌≡◌, ◌++◌, map, IfOk, OnOk};
 ghost use Rattle.json.specs.Tree.{json_tokens};
 ghost use Rattle.serde_json.specs.Written.{compact_text, outline};
@@ -8,7 +8,7 @@ ghost use Rattle.mml_codec.specs.inside.FieldViews.{field_view, tokens_of};
 use json::Writer;
 use std::alloc::{AllocError, Global};
 
-/// What a key of a flat object holds.
+/// The value of a key in a flat object.
 #[derive(Clone, Copy)]
 pub(crate) enum Field<'a> {
     Number(u64),
@@ -20,7 +20,7 @@ pub(crate) enum Field<'a> {
     Null,
 }
 
-/// The text of the object that has each key of `members` with what it holds, in their order.
+/// Returns the text of the object with these keys and values, in this order.
 pub(crate) fn object_text(
     alloc: Global,
     members: &[(&'static str, Field<'_>)],
@@ -37,7 +37,7 @@ pub(crate) fn object_text(
     Ok(writer.into_inner())
 }
 
-// Writes a key of an object and what the key holds.
+// Writes a key of an object and its value.
 fn put_member(writer: &mut Writer, member: &(&'static str, Field<'_>)) -> Result<(), AllocError>
     ensures before { writer.new.before ≡ writer.old.before }
     ensures tokens { OnOk result
@@ -47,7 +47,7 @@ fn put_member(writer: &mut Writer, member: &(&'static str, Field<'_>)) -> Result
     put_field(writer, member.1)
 }
 
-// Writes what a key of an object holds.
+// Writes the value of a key of an object.
 fn put_field(writer: &mut Writer, field: Field<'_>) -> Result<(), AllocError>
     ensures before { writer.new.before ≡ writer.old.before }
     ensures tokens { OnOk result (writer.new.tokens ≡

@@ -6,21 +6,21 @@ use mml_policy::{Denial, Look, Refusal, See};
 use mml_rules::Kind;
 use mml_stable::Report;
 
-/// The capacity, in bytes, with which the line of each reply but a look and a report is written without taking memory.
+/// The capacity, in bytes, that suffices to write the line of each reply but a look and a report without allocating.
 pub const REPLY_ROOM: usize = 2048;
 
 /// The reply line to a line that is no request, with its newline.
 pub const MALFORMED_LINE: &str = "{\"refuse\":\"malformed\"}\n";
 
-/// The reply line, with its newline, to a request for an event that all clauses allow, where the lab has had all its
+/// The reply line, with its newline, to a request for an event that all clauses allow, if the lab has had all its
 /// events.
 pub const FULL_LINE: &str = "{\"refuse\":\"full\"}\n";
 
-/// The reply line, with its newline, to a request for an event that all clauses allow, where the journal is halted or
+/// The reply line, with its newline, to a request for an event that all clauses allow, if the journal is halted or
 /// didn't take the whole line of the event.
 pub const JOURNAL_LINE: &str = "{\"refuse\":\"journal\"}\n";
 
-/// The reply line where a growth was refused, with its newline.
+/// The reply line, with its newline, if memory ran out.
 pub const MEMORY_LINE: &str = "{\"refuse\":\"memory\"}\n";
 
 /// Why a request is refused.
@@ -28,11 +28,11 @@ pub const MEMORY_LINE: &str = "{\"refuse\":\"memory\"}\n";
 pub enum Refused {
     /// The line is no request.
     Malformed,
-    /// There were as many events as there may be.
+    /// The lab has had as many events as it may.
     Full,
     /// The journal is halted, or didn't take the whole line of the event.
     Journal,
-    /// A growth was refused.
+    /// Memory ran out.
     Memory,
 }
 
@@ -41,7 +41,7 @@ impl From<Refusal> for Refused {
 
     ghost from_gives = { λ refusal refused. refused ≡ refusal_for refusal };
 
-    // How a reply tells why a command that is allowed was refused: by the same name.
+    // Returns the refusal of a command that all clauses allow, under the same name.
     fn from(refusal: Refusal) -> Refused {
         match refusal {
             Refusal::Full => Refused::Full,
@@ -51,19 +51,19 @@ impl From<Refusal> for Refused {
     }
 }
 
-/// What a line is answered.
+/// The reply to a line.
 #[derive(Debug, Drop)]
 pub enum Reply {
     /// The connection is known as this one from now on.
     Hello(Who),
-    /// The connection is known no longer.
+    /// The connection is known as no one from now on.
     Bye,
     /// What a node shows.
     See(See),
     /// What a node shows to its owners and the teacher.
     Look(Look),
-    /// A move is chosen for the node. In each reply to a grant the number is that of the configuration
-    /// after the event, and the place is the event's.
+    /// A move is chosen for the node. In each reply to a grant, `number` is that of the configuration after the event,
+    /// and `place` is the event's.
     Move {
         at: u64,
         place: u64,
@@ -76,14 +76,14 @@ pub enum Reply {
         place: u64,
         moved: NodeSet,
     },
-    /// The registers of the node are set; so many chosen moves were dropped.
+    /// The registers of the node are set, and this many chosen moves were dropped.
     Fault {
         at: u64,
         place: u64,
         node: Rank,
         dropped: u16,
     },
-    /// The two nodes are linked; so many chosen moves were dropped.
+    /// The two nodes are linked, and this many chosen moves were dropped.
     Link {
         at: u64,
         place: u64,
@@ -91,7 +91,7 @@ pub enum Reply {
         b: Rank,
         dropped: u16,
     },
-    /// The two nodes are linked no longer; so many chosen moves were dropped.
+    /// The two nodes are no longer linked, and this many chosen moves were dropped.
     Cut {
         at: u64,
         place: u64,
@@ -99,13 +99,13 @@ pub enum Reply {
         b: Rank,
         dropped: u16,
     },
-    /// The node has no chosen move any longer.
+    /// The node no longer has a chosen move.
     Release {
         at: u64,
         place: u64,
         node: Rank,
     },
-    /// What is told of all nodes.
+    /// The report on all nodes.
     Report(Report),
     /// A clause of the request doesn't hold.
     Deny(Denial),
@@ -113,8 +113,7 @@ pub enum Reply {
     Refuse(Refused),
 }
 
-/// Puts a reply where another one stood. Replies are large: each is put where it stays, and isn't
-/// handed on.
+/// Replaces a reply by another. Replies are large: each is written to its final place, and isn't passed on by value.
 #[inline(always)]
 pub fn put_in(out: &mut Reply, reply: Reply)
     ensures { out.new ≡ reply }

@@ -1,4 +1,4 @@
-//! The text of replies. Where an error `Memory` comes out, there was no memory for what was to be put.
+//! The text of replies. The error `Memory` means that memory ran out.
 ghost use Rattle.std.specs.Prelude.{codes, decimal, ◌≡◌, ◌≤◌, ◌<◌, ◌+◌, ◌^◌, ◌++◌, ◌∷◌, [], true, length, map, OnOk, OnErr, IsOk, IfSome, vec_capacity, if◌then◌else◌};
 ghost use Rattle.mml_ids.specs.Pieces.{piece_text, piece_room, truth_text, Puts, Adds};
 ghost use Rattle.mml_ids.specs.declared.piece.Piece.TheVariants.{Number};
@@ -25,7 +25,7 @@ use std::alloc::Global;
 // Enough bytes for the text of each reply but a look and a report.
 const TEXT_ROOM: usize = 2000;
 
-// Enough bytes for what a look says before the nodes that are linked, or after them.
+// Enough bytes for the parts of a look's reply before the linked nodes, or after them.
 const LOOK_ROOM: usize = 128;
 
 // When an event happened: the number of the configuration after it, and its place.
@@ -35,7 +35,7 @@ struct Moment {
     place: u64,
 }
 
-// The moment of an event, from the fields of the reply to it. Its contract tells, too, that both numbers fit 64 bits.
+// Returns the moment of an event, from the fields of the reply to it. By its contract both numbers fit 64 bits.
 fn moment_of(at: &u64, place: &u64) -> Moment
     ensures moment { result ≡ record { at = at.now; place = place.now } }
     ensures at { at.now < 2 ^ 64 }
@@ -47,8 +47,8 @@ fn moment_of(at: &u64, place: &u64) -> Moment
     }
 }
 
-/// Puts the line of a reply, with its newline, instead of what the vector holds, which grows by its own
-/// allocator. Where memory runs out, the vector is left empty: `REPLY_ROOM` is enough but for a look or a report.
+/// Replaces the vector's bytes by the line of a reply, with its newline. If memory runs out, the vector is left empty:
+/// `REPLY_ROOM` is enough except for a look or a report.
 pub fn write_reply(
     _alloc: Global,
     ids: &IdTable,
@@ -73,8 +73,8 @@ pub fn write_reply(
     written
 }
 
-/// Puts the line of a reply, or the refusal `memory` where there is no memory for that, instead of what the
-/// vector holds, and gives the reply whose line it is.
+/// Replaces the vector's bytes by the line of a reply, or of the refusal `memory` if memory runs out. Returns the reply
+/// whose line it is.
 pub fn tell_reply(
     alloc: Global,
     ids: &IdTable,
@@ -94,8 +94,8 @@ pub fn tell_reply(
     }
 }
 
-/// Puts the line of a reply behind what the vector holds, unless it is a look or a report, or less than
-/// `REPLY_ROOM` is free there, and tells whether it did. It takes no memory.
+/// Appends the line of a reply, unless it is a look or a report, or less than `REPLY_ROOM` is free, and returns whether
+/// it did. Allocates nothing.
 pub fn append_reply(ids: &IdTable, roster: &Roster, reply: &Reply, out: &mut Vec<u8>) -> bool
     requires { IsAbout ids.now roster.now reply.now }
     ensures told { length out.old.items + REPLY_ROOM ≤ vec_capacity out.old →
@@ -112,14 +112,15 @@ pub fn append_reply(ids: &IdTable, roster: &Roster, reply: &Reply, out: &mut Vec
     true
 }
 
-// Whether a reply's line fits into `REPLY_ROOM` bytes in each lab: not a look's and a report's, which list nodes.
+// Returns whether a reply's line fits into `REPLY_ROOM` bytes in each lab. A look and a report, which list nodes,
+// don't.
 fn is_short(reply: &Reply) -> bool
     ensures { result ≡ is_short reply.now }
 {
     !matches!(reply, Reply::Look(_) | Reply::Report(_))
 }
 
-// Puts the line of the refusal `memory` instead of what the vector holds, and gives that refusal.
+// Replaces the vector's bytes by the line of the refusal `memory`, and returns that refusal.
 fn tell_want_of_memory(alloc: Global, ids: &IdTable, roster: &Roster, out: &mut Vec<u8>) -> Reply
     requires room { REPLY_ROOM ≤ vec_capacity out.old }
     ensures told { result ≡ Reply.Refuse Refused.Memory }
@@ -131,7 +132,7 @@ fn tell_want_of_memory(alloc: Global, ids: &IdTable, roster: &Roster, out: &mut 
     told
 }
 
-// Puts the line of a reply, with its newline, behind what the vector holds.
+// Appends the line of a reply, with its newline.
 fn put_line(ids: &IdTable, roster: &Roster, reply: &Reply, out: &mut Vec<u8>) -> Result<(), Memory>
     requires { IsAbout ids.now roster.now reply.now }
     ensures line { OnOk result
@@ -150,7 +151,7 @@ fn put_line(ids: &IdTable, roster: &Roster, reply: &Reply, out: &mut Vec<u8>) ->
     put_end(out)
 }
 
-// Puts a newline behind what the vector holds.
+// Appends a newline.
 fn put_end(out: &mut Vec<u8>) -> Result<(), Memory>
     ensures { Puts (10 ∷ []) 1 out.old out.new result }
 {
@@ -159,7 +160,7 @@ fn put_end(out: &mut Vec<u8>) -> Result<(), Memory>
     Ok(())
 }
 
-// Puts the text of a reply, without its newline, behind what the vector holds.
+// Appends the text of a reply, without its newline.
 fn put_text(ids: &IdTable, roster: &Roster, reply: &Reply, out: &mut Vec<u8>) -> Result<(), Memory>
     requires { IsAbout ids.now roster.now reply.now }
     ensures text { OnOk result
@@ -213,7 +214,7 @@ fn put_text(ids: &IdTable, roster: &Roster, reply: &Reply, out: &mut Vec<u8>) ->
     }
 }
 
-// Puts the reply to a granted hello behind what the vector holds.
+// Appends the reply to a granted hello.
 fn put_hello(ids: &IdTable, roster: &Roster, who: Who, out: &mut Vec<u8>) -> Result<(), Memory>
     requires { IsPrincipal roster.now who }
     ensures { Puts (object_text ids.now
@@ -224,7 +225,7 @@ fn put_hello(ids: &IdTable, roster: &Roster, who: Who, out: &mut Vec<u8>) -> Res
     Ok(())
 }
 
-// The text with the reply to a granted hello behind it. By `Piece`s, this and a bye's took 294 instructions more.
+// Returns the text with a granted hello's reply appended. By `Piece`s, this and a bye's took 294 instructions more.
 #[inline(always)]
 #[tactic(auto, unfolding(crate::specs::Facts::object_text))]
 fn with_hello(text: Vec<u8>, ids: &IdTable, roster: &Roster, who: Who) -> Vec<u8>
@@ -238,20 +239,20 @@ fn with_hello(text: Vec<u8>, ids: &IdTable, roster: &Roster, who: Who) -> Vec<u8
     with_text(text, "\"}")
 }
 
-// Puts the reply to a granted see behind what the vector holds.
+// Appends the reply to a granted see.
 fn put_see(ids: &IdTable, see: &See, out: &mut Vec<u8>) -> Result<(), Memory>
     requires about { IsSeen ids.now see.now }
     ensures puts { Puts (object_text ids.now (see_fields see.now)) TEXT_ROOM out.old out.new result }
     ensures count { see.now.at < 2 ^ 64 }
 {
-    // By its type the number fits 64 bits, as the contract tells.
+    // By its type the number fits 64 bits, as the contract says.
     let _at = see.at;
     make_room(out, TEXT_ROOM)?;
     *out = with_see(taken(out), ids, see);
     Ok(())
 }
 
-// The text with the reply to a granted see behind it.
+// Returns the text with the reply to a granted see appended.
 #[inline(always)]
 #[tactic(auto, unfolding(crate::specs::Facts::object_text))]
 fn with_see(text: Vec<u8>, ids: &IdTable, see: &See) -> Vec<u8>
@@ -268,7 +269,7 @@ fn with_see(text: Vec<u8>, ids: &IdTable, see: &See) -> Vec<u8>
     with_pointer_at_end(text, ids, see.regs.p)
 }
 
-// Puts the reply to a granted look behind what the vector holds: the parts of `put_look_parts` make one object.
+// Appends the reply to a granted look: the parts of `put_look_parts` make one object.
 fn put_look(ids: &IdTable, look: &Look, out: &mut Vec<u8>) -> Result<(), Memory>
     requires { IsLookedAt ids.now look.now }
     ensures text { OnOk result
@@ -279,7 +280,7 @@ fn put_look(ids: &IdTable, look: &Look, out: &mut Vec<u8>) -> Result<(), Memory>
     put_look_parts(ids, look, out)
 }
 
-// Puts the reply to a granted look behind what the vector holds: what comes before the linked nodes, they, and the rest.
+// Appends the reply to a granted look: the part before the linked nodes, the linked nodes, and the rest.
 #[tactic(auto, unfolding(crate::specs::inside::Puts::look_parts))]
 fn put_look_parts(ids: &IdTable, look: &Look, out: &mut Vec<u8>) -> Result<(), Memory>
     requires { IsLookedAt ids.now look.now }
@@ -292,21 +293,21 @@ fn put_look_parts(ids: &IdTable, look: &Look, out: &mut Vec<u8>) -> Result<(), M
     put_look_tail(ids, look, out)
 }
 
-// Puts what stands before the linked nodes in the reply to a granted look, behind what the vector holds.
+// Appends a `look` reply up to its neighbour list.
 fn put_look_head(look: &Look, out: &mut Vec<u8>) -> Result<(), Memory>
     ensures text { OnOk result
         (out.new.items ≡ out.old.items ++ joined_text (look_head look.now)) }
     ensures capacity { vec_capacity out.old ≤ vec_capacity out.new }
     ensures count { look.now.at < 2 ^ 64 }
 {
-    // By its type the number fits 64 bits, as the contract tells.
+    // By its type the number fits 64 bits, as the contract says.
     let _at = look.at;
     make_room(out, LOOK_ROOM)?;
     *out = with_look_head(taken(out), look);
     Ok(())
 }
 
-// The text with what stands before the linked nodes in the reply to a granted look behind it.
+// Returns the text with a `look` reply appended, up to its neighbour list.
 #[inline(always)]
 #[tactic(auto, unfolding(crate::specs::inside::Puts::joined_text))]
 fn with_look_head(text: Vec<u8>, look: &Look) -> Vec<u8>
@@ -323,7 +324,7 @@ fn with_look_head(text: Vec<u8>, look: &Look) -> Vec<u8>
     with_text(text, ",\"near\":[")
 }
 
-// Puts what stands after the linked nodes in the reply to a granted look, behind what the vector holds.
+// Appends the part of a `look` reply after its neighbour list.
 fn put_look_tail(ids: &IdTable, look: &Look, out: &mut Vec<u8>) -> Result<(), Memory>
     requires { IsLookedAt ids.now look.now }
     ensures text { OnOk result
@@ -335,7 +336,7 @@ fn put_look_tail(ids: &IdTable, look: &Look, out: &mut Vec<u8>) -> Result<(), Me
     Ok(())
 }
 
-// The text with what stands after the linked nodes in the reply to a granted look behind it.
+// Returns the text with the part of a `look` reply after its neighbour list appended.
 #[inline(always)]
 #[tactic(auto, unfolding(crate::specs::inside::Puts::joined_text))]
 fn with_look_tail(text: Vec<u8>, ids: &IdTable, look: &Look) -> Vec<u8>
@@ -353,7 +354,7 @@ fn with_look_tail(text: Vec<u8>, ids: &IdTable, look: &Look) -> Vec<u8>
     with_text(text, "}")
 }
 
-// Puts the reply to a granted move behind what the vector holds.
+// Appends the reply to a granted move.
 fn put_move(
     ids: &IdTable,
     moment: Moment,
@@ -370,7 +371,7 @@ fn put_move(
     Ok(())
 }
 
-// The text with the reply to a granted move behind it.
+// Returns the text with the reply to a granted move appended.
 #[inline(always)]
 #[tactic(auto, unfolding(crate::specs::Facts::object_text))]
 fn with_move(text: Vec<u8>, ids: &IdTable, moment: Moment, node: Rank, kind: Kind) -> Vec<u8>
@@ -390,7 +391,7 @@ fn with_move(text: Vec<u8>, ids: &IdTable, moment: Moment, node: Rank, kind: Kin
     with_text(text, "}")
 }
 
-// Puts the reply to a granted close behind what the vector holds.
+// Appends the reply to a granted close.
 fn put_close(ids: &IdTable, moment: Moment, moved: NodeSet, out: &mut Vec<u8>) -> Result<(), Memory>
     ensures { Puts (object_text ids.now
         (done_fields moment.at moment.place (done.Close moved)))
@@ -401,7 +402,7 @@ fn put_close(ids: &IdTable, moment: Moment, moved: NodeSet, out: &mut Vec<u8>) -
     Ok(())
 }
 
-// The text with the reply to a granted close behind it.
+// Returns the text with the reply to a granted close appended.
 #[inline(always)]
 #[tactic(auto, unfolding(crate::specs::Facts::object_text))]
 fn with_close(text: Vec<u8>, ids: &IdTable, moment: Moment, moved: NodeSet) -> Vec<u8>
@@ -418,7 +419,7 @@ fn with_close(text: Vec<u8>, ids: &IdTable, moment: Moment, moved: NodeSet) -> V
     with_text(text, "}")
 }
 
-// The text with the identifiers of a set's nodes behind it, rising, with commas between: 256 of 6 bytes at most.
+// Returns the text with the identifiers of a set's nodes appended, rising, with commas between: at most 256 of 6 bytes.
 #[inline(always)]
 fn with_members(text: Vec<u8>, ids: &IdTable, moved: NodeSet) -> Vec<u8>
     requires room { length text.items + 1536 ≤ vec_capacity text }
@@ -439,7 +440,7 @@ fn with_members(text: Vec<u8>, ids: &IdTable, moved: NodeSet) -> Vec<u8>
     line
 }
 
-// Puts the reply to a granted fault behind what the vector holds.
+// Appends the reply to a granted fault.
 fn put_fault(
     ids: &IdTable,
     moment: Moment,
@@ -456,7 +457,7 @@ fn put_fault(
     Ok(())
 }
 
-// The text with the reply to a granted fault behind it.
+// Returns the text with the reply to a granted fault appended.
 #[inline(always)]
 #[tactic(auto, unfolding(crate::specs::Facts::object_text))]
 fn with_fault(text: Vec<u8>, ids: &IdTable, moment: Moment, node: Rank, dropped: u16) -> Vec<u8>
@@ -476,7 +477,7 @@ fn with_fault(text: Vec<u8>, ids: &IdTable, moment: Moment, node: Rank, dropped:
     with_text(text, "}")
 }
 
-// Puts the reply to a granted link behind what the vector holds.
+// Appends the reply to a granted link.
 fn put_link(
     ids: &IdTable,
     moment: Moment,
@@ -493,7 +494,7 @@ fn put_link(
     put_ends(ids, "link", moment, ends, dropped, out)
 }
 
-// Puts the reply to a granted cut behind what the vector holds.
+// Appends the reply to a granted cut.
 fn put_cut(
     ids: &IdTable,
     moment: Moment,
@@ -510,7 +511,7 @@ fn put_cut(
     put_ends(ids, "cut", moment, ends, dropped, out)
 }
 
-// Puts the reply to a granted link or cut, by its word, behind what the vector holds.
+// Appends the reply to a granted link or cut, by its word.
 fn put_ends(
     ids: &IdTable,
     word: &'static str,
@@ -530,7 +531,7 @@ fn put_ends(
     Ok(())
 }
 
-// The text with the reply to a granted link or cut, by its word, behind it.
+// Returns the text with the reply to a granted link or cut appended, by its word.
 #[inline(always)]
 #[tactic(auto, unfolding(crate::specs::Facts::object_text))]
 fn with_ends(
@@ -564,7 +565,7 @@ fn with_ends(
     with_text(text, "}")
 }
 
-// Puts the reply to a granted release behind what the vector holds.
+// Appends the reply to a granted release.
 fn put_release(ids: &IdTable, moment: Moment, node: Rank, out: &mut Vec<u8>) -> Result<(), Memory>
     requires { node < length ids.now }
     ensures { Puts (object_text ids.now
@@ -575,7 +576,7 @@ fn put_release(ids: &IdTable, moment: Moment, node: Rank, out: &mut Vec<u8>) -> 
     Ok(())
 }
 
-// The text with the reply to a granted release behind it.
+// Returns the text with the reply to a granted release appended.
 #[inline(always)]
 #[tactic(auto, unfolding(crate::specs::Facts::object_text))]
 fn with_release(text: Vec<u8>, ids: &IdTable, moment: Moment, node: Rank) -> Vec<u8>
@@ -593,7 +594,7 @@ fn with_release(text: Vec<u8>, ids: &IdTable, moment: Moment, node: Rank) -> Vec
     with_text(text, "}")
 }
 
-// Puts a denial behind what the vector holds: the parts of `put_denial_parts` make one object.
+// Appends a denial: the parts of `put_denial_parts` make one object.
 fn put_denial(ids: &IdTable, denial: Denial, out: &mut Vec<u8>) -> Result<(), Memory>
     ensures puts { Puts (object_text ids.now (deny_fields denial)) TEXT_ROOM out.old out.new result }
     ensures count { HaveFittingCounts (deny_fields denial) }
@@ -601,7 +602,7 @@ fn put_denial(ids: &IdTable, denial: Denial, out: &mut Vec<u8>) -> Result<(), Me
     put_denial_parts(denial, out)
 }
 
-// Puts a denial behind what the vector holds, piece by piece.
+// Appends a denial, piece by piece.
 #[tactic(auto, unfolding(crate::specs::inside::Puts::deny_parts))]
 fn put_denial_parts(denial: Denial, out: &mut Vec<u8>) -> Result<(), Memory>
     ensures puts { Puts (deny_parts denial) TEXT_ROOM out.old out.new result }
@@ -622,7 +623,7 @@ fn put_denial_parts(denial: Denial, out: &mut Vec<u8>) -> Result<(), Memory>
     )
 }
 
-// Puts a denial's opening brace behind what the vector holds; of `stale` also the current number and a comma.
+// Appends a denial's opening brace; of `stale` also the current number and a comma.
 fn put_number_first(denial: Denial, out: &mut Vec<u8>) -> Result<(), Memory>
     ensures puts { Puts (number_front (current_number denial)) 40 out.old out.new result }
     ensures count { HaveFittingCounts (deny_fields denial) }
@@ -636,7 +637,7 @@ fn put_number_first(denial: Denial, out: &mut Vec<u8>) -> Result<(), Memory>
     }
 }
 
-// Puts the reply to a bye behind what the vector holds.
+// Appends the reply to a bye.
 fn put_bye(ids: &IdTable, out: &mut Vec<u8>) -> Result<(), Memory>
     ensures { Puts (object_text ids.now bye_fields) TEXT_ROOM out.old out.new result }
 {
@@ -645,7 +646,7 @@ fn put_bye(ids: &IdTable, out: &mut Vec<u8>) -> Result<(), Memory>
     Ok(())
 }
 
-// The text with the reply to a bye behind it.
+// Returns the text with the reply to a bye appended.
 #[inline(always)]
 #[tactic(auto, unfolding(crate::specs::Facts::object_text))]
 fn with_bye(text: Vec<u8>, ids: &IdTable) -> Vec<u8>
@@ -655,7 +656,7 @@ fn with_bye(text: Vec<u8>, ids: &IdTable) -> Vec<u8>
     with_text(text, "{\"ok\":\"bye\"}")
 }
 
-// Puts a refusal behind what the vector holds.
+// Appends a refusal.
 #[tactic(auto, unfolding(crate::specs::Facts::object_text))]
 fn put_refusal(ids: &IdTable, refused: Refused, out: &mut Vec<u8>) -> Result<(), Memory>
     ensures { Puts (object_text ids.now (refuse_fields refused)) TEXT_ROOM out.old out.new result }
@@ -670,7 +671,7 @@ fn put_refusal(ids: &IdTable, refused: Refused, out: &mut Vec<u8>) -> Result<(),
     )
 }
 
-// The word that a reply has for a refusal.
+// Returns the word of a refusal in its reply.
 fn refusal_name(refused: Refused) -> &'static str
     ensures text { result.now ≡ refusal_name refused }
     ensures short { length result.now ≤ 40 }
@@ -683,7 +684,7 @@ fn refusal_name(refused: Refused) -> &'static str
     }
 }
 
-// The text with the identifier of a node behind it.
+// Returns the text with the identifier of a node appended.
 #[inline(always)]
 pub(crate) fn with_node(text: Vec<u8>, ids: &IdTable, node: Rank) -> Vec<u8>
     requires node { node < length ids.now }
@@ -695,7 +696,7 @@ pub(crate) fn with_node(text: Vec<u8>, ids: &IdTable, node: Rank) -> Vec<u8>
     with_short_number(text, ids.id_of(node))
 }
 
-// The text with a truth value behind it.
+// Returns the text with a truth value appended.
 #[inline(always)]
 fn with_truth(text: Vec<u8>, m: bool) -> Vec<u8>
     requires { length text.items + 5 ≤ vec_capacity text }
@@ -710,7 +711,7 @@ fn with_truth(text: Vec<u8>, m: bool) -> Vec<u8>
     }
 }
 
-// The text with the quoted word of a kind of rule behind it, or with null.
+// Returns the text with the quoted word of a kind of rule appended, or with null.
 #[inline(always)]
 fn with_kind_or_null(text: Vec<u8>, kind: Option<Kind>) -> Vec<u8>
     requires { length text.items + 13 ≤ vec_capacity text }
@@ -724,7 +725,7 @@ fn with_kind_or_null(text: Vec<u8>, kind: Option<Kind>) -> Vec<u8>
     }
 }
 
-// The text with a number behind it. Its contract tells, too, that the number fits 64 bits.
+// Returns the text with a number appended. Its contract also says that the number fits 64 bits.
 #[inline(always)]
 pub(crate) fn with_count(text: Vec<u8>, count: u64) -> Vec<u8>
     requires { length text.items + 20 ≤ vec_capacity text }
@@ -736,7 +737,7 @@ pub(crate) fn with_count(text: Vec<u8>, count: u64) -> Vec<u8>
     with_number(text, count)
 }
 
-// The text with a truth value behind it, between the key `m` and the key `node`, as one literal.
+// Returns the text with a truth value appended, between the key `m` and the key `node`, as one literal.
 #[inline(always)]
 pub(crate) fn with_m_then_node(text: Vec<u8>, m: bool) -> Vec<u8>
     requires { length text.items + 18 ≤ vec_capacity text }
@@ -752,7 +753,7 @@ pub(crate) fn with_m_then_node(text: Vec<u8>, m: bool) -> Vec<u8>
     }
 }
 
-// The text with the identifier of the node that a register points at behind it, or with null.
+// Returns the text with the identifier of the node that a register points at appended, or with null.
 #[inline(always)]
 fn with_pointer(text: Vec<u8>, ids: &IdTable, p: Option<Rank>) -> Vec<u8>
     requires node { IfSome p (λ j. j < length ids.now) }
@@ -767,7 +768,7 @@ fn with_pointer(text: Vec<u8>, ids: &IdTable, p: Option<Rank>) -> Vec<u8>
     }
 }
 
-// The text with what a register points at behind it, an identifier or null, and the end of the object.
+// Returns the text with what a register points at appended, an identifier or null, and the end of the object.
 #[inline(always)]
 pub(crate) fn with_pointer_at_end(text: Vec<u8>, ids: &IdTable, p: Option<Rank>) -> Vec<u8>
     requires node { IfSome p (λ j. j < length ids.now) }
@@ -782,7 +783,7 @@ pub(crate) fn with_pointer_at_end(text: Vec<u8>, ids: &IdTable, p: Option<Rank>)
     }
 }
 
-// The text with the quoted word of a kind of rule behind it.
+// Returns the text with the quoted word of a kind of rule appended.
 #[inline(always)]
 pub(crate) fn with_kind(text: Vec<u8>, kind: Kind) -> Vec<u8>
     requires room { length text.items + 13 ≤ vec_capacity text }

@@ -1,4 +1,4 @@
-//! The text of a report. Where an error comes out, there was no memory for what was to be put.
+//! The text of a report. An error means that memory ran out.
 ghost use Rattle.std.specs.Prelude.{codes, decimal, ◌≡◌, ◌≤◌, ◌<◌, ◌+◌, ◌^◌, ◌++◌, length, OnOk, vec_capacity};
 ghost use Rattle.mml_ids.specs.Pieces.{truth_text};
 ghost use Rattle.mml_stable.specs.Reports.{NamesNodes};
@@ -10,11 +10,10 @@ use crate::reply_writing::with_count;
 use mml_ids::{IdTable, Memory, make_room, taken, with_text};
 use mml_stable::Report;
 
-// Enough bytes for what a report says before its lists.
+// Enough bytes for the part of a report before its lists.
 const REPORT_ROOM: usize = 64;
 
-/// Puts the text of a report, without a newline, behind what the vector holds. Where memory runs out, at
-/// most a front of it stands there.
+/// Appends the text of a report, without a newline. If memory runs out, at most a front of it is appended.
 #[tactic(auto, unfolding(crate::specs::Facts::object_text))]
 pub(crate) fn put_report(ids: &IdTable, report: &Report, out: &mut Vec<u8>) -> Result<(), Memory>
     requires { NamesNodes (length ids.now) report.now }
@@ -34,7 +33,7 @@ pub(crate) fn put_report(ids: &IdTable, report: &Report, out: &mut Vec<u8>) -> R
     put_end(report.stable, out)
 }
 
-// Puts what stands before the lists of a report, behind what the vector holds: the number of the configuration.
+// Appends the part of a report before its lists: the number of the configuration.
 #[inline(always)]
 fn put_head(at: u64, out: &mut Vec<u8>) -> Result<(), Memory>
     ensures text { OnOk result (out.new.items ≡
@@ -49,7 +48,7 @@ fn put_head(at: u64, out: &mut Vec<u8>) -> Result<(), Memory>
     Ok(())
 }
 
-// Puts `part`, some of a report's text, behind what the vector holds.
+// Appends `part`, some of a report's text.
 #[inline(always)]
 fn put_part(part: &str, out: &mut Vec<u8>) -> Result<(), Memory>
     ensures text { OnOk result (out.new.items ≡ out.old.items ++ part.now) }
@@ -60,7 +59,7 @@ fn put_part(part: &str, out: &mut Vec<u8>) -> Result<(), Memory>
     Ok(())
 }
 
-// Puts what stands after the lists of a report, behind what the vector holds: whether the configuration is stable.
+// Appends the part of a report after its lists: whether the configuration is stable.
 #[inline(always)]
 fn put_end(stable: bool, out: &mut Vec<u8>) -> Result<(), Memory>
     ensures text { OnOk result (out.new.items ≡

@@ -7,14 +7,14 @@ use mml_ids::Word;
 use mml_policy::Command;
 use std::alloc::AllocError;
 
-/// What one line asks.
+/// A request, as one line asks it.
 #[derive(Debug, Drop)]
 pub enum Request {
-    /// To be known on this connection as the one with this name and key.
+    /// Asks that the connection is known as the participant with this name and key.
     Hello { name: Word, key: Word },
-    /// To be known no longer.
+    /// Asks that the connection is known as no one.
     Bye,
-    /// What only one who is known may ask.
+    /// A command, which only a known participant may give.
     Do(Command),
 }
 
@@ -23,12 +23,12 @@ pub enum Request {
 pub enum LineFault {
     /// The line is no request.
     Malformed,
-    /// A growth was refused.
+    /// Memory ran out.
     Memory,
 }
 
 impl LineFault {
-    /// How a line from which no request was read is refused: the refusal of the same name.
+    /// Returns the refusal of a line from which no request was read, under the same name.
     pub fn refusal(self) -> Refused
         ensures { result ≡ refusal_of self }
     {
@@ -42,7 +42,7 @@ impl LineFault {
 impl From<AllocError> for LineFault {
     ghost from_gives = { λ _ e. e ≡ Memory };
 
-    // A refused growth, told as the reason why no request was read.
+    // Turns a failed allocation into the reason why no request was read.
     fn from(_error: AllocError) -> LineFault {
         LineFault::Memory
     }

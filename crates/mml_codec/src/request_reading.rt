@@ -13,8 +13,8 @@ use mml_plain::{Fields, LineScratch, read_fields};
 use mml_policy::{Asked, Command};
 use std::alloc::Global;
 
-/// The request that a line, without its newline, is: `Malformed` where it is none, `Memory` where a growth
-/// was refused.
+/// Returns the request of a line, without its newline. Returns `Malformed` if the line is no request, and `Memory` if
+/// memory runs out.
 pub fn read_request(alloc: Global, line: &[u8]) -> Result<Request, LineFault>
     ensures { Gives is_line_memory (λ r. r) result (request_in line.now) }
 {
@@ -22,8 +22,8 @@ pub fn read_request(alloc: Global, line: &[u8]) -> Result<Request, LineFault>
     read_request_with(alloc, line, &mut scratch)
 }
 
-/// The request that a line, without its newline, is: `Malformed` where it is none, `Memory` where a growth was
-/// refused. Only a hello takes memory, and a line for which `scratch`, kept from line to line, has no room.
+/// Returns the request of a line, without its newline. Returns `Malformed` if the line is no request, and `Memory` if
+/// memory runs out. Only a hello allocates, and a line for which `scratch`, kept from line to line, has no room.
 pub fn read_request_with(
     alloc: Global,
     line: &[u8],
@@ -41,8 +41,8 @@ pub fn read_request_with(
     }
 }
 
-// The request that the fields of a line ask, by the word that the key `do` names; `Malformed` where they ask none.
-// Only a hello takes memory.
+// Returns the request that the fields of a line ask, by the word of the key `do`. Returns `Malformed` if they ask none.
+// Only a hello allocates.
 #[tactic(auto, unfolding(crate::specs::Requests::request, crate::specs::Requests::by_word))]
 fn request(alloc: Global, fields: &Fields<'_>) -> Result<Request, LineFault>
     ensures { Reads request fields.now result }
@@ -64,8 +64,8 @@ fn request(alloc: Global, fields: &Fields<'_>) -> Result<Request, LineFault>
     request.ok_or(LineFault::Malformed)
 }
 
-// The hello that the fields ask, with a copy of its name and key: `Malformed` where one of the two isn't there,
-// `Memory` where there is none for the copies.
+// Returns the hello that the fields ask, with copies of its name and key. Returns `Malformed` if one of the two is
+// missing, and `Memory` if memory runs out.
 #[tactic(auto, unfolding(crate::specs::Requests::hello_of))]
 fn hello_of(alloc: Global, fields: &Fields<'_>) -> Result<Request, LineFault>
     ensures { Reads hello_of fields.now result }
@@ -78,7 +78,7 @@ fn hello_of(alloc: Global, fields: &Fields<'_>) -> Result<Request, LineFault>
     })
 }
 
-// The see that the fields ask, if its node is there.
+// Returns the see that the fields ask, if it has a node.
 fn see_of(fields: &Fields<'_>) -> Option<Request>
     ensures { (d : Data) → Holds fields.now d → result ≡ node_of command.See d }
 {
@@ -86,7 +86,7 @@ fn see_of(fields: &Fields<'_>) -> Option<Request>
     Some(Request::Do(Command::See { node }))
 }
 
-// The look that the fields ask, if its node is there.
+// Returns the look that the fields ask, if it has a node.
 fn look_of(fields: &Fields<'_>) -> Option<Request>
     ensures { (d : Data) → Holds fields.now d → result ≡ node_of command.Look d }
 {
@@ -94,7 +94,7 @@ fn look_of(fields: &Fields<'_>) -> Option<Request>
     Some(Request::Do(Command::Look { node }))
 }
 
-// The link that the fields ask, if both nodes are there.
+// Returns the link that the fields ask, if it has both nodes.
 fn link_of(fields: &Fields<'_>) -> Option<Request>
     ensures { (d : Data) → Holds fields.now d → result ≡ ends_of command.Link d }
 {
@@ -103,7 +103,7 @@ fn link_of(fields: &Fields<'_>) -> Option<Request>
     Some(Request::Do(Command::Link { a, b }))
 }
 
-// The cut that the fields ask, if both nodes are there.
+// Returns the cut that the fields ask, if it has both nodes.
 fn cut_of(fields: &Fields<'_>) -> Option<Request>
     ensures { (d : Data) → Holds fields.now d → result ≡ ends_of command.Cut d }
 {
@@ -112,7 +112,7 @@ fn cut_of(fields: &Fields<'_>) -> Option<Request>
     Some(Request::Do(Command::Cut { a, b }))
 }
 
-// The release that the fields ask, if its node is there.
+// Returns the release that the fields ask, if it has a node.
 fn release_of(fields: &Fields<'_>) -> Option<Request>
     ensures { (d : Data) → Holds fields.now d → result ≡ node_of command.Release d }
 {
@@ -120,8 +120,8 @@ fn release_of(fields: &Fields<'_>) -> Option<Request>
     Some(Request::Do(Command::Release { node }))
 }
 
-// The move that the fields ask, if its node, the number of a configuration and the word of one of the four rules
-// are there, and for a marriage the partner.
+// Returns the move that the fields ask, if it has a node, the number of a configuration and the word of one of the four
+// rules, and for a marriage the partner.
 #[tactic(auto, unfolding(crate::specs::Requests::move_of, crate::specs::Requests::asked_at))]
 fn move_of(fields: &Fields<'_>) -> Option<Request>
     ensures { (d : Data) → Holds fields.now d → result ≡ move_of d }
@@ -138,7 +138,7 @@ fn move_of(fields: &Fields<'_>) -> Option<Request>
     Some(Request::Do(Command::Move { node, rule, at }))
 }
 
-// The fault that the fields ask, if its node and both registers are there.
+// Returns the fault that the fields ask, if it has a node and both registers.
 #[tactic(auto, unfolding(crate::specs::Requests::fault_of))]
 fn fault_of(fields: &Fields<'_>) -> Option<Request>
     ensures { (d : Data) → Holds fields.now d → result ≡ fault_of d }

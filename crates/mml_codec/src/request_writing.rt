@@ -1,4 +1,4 @@
-//! The text of requests. Where an error comes out, there was no memory for the text.
+//! The text of requests. An error means that memory ran out.
 ghost use Rattle.std.specs.Prelude.{◌≡◌, [], ◌∷◌, codes, Ok, IfOk, OnOk, OnErr};
 ghost use Rattle.serde_json.specs.Written.{compact_text};
 ghost use Rattle.mml_policy.specs.declared.command.Command.TheVariants as command;
@@ -15,8 +15,8 @@ use mml_ids::Memory;
 use mml_policy::{Asked, Command};
 use std::alloc::{AllocError, Global};
 
-/// Puts the text of a request, without its newline, instead of what the vector holds. Where memory runs
-/// out, the vector is left empty.
+/// Replaces the vector's bytes by the text of a request, without its newline. If memory runs out, the vector is left
+/// empty.
 pub fn write_request(alloc: Global, request: &Request, out: &mut Vec<u8>) -> Result<(), Memory>
     ensures text { OnOk result (out.new.items ≡ canonical request.now) }
     ensures again { OnOk result (request_in out.new.items ≡ Ok request.now) }
@@ -29,7 +29,7 @@ pub fn write_request(alloc: Global, request: &Request, out: &mut Vec<u8>) -> Res
     Ok(())
 }
 
-// The text of a request, without its newline.
+// Returns the text of a request, without its newline.
 #[tactic(auto, unfolding(crate::specs::Canonical::canonical))]
 fn text_of(alloc: Global, request: &Request) -> Result<Vec<u8>, AllocError>
     ensures writable { IsWritable request.now }
@@ -49,7 +49,7 @@ fn text_of(alloc: Global, request: &Request) -> Result<Vec<u8>, AllocError>
     }
 }
 
-// The text of the request for a command.
+// Returns the text of the request for a command.
 fn command_text(alloc: Global, command: Command) -> Result<Vec<u8>, AllocError>
     ensures writable { AreWritable (command_fields command) }
     ensures text { IfOk result (λ text. text.items ≡
@@ -68,7 +68,7 @@ fn command_text(alloc: Global, command: Command) -> Result<Vec<u8>, AllocError>
     }
 }
 
-// The text of the request for a command that names one node, by its word.
+// Returns the text of the request for a command that names one node, by its word.
 fn node_text(alloc: Global, verb: &'static str, node: u64) -> Result<Vec<u8>, AllocError>
     ensures { IfOk result (λ text. text.items ≡ compact_text (object_of
         ((codes "do", word verb.now) ∷ (codes "node", number node) ∷ []))) }
@@ -76,7 +76,7 @@ fn node_text(alloc: Global, verb: &'static str, node: u64) -> Result<Vec<u8>, Al
     object_text(alloc, &[("do", Word(verb)), ("node", Number(node))])
 }
 
-// The text of the request for a command that names two nodes, by its word.
+// Returns the text of the request for a command that names two nodes, by its word.
 fn ends_text(alloc: Global, verb: &'static str, a: u64, b: u64) -> Result<Vec<u8>, AllocError>
     ensures { IfOk result (λ text. text.items ≡ compact_text (object_of
         ((codes "a", number a) ∷ (codes "b", number b) ∷ (codes "do", word verb.now) ∷ []))) }
@@ -87,7 +87,7 @@ fn ends_text(alloc: Global, verb: &'static str, a: u64, b: u64) -> Result<Vec<u8
     )
 }
 
-// The text of the request for a move.
+// Returns the text of the request for a move.
 fn move_text(alloc: Global, node: u64, rule: Asked, at: u64) -> Result<Vec<u8>, AllocError>
     ensures { IfOk result (λ text. text.items ≡ compact_text (object_of
         (command_fields (command.Move node rule at)))) }
@@ -109,7 +109,7 @@ fn move_text(alloc: Global, node: u64, rule: Asked, at: u64) -> Result<Vec<u8>, 
     }
 }
 
-// The text of the request for a move whose rule names no partner, by the word of the rule.
+// Returns the text of the request for a move whose rule names no partner, by the word of the rule.
 fn plain_move_text(
     alloc: Global,
     rule: &'static str,
@@ -131,7 +131,7 @@ fn plain_move_text(
     )
 }
 
-// The text of the request for a fault.
+// Returns the text of the request for a fault.
 fn fault_text(alloc: Global, node: u64, p: Option<u64>, m: bool) -> Result<Vec<u8>, AllocError>
     ensures { IfOk result (λ text. text.items ≡ compact_text (object_of
         (command_fields (command.Fault node p m)))) }
@@ -147,7 +147,8 @@ fn fault_text(alloc: Global, node: u64, p: Option<u64>, m: bool) -> Result<Vec<u
     )
 }
 
-// What the key `p` of the request for a fault holds: the identifier that the register is to point at, or null.
+// Returns the value of the key `p` in the request for a fault: the identifier that the register shall point at, or
+// null.
 fn register(p: Option<u64>) -> Field<'static>
     ensures { field_view result ≡ register p }
 {

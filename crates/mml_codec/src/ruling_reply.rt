@@ -9,8 +9,8 @@ use mml_policy::Ruling;
 use mml_stable::report;
 use std::alloc::Global;
 
-/// The reply to a command that was judged. The board is that after the event, if one happened. Only
-/// a report takes memory, and the error is that there was none for it.
+/// Returns the reply to a command that was judged. The board is that after the event, if one happened. Only a report
+/// allocates. Returns `Memory` if memory runs out.
 pub fn reply_of(alloc: Global, board: &Board, ruling: Ruling) -> Result<Reply, Memory>
     ensures reply { IfOk result (λ r. r ≡ reply_of board.now ruling) }
     ensures memory { OnErr result (ruling ≡ rulings.Reported) }
@@ -26,7 +26,7 @@ pub fn reply_of(alloc: Global, board: &Board, ruling: Ruling) -> Result<Reply, M
     }
 }
 
-/// The reply to a command whose event happened: `at` is the configuration's number after the event, `place` the
+/// Returns the reply to a command whose event happened: `at` is the configuration's number after the event, `place` the
 /// event's place.
 pub fn reply_of_done(at: u64, place: u64, done: Done) -> Reply
     ensures { result ≡ reply_of_done at place done }

@@ -11,7 +11,7 @@ use Rattle.mml_convergence.specs.{Runs.is_of_step, Potential.whole_potential, Mo
 use Rattle.mml_convergence.proofs.{SumsLemmas.count_some, WholePotentialLemmas.whole_fell, WholePotentialLemmas.whole_most}
 use Rattle.mml_board.specs.declared.event.Event.TheVariants as event
 
--- what falls in each step by the moves at the least
+-- what falls in each step by the moves at least
 abbrev pub Falls : (Configuration → ℕ) → Type 0
 Falls P = (c : Configuration) (chosen : ℕ → Option Rule) → IsLawful c → AllHold c chosen → P (step c chosen) + count_below c.size (moves chosen) ≤ P c
 
@@ -37,19 +37,19 @@ moves_paid P falls r w (e ∷ es) k legal steps = grind (arith, event_pays P fal
 pub close_pays : (w : World) → IsWorld w → chosen_count w + whole_potential (configuration (after w event.Close)) ≤ whole_potential (configuration w)
 close_pays w k = close_paid whole_potential whole_fell w k
 
--- all potentials of a network together are 2 for each link and 3 for each node at the most
+-- all potentials of a network together are at most 2 for each link and 3 for each node
 pub network_most : (n : Network) → IsNetwork n → whole_potential (configuration_of n) ≤ 2 * link_count n + 3 * length n.registers
 unfolding link_count
 network_most n k = whole_most (configuration_of n) k.lawful
 
--- over grants, releases and closes, 2 moves for each link and 3 for each node are applied at the most
+-- over grants, releases and closes, at most 2 moves for each link and 3 for each node are applied
 pub moves_bounded : (r : RosterValue) (w : World) (es : List Event) → IsWorld w → is_legal_list r w es ≡ true → list_all is_of_step es ≡ true
     → applied_over w es ≤ 2 * link_count w.network + 3 * size w
 moves_bounded r w es k legal steps = omega (arith, moves_paid whole_potential whole_fell r w es k legal steps, network_most w.network k.network)
 
 -- ---- each close applies a move
 
--- a close where some move is chosen applies one at least
+-- a close applies at least one move if some move is chosen
 pub close_moves : (w : World) → IsWorld w → is_any_chosen w ≡ true → 1 ≤ chosen_count w
 unfolding chosen_count
 close_moves w k any =
@@ -65,7 +65,7 @@ closes_fewer r w (e ∷ es) k legal = grind (arith, one e, closes_fewer r (after
     one event.Close p = close_moves w k p
     one _ p = omega arith
 
--- over grants, releases and closes, there are 2 closes for each link and 3 for each node at the most
+-- over grants, releases and closes, there are at most 2 closes for each link and 3 for each node
 pub closes_bounded : (r : RosterValue) (w : World) (es : List Event) → IsWorld w → is_legal_list r w es ≡ true → list_all is_of_step es ≡ true
     → count_closes es ≤ 2 * link_count w.network + 3 * size w
 closes_bounded r w es k legal steps = omega (arith, closes_fewer r w es k legal, moves_bounded r w es k legal steps)

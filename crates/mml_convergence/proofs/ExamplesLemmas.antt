@@ -27,7 +27,7 @@ shape linked registers = record { size = length registers; linked = linked; p = 
 abbrev chosen_among : List Regs → List (Option Rule) → ℕ
 chosen_among registers chosen = count_below (length registers) (λ i. is_some (chosen_at chosen i))
 
--- the events are grants of student 0 and closes, legal where this student owns the nodes, and apply n moves
+-- the events are grants of student 0 and closes, legal if this student owns the nodes, and apply n moves
 abbrev tells : (ℕ → ℕ → Bool) → List Regs → List (Option Rule) → List Event → ℕ → Bool
 tells linked registers chosen [] n = n == 0
 tells linked registers chosen (event.Grant s i rule ∷ es) n =
@@ -40,7 +40,7 @@ tells linked registers chosen (event.Close ∷ es) n =
     (replicate (length registers) None) es (n - chosen_among registers chosen))
 tells linked registers chosen (_ ∷ es) n = false
 
--- what it tells holds of a world with these links, registers and choices
+-- it holds of a world with these links, registers and choices
 sound : (r : RosterValue) (w : World) (es : List Event) (n : ℕ) → ((i : ℕ) → i < size w → owns r (who.Student 0) i ≡ true)
     → tells (configuration w).linked w.network.registers w.chosen es n ≡ true
     → (is_legal_list r w es ≡ true) × (applied_over w es ≡ n)

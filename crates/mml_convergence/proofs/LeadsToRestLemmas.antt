@@ -1,4 +1,4 @@
--- From every world a grant and a close for each move lead to where no node is privileged.
+-- From every world, a grant and a close for each move lead to a state with no node privileged.
 use Rattle.std.proofs.Common.{◌≡◌, ℕ, zero, suc, ◌+◌, ◌*◌, ◌≤◌, ◌⊎◌, Bool, true, false, List, [], ◌∷◌, set, None, Some, is_some, inl, inr, refl, ap, arith}
 use Rattle.std.proofs.lemmas.{Bool.and_from, Bool.and_parts, Bool.Decides.nat_tests, List.get_or-set_same}
 use Rattle.mml_ids.specs.Search.{some_below}
@@ -86,7 +86,7 @@ by_moves (suc n) r w k quiet le = elim (next_move r w k quiet) [
       )
 ]
 
--- first a close, where something is chosen
+-- first a close, if something is chosen
 pub reached : (r : RosterValue) (w : World) → IsWorld w → EachHasOwner r (size w) → Reached r w (4 * link_count w.network + 6 * size w)
 reached r w k owned = go (is_any_chosen w) refl
   where

@@ -56,7 +56,7 @@ open_counts c a b l linked ea eb =
     let range = l.in_range a b linked in
     grind (arith, nat_tests, count_two c.size a b (is_married c) (λ j. true) (λ j e. refl) (apart c a b l linked) range.0 range.1 ea eb refl refl, apart, count_all)
 
--- where some node isn't married, fewer than all nodes are
+-- if some node isn't married, fewer than all nodes are
 pub single_counts : (c : Configuration) (i : ℕ) → i < c.size → is_married c i ≡ false → married_count c + 1 ≤ c.size
 single_counts c i lt e = omega (arith, count_more c.size i (is_married c) (λ j. true) (λ j e. refl) lt e refl, count_all c.size)
 

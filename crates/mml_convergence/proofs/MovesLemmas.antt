@@ -86,7 +86,7 @@ marries_lower-means o k i e = grind (arith, nat_tests, false≢true, and_parts, 
 
 -- ---- what a move does
 
--- where an update may be applied, m is wrong
+-- if an update may be applied, m is wrong
 pub updates : (c : Configuration) (i : ℕ) → guard c i Rule.Update ≡ true → c.m i ≡ not (is_married c i)
 updates c i h = beq-false (c.m i) (is_married c i) (not-true _ h)
 
@@ -96,7 +96,7 @@ pub record Makes (c : Configuration) (i j : ℕ) : Type 0 where
   pub null : c.p i ≡ None
   pub partner : (c.p j ≡ Some i) ⊎ ((i < j) × (c.p j ≡ None) × (c.m j ≡ false))
 
--- where a move makes a pointer, the node pointed nowhere, its m is right, and it now points at a suitor or a candidate
+-- if a move makes a pointer, the node pointed nowhere, its m is right, and it now points at a suitor or a candidate
 pub makes : (c : Configuration) (i j : ℕ) (o : Option Rule) → Holds c i o → holds (c.p i) j ≡ false → (moved c i o).p ≡ Some j → Makes c i j
 makes c i j None h off e = absurd (both_ways (holds (c.p i) j) off (holds-from (c.p i) j e))
 makes c i j (Some Rule.Update) h off e = absurd (both_ways (holds (c.p i) j) off (holds-from (c.p i) j e))

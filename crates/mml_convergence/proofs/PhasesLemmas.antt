@@ -57,7 +57,7 @@ any_stays c chosen l h p = tt
 pub modest_brings : (i : ℕ) → Brings Any (Modest i) i
 modest_brings i = grind (arith, nat_tests, modest_stays, modest_idle, modest_moves)
 
--- no step makes m true at a node that isn't married, where it was true at none
+-- no step makes m true at a node that isn't married, if it was true at none
 pub modest_each : Stays (Each Modest)
 modest_each c chosen l h p i lt = modest_stays c chosen l h i (p i lt)
 
@@ -121,7 +121,7 @@ wooed_calm s t c chosen l h calm p = search (rules, hopeful_calm, courted_kept)
 abbrev pub Never : Configuration → Type 0
 Never c = ⊥
 
--- where only married nodes have m true, after its turn a node points at no lower one, unless it is married
+-- if only married nodes have m true, after its turn a node points at no lower one, unless it is married
 pub upward_brings : (i : ℕ) → Brings (Each Modest) (λ c. i < c.size → Upward i c) i
 upward_brings i = grind (arith, nat_tests, upward_stays, upward_idle, upward_moves)
 
@@ -149,7 +149,7 @@ wedding_brings s t = record {
   moves = λ c chosen r l h calm p e. let k = p.before.settled in courted_moves c chosen l h calm k.modest k.upward s t p.pair r e;
 }
 
--- ---- where no node is married
+-- ---- if no node is married
 
 -- a pointer leads upwards, or a lower node points nowhere, and a higher one linked to it nowhere else
 pub record IsDawning (a b : ℕ) (c : Configuration) : Type 0 where

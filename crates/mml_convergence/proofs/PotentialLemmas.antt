@@ -40,7 +40,7 @@ module _ (c : Configuration) (chosen : ℕ → Option Rule) (l : IsLawful c) (h 
   lower_pair : (i j : ℕ) → c.m i ≡ false → c.p j ≡ Some i → next.p i ≡ Some j → j < i → is_married next i ≡ true
   lower_pair i j off e to lt = married-from next i j lawful to (holds-true (next.p j) i (suitor_kept i j e off lt))
 
-  -- a free node points down only where it did
+  -- a free node points down only if it did
   down_kept : (i : ℕ) → is_married next i ≡ false → points_down next i ≡ true → points_down c i ≡ true
   down_kept i unmarried down = go (next.p i) refl down
     where

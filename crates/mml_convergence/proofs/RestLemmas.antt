@@ -1,4 +1,4 @@
--- A run that is over has ended where no node is privileged; each run can be led there.
+-- A run that is over has ended with no node privileged; each run can be led there.
 use Rattle.std.proofs.Common.{◌≡◌, ℕ, zero, suc, ◌<◌, true, false, ◌==◌, List, [], ◌∷◌, length, Option, None, Some, is_some, sym, refl, ap, ◌∙◌, arith}
 use Rattle.std.specs.List.{list_any}
 use Rattle.std.proofs.lemmas.Bool.{false≢true, both_ways, or_left, eq-eqb, false_from_ne_true, and_right, Decides.nat_tests}
@@ -15,14 +15,14 @@ use Rattle.mml_board.specs.declared.event.Event.TheVariants as event
 
 -- ---- what is chosen
 
--- where no move is chosen, none is chosen for any one node
+-- if no move is chosen, none is chosen for any one node
 pub none_chosen : (xs : List (Option Rule)) (i : ℕ) → list_any is_some xs ≡ false → chosen_at xs i ≡ None
 none_chosen [] i e = refl
 none_chosen (Some r ∷ xs) i e = absurd (false≢true (sym e))
 none_chosen (None ∷ xs) zero e = refl
 none_chosen (None ∷ xs) (suc i) e = none_chosen xs i e
 
--- where a move is chosen for a node, some move is chosen
+-- if a move is chosen for a node, some move is chosen
 pub any_chosen : (xs : List (Option Rule)) (i : ℕ) → is_some (chosen_at xs i) ≡ true → list_any is_some xs ≡ true
 any_chosen [] i e = absurd (false≢true e)
 any_chosen (Some r ∷ xs) i e = refl
@@ -36,7 +36,7 @@ pub may_move : (r : RosterValue) (w : World) (i : ℕ) → IsWorld w → i < siz
     → (rule : Rule) × ((s : ℕ) → owns r (who.Student s) i ≡ true → is_legal r w (event.Grant s i rule) ≡ true)
 may_move r w i k lt privileged none = grind (arith, nat_tests, privileged-means)
 
--- ---- where no node is privileged
+-- ---- if no node is privileged
 
 stable_guard : (w : World) → IsWorld w → IsStable (configuration w) → (i : ℕ) (rule : Rule) → i < size w → guard (configuration w) i rule ≡ false
 stable_guard w k stable i rule lt = idle-guard (configuration w) i rule k.network.lawful (stable i lt)
@@ -59,7 +59,7 @@ stable_impossible w event.Close k stable of_step = none (w.chosen) (stable_uncho
     none (Some x ∷ xs) h = absurd (false≢true (sym (h 0)))
 stable_impossible w _ k stable of_step = absurd (false≢true of_step)
 
--- where no node is privileged, no grant, release or close is legal
+-- if no node is privileged, no grant, release or close is legal
 pub stable_final : (r : RosterValue) (w : World) (e : Event) → IsWorld w → IsStable (configuration w) → is_of_step e ≡ true → is_legal r w e ≡ false
 stable_final r w e k stable of_step = and_right (has_right_asker r e) (is_possible w e) (stable_impossible w e k stable of_step)
 
@@ -84,7 +84,7 @@ pub same_size : (w : World) (es : List Event) → size (world_of w es) ≡ size 
 same_size w [] = refl
 same_size w (e ∷ es) = same_size (after w e) es ∙ size-after w e
 
--- a run that is over has ended where no node is privileged and each link has an end in a pair
+-- a run that is over has ended with no node privileged, and each link has an end in a pair
 pub ended : (r : RosterValue) (w : World) (es : List Event) → IsWorld w → EachHasOwner r (size w) → is_legal_list r w es ≡ true → IsOver r (world_of w es)
     → IsStable (configuration (world_of w es)) × IsMaximal (configuration (world_of w es))
 ended r w es k owned legal over =

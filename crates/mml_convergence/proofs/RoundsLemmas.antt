@@ -1,4 +1,4 @@
--- Four rounds make two more nodes married, so four for each two nodes lead to where no node is privileged.
+-- Four rounds make two more nodes married, so four for each two nodes lead to a state with no node privileged.
 use Rattle.std.proofs.Common.{◌≡◌, ℕ, zero, suc, ◌+◌, ◌*◌, ◌-◌, ◌<◌, ◌≤◌, ◌⊎◌, inl, inr, Bool, true, false, not, List, [], ◌∷◌, Option, None, Some, sym, refl, ap, ◌∙◌, subst, arith}
 use Rattle.std.specs.List.{list_all}
 use Rattle.std.proofs.lemmas.{List.append-nil, Bool.or_right, Bool.both_ways, Bool.false_from_ne_true, Bool.cases_lt, Bool.cases_order, Bool.Decides.nat_tests}
@@ -78,7 +78,7 @@ Enough r n m b =
     (w : World) (es : List Event) (k : ℕ) → IsRun r w es → IsSettled (configuration w) → size w ≡ n → m ≤ married_count (configuration w) → b ≤ k
     → Rounds k w es → EndsStable w es
 
--- where m are married, and b rounds are enough for two more
+-- if m are married, and b rounds are enough for two more
 module _ (r : RosterValue) (n m b : ℕ) (enough : Enough r n (m + 2) b) where
   -- two more are married after the round
   grown : (w : World) (es : List Event) (k : ℕ) (u : IsTurn r w es k) → IsSettled (configuration w) → size w ≡ n → (m + 2 ≤ n → b + 1 ≤ k)
@@ -158,7 +158,7 @@ module _ (r : RosterValue) (n m b : ℕ) (enough : Enough r n (m + 2) b) where
             (λ fits. let fit = room fits in omega (arith, fit, is)) u.rounds
       ])
 
-  -- where all are married: one round
+  -- if all are married: one round
   from_all : (w : World) (es : List Event) (k : ℕ) → IsRun r w es → size w ≡ n → m ≤ married_count (configuration w) → n ≤ m
       → IsSettled (configuration w) → 0 < k → Rounds k w es → EndsStable w es
   from_all w es k run here le full settled some rounds =
@@ -187,7 +187,7 @@ settled_runs (suc (suc d)) r n m room w es k run settled here le enough rounds =
     from_settled r n m (rounds_for d + 1) (settled_runs d r n (m + 2) (omega (arith, room))) w es k run here le settled (omega arith)
     (λ fits. omega (arith, enough)) rounds
 
--- ---- where no node is married
+-- ---- if no node is married
 
 record IsDawn (c : Configuration) : Type 0 where
   low : ℕ
@@ -305,7 +305,7 @@ rounds_end r w es k run room rounds = elim (cases_lt 0 (size w)) [
       omega (arith, ap rounds_for two, room, is)) u.rounds)
 ]
 
--- that is two rounds for each node at the most
+-- that is at most two rounds for each node
 pub most_rounds : (n : ℕ) → rounds_for n ≤ 2 * n
 most_rounds zero = omega arith
 most_rounds (suc zero) = omega arith
@@ -338,13 +338,13 @@ rounds_fewer r w es k world legal of_step rounds goes_on = elim (cases_lt k (rou
   | inr room ↦ absurd (goes_on (rounds_end r w es k (record { world = world; legal = legal; of_step = of_step }) room rounds))
 ]
 
--- ---- where no node is privileged there are as many as one likes
+-- ---- if no node is privileged, there are as many rounds as one likes
 
 last_round : (w : World) (es : List Event) → IsStable (configuration (world_of w es)) → IsRound w es
 last_round w [] stable i lt = ap not (stable i lt)
 last_round w (e ∷ es) stable i lt = or_right _ _ (or_right _ _ (last_round (after w e) es stable i (omega (arith, lt, size-after w e))))
 
--- events that end where no node is privileged are as many rounds as one likes
+-- events that end with no node privileged are as many rounds as one likes
 pub stable_rounds : (k : ℕ) (w : World) (es : List Event) → IsStable (configuration (world_of w es)) → Rounds k w es
 stable_rounds zero w es stable = tt
 stable_rounds (suc k) w es stable = (es, [], sym (append-nil es), last_round w es stable, stable_rounds k (world_of w es) [] stable)

@@ -43,7 +43,7 @@ pub run_end : (r : RosterValue) (w : World) (es : List Event) → IsRun r w es �
 run_end r w [] k = k.world
 run_end r w (e ∷ es) k = run_end r (after w e) es (run_on r w e es k)
 
--- where no node is privileged no event goes on
+-- if no node is privileged no event goes on
 pub stable_end : (r : RosterValue) (w : World) (es : List Event) → IsRun r w es → IsStable (configuration w) → IsStable (configuration (world_of w es))
 stable_end r w [] k stable = stable
 stable_end r w (e ∷ es) k stable = absurd (both_ways (is_legal r w e) (stable_final r w e k.world stable (first_of_step r w e es k)) (first_legal r w e es k))

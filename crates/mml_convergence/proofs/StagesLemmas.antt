@@ -74,7 +74,7 @@ pub record IsFacing (a b : ℕ) (c : Configuration) : Type 0 where
 pub self : (b : Bool) → b ≡ not b → ⊥
 self b e = grind (arith, nat_tests, false≢true)
 
--- a rule is applied where m is right, or makes it so
+-- a rule is applied if m is right, or makes it so
 effect_right : (c : Configuration) (i : ℕ) (r : Rule) → guard c i r ≡ true → (effect c i r).m ≡ is_married c i
 effect_right c i r g = grind (arith, nat_tests, marries, seduced, seduces, abandoned, abandons)
 
@@ -98,11 +98,11 @@ climb (suc n) x y c l upward hopeful room free e = go (λ z. climb n y z c l upw
     go further None f = (x, y, record { suitor = e; null = f })
     go further (Some z) f = grind (arith, nat_tests, l.in_range x y (l.to_linked x y e))
 
--- where free nodes point only upwards and at free ones, and one does point, some node that points nowhere has a suitor
+-- if free nodes point only upwards and at free ones, and one does point, some node that points nowhere has a suitor
 pub courted : (c : Configuration) → IsLawful c → Each Upward c → Each Hopeful c → IsCourting c → (s : ℕ) × (t : ℕ) × IsCourted s t c
 courted c l upward hopeful k = climb c.size k.who k.whom c l upward hopeful (omega arith) k.free k.points
 
--- ---- where no rule may be applied at i
+-- ---- if no rule may be applied at i
 
 -- a node that isn't privileged has m false, unless it is married
 pub modest_idle : (c : Configuration) (i : ℕ) → IsLawful c → is_privileged c i ≡ false → Modest i c
@@ -116,12 +116,12 @@ upward_idle c i l idle free j e = (quiet-vain c i j l (idle-quiet c i l idle) e 
 pub aware_idle : (c : Configuration) (i : ℕ) → IsLawful c → is_privileged c i ≡ false → Aware i c
 aware_idle c i l idle on = idle-settled c i l idle ∙ on
 
--- where married nodes have m true, an unmarried node that isn't privileged points at no married one
+-- if married nodes have m true, an unmarried node that isn't privileged points at no married one
 pub hopeful_idle : (c : Configuration) (i : ℕ) → IsLawful c → Each Aware c → is_privileged c i ≡ false → Hopeful i c
 hopeful_idle c i l aware idle free j e = false_from_ne_true (is_married c j) (λ on.
     both_ways (c.m j) (quiet-vain c i j l (idle-quiet c i l idle) e free).0 (aware j (pointee_in c i j l e) on))
 
--- of two linked nodes that aren't married, one points at a node, where the lower one isn't privileged
+-- of two linked nodes that aren't married, one points at a node, if the lower one isn't privileged
 pub courting_idle : (c : Configuration) (a b : ℕ) → IsLawful c → Each Modest c → IsOpen a b c → is_privileged c a ≡ false → IsCourting c
 courting_idle c a b l modest k idle = grind (arith, nat_tests, no_open_link)
 
@@ -129,7 +129,7 @@ courting_idle c a b l modest k idle = grind (arith, nat_tests, no_open_link)
 pub courted_idle : (c : Configuration) (s t : ℕ) → IsLawful c → IsCourted s t c → is_privileged c t ≡ false → ⊥
 courted_idle c s t l k idle = quiet-alone c s t l k.suitor k.null (idle-quiet c t l idle)
 
--- where no node is married, one that points nowhere and faces a higher one that points nowhere else is privileged
+-- if no node is married, one that points nowhere and faces a higher one that points nowhere else is privileged
 pub facing_idle : (c : Configuration) (a b : ℕ) → IsLawful c → Each Modest c → IsLone c → IsFacing a b c → is_privileged c a ≡ false → ⊥
 facing_idle c a b l modest lone k idle = grind (arith, nat_tests, no_open_link, quiet-alone, idle-quiet)
 

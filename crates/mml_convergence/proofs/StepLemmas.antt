@@ -30,7 +30,7 @@ weight false x = 1
 abbrev pub change : Bool → Bool → ℕ
 change m n = cond (beq m n) 0 1
 
--- a move leaves m as it was, or makes it right where it was wrong
+-- a move leaves m as it was, or makes it right if it was wrong
 pub moved-m : (c : Configuration) (i : ℕ) (o : Option Rule) → ((r : Rule) → o ≡ Some r → guard c i r ≡ true)
     → ((moved c i o).m ≡ c.m i) ⊎ (((moved c i o).m ≡ is_married c i) × (c.m i ≡ not (is_married c i)))
 moved-m c i o h = grind (arith, nat_tests, beq-false, not-true)
@@ -51,6 +51,6 @@ pub step-weight : (c : Configuration) (chosen : ℕ → Option Rule) → IsLawfu
     → change (c.m i) ((step c chosen).m i) + weight ((step c chosen).m i) (is_married (step c chosen) i) ≤ weight (c.m i) (is_married c i)
 step-weight c chosen l h i = grind (arith, nat_tests, step-married, moved-m)
 
--- a node's weight is 2 at the most
+-- a node's weight is 2 at most
 pub weight_at_most : (m x : Bool) → weight m x ≤ 2
 weight_at_most m x = grind arith

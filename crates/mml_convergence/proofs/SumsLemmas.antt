@@ -4,7 +4,7 @@ use Rattle.std.proofs.lemmas.Bool.Decides.{nat_tests}
 use Rattle.mml_ids.specs.Search.{count_below}
 use Rattle.mml_convergence.specs.Potential.{sum_below}
 
--- a sum is at most another where each of its terms is
+-- a sum is at most another if each of its terms is
 pub sum_kept : (n : ℕ) (f g : ℕ → ℕ) → ((j : ℕ) → j < n → f j ≤ g j) → sum_below n f ≤ sum_below n g
 sum_kept zero f g le = omega arith
 sum_kept (suc n) f g le = omega (arith, sum_kept n f g (λ j lt. le j (omega arith)), le n)
@@ -19,23 +19,23 @@ pub sum_charged : (n : ℕ) (t f g : ℕ → ℕ) → ((j : ℕ) → f j + t j �
 sum_charged zero t f g le = omega arith
 sum_charged (suc n) t f g le = omega (arith, sum_charged n t f g le, le n)
 
--- each is 3 at the most, and 2 for each that is counted
+-- each is 3 at most, and 2 for each that is counted
 pub sum_most : (n : ℕ) (f g : ℕ → ℕ) → ((j : ℕ) → f j ≤ 3 + 2 * g j) → sum_below n f ≤ 3 * n + 2 * sum_below n g
 sum_most zero f g le = omega arith
 sum_most (suc n) f g le = omega (arith, sum_most n f g le, le n)
 
--- a sum of parts, each 2 at the most and 1 more where a second test passes too
+-- a sum of parts, each 2 at most and 1 more if a second test passes too
 pub sum_parts : (n : ℕ) (t u : ℕ → Bool) (f : ℕ → ℕ) → ((j : ℕ) → f j ≤ 2 + cond (u j) 1 0)
     → sum_below n (λ j. cond (t j) (f j) 0) ≤ 2 * count_below n t + count_below n (λ j. t j && u j)
 sum_parts zero t u f le = omega arith
 sum_parts (suc n) t u f le = grind (arith, sum_parts n t u f le, le n)
 
--- where no number below n passes, none is counted
+-- if no number below n passes, none is counted
 pub count_none : (n : ℕ) (t : ℕ → Bool) → ((j : ℕ) → j < n → t j ≡ false) → count_below n t ≡ 0
 count_none zero t off = refl
 count_none (suc n) t off = grind (arith, count_none n t, off)
 
--- a test that is true of one number at the most
+-- a test that is true of one number at most
 pub count_one_at_most : (n k : ℕ) (t : ℕ → Bool) → ((j : ℕ) → t j ≡ true → j ≡ k) → count_below n t ≤ 1
 count_one_at_most zero k t only = omega arith
 count_one_at_most (suc n) k t only = grind (arith, count_one_at_most n k t only, count_none n t, only n)
@@ -45,7 +45,7 @@ pub count_same : (n : ℕ) (s t : ℕ → Bool) → ((j : ℕ) → j < n → s j
 count_same zero s t same = refl
 count_same (suc n) s t same = grind (arith, count_same n s t, same)
 
--- where some number below n passes, one at least is counted
+-- if some number below n passes, one at least is counted
 pub count_some : (n i : ℕ) (t : ℕ → Bool) → i < n → t i ≡ true → 1 ≤ count_below n t
 count_some zero i t lt on = absurd (omega arith)
 count_some (suc n) i t lt on = grind (arith, count_some n i t)

@@ -1,4 +1,4 @@
--- All potentials together: they fall by the moves of a step, and are 2 for each link and 3 for each node at the most.
+-- All potentials together: they fall by the moves of a step, and are 2 for each link and 3 for each node at most.
 use Rattle.std.proofs.Common.{◌≡◌, ◌==◌, ℕ, zero, suc, ◌+◌, ◌*◌, ◌<◌, ◌≤◌, Bool, true, false, cond, not, ◌&&◌, Option, None, Some, is_some, inl, inr, refl, sym, ap, arith, nat_lt}
 use Rattle.std.specs.Option.{option_map_or}
 use Rattle.std.proofs.lemmas.Bool.{and_parts, and_from, and_right, ltb-true, lt-ltb, le-ltb, eqb-true, eq-eqb, false_from_ne_true, cases_Bool, Decides.nat_tests}
@@ -44,7 +44,7 @@ all_charged chosen n =
     (λ k lt. one_charged (chosen k) k n lt) in
     omega (arith, split, turned, joined, each, sum_of_tests n (moves chosen))
 
--- in a step all potentials together fall by the number of moves at the least
+-- in a step all potentials together fall by the number of moves at least
 pub whole_fell : (c : Configuration) (chosen : ℕ → Option Rule) → IsLawful c → AllHold c chosen
     → whole_potential (step c chosen) + count_below c.size (moves chosen) ≤ whole_potential c
 unfolding whole_potential
@@ -98,7 +98,7 @@ counted_above c (suc n) l =
       same_bool,
     )
 
--- all potentials together are 2 for each link and 3 for each node at the most
+-- all potentials together are 2 for each link and 3 for each node at most
 pub whole_most : (c : Configuration) → IsLawful c → whole_potential c ≤ 2 * links_below c c.size + 3 * c.size
 unfolding whole_potential
 whole_most c l = let most = sum_most c.size (potential c) (λ i. count_below c.size (is_above c i)) (potential_most c) in omega (arith, most, counted_above c c.size l)

@@ -25,7 +25,7 @@ is_grant_or_close (event.Grant s i rule) = true
 is_grant_or_close event.Close = true
 is_grant_or_close _ = false
 
--- a legal list of grants and closes, n at the most, after which no node is privileged
+-- a legal list of at most n grants and closes after which no node is privileged
 pub record LeadsToRest (r : RosterValue) (w : World) (n : ℕ) (es : List Event) : Type 0 where
   pub legal : is_legal_list r w es ≡ true
   pub forward : list_all is_grant_or_close es ≡ true

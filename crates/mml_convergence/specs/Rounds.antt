@@ -1,4 +1,4 @@
--- Rounds of a run: within each, every node has its turn.
+-- Rounds of a run: in each, every node has its turn.
 use Rattle.std.specs.Prelude.{◌≡◌, ℕ, zero, suc, ◌+◌, ◌<◌, true, not, ◌&&◌, ◌||◌, Bool, List, [], ◌∷◌, ◌++◌}
 use Rattle.mml_rules.specs.Rules.{is_privileged}
 use Rattle.mml_board.specs.declared.event.Event.{Event}
@@ -7,12 +7,12 @@ use Rattle.mml_board.specs.Events.{is_chosen, after}
 use Rattle.mml_board.specs.Runs.{world_of}
 use Rattle.mml_convergence.specs.Moves.{is_close}
 
--- over these events i has its turn: at some point it isn't privileged, or a close applies its move
+-- in these events i has its turn: at some point it isn't privileged, or a close applies its move
 abbrev pub is_served : ℕ → World → List Event → Bool
 is_served i w [] = not (is_privileged (configuration w) i)
 is_served i w (e ∷ es) = not (is_privileged (configuration w) i) || ((is_close e && is_chosen w i) || is_served i (after w e) es)
 
--- a round: events over which each node has its turn
+-- a round: events in which each node has its turn
 abbrev pub IsRound : World → List Event → Type 0
 IsRound w es = (i : ℕ) → i < size w → is_served i w es ≡ true
 

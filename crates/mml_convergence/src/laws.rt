@@ -1,5 +1,5 @@
-//! Laws of self-stabilisation: how many moves and rounds a run has, and where it ends. Each is the clause of a
-//! function that does nothing.
+//! Laws of self-stabilisation: how many moves and rounds a run has, and how it ends. Each is the contract of a function
+//! that does nothing.
 ghost use Rattle.std.specs.Prelude.{◌≡◌, ℕ, ◌+◌, ◌*◌, ◌<◌, ◌≤◌, true, false, Option, None, Some, List, length};
 ghost use Rattle.std.specs.List.{list_all};
 ghost use Rattle.mml_ids.specs.Search.{count_below};
@@ -28,7 +28,7 @@ pub fn step_keeps_pairs()
         IsPair c i j → IsPair (step c chosen) i j }
 {}
 
-/// Over grants, releases and closes, each legal where it comes, m changes at most twice at a node.
+/// Over legal grants, releases and closes, m changes at most twice at a node.
 pub fn m_changes_at_most_twice()
     ensures { (r : RosterValue) (w : World) (es : List Event) (i : ℕ) → IsWorld w →
         is_legal_list r w es ≡ true → list_all is_of_step es ≡ true → changes_of_m i w es ≤ 2 }
@@ -81,9 +81,9 @@ pub fn privileged_nodes_may_move()
         is_legal r w (Event.Grant s i rule) ≡ true) }
 {}
 
-/// From any world, a legal list of grants, releases and closes that has 2n rounds, for n nodes, ends where
-/// no node is privileged, and the pairs are a maximal matching, however the moves are chosen. A list that ends
-/// elsewhere has fewer rounds than four for each two nodes and one for a node left over.
+/// From any world, a legal list of grants, releases and closes that has 2n rounds, for n nodes, ends with no node
+/// privileged, and the pairs are a maximal matching, however the moves are chosen. A list that ends with a privileged
+/// node has fewer rounds than four for each two nodes and one for a node left over.
 pub fn rounds_are_bounded()
     ensures stable { (r : RosterValue) (w : World) (es : List Event) → IsWorld w →
         is_legal_list r w es ≡ true → list_all is_of_step es ≡ true → Rounds (2 * size w) w es →
@@ -93,37 +93,36 @@ pub fn rounds_are_bounded()
         ¬ IsStable (configuration (world_of w es)) → k < rounds_for (size w) }
 {}
 
-/// Four rounds for each two of n nodes, and one for a node left over, are 2n, or 2n - 1 where n is odd.
+/// Four rounds for each two of n nodes, and one for a node left over, are 2n, or 2n - 1 if n is odd.
 pub fn rounds_in_numbers()
     ensures at_most { (n : ℕ) → rounds_for n ≤ 2 * n }
     ensures even { (k : ℕ) → rounds_for (2 * k) ≡ 4 * k }
     ensures odd { (k : ℕ) → rounds_for (2 * k + 1) ≡ 4 * k + 1 }
 {}
 
-/// Where a list ends with no node privileged, it has any number of rounds: the later ones are empty.
+/// If a list ends with no node privileged, it has any number of rounds: the later ones are empty.
 pub fn stable_lists_have_rounds()
     ensures { (w : World) (es : List Event) (k : ℕ) → IsStable (configuration (world_of w es)) →
         Rounds k w es }
 {}
 
 /// From any world, a legal list of grants, releases and closes, each close of which finds a chosen move at every
-/// privileged node, has at most 2n closes for n nodes, and 2n - 1 where n is odd.
+/// privileged node, has at most 2n closes for n nodes, and 2n - 1 if n is odd.
 pub fn full_closes_are_few()
     ensures { (r : RosterValue) (w : World) (es : List Event) → IsWorld w →
         is_legal_list r w es ≡ true → list_all is_of_step es ≡ true → ClosesFull w es →
         count_closes es ≤ rounds_for (size w) }
 {}
 
-/// Where no node is privileged no grant, no release and no close is legal: only a fault, a link or a cut
-/// leads on.
+/// If no node is privileged, no grant, no release and no close is legal: only a fault, a link or a cut is.
 pub fn stable_is_final()
     ensures { (r : RosterValue) (w : World) (e : Event) → IsWorld w → IsStable (configuration w) →
         is_of_step e ≡ true → is_legal r w e ≡ false }
 {}
 
-/// If each node has an owner: a legal list after which no grant and no close is legal has led to where no node is
-/// privileged, and the pairs are a maximal matching; and from every world some legal list of grants and closes, at most
-/// 4 for each link and 6 for each node, leads to where no node is privileged.
+/// If each node has an owner: a legal list after which no grant and no close is legal ends with no node privileged, and
+/// the pairs are a maximal matching. From every world some legal list of grants and closes ends so, with at most 4
+/// events for each link and 6 for each node.
 pub fn runs_end_stable()
     ensures ended { (r : RosterValue) (w : World) (es : List Event) → IsWorld w →
         EachHasOwner r (size w) → is_legal_list r w es ≡ true → IsOver r (world_of w es) →
@@ -132,10 +131,10 @@ pub fn runs_end_stable()
         (es : List Event) × LeadsToRest r w (4 * link_count w.network + 6 * size w) es }
 {}
 
-/// Potentials counted by hand, to see that the definition is the one that is meant: of two linked nodes, where neither
-/// points; where the second points at the first; where the first points at the second, whose m is true; and where they
-/// are a pair, with m true at both; and of all nodes of a triangle with a tail together: 20, the most that its 4 links
-/// and 4 nodes may have.
+/// Potentials counted by hand, to see that the definition is the intended one. For two linked nodes: if neither points;
+/// if the second points at the first; if the first points at the second, whose m is true; and if they are a pair, with
+/// m true at both. For all nodes of a triangle with a tail together: 20, the most that its 4 links and 4 nodes may
+/// have.
 pub fn potentials_by_hand()
     ensures apart { (potential (two_nodes None false None false) 0 ≡ 3) ×
         (potential (two_nodes None false None false) 1 ≡ 1) }

@@ -1,4 +1,4 @@
-//! Why a run ends, where, and how soon: laws alone, on which no code stands.
+//! Why a run ends, in which configuration, and how soon: only laws, on which no code depends.
 #![tactic(auto)]
 
 pub mod laws;

@@ -1,4 +1,4 @@
-//! The ends of a program: its standard streams, and readers and writers that a signal doesn't end.
+//! The ends of a program: its standard streams, and readers and writers that go on after a signal.
 #![tactic(auto)]
 
 mod retrying;

@@ -6,8 +6,8 @@ ghost use Rattle.std.specs.IoError.{error_kind};
 use std::io;
 use std::io::{Error, ErrorKind, Read, Write};
 
-/// A reader or a writer whose reads and writes are made again where a signal interrupted them, and which remembers
-/// whether one of them failed because memory ran out.
+/// A reader or a writer that retries if a signal interrupts a read or write, and remembers whether one failed because
+/// memory ran out.
 #[derive(Debug, Drop)]
 pub struct Retrying<T: Drop> {
     pub inner: T,
@@ -15,7 +15,7 @@ pub struct Retrying<T: Drop> {
 }
 
 impl<T: Drop> Retrying<T> {
-    /// A `Retrying` over a reader or a writer, of which no read or write has lacked memory yet.
+    /// Returns a `Retrying` over a reader or a writer, of which no read or write has run out of memory yet.
     pub fn new(inner: T) -> Retrying<T>
         ensures inner { result.inner ≡ inner }
         ensures lacked_memory { result.lacked_memory ≡ false }
@@ -30,8 +30,8 @@ impl<T: Drop> Retrying<T> {
 impl<R: Read + Drop> Read for Retrying<R> {
     ghost remaining = { λ s. R.remaining s.inner };
 
-    // Reads, and reads again as long as a signal interrupts the read; 2^64 - 1 interruptions are the error `TimedOut`.
-    // Where memory ran out, that is remembered.
+    // Reads, and retries as long as a signal interrupts the read. Returns the error `TimedOut` after 2^64 - 1
+    // interruptions. Remembers whether memory ran out.
     fn read(&mut self, buf: &mut [u8]) -> io::Result<usize>
         ensures bound { ReadsAtMost result buf.new }
         ensures bytes { ReadConsumes (R.remaining self.old.inner) (R.remaining self.new.inner)
@@ -54,8 +54,8 @@ impl<R: Read + Drop> Read for Retrying<R> {
 impl<W: Write + Drop> Write for Retrying<W> {
     ghost contents = { λ s. W.contents s.inner };
 
-    // Writes, and writes again as long as a signal interrupts the write; 2^64 - 1 interruptions are the error
-    // `TimedOut`. Where memory ran out, that is remembered.
+    // Writes, and retries as long as a signal interrupts the write. Returns the error `TimedOut` after 2^64 - 1
+    // interruptions. Remembers whether memory ran out.
     fn write(&mut self, buf: &[u8]) -> io::Result<usize>
         ensures bound { WritesAtMost result buf.now }
         ensures bytes { WriteAppends (W.contents self.old.inner) (W.contents self.new.inner)
@@ -74,7 +74,7 @@ impl<W: Write + Drop> Write for Retrying<W> {
         Err(Error::from(ErrorKind::TimedOut))
     }
 
-    // Flushes once, also where a signal interrupts the flush, of which nothing is remembered.
+    // Flushes once, even if a signal interrupts the flush. Remembers nothing of it.
     fn flush(&mut self) -> io::Result<()>
         ensures { Keeps (W.contents self.old.inner) (W.contents self.new.inner) }
     {
@@ -82,7 +82,7 @@ impl<W: Write + Drop> Write for Retrying<W> {
     }
 }
 
-// Whether a read or a write failed by an error of the kind `kind`.
+// Returns whether a read or a write failed with an error of the kind `kind`.
 fn failed_by(done: &io::Result<usize>, kind: ErrorKind) -> bool
     ensures { IsTrue result ↔ IsErrAnd done.now (λ e. error_kind e ≡ kind) }
 {

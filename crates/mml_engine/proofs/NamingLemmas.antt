@@ -1,4 +1,4 @@
--- What the turns of any engine tell.
+-- What the replies of any engine name.
 use Rattle.std.proofs.Common.{◌≡◌, ◌++◌, ◌∷◌, ◌∙◌, ℕ, List, [], Option, Some, None, Result, Ok, Err, refl, sym, ap, subst, inl, inr, append-nil, append_assoc}
 use mathlib.Core.List.{IsPrefix}
 use Rattle.mml_lab.specs.declared.who.Who.{Who}

@@ -1,4 +1,4 @@
--- What a line asks of one who is known.
+-- Lines of known participants that ask only to be shown something.
 use Rattle.std.specs.Prelude.{◌≡◌, ℕ, false, List, Option, Some, Ok}
 use Rattle.mml_lab.specs.declared.who.Who.{Who}
 use Rattle.mml_policy.specs.declared.command.Command.{Command}
@@ -7,7 +7,7 @@ use Rattle.mml_codec.specs.declared.request.Request.{Request}
 use Rattle.mml_codec.specs.declared.request.Request.TheVariants.{Do}
 use Rattle.mml_codec.specs.Lines.{request_in}
 
--- the request is a command of one who is known, and asks only to be shown something
+-- the request is a command of a known participant, and asks only to be shown something
 pub record AsksToSee (known : Option Who) (request : Request) : Type 0 where
   pub who : Who
   pub command : Command
@@ -15,7 +15,7 @@ pub record AsksToSee (known : Option Who) (request : Request) : Type 0 where
   pub asked : request ≡ Do command
   pub view : is_act command ≡ false
 
--- the line is a command of one who is known, and asks only to be shown something
+-- the line is a command of a known participant, and asks only to be shown something
 pub record IsView (known : Option Who) (line : List ℕ) : Type 0 where
   pub who : Who
   pub command : Command

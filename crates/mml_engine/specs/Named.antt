@@ -14,8 +14,8 @@ use Rattle.mml_codec.specs.Lines.{request_in}
 use Rattle.mml_codec.specs.Rulings.{reply_of_done}
 use Rattle.mml_engine.specs.Told.{ruling_at}
 
--- somebody was known, and the last event that was seen is the one that their command was granted after the events before it; the
--- reply tells what it did, its place, and the number of the configuration after it
+-- a participant was known, and the last event seen is the one that their command was granted after the events before
+-- it; the reply has its effect, its place, and the number of the configuration after it
 pub record NamesLast (lab : LabValue) (known : Option Who) (line : List ℕ) (r : Reply) (p : ℕ) (seen : List Event) : Type 0 where
   pub who : Who
   pub command : Command

@@ -1,4 +1,4 @@
--- What a reply to a command says of the events that its session has seen.
+-- The reply to a command, by the events that its session has seen.
 use Rattle.std.specs.Prelude.{◌≡◌, ◌⊎◌, true, false, List, [], ◌∷◌, ◌++◌, Option, None, Some}
 use mathlib.Core.List.{IsPrefix}
 use Rattle.mml_lab.specs.declared.who.Who.{Who}
@@ -16,7 +16,7 @@ use Rattle.mml_codec.specs.declared.reply.Reply.{Reply}
 use Rattle.mml_codec.specs.declared.reply.Reply.TheVariants as reply
 use Rattle.mml_codec.specs.Rulings.{reply_of}
 
--- what comes of a command in a world of the lab while the journal isn't halted
+-- the ruling on a command in a world of the lab while the journal isn't halted
 abbrev pub ruling_at : LabValue → World → Who → Command → Ruling
 ruling_at lab w who command = ruling lab.ids lab.roster lab.events false w who command
 
@@ -25,7 +25,7 @@ abbrev pub entered : List Event → Option Event → List Event
 entered l None = l
 entered l (Some e) = l ++ e ∷ []
 
--- which refusals may be told instead of a ruling: `memory` instead of a look or a report, which have lists; `memory` or
+-- which refusals may come instead of a ruling: `memory` instead of a look or a report, which have lists; `memory` or
 -- `journal` instead of a grant; none instead of any other ruling
 abbrev pub MayRefuse : Ruling → Refused → Type 0
 MayRefuse (Looked l) refused.Memory = Unit {0}
@@ -42,13 +42,13 @@ Plainly lab l ruled r new = (r ≡ reply_of (after_ruling (world_in lab l) ruled
 abbrev pub Refuses : List Event → Ruling → Reply → List Event → Type 0
 Refuses l ruled r new = (why : Refused) × (r ≡ reply.Refuse why) × MayRefuse ruled why × (new ≡ l)
 
--- the reply to a command: it is given at a legal list that begins with all that was seen
+-- the reply to a command: it is judged at a legal list that begins with all events seen before
 pub record Told (lab : LabValue) (old : List Event) (who : Who) (c : Command) (r : Reply) (new : List Event) : Type 0 where
   pub list : List Event
   pub later : IsPrefix old list
   pub legal : is_legal_in lab list ≡ true
   pub says : Plainly lab list (ruling_at lab (world_in lab list) who c) r new ⊎ Refuses list (ruling_at lab (world_in lab list) who c) r new
 
--- the same of an engine and what a session holds of it, by the lab and the events that were seen
+-- the same of an engine and a session's view of it, by the lab and the events that were seen
 abbrev pub told_by : {E V : Type 0} → (E → LabValue) → (E → V → List Event) → E → V → Who → Command → Reply → E → V → Type 0
 told_by lab seen e v who c r e' v' = Told (lab e) (seen e v) who c r (seen e' v')

@@ -1,4 +1,4 @@
--- What one line does, by what comes of a command.
+-- The turn of one line, given the answers to commands.
 use Rattle.std.specs.Prelude.{◌≡◌, ◌⊎◌, ℕ, List, Option, Result, Ok, Err}
 use Rattle.mml_lab.specs.declared.who.Who.{Who}
 use Rattle.mml_lab.specs.Rosters.{RosterValue}
@@ -13,7 +13,7 @@ use Rattle.mml_codec.specs.declared.reply.Reply.TheVariants as reply
 use Rattle.mml_codec.specs.Greetings.{greeting, refusal_of}
 use Rattle.mml_codec.specs.Lines.{request_in}
 
--- what comes of a request: its greeting has the reply, and all else stays, or its command is answered
+-- the result of a request: its greeting has the reply, and all else stays, or its command is answered
 abbrev pub Settles : {E V : Type 0} → (E → V → Who → Command → Reply → E → V → Type 0) → Option Who → E → V → Greeting → Reply → Option Who → E → V → Type 0
 Settles tells known e v (Answered r x) r' known' e' v' = (r' ≡ r) × (known' ≡ x) × (e' ≡ e) × (v' ≡ v)
 Settles tells known e v (LeftToJudge who c) r' known' e' v' = (known' ≡ known) × tells e v who c r' e' v'
@@ -22,13 +22,13 @@ Settles tells known e v (LeftToJudge who c) r' known' e' v' = (known' ≡ known)
 abbrev pub Stays : {E V : Type 0} → Option Who → E → V → Option Who → E → V → Type 0
 Stays known e v known' e' v' = (known' ≡ known) × (e' ≡ e) × (v' ≡ v)
 
--- what comes of what a line asks
+-- the result of what a line asks
 abbrev pub Asked : {E V : Type 0} → (E → V → Who → Command → Reply → E → V → Type 0) → RosterValue → Option Who → E → V → Result Request LineFault → Reply
     → Option Who → E → V → Type 0
 Asked tells roster known e v (Err fault) r known' e' v' = (r ≡ reply.Refuse (refusal_of fault)) × Stays known e v known' e' v'
 Asked tells roster known e v (Ok request) r known' e' v' = Settles tells known e v (greeting roster known request) r known' e' v'
 
--- the turn of a line: what comes of what it asks, or of memory that was refused while it was read
+-- the turn of a line: the result of what it asks, or of running out of memory while it was read
 abbrev pub Turn : {E V : Type 0} → (E → V → Who → Command → Reply → E → V → Type 0) → RosterValue → Option Who → E → V → List ℕ → Reply → Option Who → E → V
     → Type 0
 Turn tells roster known e v line r known' e' v' =

@@ -1,4 +1,4 @@
-//! The answer to a line: its reply, who is known afterwards, and what its session has seen then.
+//! Answering a line: its reply, who is known afterwards, and what its session has seen then.
 ghost use Rattle.std.specs.Prelude.{◌≡◌, false, IfErr, IfSome, OnOk};
 ghost use Rattle.mml_lab.specs.Rosters.{IsPrincipal};
 ghost use Rattle.mml_policy.specs.Acts.{is_act};
@@ -15,8 +15,8 @@ use mml_policy::Command;
 use std::alloc::Global;
 
 /// Answers a line of a connection on which `known` has greeted, if anybody has, and sets `known` to who is known
-/// afterwards. Puts the reply into `reply`, since a reply is large to return. Returns `Closed`, and puts no reply, if
-/// one who is known asks for a view of an engine that shows nothing any more.
+/// afterwards. Puts the reply into `reply`, since a reply is large to return. Returns `Closed`, and puts no reply, if a
+/// known participant asks for a view of an engine that shows nothing any more.
 pub fn answer_line<E: Engine>(
     engine: &mut E,
     at: &mut E::View,
@@ -49,8 +49,8 @@ pub fn answer_line<E: Engine>(
     }
 }
 
-// Puts the reply to any request, and sets `known` to who is known afterwards. `answer_line` itself has the commands of
-// those who are known; the others are rare and their code is large, so this function isn't inlined.
+// Puts the reply to any request, and sets `known` to who is known afterwards. `answer_line` itself handles the commands
+// of known participants; the others are rare and their code is large, so this function isn't inlined.
 #[inline(never)]
 fn settle<E: Engine>(
     engine: &mut E,

@@ -7,8 +7,8 @@ use std::alloc::Global;
 #[derive(Clone, Copy, Debug, PartialEq, Eq)]
 pub struct Closed;
 
-/// An engine: it answers the commands of those who are known. It answers views by events that it published before,
-/// and acts by all events.
+/// An engine: it answers the commands of known participants. It answers views from the events that it published before,
+/// and acts from all events.
 pub trait Engine {
     ghost use Rattle.std.specs.Prelude.{◌≡◌, true, false, List, OnOk, IfErr};
     ghost use Rattle.mml_lab.specs.declared.who.Who.{Who};
@@ -29,7 +29,7 @@ pub trait Engine {
     // The events that a session has seen.
     ghost seen: { Self → Self.View → List Event };
 
-    // What a command does: engine and view before it, its asker, the command, the reply, engine and view after it.
+    // The effect of a command: engine and view before it, its asker, the command, the reply, engine and view after it.
     ghost tells: { Self → Self.View → Who → Command → Reply → Self → Self.View → Type 0 };
 
     // What holds if the engine shows nothing any more.

@@ -1,4 +1,4 @@
-//! Laws of turns over any engine. Each is the clause of a function that does nothing.
+//! Laws of turns over any engine. Each is the contract of a function that does nothing.
 ghost use Rattle.std.specs.Prelude.{◌≡◌, ℕ, List, Option, Some};
 ghost use mathlib.Core.List.{IsPrefix};
 ghost use Rattle.mml_lab.specs.declared.who.Who.{Who};
@@ -10,15 +10,15 @@ ghost use Rattle.mml_engine.specs.Named.{NamesLast};
 ghost use Rattle.mml_engine.specs.Told.{told_by};
 ghost use Rattle.mml_engine.specs.Turns.{Turn};
 
-/// The events that were seen before a turn begin those that are seen after it.
+/// The events seen before a turn are the first of those seen after it.
 pub fn seen_goes_on()
     ensures { (lab : LabValue) (known known' : Option Who) (old new : List Event) (line : List ℕ) (r : Reply) →
         Turn (told_by (λ (e : LabValue). e) (λ e (v : List Event). v)) lab.roster known lab old line r known' lab new →
         IsPrefix old new }
 {}
 
-/// A reply that names a place answers a command of one who was known. The place is that of the last event that is seen
-/// after the turn, and the policy grants this event for the command after the events before it.
+/// A reply that names a place answers a command of a known participant. The place is that of the last event seen after
+/// the turn, and the policy grants this event for the command after the events before it.
 pub fn replies_name_their_events()
     ensures { (lab : LabValue) (known known' : Option Who) (old new : List Event) (line : List ℕ) (r : Reply) (place : ℕ) →
         Turn (told_by (λ (e : LabValue). e) (λ e (v : List Event). v)) lab.roster known lab old line r known' lab new →

@@ -1,4 +1,4 @@
-//! Engines, which answer the commands of those who have greeted, and the turn of one line over any engine.
+//! Engines, which answer the commands of known participants, and the turn of one line over any engine.
 #![tactic(auto)]
 
 mod answering;

@@ -6,8 +6,9 @@ const PEOPLE: &str = r#"teacher = { name = "tess", key = "chalk" }
 student = [{ name = "ana", key = "a-key" }, { name = "ben", key = "b-key" }]
 "#;
 
-/// The lab file of a cycle of `nodes` nodes (three or more), from 1 on, for so many events and connections. The first
-/// half, rounded down, is of ana, the others of ben; the teacher is tess. An error is want of memory.
+/// Returns the lab file of a cycle of `nodes` nodes (three or more), from 1 on, for this many events and connections.
+/// The first half, rounded down, is of ana, the others of ben; the teacher is tess. Returns an error if memory runs
+/// out.
 pub fn cycle(alloc: Global, nodes: u64, events: u64, sessions: u64) -> Result<String, AllocError> {
     let mut text = String::from_str(alloc, PEOPLE)?;
     write!(text, "events = {events}\nsessions = {sessions}\n")?;

@@ -2,7 +2,7 @@
 use std::io;
 use std::io::{ErrorKind, Read};
 
-/// Gives at most `step` bytes in a read, and after `good` reads an error of `kind`.
+/// A reader that returns at most `step` bytes in a read, and after `good` reads an error of `kind`.
 #[derive(Drop)]
 pub struct FakeReader<'a> {
     /// What was not read yet.
@@ -16,8 +16,8 @@ pub struct FakeReader<'a> {
 }
 
 impl<'a> FakeReader<'a> {
-    /// A reader of which each of the first `good` reads gives one byte of `rest`, or 0 bytes where none is left, and
-    /// each later one fails as `Other`.
+    /// Returns a reader of which each of the first `good` reads returns one byte of `rest`, or 0 bytes if none is left,
+    /// and each later one fails as `Other`.
     pub fn failing_after(good: usize, rest: &'a [u8]) -> FakeReader<'a> {
         FakeReader {
             rest,
@@ -30,7 +30,7 @@ impl<'a> FakeReader<'a> {
 }
 
 impl<'a> Read for FakeReader<'a> {
-    // Counts the read, and gives at most `step` bytes; an error of `kind` where no good read is left.
+    // Counts the read, and returns at most `step` bytes, or an error of `kind` if no good read is left.
     fn read(&mut self, buf: &mut [u8]) -> io::Result<usize> {
         self.reads = self.reads.saturating_add(1);
         if self.good == 0 {
@@ -42,7 +42,8 @@ impl<'a> Read for FakeReader<'a> {
     }
 }
 
-/// Gives the first part, in one read where there is room, and then the second in reads of at most `step` bytes.
+/// A reader that returns the first part, in one read if there is room, and then the second in reads of at most `step`
+/// bytes.
 #[derive(Drop)]
 pub struct Parts<'a> {
     pub first: &'a [u8],
@@ -51,7 +52,7 @@ pub struct Parts<'a> {
 }
 
 impl<'a> Read for Parts<'a> {
-    // Gives what fits of the first part, until that is empty; then at most `step` bytes of the second, 0 at its end.
+    // Returns what fits of the first part, until that is empty; then at most `step` bytes of the second, 0 at its end.
     fn read(&mut self, buf: &mut [u8]) -> io::Result<usize> {
         if self.first.is_empty() {
             let len = self.step.min(buf.len());

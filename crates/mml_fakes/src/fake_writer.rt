@@ -12,7 +12,8 @@ pub enum Refusal {
     TakesNothing,
 }
 
-/// Takes at most `step` bytes in each of `good` writes, and then refuses; a flush fails after `good_flushes` flushes.
+/// A writer that takes at most `step` bytes in each of `good` writes, and then refuses; a flush fails after
+/// `good_flushes` flushes.
 #[derive(Drop)]
 pub struct FakeWriter {
     pub taken: Vec<u8>,
@@ -25,12 +26,12 @@ pub struct FakeWriter {
 }
 
 impl FakeWriter {
-    /// A writer that takes all that it is given, and whose flushes are good.
+    /// Returns a writer that takes all bytes, and whose flushes are good.
     pub fn patient(alloc: Global) -> FakeWriter {
         FakeWriter::failing_after(usize::MAX, alloc)
     }
 
-    /// A writer that takes each of `good` writes whole, and then fails as `Other`; its flushes are good.
+    /// Returns a writer that takes each of `good` writes whole, and then fails as `Other`. Its flushes are good.
     pub fn failing_after(good: usize, alloc: Global) -> FakeWriter {
         FakeWriter {
             taken: Vec::new(alloc),
@@ -43,8 +44,8 @@ impl FakeWriter {
 }
 
 impl Write for FakeWriter {
-    // Takes at most `step` bytes and answers how many. Where no good write is left, answers 0 or an error, as `refusal`
-    // says; where memory lacks, an error.
+    // Takes at most `step` bytes and returns how many. If no good write is left, returns 0 or an error, as `refusal`
+    // says. If memory runs out, returns an error.
     fn write(&mut self, buf: &[u8]) -> io::Result<usize> {
         if self.good == 0 {
             return match self.refusal {
@@ -58,7 +59,7 @@ impl Write for FakeWriter {
         Ok(len)
     }
 
-    // Fails where no good flush is left: by the error of `refusal`, or as `Other` where `refusal` is `TakesNothing`.
+    // Fails if no good flush is left: by the error of `refusal`, or as `Other` if `refusal` is `TakesNothing`.
     fn flush(&mut self) -> io::Result<()> {
         if self.good_flushes == 0 {
             return match self.refusal {

@@ -1,24 +1,24 @@
-//! Labs that several tests speak of, as TOML documents, and what is read of a document.
+//! Labs that several tests share, as TOML documents, and what is read of a document.
 use mml_board::Board;
 use mml_lab::{Lab, read_lab};
 use std::alloc::{AllocError, Global};
 use std::test::Fail;
 
-/// The lab that a document spells, in a box: a function that holds it has one thing to drop at each return, which keeps
-/// a test's proof short. An error where the document spells no lab, or memory lacks.
+/// Returns the lab that a document spells, in a box: a function that holds it has one thing to drop at each return,
+/// which keeps a test's proof short. Returns an error if the document spells no lab, or memory runs out.
 pub fn boxed_lab(alloc: Global, document: &str) -> Result<Box<Lab>, Fail> {
     Ok(Box::new(alloc, read_lab(alloc, document.as_bytes())?)?)
 }
 
-/// The board of a lab at the beginning of a run, in a box: a function that holds it has one thing to drop at each
-/// return, which keeps a test's proof short. An error is want of memory.
+/// Returns the board of a lab at the beginning of a run, in a box: a function that holds it has one thing to drop at
+/// each return, which keeps a test's proof short. Returns an error if memory runs out.
 pub fn boxed_board(alloc: Global, lab: &Lab) -> Result<Box<Board>, Fail> {
     Ok(Box::new(alloc, Board::new(alloc, lab)?)?)
 }
 
 /// The file of a lab with at most 100 events and four connections, whose teacher is tess. It is made of the line of the
-/// links (empty where there are none), the students by name and key, and the nodes by identifier, owner and further
-/// lines (empty where there are none).
+/// links (empty if there are none), the students by name and key, and the nodes by identifier, owner and further lines
+/// (empty if there are none).
 #[macro_export]
 macro_rules! lab {
     ($links:literal, [$(($name:literal, $key:literal)),*], [$(($id:literal, $owner:literal, $more:literal)),*]) => {
@@ -60,8 +60,9 @@ pub const FAR_APART: &str = lab!(
     [(7, "ana", ""), (65535, "ana", "")]
 );
 
-/// The file of the largest lab: 256 nodes with the greatest identifiers, each linked to each other one and of two
-/// students, 256 students with names and keys as long as may be, and the greatest limits. An error is want of memory.
+/// Returns the file of the largest lab: 256 nodes with the greatest identifiers, each linked to each other one and of
+/// two students, 256 students with names and keys as long as may be, and the greatest limits. Returns an error if
+/// memory runs out.
 pub fn greatest(alloc: Global) -> Result<String, AllocError> {
     let mut text = String::from_str(alloc, "events = 100000\nsessions = 16\nlinks = [\n")?;
     for a in 65280..65536u64 {

@@ -1,6 +1,5 @@
-//! For tests alone: readers, writers and sinks that fail where they are told, threads that wait for each
-//! other, numbers that look drawn, and the labs, lines and scripts that several tests speak of. Nothing of the
-//! program stands on it.
+//! For tests only: readers, writers and sinks that fail on demand, threads that wait for each other, numbers that look
+//! drawn, and the labs, lines and scripts that several tests share. Nothing of the program depends on it.
 #![tactic(auto)]
 
 pub mod cycles;

@@ -1,6 +1,6 @@
 //! Lines that are sent and answered, each spelled once: tests make their texts of words.
 
-/// The text of these lines, each with its end: a line is a word, with what stands in it behind it. A text between
+/// The text of these lines, each with its end: a line is a word, with what stands in it after it. A text between
 /// them, as the number of a script's connection, is taken as it is.
 ///
 /// Requests are `hello`, `see`, `seduction` (of a node, in configuration 0), `close` and `bye`. What they are
@@ -8,7 +8,7 @@
 /// place), `closed` (the second event, which applies the move of node 1), `left`, and what is denied.
 #[macro_export]
 macro_rules! lines {
-    // Behind `@` stand the end of a line and all pieces so far, then those of one more line, then the words that are
+    // After `@` stand the end of a line and all pieces so far, then those of one more line, then the words that are
     // left. `concat!` takes no macros, so the pieces are put together one by one.
     (@ [$end:literal $($so_far:literal)*]) => { concat!($($so_far),*) };
     (@ [$end:literal $($so_far:literal)*] [$($piece:literal)*] $($left:tt)*) => {

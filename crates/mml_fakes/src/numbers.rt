@@ -7,7 +7,7 @@ pub struct Numbers {
 }
 
 impl Numbers {
-    /// Draws the next number, below the limit; 0 where the limit is 0.
+    /// Draws the next number, below the limit; 0 if the limit is 0.
     pub fn below(&mut self, limit: u64) -> u64 {
         self.state = self
             .state

@@ -1,7 +1,7 @@
-//! Scripts that several tests speak of, with their replies.
+//! Scripts that several tests share, with their replies.
 use crate::lines;
 
-/// The first `count` lines of a text, each with its newline; the whole text where it has fewer newlines than that.
+/// Returns the first `count` lines of a text, each with its newline; the whole text if it has fewer newlines than that.
 pub fn first_lines(text: &str, count: u64) -> &str {
     let mut rest = text;
     for _ in 0..count {
@@ -13,7 +13,7 @@ pub fn first_lines(text: &str, count: u64) -> &str {
     text.strip_suffix(rest).unwrap_or(text)
 }
 
-/// How many lines of a text have their end, which is a newline.
+/// Returns how many lines of a text have their end, which is a newline.
 pub fn ended_lines(text: &[u8]) -> usize {
     text.iter().filter(|byte| **byte == b'\n').count()
 }
@@ -24,7 +24,7 @@ pub const ANA_MOVES: &str = lines!(hello("ana", "a-key"), seduction(1));
 /// What is answered to the greeting in `ANA_MOVES`.
 pub const ANA_WELCOME: &str = lines!(welcome("ana"));
 
-/// What is answered to `ANA_MOVES` where the move is the first event.
+/// What is answered to `ANA_MOVES` if the move is the first event.
 pub const ANA_GRANTED: &str = lines!(welcome("ana"), granted(1, 1));
 
 /// The journal once the move of `ANA_MOVES` is granted.
@@ -42,7 +42,7 @@ pub const BEN_MOVES: &str = lines!(hello("ben", "b-key"), seduction(2), bye);
 /// The teacher's greeting, a close of the step, and a bye.
 pub const TESS_CLOSES: &str = lines!(hello("tess", "chalk"), close, bye);
 
-/// What is answered to `TESS_CLOSES` where no node is chosen.
+/// What is answered to `TESS_CLOSES` if no node is chosen.
 pub const NOTHING_CLOSED: &str = lines!(welcome("tess"), empty, left);
 
 /// Greetings on two connections, and what is asked before and after them.

@@ -1,4 +1,4 @@
-//! Who asks, what for, and what comes of it, over the path of three.
+//! The askers, their acts and the results, over the path of three.
 ghost use Rattle.std.specs.Prelude.{◌≡◌, true};
 ghost use Rattle.mml_policy.specs.Acts.{is_act};
 
@@ -8,12 +8,13 @@ use mml_lab::{Student, Who};
 use mml_policy::{Asked, Command};
 use mml_window::Answer;
 
-/// The student with this index, from 0 on in the order of the lab file, as one who asks.
+/// Returns the student with this index, from 0 on in the order of the lab file, as one who asks.
 pub fn student(index: u16) -> Who {
     Who::Student(Student::new(index))
 }
 
-/// The command of a move by Seduction, of the node with this identifier, in the configuration with the number `at`.
+/// Returns the command of a move by Seduction, of the node with this identifier, in the configuration with the number
+/// `at`.
 pub fn seduction(node: u64, at: u64) -> Command
     ensures { is_act result ≡ true }
 {
@@ -24,8 +25,8 @@ pub fn seduction(node: u64, at: u64) -> Command
     }
 }
 
-/// Whether an answer grants a close as the second event, to configuration 1, that applies the move of the first node
-/// alone (rank 0, over the path of three node 1).
+/// Returns whether an answer grants a close as the second event, to configuration 1, that applies the move of the first
+/// node alone (rank 0, over the path of three node 1).
 pub fn is_first_close(answer: &Answer) -> bool {
     match answer {
         Answer::Granted {

@@ -11,11 +11,12 @@ pub enum Ending {
         number: u64,
         halted: bool,
     },
-    /// The windows handed in don't have a place for each event, as where one was left out.
+    /// The windows handed in don't have a place for each event, as if one was left out.
     Astray(Astray),
 }
 
-/// How a house ended, by what its end gave, in values that a test compares: the counts of its log, or its `Astray`.
+/// Returns how a house ended, by what its end gave, in values that a test compares: the counts of its log, or its
+/// `Astray`.
 pub fn ending_of<S: Sink>(end: &Result<Log<S>, Astray>) -> Ending {
     match end {
         Ok(log) => Ending::Log {
@@ -27,7 +28,7 @@ pub fn ending_of<S: Sink>(end: &Result<Log<S>, Astray>) -> Ending {
     }
 }
 
-/// Whether a house ended with a log, and its sink has just this journal.
+/// Returns whether a house ended with a log, and its sink has just this journal.
 pub fn has_journal(end: &Result<Log<MemorySink>, Astray>, journal: &str) -> bool {
     match end {
         Ok(log) => log.sink.bytes() == journal.as_bytes(),

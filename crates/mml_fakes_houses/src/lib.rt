@@ -1,5 +1,5 @@
-//! For tests alone: seats at a house, visits through them, how houses end, and the acts of a stored run.
-//! Nothing of the program stands on it.
+//! For tests only: seats at a house, visits through them, how houses end, and the acts of a stored run. Nothing of the
+//! program depends on it.
 #![tactic(auto)]
 
 mod acts;

@@ -21,7 +21,7 @@ pub struct Seat<'a, S: Sink, H: House, R: Wait> {
 }
 
 impl<'a, S: Sink + Drop, H: House, R: Wait> Seat<'a, S, H, R> {
-    /// What the desk answers to an act that `who` asks for through the seat's window.
+    /// Returns what the desk answers to an act that `who` asks for through the seat's window.
     pub fn ask(&mut self, who: Who, command: &Command) -> Answer
         requires { is_act command.now ≡ true }
     {
@@ -29,7 +29,7 @@ impl<'a, S: Sink + Drop, H: House, R: Wait> Seat<'a, S, H, R> {
             .ask(self.rt, self.alloc, &mut self.window, who, command)
     }
 
-    /// Serves a reader and a writer through the window, as connection 1 with no gate; tells how the session ended.
+    /// Serves a reader and a writer through the window, as connection 1 with no gate. Returns how the session ended.
     pub fn serve<In: Read, Out: Write>(&mut self, reader: &mut In, writer: &mut Out) -> SessionEnd {
         serve_one(
             self.rt,
@@ -76,7 +76,7 @@ impl<'a, S: Sink + Drop, H: House, R: Wait> Pair<'a, S, H, R> {
         }
     }
 
-    /// The windows of the first and of the second seat, given back for the house's end.
+    /// Returns the windows of the first and of the second seat, given back for the house's end.
     pub fn into_windows(self) -> (Window<H>, Window<H>) {
         let Pair { one, two } = self;
         let Seat { window: first, .. } = one;

@@ -13,8 +13,8 @@ use std::alloc::Global;
 use std::sync::Wait;
 use std::test::Fail;
 
-/// A house over the path of three, not started yet, whose sink fails from the put with the number `fail_at` on, counted
-/// from 1, or never (`None`). An error is want of memory.
+/// Returns a house over the path of three, not started yet, whose sink fails from the put with the number `fail_at` on,
+/// counted from 1, or never (`None`). Returns an error if memory runs out.
 pub fn open_path<R: Wait>(
     rt: &R,
     alloc: Global,
@@ -27,16 +27,17 @@ pub fn open_path<R: Wait>(
 
 /// What is done at two seats of a house.
 pub trait Visit<S: Sink> {
-    /// What the visit tells.
+    /// The result of the visit.
     type Told: Drop;
 
-    /// Makes the visit at these two seats of one house, and gives what it tells.
+    /// Makes the visit at these two seats of one house, and returns its result.
     fn visit<H: House, R: Wait>(self, seats: &mut Pair<'_, S, H, R>) -> Self::Told;
 }
 
-/// Visits a house through the last two of these windows, with the last one at the first seat, and gives what the visit
-/// tells. Both windows are put back, the first seat's before the second's, so that they have changed places. `None`
-/// where there were fewer windows, of which none is left then, or where memory lacked to put one back.
+/// Visits a house through the last two of these windows, with the last one at the first seat, and returns the result of
+/// the visit. Both windows are put back, the first seat's before the second's, so that they have changed places.
+/// Returns `None` if there were fewer windows, of which none is left then, or if memory ran out before one was put
+/// back.
 pub fn visit_windows<V: Visit<S> + Drop, S: Sink + Drop, H: House, R: Wait>(
     rt: &R,
     alloc: Global,
@@ -53,12 +54,12 @@ pub fn visit_windows<V: Visit<S> + Drop, S: Sink + Drop, H: House, R: Wait>(
     (give_back(windows, two) && is_back).then_some(told)
 }
 
-/// What a visit told, or `None` where there were no two windows for it, or memory lacked to put one back; and how the
-/// house ended: its log, or `Astray` where a window with granted events was missing then.
+/// The result of a visit, or `None` if there were no two windows for it, or memory ran out before one was put back; and
+/// how the house ended: its log, or `Astray` if a window with granted events was missing then.
 pub type Visited<T, S> = (Option<T>, Result<Log<S>, Astray>);
 
-/// Starts a house that was opened, visits it through two of its windows, and ends it: what the visit told, and how the
-/// house ended. An error is want of memory at the start.
+/// Starts a house that was opened, visits it through two of its windows, and ends it: the result of the visit, and how
+/// the house ended. Returns an error if memory runs out at the start.
 pub fn visit_house<V: Visit<S> + Drop, S: Sink + Drop, H: House, R: Wait>(
     rt: &R,
     alloc: Global,
@@ -72,8 +73,8 @@ pub fn visit_house<V: Visit<S> + Drop, S: Sink + Drop, H: House, R: Wait>(
     Ok((told, desk.finish(rt, windows)))
 }
 
-/// Opens a house over the lab that a file spells, visits it, and ends it: what the visit told, and how the house ended.
-/// An error where the file spells no lab, or memory lacks before the visit.
+/// Opens a house over the lab that a file spells, visits it, and ends it: the result of the visit, and how the house
+/// ended. Returns an error if the file spells no lab, or memory runs out before the visit.
 pub fn visit_lab<V: Visit<S> + Drop, S: Sink + Drop, R: Wait>(
     rt: &R,
     alloc: Global,
@@ -89,8 +90,8 @@ pub fn visit_lab<V: Visit<S> + Drop, S: Sink + Drop, R: Wait>(
     visit_house::<_, _, Brand, _>(rt, alloc, blank, visit)
 }
 
-/// Opens a house over the path of three, visits it, and ends it: what the visit told, and how the house ended. An error
-/// is want of memory before the visit.
+/// Opens a house over the path of three, visits it, and ends it: the result of the visit, and how the house ended.
+/// Returns an error if memory runs out before the visit.
 pub fn visit_path<V: Visit<S> + Drop, S: Sink + Drop, R: Wait>(
     rt: &R,
     alloc: Global,

@@ -3,7 +3,7 @@ ghost use Rattle.std.specs.Prelude.{◌+◌, ◌≤◌, length, IfSome};
 
 use mml_window::{House, Window};
 
-/// Takes the last two of these windows, the last one first; `None` where there are fewer, and a single one is dropped.
+/// Takes the last two of these windows, the last one first, or `None` if there are fewer, and a single one is dropped.
 pub fn take_two<H: House>(windows: &mut Vec<Window<H>>) -> Option<(Window<H>, Window<H>)>
     ensures fewer { length windows.new.items ≤ length windows.old.items }
     ensures taken { IfSome result (λ _.
@@ -14,7 +14,7 @@ pub fn take_two<H: House>(windows: &mut Vec<Window<H>>) -> Option<(Window<H>, Wi
     Some((one, two))
 }
 
-/// Puts a window back among those that the house will end with; `false` where memory lacks, and it is dropped.
+/// Puts a window back among those that the house will end with. Returns `false` if memory runs out, and it is dropped.
 pub fn give_back<H: House>(windows: &mut Vec<Window<H>>, window: Window<H>) -> bool
     ensures { length windows.new.items ≤ length windows.old.items + 1 }
 {

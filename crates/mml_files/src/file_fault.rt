@@ -1,4 +1,4 @@
-//! Why a file of a run couldn't be had.
+//! Why a file of a run couldn't be opened or used.
 ghost use Rattle.std.specs.Prelude.{◌≡◌, ◌↔◌, ◌≢◌};
 ghost use Rattle.std.specs.IoError.{error_kind};
 ghost use Rattle.mml_files.specs.declared.file_fault.FileFault.TheVariants.{Refused, Memory};
@@ -7,18 +7,18 @@ use std::alloc::{AllocError, AllocFailed};
 use std::fs::TryLockError;
 use std::io::{Error as IoError, ErrorKind};
 
-/// Why a file of a run, a journal's or a record's, couldn't be had.
+/// Why a file of a run, a journal or a record, couldn't be opened or used.
 #[derive(Clone, Copy, Debug, PartialEq, Eq)]
 pub enum FileFault {
-    /// It can't be opened, made, locked, kept, read or written, another program writes it, or it is another
-    /// file of the run too.
+    /// It can't be opened, made, locked, kept, read or written, another program writes it, or it is another file of the
+    /// run too.
     Refused,
-    /// A growth was refused.
+    /// Memory ran out.
     Memory,
 }
 
 impl From<IoError> for FileFault {
-    // The error of a call as a fault: `Memory` where memory ran out, and else `Refused`.
+    // Turns the error of a call into a fault: `Memory` if memory ran out, and else `Refused`.
     fn from(error: IoError) -> FileFault
         ensures memory { error_kind error ≡ ErrorKind.OutOfMemory → result ≡ Memory }
         ensures refused { error_kind error ≢ ErrorKind.OutOfMemory → result ≡ Refused }
@@ -32,7 +32,7 @@ impl From<IoError> for FileFault {
 }
 
 impl From<AllocError> for FileFault {
-    // A growth was refused.
+    // Memory ran out.
     fn from(_error: AllocError) -> FileFault
         ensures { result ≡ Memory }
     {
@@ -41,7 +41,7 @@ impl From<AllocError> for FileFault {
 }
 
 impl<T: Drop> From<AllocFailed<T>> for FileFault {
-    // A growth was refused. What comes back with the error is dropped.
+    // Memory ran out. The value that the error carries is dropped.
     fn from(_error: AllocFailed<T>) -> FileFault
         ensures { result ≡ Memory }
     {
@@ -50,8 +50,8 @@ impl<T: Drop> From<AllocFailed<T>> for FileFault {
 }
 
 impl From<TryLockError> for FileFault {
-    // A lock that couldn't be had as a fault: `Refused` where another program has it, and else what the call's error
-    // is.
+    // Turns the error of a lock into a fault: `Refused` if another program holds the lock, and else that of the call's
+    // error.
     fn from(error: TryLockError) -> FileFault {
         match error {
             TryLockError::Error(error) => FileFault::from(error),

@@ -1,4 +1,4 @@
-//! Files of a run: a journal's, in which nothing that stood there is lost, and what a record's want too.
+//! The files of a run: journals, of which no earlier bytes are lost, and the file operations that records share.
 #![tactic(auto)]
 
 mod file_fault;

@@ -1,28 +1,28 @@
-//! What the system lets the program have.
+//! The limits that the system sets for the program.
 use libc::getrlimit;
 use libc::types::rlimit;
 
-// By this number the system is asked how large a file may become.
+// The number of the system's limit on the size of a file.
 const FILE_SIZE: i32 = 1;
 
-// By this number the system is asked how large a stack may become.
+// The number of the system's limit on the size of a stack.
 const STACK: i32 = 3;
 
 // How many bytes of stack a program needs: twice what the deepest request takes.
 const NEEDED: u64 = 256 << 10;
 
-/// How many bytes a file may have at most: `u64::MAX` where the system sets no limit, or doesn't say.
+/// Returns how many bytes a file may have at most, or `u64::MAX` if the system sets or reports no limit.
 pub fn file_size_limit() -> u64 {
     limit_of(FILE_SIZE)
 }
 
-/// Whether stacks may be too small for the deepest request: there a program would end without a word.
+/// Returns whether stacks may be too small for the deepest request. With such a stack the program would end without a
+/// message.
 pub fn has_small_stacks() -> bool {
     limit_of(STACK) < NEEDED
 }
 
-// The limit in bytes that the system sets on what the number `what` stands for; `u64::MAX` where it sets none, or
-// doesn't say.
+// Returns the system's limit in bytes on what the number `what` stands for, or `u64::MAX` if it sets or reports none.
 fn limit_of(what: i32) -> u64 {
     let mut limit = rlimit {
         rlim_cur: u64::MAX,

@@ -1,4 +1,4 @@
-//! A pipe that has a name, opened to be written to without waiting for one who reads it.
+//! Opening a named pipe for writing without waiting for a reader.
 use crate::file_fault::FileFault;
 use crate::paths::appending;
 use libc::net::{POLLERR, poll};
@@ -7,14 +7,14 @@ use std::fs::File;
 use std::os::fd::AsRawFd;
 use std::rt::Files;
 
-// How often it is looked, at most, whether somebody reads the pipe.
+// How many times the pipe is checked for a reader, at most.
 const LOOKS: u32 = 50;
 
-// How many milliseconds pass from one look to the next.
+// How many milliseconds pass between two checks.
 const PAUSE: i32 = 20;
 
-/// Opens the pipe to append to it, and refuses one that nobody reads within a second. An open to write alone would wait
-/// for a reader, but not while the pipe is open to be read too, as it is here until the other open is done.
+/// Opens the pipe to append to it, and refuses one that nobody reads within a second. Opening it only for writing would
+/// wait for a reader, so it is kept open for reading too until the other open is done.
 pub fn open_pipe<R: Files<File = File>>(rt: &R, path: &str) -> Result<File, FileFault> {
     let both = appending().read(true).open(rt, path)?;
     let file = appending().open(rt, path)?;
@@ -23,14 +23,14 @@ pub fn open_pipe<R: Files<File = File>>(rt: &R, path: &str) -> Result<File, File
         if is_read(&file) {
             return Ok(file);
         }
-        // Waits so long: nothing is polled.
+        // Waits for this time; nothing is polled.
         let _ = poll(&mut [], PAUSE);
     }
     Err(FileFault::Refused)
 }
 
-// Whether somebody has the pipe open to read it. `file` writes to the pipe, so the system tells an error there where
-// nobody has.
+// Returns whether somebody has the pipe open for reading. `file` writes to the pipe, and the system reports an error
+// there if nobody reads it.
 fn is_read(file: &File) -> bool {
     let mut ends = [pollfd {
         fd: file.as_raw_fd(),

@@ -40,7 +40,8 @@ read_longer : {lab : LabValue} (t : Transcript lab) {after : State} (s : LineTur
     → bytes_read (longer t s tt) ≡ bytes_read t ++ line_read s
 read_longer t s = ap (flat_map ended) (map-append script_line t.lines (s.line ∷ [])) ∙ flat_longer ended (map script_line t.lines) (script_line s.line)
 
--- the lines so far make a transcript, which leads to where the hall stands, and the last of the lines in answer aren't written
+-- the lines so far make a transcript, which leads to the state of the hall, and the last of the lines in answer aren't
+-- written
 pub record AnsweredSoFar {S : Type 0} (contents : S → Option (List ℕ)) (failures : S → ℕ) (lab : LabValue) (first : S) (hall : HallValue S) (count : ℕ)
     (input left : Option (List ℕ)) (unsent : List (List ℕ)) (wrote wrote' : Option (List ℕ)) : Type 0 where
   pub transcript : Transcript lab
@@ -79,7 +80,7 @@ module _ {S : Type 0} {contents : S → Option (List ℕ)} {failures : S → ℕ
     journals = so.journals;
   }
 
-  -- nothing was taken of the input since, and all is out
+  -- nothing was taken of the input since, and all is written
   abbrev still : {b d : Option (List ℕ)} → Consumes a b [] → Sends c d unsent [] → AllAnswered lab input b wrote d
   still {b} {d} taken more = record {
     transcript = so.transcript;
@@ -87,7 +88,7 @@ module _ {S : Type 0} {contents : S → Option (List ℕ)} {failures : S → ℕ
     appended = all_out wrote d (lines_written so.transcript) (sends_on wrote c d (lines_written so.transcript) unsent [] so.sent more);
   }
 
-  -- nor is all out
+  -- nor is all written
   abbrev cut_so : {b d : Option (List ℕ)} (f : WriteFault) → Consumes a b [] → BreaksOff f c d unsent → CutShort f.written lab input b wrote d
   cut_so {b} {d} f taken breaks = record {
     transcript = so.transcript;
@@ -157,7 +158,7 @@ module _ {S : Type 0} {contents : S → Option (List ℕ)} {failures : S → ℕ
   pub unread_so : ServesNext next.ReadFault hall.lab hall.state hall'.state a held left unsent unsent' c d → Stopped Left fault.Read lab input left wrote d
   unread_so serves = (held, still so serves.0 serves.2, left_so so, serves.1)
 
-  -- the output line of the next line is not wholly out, or one before it
+  -- the output line of the next line is not wholly written, or one before it
   pub unwritten_so : (f : WriteFault) → GoesOn → ServesNext (next.WriteFault f) hall.lab hall.state hall'.state a held left unsent unsent' c d
       → Stopped Left (fault.Write f.written) lab input left wrote d
   unwritten_so f on serves =
@@ -173,7 +174,7 @@ module _ {S : Type 0} {contents : S → Option (List ℕ)} {failures : S → ℕ
         inl one.2,
       )
 
-  -- a flush before a bad line was told failed
+  -- a flush before a bad line was reported failed
   pub bad_unflushed_so : (e : Option (List ℕ)) (f : WriteFault) → ServesNext next.BadLine hall.lab hall.state hall'.state a held left unsent unsent' c d
       → BreaksOff f d e unsent' → Stopped Left (fault.Write f.written) lab input left wrote e
   bad_unflushed_so e f serves breaks = (

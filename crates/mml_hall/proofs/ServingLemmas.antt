@@ -1,4 +1,4 @@
--- What comes of a line, from what its parts say.
+-- The result of a line, from what its parts say.
 use Rattle.std.proofs.Common.{◌≡◌, ℕ, ◌+◌, ◌-◌, ◌*◌, ◌<◌, ◌≤◌, arith, List, [], ◌∷◌, ◌++◌, append_assoc, decimal, length, ◌∙◌, ap, refl, sym, Option, subst}
 use Rattle.std.proofs.Common.{OnOk, IfErr, Result, Ok, Err}
 use Rattle.std.specs.Prelude.{⊤}
@@ -22,7 +22,7 @@ use Rattle.mml_hall.specs.Transcripts.{output_line}
 use Rattle.mml_hall.specs.Serving.{ServesLine, ServesNext, ServesText}
 use Rattle.mml_hall.proofs.ScriptLinesLemmas.{ComesBad, bad_line}
 
--- the line goes out, its front as it was read
+-- the line is written, its front as it was read
 pub serves_line : (r : Result ⊤ WriteFault) (lab : LabValue) (st after : State) (line : RequestLine) (reply : Reply) (front whole : List ℕ)
     (unsent unsent' : List (List ℕ)) (wrote wrote' : Option (List ℕ))
     → IsScriptLine lab.sessions line → Turn lab st line.connection line.request (record { reply = reply; state = after })
@@ -58,7 +58,7 @@ module _ (lab : LabValue) (st after : State) (a left wrote wrote' : Option (List
   serves_next next.ReadFault had = absurd had
   serves_next (next.WriteFault fault) had = (had.2.0, taken_by had.0 had.2.0 had.1 had.2.1, few, had.2.2)
 
--- bad input that comes next is told as a bad line, with nothing answered and nothing sent
+-- bad input that comes next is reported as a bad line, with nothing answered and nothing sent
 pub bad_next : (lab : LabValue) (st after : State) (a left wrote : Option (List ℕ)) (held : List ℕ) (unsent : List (List ℕ)) → ComesBad lab.sessions a left
     → ServesNext next.BadLine lab st after a held left unsent unsent wrote wrote
 bad_next lab st after a left wrote held unsent comes = (comes.0, comes.1, comes.2, nothing_sent wrote unsent)

@@ -14,7 +14,7 @@ pub first_lines : (lab : LabValue) (t : Transcript lab) (rest : List ℕ) → la
     → lines_of (bytes_read t ++ rest) ≡ map script_line t.lines ++ lines_of rest
 first_lines lab t rest few = lines_first (map script_line t.lines) rest (scripts_unbroken lab.sessions t.lines few t.each)
 
--- where no newline follows, they are its script lines alone
+-- if no newline follows, they are its script lines alone
 pub only_lines : (lab : LabValue) (t : Transcript lab) (rest : List ℕ) → lab.sessions ≤ MAX_SESSIONS → IsUnbroken rest
     → lines_of (bytes_read t ++ rest) ≡ map script_line t.lines
 only_lines lab t rest few unbroken = all_lines (map script_line t.lines) rest (scripts_unbroken lab.sessions t.lines few t.each) unbroken

@@ -1,4 +1,4 @@
--- What turns leave as it was, and where out of memory may stand instead of a reply.
+-- What turns leave as it was, and when the refusal for memory may come instead of a reply.
 use Rattle.std.proofs.lemmas.Bool.Decides.{nat_tests}
 use Rattle.std.proofs.Common.{◌≡◌, ◌≢◌, ◌⊎◌, ◌<◌, ◌-◌, ℕ, Bool, true, false, true≢false, not, cond, List, Option, Some, None, Result, Ok, Err, refl, sym, ap, ◌∙◌}
 use Rattle.std.proofs.Common.{arith, subst, inl, inr}
@@ -28,7 +28,7 @@ use Rattle.mml_codec.proofs.RulingsLemmas.{place_of_done, short_done}
 use Rattle.mml_hall.specs.Turns.{State, Outcome, Mishap, Turn, IsRefusal, GrowsByGrant, is_grant, nothing, while_read, later, sink_failed, turn, known_on}
 use Rattle.mml_hall.specs.Turns.{with_known, with_event, outcome_of, settled, answer_to, plain_turn, takes_memory, without_memory, halting, IsKept}
 
--- ---- whatever befell a turn
+-- ---- whatever went wrong in a turn
 
 pub either_of : (P : Outcome → Type 0) (b : Bool) (one other : Outcome) → P one → P other → P (cond b one other)
 either_of P true one other p q = p
@@ -36,7 +36,7 @@ either_of P false one other p q = q
 
 module _ (lab : LabValue) (st : State) (k : ℕ) (line : List ℕ) (P : Outcome → Type 0) (plain : P (plain_turn lab st k line)) (memory : P (without_memory st))
     (journal : P (halting st)) where
-  -- what holds of a plain turn, and of what may come instead, holds whatever befell the turn
+  -- what holds of a plain turn, and of what may come instead, holds whatever went wrong in the turn
   pub whatever_befell : (mishap : Mishap) → P (turn mishap lab st k line)
   whatever_befell nothing = plain
   whatever_befell while_read = memory
@@ -53,7 +53,7 @@ pub record IsIdle (st : State) (out : Outcome) : Type 0 where
   pub state : out.state ≡ st
   pub nameless : place_in out.reply ≡ None
 
--- somebody becomes known, or nobody is known any longer, and the reply tells so
+-- somebody becomes known, or nobody is known any longer, and the reply says so
 pub record IsGreeting (st : State) (k : ℕ) (out : Outcome) : Type 0 where
   pub known : Option Who
   pub state : out.state ≡ with_known st k known
@@ -61,7 +61,7 @@ pub record IsGreeting (st : State) (k : ℕ) (out : Outcome) : Type 0 where
   pub short : is_short out.reply ≡ true
   pub tells : IsRefusal out.reply → ⊥
 
--- one who is known has asked for an event, which is granted, and the reply tells it
+-- a known participant has asked for an event, which is granted, and the reply names it
 pub record IsGranting (lab : LabValue) (st : State) (k : ℕ) (asked : Result Request LineFault) (out : Outcome) : Type 0 where
   pub who : Who
   pub command : Command
@@ -73,7 +73,7 @@ pub record IsGranting (lab : LabValue) (st : State) (k : ℕ) (asked : Result Re
   pub reply : out.reply ≡ reply_of_done (after st.world event).number (after st.world event).place done
   pub state : out.state ≡ with_event st event
 
--- nothing changes where a connection stays known as it was
+-- nothing changes if a connection stays known as it was
 with_known-known_on : (st : State) (k : ℕ) → with_known st k (known_on st k) ≡ st
 with_known-known_on st k = ap (λ (xs : _). record st { greeted = xs }) (set-get_or st.greeted (k - 1) None)
 
@@ -170,7 +170,7 @@ long_turn lab st k line long = elim (plain_does lab st k line) [
 long_takes_memory : (r : Reply) → is_short r ≡ false → takes_memory r ≡ true
 long_takes_memory r h = or_right (is_grant r) (not (is_short r)) (ap not h)
 
--- the plain outcome isn't short: out of memory may stand instead
+-- the plain outcome isn't short: the refusal for memory may come instead
 wanting : (lab : LabValue) (st : State) (k : ℕ) (line : List ℕ) (told : Reply) → told ≡ (without_memory st).reply
     → is_short (plain_turn lab st k line).reply ≡ false → Turn lab st k line (record { reply = told; state = (plain_turn lab st k line).state })
 wanting lab st k line told want long = (
@@ -180,7 +180,7 @@ wanting lab st k line told want long = (
       ∙ sym (ap (λ (b : Bool). cond b (without_memory st) (plain_turn lab st k line)) (long_takes_memory (plain_turn lab st k line).reply long)),
 )
 
--- the reply that is told is that of a turn too
+-- the reply that is sent is that of a turn too
 pub told_turn : (lab : LabValue) (st : State) (k : ℕ) (line : List ℕ) (out : Outcome) (told : Reply) → Turn lab st k line out → TellsFor out.reply told
     → Turn lab st k line (record { reply = told; state = out.state })
 told_turn lab st k line out told t (inl same) = subst (λ (r : Reply). Turn lab st k line (record { reply = r; state = out.state })) (sym same) t

@@ -1,4 +1,4 @@
--- What a hall stands for.
+-- The state of a hall that contracts see.
 use Rattle.std.specs.Prelude.{◌≡◌, ◌≤◌, true, length, All, IfSome}
 use Rattle.mml_lab.specs.Labs.{LabValue, IsLab}
 use Rattle.mml_lab.specs.Rosters.{IsPrincipal}
@@ -6,7 +6,7 @@ use Rattle.mml_board.specs.World.{IsWorld, size, opening_of}
 use Rattle.mml_board.specs.Runs.{is_legal_list, world_of}
 use Rattle.mml_hall.specs.Turns.{State}
 
--- the lab, where the answers have led, and the sink as it is now
+-- the lab, the state that the answers have led to, and the sink as it is now
 pub record HallValue (S : Type 0) : Type 0 where
   pub lab : LabValue
   pub state : State

@@ -1,4 +1,4 @@
--- What comes of a command where all is in one thread.
+-- The result of a command if all is in one thread.
 use Rattle.std.specs.Prelude.{ℕ, ⊤}
 use Rattle.mml_lab.specs.declared.who.Who.{Who}
 use Rattle.mml_policy.specs.declared.command.Command.{Command}

@@ -1,4 +1,4 @@
--- What `run_script` tells of the input, of what is left of it and of what was written.
+-- The result of `run_script`: the input that was read, the rest of it, and the output that was written.
 use Rattle.std.specs.Prelude.{◌≡◌, ◌⊎◌, ℕ, ◌+◌, ◌<◌, List, [], length, Option}
 use Rattle.std.specs.Io.KnownBytes.{Appends, Consumes, IsAtEnd, prepend_known}
 use Rattle.mml_lab.specs.Labs.{LabValue}
@@ -27,30 +27,30 @@ line_read t = ended (script_line t.line)
 abbrev pub line_written : {lab : LabValue} {st after : State} → LineTurn lab st after → List ℕ
 line_written {lab} t = output_line lab t.line.connection t.reply
 
--- the first lines of the input, those of a transcript, were answered, and their replies are out
+-- the first lines of the input, those of a transcript, were answered, and their replies are written
 pub record AllAnswered (lab : LabValue) (input left wrote wrote' : Option (List ℕ)) : Type 0 where
   pub transcript : Transcript lab
   pub consumed : Consumes input left (bytes_read transcript)
   pub appended : Appends wrote wrote' (bytes_written transcript)
 
--- the first lines of the input, those of a transcript, were answered, and of the bytes of their replies the first are out: so
--- many of the first line that isn't wholly out
+-- the first lines of the input, those of a transcript, were answered, and the first bytes of their replies are written:
+-- so many of the first line that isn't wholly written
 pub record CutShort (written : ℕ) (lab : LabValue) (input left wrote wrote' : Option (List ℕ)) : Type 0 where
   pub transcript : Transcript lab
   pub consumed : Consumes input left (bytes_read transcript)
   pub cut : BreaksOff (record { written = written }) wrote wrote' (lines_written transcript)
 
--- all lines of the input were answered, the hall is where they lead, its sink is left as `Leaves` says, and after the
--- lines came the front of a script line
+-- all lines of the input were answered, the hall is in the state that they lead to, its sink is left as `Leaves` says,
+-- and after the lines came the front of a script line
 abbrev pub Finished : {S : Type 0} → (S → State → Type 0) → HallValue S → LabValue → Option (List ℕ) → Option (List ℕ) → Option (List ℕ)
     → Option (List ℕ) → Type 0
 Finished Leaves hall lab input left wrote wrote' =
     (held : List ℕ) × (a : AllAnswered lab input (prepend_known held left) wrote wrote') × (hall.lab ≡ lab) × (hall.state ≡ a.transcript.end)
     × Leaves hall.sink a.transcript.end × IsWithinLimit MAX_SCRIPT_LINE held × IsAtEnd left
 
--- what was answered when an error came, and how the sink was left that is gone with the hall. What comes after it of the input
--- is what was held, and then what the reader has left: after a failed read the front of a script line, after a failed write no
--- more than one read brought in, or what is no script line
+-- what was answered when an error came, and the sink that was dropped with the hall. The input after it is what was
+-- held, and then what the reader has left: after a failed read the front of a script line, after a failed write no more
+-- than one read brought in, or what is no script line
 abbrev pub Stopped : {S : Type 0} → (S → State → Type 0) → ScriptFault → LabValue → Option (List ℕ) → Option (List ℕ) → Option (List ℕ)
     → Option (List ℕ) → Type 0
 Stopped {S} Leaves fault.Read lab input left wrote wrote' =

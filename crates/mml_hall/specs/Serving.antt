@@ -1,4 +1,4 @@
--- What comes of the next line of a script.
+-- The result of the next line of a script.
 use Rattle.std.specs.Prelude.{Bool, true, false, ◌≡◌, ◌≢◌, ℕ, ◌<◌, List, [], ◌∷◌, ◌++◌, length, Option, Result, Ok, Err, OnOk, IfErr, ⊤}
 use Rattle.std.specs.Io.KnownBytes.{Consumes, IsAtEnd, prepend_known}
 use Rattle.mml_lab.specs.Labs.{LabValue}
@@ -22,15 +22,15 @@ abbrev pub told_of : Reply → Bool → Reply
 told_of reply true = reply
 told_of reply false = replies.Refuse refused.Memory
 
--- an output line, of the reply or of `memory` instead of one that isn't short, comes behind the lines that were
--- held. Of all these lines the first went out and the others are held, or a write failed after some of their bytes
+-- an output line, of the reply or of `memory` instead of one that isn't short, comes after the lines that were held. Of
+-- all these lines the first were written and the others are held, or a write failed after some of their bytes
 abbrev pub Tells : Result ⊤ WriteFault → LabValue → Reply → List ℕ → List (List ℕ) → List (List ℕ) → Option (List ℕ) → Option (List ℕ) → Type 0
 Tells r lab reply front unsent unsent' wrote wrote' = (told : Reply) × TellsFor reply told
     × OnOk r (Sends wrote wrote' (unsent ++ (front ++ reply_line lab.ids lab.roster told) ∷ []) unsent')
     × IfErr r (λ fault. BreaksOff fault wrote wrote' (unsent ++ (front ++ reply_line lab.ids lab.roster told) ∷ []))
 
--- the line had its turn, and its output line comes behind the lines that were held. Of all these lines the first went
--- out and the others are held, or a write failed after some of their bytes
+-- the line had its turn, and its output line comes after the lines that were held. Of all these lines the first were
+-- written and the others are held, or a write failed after some of their bytes
 abbrev pub ServesLine : Result ⊤ WriteFault → LabValue → State → State → RequestLine → List (List ℕ) → List (List ℕ) → Option (List ℕ)
     → Option (List ℕ) → Type 0
 ServesLine (Ok done) lab st after line unsent unsent' wrote wrote' =
@@ -38,7 +38,7 @@ ServesLine (Ok done) lab st after line unsent unsent' wrote wrote' =
 ServesLine (Err fault) lab st after line unsent unsent' wrote wrote' =
     (t : LineTurn lab st after) × (t.line ≡ line) × BreaksOff fault wrote wrote' (unsent ++ line_written t ∷ [])
 
--- what came of a line that was read, by what it is: a script line, which had its turn, or none
+-- the result of a line that was read, by what it is: a script line, which had its turn, or none
 abbrev pub ServesText : ScriptStep → LabValue → State → State → List ℕ → List (List ℕ) → List (List ℕ) → Option (List ℕ) → Option (List ℕ) → Type 0
 ServesText next.Answered lab st after line unsent unsent' wrote wrote' =
     (s : RequestLine) × (line ≡ script_line s) × ServesLine (Ok tt) lab st after s unsent unsent' wrote wrote'
@@ -49,8 +49,8 @@ ServesText next.ReadFault lab st after line unsent unsent' wrote wrote' = ⊥
 ServesText (next.WriteFault fault) lab st after line unsent unsent' wrote wrote' =
     (s : RequestLine) × (line ≡ script_line s) × ServesLine (Err fault) lab st after s unsent unsent' wrote wrote'
 
--- what came of the next line: what it made of the state, of the bytes to come, of which those held are first, of the lines that
--- aren't written and of the bytes that are
+-- the result of the next line: the state after it, the bytes to come, of which those held are first, the lines that
+-- aren't written and the bytes that are
 abbrev pub ServesNext : ScriptStep → LabValue → State → State → Option (List ℕ) → List ℕ → Option (List ℕ) → List (List ℕ) → List (List ℕ) → Option (List ℕ)
     → Option (List ℕ) → Type 0
 ServesNext next.Answered lab st after input held left unsent unsent' wrote wrote' =

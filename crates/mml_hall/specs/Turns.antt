@@ -1,4 +1,4 @@
--- What one line does, and what many do.
+-- The turns of lines, one and many.
 use Rattle.std.specs.Prelude.{◌≡◌, ◌⊎◌, ℕ, ◌+◌, ◌-◌, ◌<◌, List, [], ◌∷◌, ◌++◌, replicate, Bool, true, false, not, ◌||◌, Option, None, Some, is_some, Result, Ok}
 use Rattle.std.specs.Prelude.{Err, slice_index_or, slice_set, if◌then◌else◌}
 use Rattle.mml_lab.specs.declared.who.Who.{Who}
@@ -23,17 +23,17 @@ use Rattle.mml_codec.specs.Greetings.{refusal_of, greeting}
 use Rattle.mml_codec.specs.Replies.{is_short, place_in}
 use Rattle.mml_codec.specs.Rulings.{reply_of}
 
--- where the answers so far have led
+-- the state that the answers so far have led to
 pub record State : Type 0 where
   pub world : World
-  -- what was granted so far
+  -- the events that were granted so far
   pub events : List Event
   -- for each connection, from 1, who is known on it, if anyone is
   pub greeted : List (Option Who)
-  -- whether a put into the journal's sink has failed; then nothing is granted any longer
+  -- whether a write to the journal's sink has failed; then nothing is granted any longer
   pub halted : Bool
 
--- at the beginning nothing was granted, nobody is known on any connection, and no put has failed
+-- at the beginning nothing was granted, nobody is known on any connection, and no write has failed
 abbrev pub opening : LabValue → State
 opening lab = record { world = opening_of lab.network; events = []; greeted = replicate lab.sessions None; halted = false }
 
@@ -58,26 +58,26 @@ replied st r = record { reply = r; state = st }
 abbrev pub with_event : State → Event → State
 with_event st e = record st { world = after st.world e; events = st.events ++ e ∷ [] }
 
--- the state after an event, or the same where there is none
+-- the state after an event, or the same if there is none
 abbrev pub entered : State → Option Event → State
 entered st None = st
 entered st (Some e) = with_event st e
 
--- what comes of a ruling: its event happens, if one is granted, and the reply is told of the world after that
+-- the result of a ruling: its event happens, if one is granted, and the reply is that to the world after it
 abbrev pub outcome_of : State → Ruling → Outcome
 outcome_of st r = let after = entered st (event_of r) in record { reply = reply_of after.world r; state = after }
 
--- what comes of a request: a reply at once, and who is known then; or what the ruling on its command leads to
+-- the result of a request: a reply at once, and who is known then; or the result of the ruling on its command
 abbrev pub settled : LabValue → State → ℕ → Greeting → Outcome
 settled lab st k (Answered r x) = record { reply = r; state = with_known st k x }
 settled lab st k (LeftToJudge x c) = outcome_of st (ruling lab.ids lab.roster lab.events st.halted st.world x c)
 
--- what comes of what a line asks
+-- the result of what a line asks
 abbrev pub answer_to : LabValue → State → ℕ → Result Request LineFault → Outcome
 answer_to lab st k (Err fault) = replied st (reply.Refuse (refusal_of fault))
 answer_to lab st k (Ok request) = settled lab st k (greeting lab.roster (known_on st k) request)
 
--- the turn of a line on a connection, where memory never runs out and no sink fails
+-- the turn of a line on a connection, if memory never runs out and no sink fails
 unfoldable pub plain_turn : LabValue → State → ℕ → List ℕ → Outcome
 plain_turn lab st k line = answer_to lab st k (request_in line)
 
@@ -89,25 +89,25 @@ without_memory st = replied st (reply.Refuse refused.Memory)
 abbrev pub halting : State → Outcome
 halting st = record { reply = reply.Refuse refused.Journal; state = record st { halted = true } }
 
--- the reply tells a grant
+-- the reply is that to a grant
 abbrev pub is_grant : Reply → Bool
 is_grant r = is_some (place_in r)
 
--- the reply shows a look or a report, or tells a grant: for these memory is needed after the line is read
+-- the reply is that to a look, a report or a grant: these need memory after the line is read
 abbrev pub takes_memory : Reply → Bool
 takes_memory r = is_grant r || not (is_short r)
 
--- what may befall a turn
+-- what may go wrong in a turn
 pub data Mishap : Type 0 where
   nothing : Mishap
-  -- a growth was refused while the line was read
+  -- memory ran out while the line was read
   while_read : Mishap
-  -- a growth was refused after the line was read
+  -- memory ran out after the line was read
   later : Mishap
-  -- a put of the line of the journal failed
+  -- a write of the journal's line failed
   sink_failed : Mishap
 
--- the outcome, unless the memory that it takes was refused
+-- the outcome, unless it needs memory that ran out
 abbrev pub unless_refused : State → Outcome → Outcome
 unless_refused st out = if takes_memory out.reply then without_memory st else out
 
@@ -115,15 +115,15 @@ unless_refused st out = if takes_memory out.reply then without_memory st else ou
 abbrev pub unless_failed : State → Outcome → Outcome
 unless_failed st out = if is_grant out.reply then halting st else out
 
--- the turn of a line on a connection, by what befell it
+-- the turn of a line on a connection, by what went wrong in it
 abbrev pub turn : Mishap → LabValue → State → ℕ → List ℕ → Outcome
 turn nothing lab st k line = plain_turn lab st k line
 turn while_read lab st k line = without_memory st
 turn later lab st k line = unless_refused st (plain_turn lab st k line)
 turn sink_failed lab st k line = unless_failed st (plain_turn lab st k line)
 
--- what keeps a plain outcome from coming, and the state that it leaves: it takes memory that was refused, or it is a grant
--- whose line wasn't taken
+-- why a plain outcome doesn't come, and the state that is left: memory that it needs ran out, or it is a grant whose
+-- line wasn't taken
 abbrev pub Prevents : Refusal → State → Outcome → State → Type 0
 Prevents refusal.Full st plain after = ⊥
 Prevents refusal.Journal st plain after = (is_grant plain.reply ≡ true) × (after ≡ (halting st).state)
@@ -134,12 +134,12 @@ abbrev pub Comes : State → Outcome → Outcome → Type 0
 Comes st plain out =
     (out ≡ plain) ⊎ ((takes_memory plain.reply ≡ true) × (out ≡ without_memory st)) ⊎ ((is_grant plain.reply ≡ true) × (out ≡ halting st))
 
--- a turn, whatever befell it
+-- a turn, whatever went wrong in it
 abbrev pub Turn : LabValue → State → ℕ → List ℕ → Outcome → Type 0
 Turn lab st k line out = (mishap : Mishap) × (out ≡ turn mishap lab st k line)
 
--- from one moment to a later one: whether the journal was and is halted, and how many puts of its sink had and have failed.
--- A put that fails halts it, and no other put fails
+-- from one moment to a later one: whether the journal was and is halted, and how many writes to its sink had and have
+-- failed. A write that fails halts it, and no other write fails
 abbrev pub Halts : Bool → Bool → ℕ → ℕ → Type 0
 Halts was now before after = ((now ≡ was) × (after ≡ before)) ⊎ ((was ≡ false) × (now ≡ true) × (before < after))
 

@@ -1,3 +1,3 @@
--- What stands apart from the model: how a script ends. No public clause cites it.
+-- What is kept apart from the model: how a script ends. No public clause cites it.
 pub mod Ending
 pub mod HallView

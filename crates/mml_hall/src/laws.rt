@@ -1,4 +1,4 @@
-//! Laws of turns and scripts. Each is the clause of a function that does nothing.
+//! Laws of turns and scripts. Each is the contract of a function that does nothing.
 
 ghost use Rattle.std.specs.Prelude.{◌≡◌, ◌≢◌, ◌<◌, ◌≤◌, ◌⊎◌, ◌++◌, ℕ, List, true, length, map};
 ghost use Rattle.mml_lab.specs.declared.TheConstants.{MAX_SESSIONS};
@@ -16,8 +16,8 @@ use crate::MAX_SCRIPT_LINE;
 
 pub mod audit;
 
-/// The script lines of a transcript are the first lines of the bytes that it read with any rest behind them,
-/// and all lines where the rest has no newline.
+/// The script lines of a transcript are the first lines of the bytes that it read with any rest after them, and all
+/// lines if the rest has no newline.
 pub fn lines_of_a_transcript()
     ensures first { (lab : LabValue) (t : Transcript lab) (rest : List ℕ)
         → lab.sessions ≤ MAX_SESSIONS
@@ -32,22 +32,22 @@ pub fn one_reply_each()
     ensures { (lab : LabValue) (t : Transcript lab) → length t.replies ≡ length t.lines }
 {}
 
-/// What is denied or refused leaves the world, the events, and who is known on each connection, as they were;
-/// only the journal may be halted by it.
+/// A request that is denied or refused leaves the world, the events, and who is known on each connection, as they were.
+/// It may only halt the journal.
 pub fn refusals_change_nothing()
     ensures { (lab : LabValue) (st : State) (connection : ℕ) (line : List ℕ) (out : Outcome)
         → Turn lab st connection line out → IsRefusal out.reply → IsKept st out.state }
 {}
 
-/// A turn makes at most one event, and only where its reply tells a grant, which names the place of the
-/// event. Every other reply leaves the world and the events as they were.
+/// A turn makes at most one event, and only if its reply is that to a grant, which names the place of the event. Every
+/// other reply leaves the world and the events as they were.
 pub fn events_grow_by_grants()
     ensures { (lab : LabValue) (st : State) (connection : ℕ) (line : List ℕ) (out : Outcome)
         → Turn lab st connection line out → GrowsByGrant st out }
 {}
 
-/// A put that failed halts the journal, instead of a grant, and nothing else does; a journal that is
-/// halted stays so. Where the reply is the refusal `journal`, the journal is halted after the turn.
+/// A write that fails halts the journal, instead of a grant, and nothing else does. A journal that is halted stays so.
+/// If the reply is the refusal `journal`, the journal is halted after the turn.
 pub fn failed_puts_halt_for_good()
     ensures failed { (lab : LabValue) (st : State) (connection : ℕ) (line : List ℕ)
         → is_grant (plain_turn lab st connection line).reply ≡ true
@@ -63,14 +63,14 @@ pub fn failed_puts_halt_for_good()
         → out.state.halted ≡ true }
 {}
 
-/// A turn changes nothing of who is known on other connections.
+/// A turn leaves who is known on other connections.
 pub fn others_stay_known()
     ensures { (lab : LabValue) (st : State) (connection other : ℕ) (line : List ℕ) (out : Outcome)
         → Turn lab st connection line out → 0 < connection → 0 < other → other ≢ connection
         → known_on out.state other ≡ known_on st other }
 {}
 
-/// The limit of a script line, in numerals.
+/// The limit of a script line, as a number.
 pub fn limit_of_script_lines()
     ensures { MAX_SCRIPT_LINE ≡ 4099 }
 {}

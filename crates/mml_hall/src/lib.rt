@@ -1,4 +1,4 @@
-//! The server of one thread: requests of many connections answered in turn, and scripts of them.
+//! The server of one thread: it answers the requests of many connections in turn, and runs scripts of them.
 #![tactic(auto)]
 
 mod hall;

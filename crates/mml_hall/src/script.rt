@@ -30,19 +30,19 @@ use std::io::{Read, Write};
 pub enum ScriptFault {
     /// A read failed, or one more was needed after the most that there may be.
     Read,
-    /// A write failed, or took nothing, after that many bytes of the first line that isn't wholly out.
-    /// A flush that failed after all lines is told as 0.
+    /// A write failed, or took nothing, after that many bytes of the first line that isn't wholly written. If a flush
+    /// failed after all lines, the number is 0.
     Write { written: usize },
     /// The line with this number, from 1, is no script line.
     BadLine(u64),
-    /// A growth was refused before anything was read.
+    /// Memory ran out before anything was read.
     Memory,
 }
 
 impl From<Memory> for ScriptFault {
     ghost from_gives = { λ _ e. e ≡ faults.Memory };
 
-    // Memory that was refused, told as why a script ended: before anything was read.
+    // Turns a failed allocation into the reason why a script ended before anything was read.
     fn from(_memory: Memory) -> ScriptFault {
         ScriptFault::Memory
     }
@@ -51,7 +51,7 @@ impl From<Memory> for ScriptFault {
 impl From<WriteFault> for ScriptFault {
     ghost from_gives = { λ f e. e ≡ faults.Write f.written };
 
-    // A failed write, told as why a script ended, with the same count of bytes.
+    // Turns a failed write into the reason why a script ended, with the same count of bytes.
     fn from(fault: WriteFault) -> ScriptFault {
         ScriptFault::Write {
             written: fault.written,
@@ -59,10 +59,10 @@ impl From<WriteFault> for ScriptFault {
     }
 }
 
-/// Answers the lines of a script one by one, and gives the hall at the end of the input, or why the script ended
-/// before. Replies go out together, so that one write takes many: the writer is flushed where the next line needs
-/// a read, and before a bad line is told. The lines of the granted events go to the sink, which is let go with
-/// the hall where an error ends the script.
+/// Answers the lines of a script one by one. Returns the hall at the end of the input, or why the script ended before.
+/// Replies are buffered, so that one write takes many: the writer is flushed if the next line needs a read, and before
+/// a bad line is reported. The lines of the granted events go to the sink, which is dropped with the hall if an error
+/// ends the script.
 pub fn run_script<R: Read, W: Write, S: Sink + Drop>(
     alloc: Global,
     lab: Lab,
@@ -91,7 +91,8 @@ pub fn run_script<R: Read, W: Write, S: Sink + Drop>(
     }
 }
 
-// What is reserved before anything is read: for lines, for one reply and for lines that go out together.
+// The buffers that are reserved before anything is read: for lines, for one reply and for lines that are written
+// together.
 #[derive(Drop)]
 struct Buffers {
     lines: Lines,
@@ -100,8 +101,7 @@ struct Buffers {
 }
 
 impl Buffers {
-    // Buffers that hold nothing, with room for any reply but a look's or a report's. An error means that memory was
-    // refused.
+    // Returns empty buffers, with room for any reply but a look's or a report's. Returns `Memory` if memory runs out.
     fn new(alloc: Global) -> Result<Buffers, Memory>
         ensures lines { IfOk result (λ b. b.lines ≡ fresh MAX_SCRIPT_LINE) }
         ensures room { IfOk result (λ b. REPLY_ROOM ≤ vec_capacity b.reply) }
@@ -118,8 +118,8 @@ impl Buffers {
     }
 }
 
-// Reserves the buffers, and answers all lines of the input in a hall that was just opened. An error is why the
-// script ended before its input did.
+// Reserves the buffers, and answers all lines of the input in a hall that was just opened. Returns why the script ended
+// if it ended before its input.
 fn answer_all<R: Read, W: Write, S: Sink>(
     alloc: Global,
     hall: &mut Hall<S>,
@@ -138,8 +138,8 @@ fn answer_all<R: Read, W: Write, S: Sink>(
     answer_lines(alloc, hall, &mut buffers, reader, writer)
 }
 
-// Answers line after line in reserved buffers, up to the end of the input. An error is why the script ended before
-// that, and never `Memory`.
+// Answers line after line with reserved buffers, up to the end of the input. Returns why the script ended if it ended
+// before that, which is never `Memory`.
 fn answer_lines<R: Read, W: Write, S: Sink>(
     alloc: Global,
     hall: &mut Hall<S>,
@@ -177,7 +177,8 @@ fn answer_lines<R: Read, W: Write, S: Sink>(
     }
 }
 
-// The fault of a line that is no script line, with the line's number, from 1: `answered` lines came before it.
+// Returns the fault of a line that is no script line, with the line's number, from 1. `answered` is how many lines came
+// before it.
 fn bad_line_after(answered: u64) -> ScriptFault
     requires { answered < 2 ^ 64 - 1 }
     ensures { result ≡ ScriptFault.BadLine (answered + 1) }
@@ -185,7 +186,7 @@ fn bad_line_after(answered: u64) -> ScriptFault
     ScriptFault::BadLine(answered + 1)
 }
 
-// What came of the next line.
+// The result of the next line.
 #[derive(Clone, Copy)]
 enum ScriptStep {
     Answered,
@@ -195,8 +196,8 @@ enum ScriptStep {
     WriteFault(WriteFault),
 }
 
-// Lets all held replies go out where the next line needs a read, and else does nothing. An error is a failed write or
-// flush.
+// Flushes all held replies if the next line needs a read, and else does nothing. Returns `WriteFault` if a write or
+// flush fails.
 fn flush_before_read<W: Write>(
     lines: &Lines,
     outgoing: &mut Outgoing,
@@ -218,8 +219,8 @@ fn flush_before_read<W: Write>(
     Ok(())
 }
 
-// Gets the next line, answers it, if it is a script line, and tells what came of it. It reads only where all replies
-// are out.
+// Reads the next line and returns it, if it is a script line. Returns the result. Reads only if all replies are
+// written.
 fn serve_next<R: Read, W: Write, S: Sink>(
     alloc: Global,
     hall: &mut Hall<S>,
@@ -240,7 +241,7 @@ fn serve_next<R: Read, W: Write, S: Sink>(
     ensures halts { Halts hall.old.state.halted hall.new.state.halted
         (S.failures hall.old.sink) (S.failures hall.new.sink) }
     ensures journal { TellsJournal hall.new.lab hall.new.state (S.contents hall.new.sink) }
-    // Each line brings the end nearer, since there is a most of reads.
+    // Each line brings the end nearer, since the number of reads is limited.
     ensures progress { result ≡ ScriptStep.Answered → bytes_ahead buffers.new.lines < bytes_ahead buffers.old.lines }
     ensures serves { ServesNext result hall.old.lab hall.old.state hall.new.state
         (prepend_known buffers.old.lines.unread (R.remaining reader.old))
@@ -264,8 +265,8 @@ fn serve_next<R: Read, W: Write, S: Sink>(
     }
 }
 
-// Answers a line, where it is a script line, and tells what came of it: `Answered`, or `WriteFault` where a write
-// failed, and `BadLine` where it is no script line.
+// Answers a line, if it is a script line. Returns `Answered`, or `WriteFault` if a write failed, or `BadLine` if it is
+// no script line.
 fn serve_line<W: Write, S: Sink>(
     alloc: Global,
     hall: &mut Hall<S>,
@@ -293,8 +294,8 @@ fn serve_line<W: Write, S: Sink>(
     }
 }
 
-// Answers a script line and puts the reply behind those that are held to go out: if it is short and there is room,
-// written where they are held, else by `tell_apart`. An error is a failed write.
+// Answers a script line and appends the reply to the held ones. A reply that is short and has room is written straight
+// into the buffer, and any other by `tell_apart`. Returns `WriteFault` if a write fails.
 fn serve_script_line<W: Write, S: Sink>(
     alloc: Global,
     hall: &mut Hall<S>,
@@ -327,7 +328,7 @@ fn serve_script_line<W: Write, S: Sink>(
     tell_apart(alloc, rest, line.front, out, outgoing, writer)
 }
 
-// A reply, as what its output line has behind the connection.
+// A reply, as the rest of its output line after the connection.
 #[derive(Clone, Copy)]
 struct ReplyRest<'a> {
     lab: &'a Lab,
@@ -341,15 +342,15 @@ impl LineRest for ReplyRest<'_> {
 
     ghost is_short = { λ t. is_short t.reply.now };
 
-    // Puts the reply's line behind what the vector holds, unless the reply is a look or a report, or there is too
-    // little room. Whether it did.
+    // Appends the reply's line, unless the reply is a look or a report, or there is too little room. Returns whether it
+    // did.
     fn append_to(&self, out: &mut Vec<u8>) -> bool {
         append_reply(self.lab.ids(), self.lab.roster(), self.reply, out)
     }
 }
 
-// Puts the line of a reply behind those that are held to go out, by way of a buffer of its own: for a reply that
-// isn't short, and one for which the held lines have to be written first. An error is a failed write.
+// Appends the line of a reply to the held ones, by way of a buffer of its own. This is for a reply that isn't short,
+// and one for which the held lines have to be written first. Returns `WriteFault` if a write fails.
 #[inline(never)]
 fn tell_apart<W: Write>(
     alloc: Global,
@@ -369,8 +370,8 @@ fn tell_apart<W: Write>(
     outgoing.put(front, out, writer)
 }
 
-// Puts the line of a reply instead of what the vector holds, or the line of the refusal `memory`, where a
-// growth was refused, and tells whether it was the reply's own.
+// Replaces the vector's bytes by the line of a reply, or by that of the refusal `memory` if memory runs out. Returns
+// whether it was the reply's own.
 fn put_reply(alloc: Global, lab: &Lab, reply: &Reply, out: &mut Vec<u8>) -> bool
     requires room { REPLY_ROOM ≤ vec_capacity out.old }
     requires about { IsAbout lab.now.ids lab.now.roster reply.now }
@@ -387,7 +388,7 @@ fn put_reply(alloc: Global, lab: &Lab, reply: &Reply, out: &mut Vec<u8>) -> bool
     }
 }
 
-// Puts the line of the refusal `memory` instead of what the vector holds, for which that has room.
+// Replaces the vector's bytes by the line of the refusal `memory`, for which it has room.
 fn put_want_of_memory(alloc: Global, lab: &Lab, out: &mut Vec<u8>)
     requires room { REPLY_ROOM ≤ vec_capacity out.old }
     ensures room { REPLY_ROOM ≤ vec_capacity out.new }

@@ -13,14 +13,14 @@ use mml_codec::MAX_REQUEST;
 #[derive(Clone, Copy)]
 pub struct ScriptLine<'a> {
     pub connection: u8,
-    /// The connection and the space after it, as the line has them.
+    /// The connection and the space after it, as in the line.
     pub front: &'a [u8],
     pub request: &'a [u8],
 }
 
-/// The connection and the request of a line of a script, without its newline: a connection in decimal, one
-/// space and the request. `None` where the lab has no such connection, the request is longer than a request may
-/// be, or the line isn't formed so.
+/// Returns the connection and the request of a script line, without its newline: a connection in decimal, one space and
+/// the request. Returns `None` if the lab has no such connection, the request is longer than a request may be, or the
+/// line has another form.
 pub fn read_script_line(line: &[u8], sessions: u8) -> Option<ScriptLine<'_>>
     requires few { sessions ≤ MAX_SESSIONS }
     requires line { IsWithinLimit MAX_SCRIPT_LINE line.now }
@@ -43,8 +43,8 @@ pub fn read_script_line(line: &[u8], sessions: u8) -> Option<ScriptLine<'_>>
     })
 }
 
-// The number that the first one or two digits of a line spell, or 0 where it begins with none. More digits may
-// follow these, or a zero come first: no connection has such a number, and the whole line is tested afterwards.
+// Returns the number that the first one or two digits of a line spell, or 0 if it begins with none. More digits may
+// follow, or a zero may come first: no connection has such a number, and the whole line is tested afterwards.
 fn connection_of(line: &[u8]) -> u8
     ensures { (n : ℕ) (rest : List ℕ) → 0 < n → n ≤ MAX_SESSIONS
         → line.now ≡ decimal n ++ 32 ∷ rest → result ≡ n }
@@ -56,7 +56,7 @@ fn connection_of(line: &[u8]) -> u8
     }
 }
 
-// The value of the digit at an index of a line, from 0; `None` where no digit stands there.
+// Returns the value of the digit at an index of a line, from 0, or `None` if no digit stands there.
 fn digit_at(line: &[u8], index: usize) -> Option<u8>
     ensures digit { IfSome result (λ d. (d < 10) × (index < length line.now) × (slice_index line.now index ≡ 48 + d)) }
     ensures none { IfNone result (index < length line.now → (d : ℕ) → d < 10 → slice_index line.now index ≢ 48 + d) }
@@ -68,8 +68,8 @@ fn digit_at(line: &[u8], index: usize) -> Option<u8>
     }
 }
 
-// The request of a line, which follows the connection and one space at its front; `None` where these don't stand
-// there, or the request is too long.
+// Returns the request of a line after the connection and one space, or `None` if the line doesn't begin with these, or
+// the request is too long.
 fn short_request_on(connection: u8, line: &[u8]) -> Option<&[u8]>
     requires number { connection < 100 }
     requires line { IsUnbroken line.now }
@@ -87,7 +87,8 @@ fn short_request_on(connection: u8, line: &[u8]) -> Option<&[u8]>
     }
 }
 
-// What follows the connection and one space at the front of a line; `None` where they don't stand there.
+// Returns the bytes after the connection and one space at the front of a line, or `None` if it doesn't begin with
+// these.
 fn request_on(connection: u8, line: &[u8]) -> Option<&[u8]>
     requires { connection < 100 }
     ensures { MatchOption result
@@ -99,7 +100,8 @@ fn request_on(connection: u8, line: &[u8]) -> Option<&[u8]>
     Some(request)
 }
 
-// What follows the connection's number, of one or two digits, at the front of a line; `None` where it isn't there.
+// Returns the bytes after the connection's number, of one or two digits, at the front of a line, or `None` if it
+// doesn't begin with it.
 fn after_number(connection: u8, line: &[u8]) -> Option<&[u8]>
     requires { connection < 100 }
     ensures { MatchOption result
@@ -112,7 +114,7 @@ fn after_number(connection: u8, line: &[u8]) -> Option<&[u8]>
     after_word(line, &[b'0' + connection / 10, b'0' + connection % 10])
 }
 
-// What follows a word at the front of a line; `None` where the line doesn't begin with it.
+// Returns the bytes after a word at the front of a line, or `None` if the line doesn't begin with it.
 fn after_word<'a>(line: &'a [u8], word: &[u8]) -> Option<&'a [u8]>
     ensures { MatchOption result
         ((rest : List ℕ) → line.now ≢ word.now ++ rest)

@@ -1,4 +1,4 @@
--- Scripts in two labs between which a student can't tell.
+-- Scripts in two labs that look the same to a student.
 use Rattle.std.proofs.Common.{◌≡◌, ◌≢◌, ℕ, ◌-◌, ◌==◌, Bool, true, false, cond, List, [], ◌∷◌, ◌++◌, Option, None, Result, Ok, All, refl, sym, ap, ◌∙◌}
 use Rattle.std.specs.List.{concat}
 use Rattle.std.specs.Prelude.{slice_index_or, decimal}
@@ -28,7 +28,7 @@ use Rattle.mml_hidden.proofs.TwinsLemmas.{twin_turn, twin_line, twin_next, twin_
 use Rattle.std.proofs.lemmas.Bool.Decides.{nat_tests}
 use Rattle.std.proofs.Common.{arith}
 
--- what is written only where a test holds is the same where it is the same under the test
+-- what is written only if a test holds is the same if it is the same under the test
 pub if_same : (b : Bool) (x y : List (List ℕ)) → (b ≡ true → x ≡ y) → cond b x [] ≡ cond b y []
 if_same b x y h = grind (arith, nat_tests)
 
@@ -70,7 +70,7 @@ module _ (lab other : LabValue) (t : AreTwins lab other) (s : ℕ) where
       let rest = same_written_on (turn_of lab st line).state (turn_of other su line).state k lines (next_alike st su a line stay.0) stay.1 hers.1 in
       λ z. first z ++ rest z
 
--- ---- where she alone is known
+-- ---- if she alone is known
 
 none_known : (xs : List (Option Who)) (s i : ℕ) → All (λ known. is_hers s known ≡ true) xs → is_hers s (slice_index_or xs i None) ≡ true
 none_known xs s i all = grind (arith, nat_tests, cases_lt, get_or_past)
@@ -147,7 +147,7 @@ plain_run lab st [] (r ∷ rs) end run free = absurd run
 plain_run lab st (line ∷ lines) [] end run free = absurd run
 plain_run lab st (line ∷ lines) (r ∷ rs) end (next, here, run) (now, free) = grind (arith, nat_tests, plain_there, (plain_run lab next lines rs end run free))
 
--- where only the student greets, the same lines are answered by the same bytes in both labs
+-- if only the student greets, the same lines are answered by the same bytes in both labs
 pub same_transcripts : (lab other : LabValue) (s : ℕ) (t : Transcript lab) (u : Transcript other) → BeginAlike lab other s → u.lines ≡ t.lines
     → OnlySheGreets lab s t.lines → AreUnhindered t.replies → AreUnhindered u.replies
     → bytes_written t ≡ bytes_written u

@@ -36,7 +36,7 @@ use Rattle.mml_hidden.specs.Sessions.{seen_at, IsUnhindered, IsToldAlike, AreTol
 use Rattle.mml_hidden.proofs.ToldLemmas.{same_reply_to}
 use Rattle.std.proofs.lemmas.Bool.Decides.{nat_tests}
 
--- ---- the list at which a reply was given
+-- ---- the list at which a reply was made
 
 all_of : (l : List Event) (n : ℕ) → n ≡ length l → take n l ≡ l
 all_of l n e = ap (λ k. take k l) e ∙ take-length l
@@ -50,7 +50,7 @@ seen_plainly : (w : World) (l : List Event) (g : Ruling)
     → take (length (entered l (event_of g)) - length (places_in (reply_of w g))) (entered l (event_of g)) ≡ l
 seen_plainly w l g = grind (arith, nat_tests, but_last, all_of)
 
--- a refusal instead of a ruling tells what hindered it
+-- a refusal instead of a ruling names what hindered it
 hindered : (g : Ruling) (why : Refused) (kept : Option Refusal) → MayRefuse g why kept → IsUnhindered (reply.Refuse why) → ⊥
 hindered g why kept may free = grind (arith, nat_tests)
 

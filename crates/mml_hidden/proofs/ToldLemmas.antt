@@ -1,4 +1,4 @@
--- A student is told the same in worlds that are alike.
+-- A student has the same replies in worlds that are alike.
 use Rattle.std.proofs.Common.{◌≡◌, ℕ, Bool, true, false, cond, List, Result, ap, arith}
 use Rattle.std.proofs.lemmas.Bool.{false≢true}
 use Rattle.std.specs.Result.{IfOk}
@@ -24,7 +24,7 @@ use Rattle.mml_codec.specs.Rulings.{reply_of}
 use Rattle.mml_hidden.specs.CommandReplies.{reply_to, line_to}
 use Rattle.std.proofs.lemmas.Bool.Decides.{nat_tests}
 
--- ---- a student is told no report
+-- ---- a student is shown no report
 
 abbrev NoReport : Leave → Type 0
 NoReport Report = ⊥

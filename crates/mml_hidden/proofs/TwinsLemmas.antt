@@ -158,7 +158,7 @@ module _ (lab other : LabValue) (t : AreTwins lab other) (s : ℕ) (st su : Stat
   alike_here : is_hers s (known_on st k) ≡ true → TurnsAlike lab s (turn m lab st k line) (turn m other su k line)
   alike_here h = grind (arith, nat_tests, same_turn, turn_alike)
 
-  -- a line of another leaves the states alike where it leaves the worlds so, and both halted or neither
+  -- a line of another leaves the states alike if it leaves the worlds so, and both halted or neither
   pub twin_others : Alike lab.roster s (turn m lab st k line).state.world (turn m other su k line).state.world
       → (turn m lab st k line).state.halted ≡ (turn m other su k line).state.halted
       → StatesAlike lab s (turn m lab st k line).state (turn m other su k line).state
@@ -178,7 +178,7 @@ module _ (lab other : LabValue) (t : AreTwins lab other) (s : ℕ) (st su : Stat
       → reply_line lab.ids lab.roster (turn m lab st k line).reply ≡ reply_line other.ids other.roster (turn m other su k line).reply
   twin_line h = λ z. reply_line (t.ids z) (t.roster z) ((twin_turn h).0 z)
 
-  -- the states stay alike after a line of hers, and after another's where the worlds do
+  -- the states stay alike after a line of hers, and after another's if the worlds do
   pub twin_next : (is_hers s (known_on st k) ≡ false → Alike lab.roster s (turn m lab st k line).state.world (turn m other su k line).state.world
       × ((turn m lab st k line).state.halted ≡ (turn m other su k line).state.halted))
       → StatesAlike lab s (turn m lab st k line).state (turn m other su k line).state

@@ -1,4 +1,4 @@
--- Turns of the lines of a script, whatever befell them, and what of them goes to connections of one student.
+-- Turns of the lines of a script, whatever went wrong in them, and what of them goes to connections of one student.
 use Rattle.std.specs.Prelude.{◌≡◌, ℕ, Bool, true, false, List, [], ◌∷◌, map}
 use Rattle.mml_lab.specs.Labs.{LabValue}
 use Rattle.mml_policy.specs.Alike.{Alike}
@@ -29,7 +29,7 @@ replies_with lab st bs = replies_by (turn_with lab) st bs
 abbrev pub end_with : LabValue → State → List BefallenLine → State
 end_with lab st bs = end_by (turn_with lab) st bs
 
--- after each line of another the worlds of the two runs are alike for student s, and halted the same
+-- after each line of another's the worlds of the two runs are alike for student s, and halted the same
 abbrev pub StayAlikeWith : LabValue → LabValue → ℕ → State → State → List BefallenLine → Type 0
 StayAlikeWith lab other s st su [] = Unit {0}
 StayAlikeWith lab other s st su (b ∷ bs) =

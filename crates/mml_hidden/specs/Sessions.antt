@@ -1,4 +1,4 @@
--- Two sessions of one student, each through a window of a house, between which the student can't tell.
+-- Two sessions of one student, each through a window of a house, that look the same to the student.
 use Rattle.std.specs.Prelude.{◌≢◌, ℕ, ◌-◌, true, ◌≡◌, List, [], ◌∷◌, length, take, Option}
 use Rattle.mml_lab.specs.declared.who.Who.{Who}
 use Rattle.mml_lab.specs.Labs.{LabValue}
@@ -12,23 +12,23 @@ use Rattle.mml_window.specs.Windows.{WindowValue}
 use Rattle.mml_session.specs.Turns.{Standing, places_in, Run}
 use Rattle.mml_hidden.specs.Twins.{is_hers}
 
--- the list at which a reply was given: all that the window has seen then, but for the event that the reply tells
+-- the list at which a reply was made: all that the window has seen now, except the event that the reply names
 abbrev pub seen_at : Reply → WindowValue → List Event
 seen_at r w = take (length w.seen - length (places_in r)) w.seen
 
--- the reply tells neither out of memory nor a journal that failed
+-- the reply is neither the refusal for memory nor that for the journal
 abbrev pub IsUnhindered : Reply → Type 0
 IsUnhindered r = (r ≢ Refuse refused.Memory) × (r ≢ Refuse refused.Journal)
 
--- a line that is student s's or nobody's yet, with its two replies: where these were given the worlds are alike for
--- her, and nothing hindered either
+-- a line that is student s's or nobody's yet, with its two replies: when these were made the worlds are alike for her,
+-- and nothing hindered either
 pub record IsToldAlike (lab other : LabValue) (s : ℕ) (known : Option Who) (r q : Reply) (one two : WindowValue) : Type 0 where
   pub hers : is_hers s known ≡ true
   pub worlds : Alike lab.roster s (world_in lab (seen_at r one)) (world_in other (seen_at q two))
   pub first : IsUnhindered r
   pub second : IsUnhindered q
 
--- each line is hers, or nobody's yet, and is told alike
+-- each line is hers, or nobody's yet, and is answered alike
 abbrev pub AreToldAlike : (lab other : LabValue) → ℕ → (st su : Standing) (lines : List (List ℕ)) (rs qs : List Reply) (end fin : Standing)
     → Run lab st lines rs end → Run other su lines qs fin → Type 0
 AreToldAlike lab other s st su [] rs qs end fin t u = Unit {0}

@@ -1,4 +1,4 @@
-//! Laws of what a student can't tell. Each is the clause of a function that does nothing.
+//! Laws of what a student can't learn. Each is the contract of a function that does nothing.
 ghost use Rattle.std.specs.Prelude.{◌≡◌, ◌↔◌, ◌<◌, ℕ, Bool, List, true, false, length, map};
 ghost use Rattle.mml_rules.specs.declared.regs.Regs.{Regs};
 ghost use Rattle.mml_rules.specs.Network.{Network, IsNetwork, configuration_of, with_registers, with_link};
@@ -28,8 +28,8 @@ ghost use Rattle.mml_hidden.specs.Sight.{ShowsTheSame, MoveAlike, IsUntouched, I
 ghost use Rattle.mml_hidden.specs.Twins.{AreTwins, BeginAlike, StatesAlike, is_hers};
 ghost use Rattle.mml_hidden.specs.Coalitions.{AlikeFor, StatesAlikeFor, StayAlikeFor, AreTheirsThroughout, BeginAlikeFor, RunAlikeFor, is_theirs};
 
-/// In worlds that are alike for a student each command of hers has the same reply, so the same bytes,
-/// and the worlds afterwards are alike again.
+/// In worlds that are alike for a student each of her commands has the same reply, so the same bytes, and the worlds
+/// afterwards are alike again.
 pub fn hidden_values_change_no_reply_line()
     ensures reply { (ids : List ℕ) (r : RosterValue) (limit : ℕ) (is_halted : Bool) (w v : World)
         (s : ℕ) (c : Command) → IsWorldOf ids w → IsWorldOf ids v → Alike r s w v →
@@ -45,8 +45,8 @@ pub fn hidden_values_change_no_reply_line()
         (world_left ids r limit is_halted v (who.Student s) c) }
 {}
 
-/// In two states that are alike for a student the turns of a line on a connection that is known as her, or as nobody
-/// yet, have the same reply line, and the states after them are alike again, whatever mishap befell both turns.
+/// In two states that are alike for a student, the turns of a line on a connection that is known as her, or as nobody
+/// yet, have the same reply line, and the states after them are alike again, if the same mishap befell both turns.
 pub fn hidden_values_change_no_turn()
     ensures line { (lab other : LabValue) (s : ℕ) (st su : State) (mishap : Mishap) (k : ℕ)
         (line : List ℕ) → AreTwins lab other → StatesAlike lab s st su →
@@ -59,7 +59,7 @@ pub fn hidden_values_change_no_turn()
         StatesAlike lab s (turn mishap lab st k line).state (turn mishap other su k line).state }
 {}
 
-/// Two states that are alike for a student are so after the plain turns of a line on any connection, where their
+/// Two states that are alike for a student are still alike after the plain turns of a line on any connection, if their
 /// worlds are alike for her after these turns.
 pub fn lines_of_others_keep_states_alike()
     ensures { (lab other : LabValue) (s : ℕ) (st su : State) (k : ℕ) (line : List ℕ) →
@@ -69,8 +69,8 @@ pub fn lines_of_others_keep_states_alike()
         StatesAlike lab s (plain_turn lab st k line).state (plain_turn other su k line).state }
 {}
 
-/// The turns of a line in two worlds that are alike for a student leave them alike where neither makes
-/// an event, and only where both make one or neither does.
+/// The turns of a line in two worlds that are alike for a student leave them alike if neither makes an event, and only
+/// if both make one or neither does.
 pub fn turns_that_keep_worlds_alike_grant_alike()
     ensures neither { (lab other : LabValue) (s : ℕ) (st su : State) (k : ℕ) (line : List ℕ)
         (one two : Outcome) → Turn lab st k line one → Turn other su k line two →
@@ -105,7 +105,7 @@ pub fn hidden_values_change_no_script()
 
 /// Two runs of one script from states that are alike for a student, in which the same mishaps befall the same lines,
 /// and whose worlds stay alike for her, and are halted the same, at each line of another's: all that is written on
-/// connections that are hers, or nobody's yet, throughout, is the same; and the states at the end are alike.
+/// connections that are hers, or nobody's yet, throughout, is the same, and the states at the end are alike.
 pub fn hidden_values_change_no_script_with_mishaps()
     ensures connections { (lab other : LabValue) (s : ℕ) (st su : State) (some : ℕ → Bool)
         (bs : List BefallenLine) → AreTwins lab other → StatesAlike lab s st su →
@@ -120,15 +120,15 @@ pub fn hidden_values_change_no_script_with_mishaps()
         StatesAlike lab s (end_with lab st bs) (end_with other su bs) }
 {}
 
-/// Each run of a hall is that of the turns of its lines by some list of mishaps, one for each line, where `nothing`
-/// counts as a mishap.
+/// Each run of a hall is that of the turns of its lines by some list of mishaps, one for each line. `nothing` counts as
+/// a mishap.
 pub fn something_befell_each_line()
     ensures { (lab : LabValue) (st : State) (lines : List RequestLine) (rs : List Reply)
         (end : State) → Run lab st lines rs end → Befalls lab st lines rs end }
 {}
 
-/// Two runs of one script, by plain turns, from states that are alike for a student, where nobody but she is known
-/// and a hello with the name and key of one who takes part has hers: all replies are the same, and so all bytes.
+/// Two runs of one script, by plain turns, from states that are alike for a student, if nobody but she is known and
+/// each hello with a participant's name and key has hers: all replies are the same, and so all bytes.
 pub fn one_who_is_alone_can_not_tell()
     ensures replies { (lab other : LabValue) (s : ℕ) (st su : State) (lines : List RequestLine) →
         AreTwins lab other → StatesAlike lab s st su → OnlySheIsKnown s st →
@@ -142,23 +142,23 @@ pub fn one_who_is_alone_can_not_tell()
         AreUnhindered u.replies → bytes_written t ≡ bytes_written u }
 {}
 
-/// The states in which runs of two labs begin are alike for a student where the labs begin alike for her, and in
-/// such a state nobody but she is known on any connection: nobody at all is.
+/// The states in which runs of two labs begin are alike for a student if the labs begin alike for her. In such a state
+/// nobody is known on any connection.
 pub fn runs_begin_alike()
     ensures states { (lab other : LabValue) (s : ℕ) → BeginAlike lab other s →
         StatesAlike lab s (opening lab) (opening other) }
     ensures known { (lab : LabValue) (s : ℕ) → OnlySheIsKnown s (opening lab) }
 {}
 
-/// A run in which no reply tells out of memory or a failed journal is that of the plain turns.
+/// A run in which no reply is the refusal for memory or for the journal is that of the plain turns.
 pub fn unhindered_runs_are_plain()
     ensures { (lab : LabValue) (st : State) (lines : List RequestLine) (rs : List Reply)
         (end : State) → Run lab st lines rs end → AreUnhindered rs →
         (rs ≡ replies_to lab st lines) × (end ≡ end_of lab st lines) }
 {}
 
-/// An event in one alone of two worlds that are alike for a student is told by the place, and two events, one in
-/// each, of which one makes a configuration and the other none, by the number: the worlds aren't alike afterwards.
+/// An event in only one of two worlds that are alike for a student shows by the place. Two events, one in each, of
+/// which one makes a configuration and the other none, show by the number. The worlds aren't alike afterwards.
 pub fn events_are_told_by_place_and_number()
     ensures first { (r : RosterValue) (s : ℕ) (w v : World) (e : Event) → Alike r s w v →
         ¬ Alike r s (after w e) v }
@@ -168,9 +168,9 @@ pub fn events_are_told_by_place_and_number()
         Alike r s (after w e) (after v f) → makes_configuration e ≡ makes_configuration f }
 {}
 
-/// One event that happens in two worlds that are alike for a student keeps them alike exactly where it shows her
-/// the same. Only a link to a node of hers and a close may show her something else; a close doesn't where the same
-/// moves are chosen for the neighbours of her nodes, and their rules read the same.
+/// One event that happens in two worlds that are alike for a student keeps them alike exactly if it shows her the same.
+/// Only a link to a node of hers and a close may show her something else. A close doesn't if the same moves are chosen
+/// for the neighbours of her nodes, and their rules read the same.
 pub fn one_event_keeps_worlds_alike()
     ensures event { (ids : List ℕ) (r : RosterValue) (s : ℕ) (w v : World) (e : Event) →
         IsWorldOf ids w → IsWorldOf ids v → Alike r s w v → is_possible w e ≡ true →
@@ -180,8 +180,8 @@ pub fn one_event_keeps_worlds_alike()
         ShowsTheSame r s w v event.Close }
 {}
 
-/// Two events, one in each of two worlds that are alike for a student, keep the worlds alike where both make a
-/// configuration or neither does, and each leaves untouched what she may read: but for number and place, and for the
+/// Two events, one in each of two worlds that are alike for a student, keep the worlds alike if both make a
+/// configuration or neither does, and each leaves untouched what she may read, except for number and place, and for the
 /// chosen moves, which a new configuration drops. An event out of her sight leaves it untouched.
 pub fn events_out_of_sight_keep_worlds_alike()
     ensures untouched { (r : RosterValue) (s : ℕ) (w v : World) (e f : Event) → Alike r s w v →
@@ -191,8 +191,8 @@ pub fn events_out_of_sight_keep_worlds_alike()
         is_possible w e ≡ true → IsOutOfSight r s w e → IsUntouched r s w e }
 {}
 
-/// Two networks are alike at the beginning for a student where they differ only in the registers of a node that
-/// isn't visible to her, or only in a link between two nodes that she doesn't own.
+/// Two networks are alike at the beginning for a student if they differ only in the registers of a node that isn't
+/// visible to her, or only in a link between two nodes that she doesn't own.
 pub fn labs_may_differ_out_of_sight()
     ensures registers { (n : Network) (r : RosterValue) (s i : ℕ) (regs : Regs) → IsNetwork n →
         ¬ IsVisible r (configuration_of n) (who.Student s) i →
@@ -203,9 +203,9 @@ pub fn labs_may_differ_out_of_sight()
         Alike r s (opening_of n) (opening_of (with_link n a b)) }
 {}
 
-/// Two sessions of a student's, through windows of two houses: where the lists that she has seen, cut to those
-/// at which the replies were given, leave worlds that are alike for her, and nothing hindered a reply, the same
-/// lines have the same replies, and the same bytes.
+/// Two sessions of a student's, through windows of two houses: if the lists that she has seen, cut to those at which
+/// the replies were made, leave worlds that are alike for her, and nothing hindered a reply, the same lines have the
+/// same replies, and the same bytes.
 pub fn hidden_values_change_no_session()
     ensures replies { (lab other : LabValue) (s : ℕ) (st su : Standing) (lines : List (List ℕ))
         (rs qs : List Reply) (end fin : Standing) (one : SessionRun lab st lines rs end)

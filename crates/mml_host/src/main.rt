@@ -7,8 +7,8 @@ use mml_program::begin_program;
 use std::fmt::Display;
 use std::process::ExitCode;
 
-// Does what the word behind the program's name asks for: serves a class, or else judges what one left or answers a
-// script. Gives the exit status: 0, or that of the error, whose line is printed.
+// Does what the word after the program's name asks for: serves a class, judges what a class left, or answers a script.
+// Returns the exit status: 0, or that of the error, whose line is printed.
 fn main(rt: HostRuntime) -> ExitCode {
     let words = match begin_program(&rt) {
         Ok(words) => words,
@@ -28,7 +28,7 @@ fn main(rt: HostRuntime) -> ExitCode {
     }
 }
 
-// Prints an error's line on standard error, and gives the exit status that goes with it.
+// Prints an error's line on standard error, and returns the exit status that goes with it.
 fn print_error<R: Eprint, E: Display>(rt: &R, fault: &E, status: u8) -> ExitCode {
     let _ = eprintln!(rt; "{fault}");
     ExitCode::from(status)

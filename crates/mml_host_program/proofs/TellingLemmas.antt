@@ -1,4 +1,4 @@
--- What a class that goes on tells.
+-- The lines of a class that goes on.
 use Rattle.std.proofs.Common.{◌≡◌, ℕ, List, ◌++◌, Option, subst}
 use Rattle.std.specs.Io.KnownBytes.{Appends}
 use Rattle.mml_lab.specs.Labs.{LabValue}
@@ -9,7 +9,7 @@ use Rattle.mml_hosting.specs.declared.hosted.Hosted.{Hosted}
 use Rattle.mml_resuming.specs.Resuming.{resumed_line, Resumes}
 use Rattle.mml_host_program.specs.Telling.{ports_line, TellsResumed}
 
--- a host that went on, and told the ports first
+-- a host that went on, and wrote the ports first
 pub told_resumed : {S K C R W : Type 0} (lab : LabValue) (old first : List ℕ) (given : ℕ → Option Kept) (sink : S → Option (List ℕ)) (remaining : R → Option (List ℕ))
     (contents : W → Option (List ℕ)) (recorded : C → Option Kept) (shows : K → ServedSession R W) (to_desk to_come : Option (List (R × W)))
     (wrote wrote' : Option (List ℕ)) (house : Hosted S K C) (port desk : ℕ)

@@ -1,4 +1,4 @@
--- As which error of the host an error of the crates below is told.
+-- The host's error for each error of the crates below.
 use Rattle.std.specs.Prelude.{◌≡◌}
 use Rattle.mml_files.specs.declared.file_fault.FileFault.{FileFault}
 use Rattle.mml_files.specs.declared.file_fault.FileFault.TheVariants as file
@@ -10,7 +10,7 @@ use Rattle.mml_program.specs.declared.fault.Fault.TheVariants as program
 use Rattle.mml_host_program.specs.declared.fault.Fault.{Fault}
 use Rattle.mml_host_program.specs.declared.fault.Fault.TheVariants as fault
 
--- what an error of serving is told as: a halted journal is told as one whose file can't be made
+-- the host's error for an error of serving: a halted journal becomes the error of one whose file can't be made
 abbrev pub of_hosting : HostFault → Fault
 of_hosting hosting.Memory = fault.Common program.Memory
 of_hosting hosting.Place = fault.Place
@@ -19,13 +19,13 @@ of_hosting hosting.Astray = fault.Astray
 of_hosting hosting.Halted = fault.Common program.Journal
 of_hosting hosting.Write = fault.Common program.Write
 
--- what an error of a record's folder, or of a file in it, is told as
+-- the host's error for an error of a record's folder, or of a file in it
 abbrev pub of_record : FileFault → Fault
 of_record file.Refused = fault.Unrecorded
 of_record file.Memory = fault.Common program.Memory
 
--- as which error of the host an error of going on is told: a file that can't be cut as one that can't be made; which
--- error a journal has that the audit refuses isn't said here
+-- the host's error for an error of going on: a file that can't be cut becomes one that can't be made; the error of a
+-- journal that the audit refuses isn't said here
 abbrev pub IsToldAs : ResumeFault → Fault → Type 0
 IsToldAs (resuming.Refused why) told = Unit {0}
 IsToldAs resuming.Memory told = told ≡ fault.Common program.Memory

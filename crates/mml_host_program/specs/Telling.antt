@@ -1,4 +1,4 @@
--- What a host tells at its beginning and at its end.
+-- The lines of a host at its beginning and at its end.
 use Rattle.std.specs.Prelude.{◌≡◌, ℕ, true, List, [], ◌∷◌, ◌++◌, length, codes, decimal, Option}
 use Rattle.std.specs.List.{concat}
 use Rattle.std.specs.Io.KnownBytes.{Appends}
@@ -20,8 +20,8 @@ pub record TellsClass (lab : LabValue) (port desk : ℕ) (wrote wrote' : Option 
   pub first : Appends wrote between (ports_line port desk)
   pub last : Closes lab between wrote'
 
--- first the ports and where the old journal's lines lead, and then how many events a legal list has that begins with theirs, and the
--- number that it leads to
+-- first the ports and the state after the old journal's lines, and then how many events a legal list has that begins
+-- with theirs, and the number that it leads to
 pub record TellsResumed (lab : LabValue) (old : List ℕ) (port desk : ℕ) (wrote wrote' : Option (List ℕ)) : Type 0 where
   pub begun : List Event
   pub events : List Event

@@ -20,8 +20,8 @@ use std::net::{Net, TcpListener, TcpStream};
 use std::sync::Wait;
 
 impl<C: Recorder + Send + Drop> Ready<C> {
-    /// Serves a class from its beginning: writes the first line, serves the connections, and writes the last line. The
-    /// error is why the class doesn't begin, or doesn't end well.
+    /// Serves a class from its beginning: writes the first line, serves the connections, and writes the last line.
+    /// Returns why the class doesn't begin, or fails.
     pub(crate) fn begin<
         R: System + Net<Listener = TcpListener, Stream = TcpStream> + Sync,
         S: Sink + Send + Drop,
@@ -37,7 +37,7 @@ impl<C: Recorder + Send + Drop> Ready<C> {
         self.serve_with_state(rt, sink, writer)
     }
 
-    // Serves the connections with a new state, and writes the last line. Where a session lacked memory, that is the
+    // Serves the connections with a new state, and writes the last line. If a session ran out of memory, returns that
     // error after the last line.
     fn serve_with_state<
         R: System + Net<Listener = TcpListener, Stream = TcpStream> + Sync,
@@ -54,8 +54,8 @@ impl<C: Recorder + Send + Drop> Ready<C> {
         told_memory(rt, &state)
     }
 
-    // Serves the connections with this state until the class is over, and writes the last line. That a session lacked
-    // memory is noted in the state, and no error here.
+    // Serves the connections with this state until the class is over, and writes the last line. If a session ran out of
+    // memory, that is noted in the state, and is no error here.
     fn serve_to_the_end<
         R: System + Net<Listener = TcpListener, Stream = TcpStream> + Sync,
         S: Sink + Send + Drop,
@@ -84,7 +84,7 @@ impl<C: Recorder + Send + Drop> Ready<C> {
     }
 }
 
-// How a class ends: well, or with the error of its host.
+// Returns how a class ends: well, or with the error of its host.
 fn end_of_class<S: Drop, K: Drop, C: Drop>(
     served: Result<Hosted<S, K, C>, HostFault>,
 ) -> Result<(), Fault>
@@ -99,7 +99,7 @@ fn end_of_class<S: Drop, K: Drop, C: Drop>(
     }
 }
 
-/// The host's error where a session was without memory, and else none.
+/// Returns the host's error if a session ran out of memory, and else `Ok`.
 pub(crate) fn told_memory<R: Wait>(rt: &R, state: &HostState) -> Result<(), Fault> {
     if state.lacked_memory(rt) {
         Err(Fault::Common(ProgramFault::Memory))
@@ -108,7 +108,7 @@ pub(crate) fn told_memory<R: Wait>(rt: &R, state: &HostState) -> Result<(), Faul
     }
 }
 
-/// Drops what is left of a house whose class has ended.
+/// Drops the result of a house whose class has ended.
 pub(crate) fn let_go<S: Drop, K: Drop, C: Drop>(house: Hosted<S, K, C>) {
     drop(house);
 }

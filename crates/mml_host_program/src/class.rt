@@ -20,7 +20,7 @@ use std::net::{Net, TcpListener, TcpStream};
 use std::rt::Files;
 use std::{io, thread};
 
-/// A journal that was opened, with what was read in it, and what watches it.
+/// A journal that was opened, with the bytes that were read in it, and its watch.
 #[derive(Drop)]
 pub(crate) struct Past<'a> {
     pub journal: OldJournal<'a>,
@@ -28,21 +28,21 @@ pub(crate) struct Past<'a> {
     pub watch: &'a JournalWatch<'a>,
 }
 
-/// What takes the lines of the events that are granted.
+/// The journal of a class, which takes the lines of the events that are granted.
 #[derive(Drop)]
 pub(crate) enum ClassJournal<'a> {
-    /// Nothing.
+    /// No journal.
     None,
-    /// A plain file that was begun, and what watches it.
+    /// A plain file that was begun, and its watch.
     Plain(File, &'a JournalWatch<'a>),
-    /// Another file that was begun, as a pipe, which can be neither synced nor watched.
+    /// Another kind of file that was begun, as a pipe, which can be neither synced nor watched.
     Other(File),
-    /// One in which the class goes on.
+    /// The journal of a class that goes on.
     Old(Past<'a>),
 }
 
 impl<'a> ClassJournal<'a> {
-    // What watches the journal, if it is a plain file.
+    // Returns the watch of the journal, if it is a plain file.
     fn watch(&self) -> Option<&'a JournalWatch<'a>> {
         match self {
             ClassJournal::None | ClassJournal::Other(_) => None,
@@ -60,7 +60,7 @@ pub(crate) struct Class<'a> {
     pub journal: ClassJournal<'a>,
 }
 
-/// What the ports of a class are served with, whatever its journal is.
+/// The arguments for serving a class at its ports, whatever its journal is.
 #[derive(Drop)]
 pub(crate) struct Ready<C: Drop> {
     pub lab: Lab,
@@ -68,8 +68,8 @@ pub(crate) struct Ready<C: Drop> {
     pub recorders: Recorders<C>,
 }
 
-/// Serves a class until it is over, records it if there is a folder for that, and watches its journal if that is a plain
-/// file. Returns why the class doesn't begin or go on, doesn't end well, isn't wholly recorded, or lost its journal.
+/// Serves a class until it is over, records it if there is a folder for that, and watches its journal if that is a
+/// plain file. Returns why the class doesn't begin or go on, fails, isn't wholly recorded, or lost its journal.
 pub(crate) fn serve_class<
     R: System + Files<File = File> + Net<Listener = TcpListener, Stream = TcpStream> + Sync,
     L: Look + Sync,
@@ -80,8 +80,8 @@ pub(crate) fn serve_class<
     }
 }
 
-// Serves a class, whose journal is watched by a thread of its own; if none can be started, it is looked at once, at the
-// end.
+// Serves a class, whose journal is watched by a thread of its own. If none can be started, checks the journal once, at
+// the end.
 fn serve_watched<
     R: System + Files<File = File> + Net<Listener = TcpListener, Stream = TcpStream> + Sync,
     L: Look + Sync,
@@ -128,7 +128,7 @@ fn serve_unrecorded<
     serve_ports(rt, class, recorders)
 }
 
-// Serves a class, and records it in a folder. Where something couldn't be recorded, that is the error at the end.
+// Serves a class, and records it in a folder. If something couldn't be recorded, returns that error at the end.
 fn serve_in_folder<
     R: System + Files<File = File> + Net<Listener = TcpListener, Stream = TcpStream> + Sync,
 >(rt: &R, class: Class<'_>, folder: RecordFolder) -> Result<(), Fault> {
@@ -146,7 +146,7 @@ fn serve_seats<
     serve_synced(rt, class, recorders, files.as_slice(), state)
 }
 
-// Serves a class, while its record is synced by a thread of its own; once, at the end, where none can be started.
+// Serves a class, while its record is synced by a thread of its own, or once, at the end, if none can be started.
 fn serve_synced<
     R: System + Files<File = File> + Net<Listener = TcpListener, Stream = TcpStream> + Sync,
     C: Recorder + Send + Drop,
@@ -176,7 +176,7 @@ fn serve_synced<
     )
 }
 
-// The host's error where a put in a record or a sync of its files has failed, and else none.
+// Returns the host's error if a put in a record or a sync of its files has failed, and else `Ok`.
 fn told_whole(state: &RecordState) -> Result<(), Fault> {
     if state.has_failed() {
         Err(Fault::Unrecorded)
@@ -185,8 +185,8 @@ fn told_whole(state: &RecordState) -> Result<(), Fault> {
     }
 }
 
-// Serves a class until it is over, and writes the host's lines (the ports, where an old journal leads, the end) to
-// standard output. Where a write lacked memory, the error is `Memory`, whatever it would be else.
+// Serves a class until it is over, and writes the host's lines to standard output: the ports, the state after an old
+// journal, and the end. If a write ran out of memory, returns `Memory`, whatever the error would be else.
 fn serve_ports<
     R: System + Files<File = File> + Net<Listener = TcpListener, Stream = TcpStream> + Sync,
     C: Recorder + Send + Drop,
@@ -200,8 +200,8 @@ fn serve_ports<
     }
 }
 
-// Serves a class at its ports, with the sink of its journal: none, a file that is synced, or one that can't be; or
-// goes on in an old one.
+// Serves a class at its ports, with the sink of its journal: none, a file that is synced, or one that can't be; or goes
+// on in an old one.
 fn serve_journaled<
     R: System + Files<File = File> + Net<Listener = TcpListener, Stream = TcpStream> + Sync,
     C: Recorder + Send + Drop,

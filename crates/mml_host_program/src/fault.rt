@@ -1,4 +1,4 @@
-//! What ends the host early: one line on standard error and a status.
+//! Errors that end the host early: one line on standard error and a status.
 ghost use Rattle.std.specs.Prelude.{◌≡◌};
 ghost use Rattle.mml_program.specs.Faults.{of_journal_file};
 ghost use Rattle.mml_host_program.specs.Faults.{of_record};
@@ -14,7 +14,7 @@ use thiserror::Error;
 /// Why the host ended before its work was done.
 #[derive(Debug, Drop, Error)]
 pub enum Fault {
-    /// What `mml_server` tells in the same words: of command line, lab, journal, output and memory.
+    /// An error that `mml_server` reports in the same words: of command line, lab, journal, output and memory.
     #[error("{0}")]
     Common(ProgramFault),
     /// A port can't be listened on.
@@ -23,16 +23,16 @@ pub enum Fault {
     /// No connection can be accepted any more, and the teacher hadn't said bye.
     #[error("host: cannot accept")]
     Accept,
-    /// The places that were told aren't those of the events, each once.
+    /// The places that were given aren't those of the events, each once.
     #[error("host: the tally does not fit")]
     Astray,
-    /// There was no window for the desk's seat. It doesn't arise: a lab has at least one session.
+    /// There was no window for the desk's seat. This doesn't happen: a lab has at least one session.
     #[error("host: no place for a window")]
     Place,
-    /// The system lets the program have too few files open for a class.
+    /// The system allows the program too few open files for a class.
     #[error("host: too few files may be open")]
     FewFiles,
-    /// The system lets the program have too few threads for a class.
+    /// The system allows the program too few threads for a class.
     #[error("host: too few threads may be started")]
     FewThreads,
     /// The copy of a lab beside the journal isn't of this lab.
@@ -44,9 +44,9 @@ pub enum Fault {
 }
 
 impl Fault {
-    /// The exit status that goes with the error: 2 where the lab is another, 4 where a port or the record failed, or
-    /// the places that were told don't fit the events, 5 where a window, files or threads are lacking; of an error that
-    /// `mml_server` has too, the same as there.
+    /// Returns the exit status of the error: 2 if the lab is another, 4 if a port or the record failed, or the places
+    /// that were given don't fit the events, 5 if a window, files or threads are missing. An error that `mml_server`
+    /// has too has the same status as there.
     pub fn status(&self) -> u8 {
         match self {
             Fault::Common(fault) => fault.status(),
@@ -62,14 +62,15 @@ impl From<ProgramFault> for Fault {
 
     ghost from_gives = { λ fault e. e ≡ Common fault };
 
-    // Tells an error that `mml_server` has too in the same words.
+    // Turns an error that `mml_server` has too into one in the same words.
     fn from(fault: ProgramFault) -> Fault {
         Fault::Common(fault)
     }
 }
 
 impl From<ListenFault> for Fault {
-    // Tells why a port can't be listened on: want of memory as such, and else that it can't.
+    // Turns the fault of a port into the host's error: `Memory` if memory ran out, and else that it can't be listened
+    // on.
     fn from(fault: ListenFault) -> Fault {
         match fault {
             ListenFault::Refused => Fault::Listen,
@@ -78,14 +79,14 @@ impl From<ListenFault> for Fault {
     }
 }
 
-/// The host's error where a journal's file can't be had.
+/// Returns the host's error for the fault of a journal's file.
 pub(crate) fn of_journal(fault: FileFault) -> Fault
     ensures { result ≡ Fault.Common (of_journal_file fault) }
 {
     Fault::Common(ProgramFault::from(fault))
 }
 
-/// The host's error where a record's folder, or a file in it, can't be had.
+/// Returns the host's error for the fault of a record's folder, or of a file in it.
 pub(crate) fn of_record(fault: FileFault) -> Fault
     ensures { result ≡ of_record fault }
 {
@@ -96,7 +97,7 @@ pub(crate) fn of_record(fault: FileFault) -> Fault
 }
 
 impl From<Memory> for Fault {
-    // Tells want of memory as `mml_server` does.
+    // Turns out of memory into the same error as `mml_server`.
     fn from(_memory: Memory) -> Fault
         ensures { result ≡ Fault.Common ProgramFault.Memory }
     {
@@ -109,8 +110,8 @@ impl From<ResumeFault> for Fault {
 
     ghost from_gives = { IsToldAs };
 
-    // Tells why a class doesn't go on: why its journal doesn't pass the audit, want of memory, a journal that can't be
-    // cut as a journal fault, or the error of its host.
+    // Turns the reason why a class doesn't go on into the host's error: why its journal doesn't pass the audit, out of
+    // memory, a journal fault for a journal that can't be cut, or the error of its host.
     fn from(fault: ResumeFault) -> Fault {
         match fault {
             ResumeFault::Refused(why) => Fault::Common(ProgramFault::from(why)),
@@ -126,7 +127,8 @@ impl From<HostFault> for Fault {
 
     ghost from_gives = { λ fault e. e ≡ of_hosting fault };
 
-    // Tells an error of the house: a halted journal as a journal fault, and each other as that of its cause.
+    // Turns an error of the house into the host's: a halted journal into a journal fault, and each other into that of
+    // its cause.
     fn from(fault: HostFault) -> Fault {
         match fault {
             HostFault::Memory => Fault::Common(ProgramFault::Memory),

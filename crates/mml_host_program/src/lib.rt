@@ -1,4 +1,4 @@
-//! The body of the host: the words that serve a class, its error lines and statuses.
+//! The body of the host: the subcommands that serve a class, its error lines and statuses.
 #![tactic(auto)]
 
 mod beginning;

@@ -1,4 +1,4 @@
-//! What a class needs of the system, looked at before it begins.
+//! The system's limits that a class needs, checked before it begins.
 use crate::fault::Fault;
 use mml_program::Fault as ProgramFault;
 use std::alloc::Global;
@@ -9,16 +9,16 @@ use std::sync::{Mutex, Wait};
 use std::thread::Threads;
 use std::{fs, thread};
 
-// How many files more a class has open at least: the journal, two ports and a spare one, a connection at each port, and
+// How many more files a class has open at least: the journal, two ports and a spare one, a connection at each port, and
 // one that is turned away.
 const FILES: usize = 7;
 
-// How many threads more a class has at least: that of the students' port, that which watches the journal, and one for a
+// How many more threads a class has at least: that of the students' port, that which watches the journal, and one for a
 // connection at each port.
 const THREADS: usize = 4;
 
-/// Tries whether the files that a class needs at least may be open at once, and then whether its threads may be there
-/// at once; the error says which may not, or that memory is lacking. All are given back.
+/// Checks whether the files that a class needs at least may be open at once, and then whether its threads may exist at
+/// once. Closes and ends all of them again. Returns which may not, or that memory ran out.
 pub fn look_at_limits<R: Files<File = File> + Threads + Wait + Sync>(
     rt: &R,
     alloc: Global,
@@ -45,7 +45,7 @@ pub fn look_at_limits<R: Files<File = File> + Threads + Wait + Sync>(
     }
 }
 
-// Whether `THREADS` threads may be there at once: none ends before the last is started.
+// Returns whether `THREADS` threads may exist at once: none ends before the last is started.
 fn has_threads<R: Threads + Wait + Sync>(rt: &R) -> bool {
     let door = Mutex::new(());
     thread::scope(thread::scope_env(), rt, |scope| -> bool {

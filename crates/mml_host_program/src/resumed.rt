@@ -1,4 +1,4 @@
-//! A class that goes on, from where its journal stopped to its last line.
+//! A class that goes on, from the end of its journal to its last line.
 ghost use Rattle.std.specs.Prelude.{◌≡◌, ◌+◌, IfOk, OnOk, length};
 ghost use Rattle.mml_host_program.specs.Telling.{ports_line, TellsResumed};
 
@@ -19,8 +19,8 @@ use std::net::{Net, TcpListener, TcpStream};
 use std::rt::Files;
 
 impl<C: Recorder + Send + Drop> Ready<C> {
-    /// Serves a class from where its journal stopped: writes the first two lines, serves the connections, and writes
-    /// the last line. The error is why the class doesn't go on, or doesn't end well.
+    /// Serves a class from the end of its journal: writes the first two lines, serves the connections, and writes the
+    /// last line. Returns why the class doesn't go on, or fails.
     pub(crate) fn go_on<
         R: System + Files<File = File> + Net<Listener = TcpListener, Stream = TcpStream> + Sync,
         W: Write,
@@ -48,7 +48,7 @@ impl<C: Recorder + Send + Drop> Ready<C> {
     }
 
     // Serves a class whose journal has the bytes `old`, which `store` cuts to their whole lines. The line `first`, of
-    // the ports, is written together with the next, which tells where the old journal leads.
+    // the ports, is written together with the next, which has the state that the old journal leads to.
     #[tactic(auto, using(crate::proofs::TellingLemmas::told_resumed))]
     fn go_on_after<
         R: System + Net<Listener = TcpListener, Stream = TcpStream> + Sync,
@@ -91,7 +91,7 @@ impl<C: Recorder + Send + Drop> Ready<C> {
     }
 }
 
-// The first line of a class, which names its ports.
+// Returns the first line of a class, which names its ports.
 fn first_line(alloc: Global, ports: &Ports) -> Result<Vec<u8>, ProgramFault>
     ensures { IfOk result (λ line. line.items ≡ ports_line ports.now.port ports.now.desk) }
 {
@@ -100,8 +100,8 @@ fn first_line(alloc: Global, ports: &Ports) -> Result<Vec<u8>, ProgramFault>
     Ok(line)
 }
 
-// The host's error where a class doesn't go on: want of memory where, by `lacked`, that is why the journal couldn't be
-// cut, and else that of the fault.
+// Returns the host's error if a class doesn't go on: `Memory` if the journal couldn't be cut for that reason
+// (`lacked`), and else that of the fault.
 fn told_as(fault: ResumeFault, lacked: bool) -> Fault {
     match fault {
         ResumeFault::Store if lacked => Fault::Common(ProgramFault::Memory),

@@ -7,17 +7,17 @@ use mml_program::{Fault as ProgramFault, match_words, subcommand_of, with_option
 use mml_serving::read_port as read_some_port;
 use std::alloc::{AllocError, Global};
 
-/// What the words ask for.
+/// The task that the command line asks for.
 #[derive(Drop)]
 pub enum Task<'a> {
-    /// To serve a class from its beginning.
+    /// Serves a class from its beginning.
     Host(HostTask<'a>),
-    /// To serve a class that goes on from its journal.
+    /// Serves a class that goes on from its journal.
     Resume(ResumeTask<'a>),
 }
 
-/// A lab's class at two ports, each 0 where the system is to choose. The lines of the granted events go
-/// to the journal, where one is named, and what is said in each seat to the record, where one is.
+/// A lab's class at two ports, each 0 if the system is to choose. The lines of the granted events go to the journal, if
+/// one is named, and the lines of each seat to the record, if one is named.
 #[derive(Drop)]
 pub struct HostTask<'a> {
     pub lab: &'a str,
@@ -38,7 +38,7 @@ pub struct ResumeTask<'a> {
     pub record: Option<&'a str>,
 }
 
-/// Whether the words, of which the first is the program's name, are to serve a class.
+/// Returns whether the words, of which the first is the program's name, ask to serve a class.
 pub fn is_of_class(words: &[String]) -> bool {
     match words.get(1) {
         Some(word) => word.as_str() == "host" || word.as_str() == "resume",
@@ -46,8 +46,8 @@ pub fn is_of_class(words: &[String]) -> bool {
     }
 }
 
-/// What the words ask for, of which the first is the program's name; the error is that they ask for no class, or want
-/// of memory.
+/// Returns the task that the words ask for, of which the first is the program's name. Returns `CommandLine` if they ask
+/// for no class, and `Memory` if memory runs out.
 pub fn read_words<'a>(alloc: Global, words: &'a [String]) -> Result<Task<'a>, ProgramFault> {
     let matches = match_words(command_line(alloc)?, words)?;
     match matches.subcommand() {
@@ -56,28 +56,28 @@ pub fn read_words<'a>(alloc: Global, words: &'a [String]) -> Result<Task<'a>, Pr
     }
 }
 
-// The whole command line of the words that serve a class, with both subcommands.
+// Returns the whole command line of the subcommands that serve a class.
 fn command_line<'a>(alloc: Global) -> Result<Command<'a>, AllocError> {
     let whole = subcommand_of(alloc, "mml_host", &[])?;
     let whole = whole.subcommand(host_words(alloc)?)?;
     whole.subcommand(resume_words(alloc)?)
 }
 
-// The subcommand `host`, with its values.
+// Returns the subcommand `host`, with its values.
 fn host_words<'a>(alloc: Global) -> Result<Command<'a>, AllocError> {
     let command = subcommand_of(alloc, "host", &["lab", "port", "desk"])?;
     let command = with_optional(alloc, command, "journal")?;
     with_optional(alloc, command, "record")
 }
 
-// The subcommand `resume`, with its values.
+// Returns the subcommand `resume`, with its values.
 fn resume_words<'a>(alloc: Global) -> Result<Command<'a>, AllocError> {
     let values = ["lab", "port", "desk", "journal"];
     with_optional(alloc, subcommand_of(alloc, "resume", &values)?, "record")
 }
 
-// What a subcommand of this name with these values asks for; none where a text names no port, a value is missing, or
-// the program has no such name.
+// Returns the task of a subcommand of this name with these values, or `None` if a text names no port, a value is
+// missing, or the program has no such name.
 fn task_of<'a>(name: &str, values: &ArgMatches<'a>) -> Option<Task<'a>> {
     let lab = values.get_str("lab")?;
     let port = read_port(values.get_str("port")?)?;
@@ -103,8 +103,8 @@ fn task_of<'a>(name: &str, values: &ArgMatches<'a>) -> Option<Task<'a>> {
     }
 }
 
-/// The port that a text names, or 0 for one that the system chooses: a number up to 65535 in decimal, without sign or
-/// leading zero. None for any other text.
+/// Returns the port in a text, or 0 for one that the system chooses: a number up to 65535 in decimal, without sign or
+/// leading zero. Returns `None` for any other text.
 pub fn read_port(text: &str) -> Option<u16>
     ensures { MatchOption result (NamesNone text.now) (Names text.now) }
 {

@@ -1,4 +1,4 @@
--- Seats in which nobody was served, and what is left of seats.
+-- Seats in which nobody was served, and the records of seats.
 use Rattle.std.proofs.Common.{rules, ◌≡◌, ◌∙◌, ap, ℕ, zero, suc, ◌+◌, ◌≤◌, true, false, List, [], ◌∷◌, ◌++◌, flat_map, length, refl, All, Option, Result, Ok, Err, IfOk, arith}
 use Rattle.std.specs.List.{AllZip, range_with_len, sum_by}
 use Rattle.std.proofs.lemmas.Bool.Decides.{nat_tests}
@@ -19,7 +19,7 @@ use Rattle.mml_hosting.proofs.SeatLemmas.{led_seen}
 use Rattle.mml_hosting.specs.Ports.{HaveSame, ServesPort, numbers_of, records_of, windows_of}
 use Rattle.mml_hosting.specs.Hosting.{HostsFrom, IsUnused}
 
--- where each of some windows has seen these events, and one of them a beginning of others, these begin the others
+-- if each of some windows has seen these events, and one of them a beginning of others, these begin the others
 begins_with : {H K C : Type 0} (begun l : List Event) (ss : List (Seat H K C)) (rest : List WindowValue) → length ss ≡ 1
     → All (λ w. IsPrefix begun w.seen) (windows_of ss) → All (λ w. IsPrefix w.seen l) (windows_of ss ++ rest) → IsPrefix begun l
 begins_with begun l [] rest one least most = absurd (omega (arith, one))
@@ -48,7 +48,7 @@ pub numbers_more : {H K C : Type 0} (first n m : ℕ) (ss ss' : List (Seat H K C
 numbers_more first n m ss ss' s one more before here =
     rw (one, map-append (λ q. q.record) ss (s ∷ []), map-append (λ r. r.number) (records_of ss) (s.record ∷ []), more, range_more first n, before, here) refl
 
--- what recorders have kept is what they were given by their numbers
+-- what recorders have kept is what they were called with, by their numbers
 pub are_given : {C : Type 0} (given : ℕ → Option Kept) (kept : C → Option Kept) (n : ℕ) (cs : List C)
     → ((m : ℕ) → n ≤ m → given m ≡ kept_from kept n cs m) → AreGiven given kept n cs
 are_given given kept n [] same = tt

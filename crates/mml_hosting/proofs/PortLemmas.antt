@@ -1,4 +1,4 @@
--- What came to a port so far, and where it is.
+-- The connections that came to a port so far, and the seats that they have.
 use Rattle.std.proofs.Common.{◌≡◌, ◌∙◌, ap, ℕ, ◌+◌, List, [], ◌∷◌, ◌++◌, flat_map, length, refl, arith, All, Option, inl, inr}
 use Rattle.std.specs.List.{sum_by}
 use Rattle.std.proofs.lemmas.List.Sums.{sum_by-append, sum_by-cons}

@@ -23,7 +23,7 @@ all_more P xs xs' x one all it = rw one (All-push P xs x all it)
 pub sum_more : {X : Type 0} (f : X → ℕ) (xs xs' : List X) (x : X) → xs' ≡ xs ++ x ∷ [] → sum_by f xs' ≡ sum_by f xs + f x
 sum_more f xs xs' x one = rw one (sum_by_push f xs x)
 
--- a session that begins where the ones before it led makes the chain one longer
+-- a session that begins in the state that the ones before it led to makes the chain one longer
 pub led_more : {K C R W : Type 0} (t : Terms K C R W) (old : SeatRecord K C) (xs : List K) (w v : WindowValue) (x : K) (c : C)
     → xs ≡ old.sessions.items ++ x ∷ [] → Led t old w → Leads t old.number (t.shows x) (stand w (t.recorded old.recorder)) (stand v (t.recorded c))
     → Chain (Leads t old.number) (stand (window t.begun []) (t.given old.number)) (map t.shows xs) (stand v (t.recorded c))

@@ -13,18 +13,18 @@ use Rattle.mml_session.specs.Records.{Kept}
 use Rattle.mml_hosting.specs.Seats.{IsDismissed, Led, came_to, sessions_of, terms}
 use Rattle.mml_hosting.specs.Ports.{Attends, HaveSame, numbers_of}
 
--- nobody was served in the seat so far, and its recorder is as it was given
+-- nobody was served in the seat so far, and its recorder is as at the beginning
 pub record IsUnused {H K C : Type 0} (begun : List Event) (given : ℕ → Option Kept) (recorded : C → Option Kept) (s : Seat H K C) : Type 0 where
   pub unseen : s.window ≡ window begun []
   pub recorder : recorded s.record.recorder ≡ given s.record.number
   pub sessions : s.record.sessions.items ≡ []
   pub dismissed : s.is_dismissed ≡ false
 
--- There is the log of one legal list of the lab, which begins with the events that came before; the places behind these are those
--- that all windows were told, each once; each window has seen a beginning of the list, and these events at least. The seats have the
--- numbers 1 to that of the lab's sessions, each once. The sessions of each seat, in order, led its window there, and what was recorded
--- of them led its recorder, and at the desk the last one, and no earlier one, was ended by the teacher's bye. The connections that came
--- to a port were served, each once, or turned away
+-- There is the log of one legal list of the lab, which begins with the events that came before; the places after these
+-- are those that all windows were given, each once; each window has seen a beginning of the list, and these events at
+-- least. The seats have the numbers 1 to that of the lab's sessions, each once. The sessions of each seat, in order,
+-- led its window there, and the record of them led its recorder, and at the desk the last one, and no earlier one, was
+-- ended by the teacher's bye. The connections that came to a port were served, each once, or turned away
 pub record HostsFrom {S K C R W : Type 0} (begun : List Event) (given : ℕ → Option Kept) (lab : LabValue) (sink : S → Option (List ℕ))
     (remaining : R → Option (List ℕ)) (contents : W → Option (List ℕ)) (recorded : C → Option Kept) (shows : K → ServedSession R W)
     (to_desk to_come : Option (List (R × W))) (house : Hosted S K C) : Type 0 where

@@ -19,7 +19,7 @@ pub record Attends {C : Type 0} (to_come : Option (List C)) (old new : List C) :
   pub came : Takes to_come left connections
   pub each : HaveSame (old ++ connections) (new ++ turned)
 
--- what is left of each seat beside its window
+-- the record of each seat beside its window
 abbrev pub records_of : {H K C : Type 0} → List (Seat H K C) → List (SeatRecord K C)
 records_of ss = map (λ s. s.record) ss
 
@@ -27,7 +27,7 @@ records_of ss = map (λ s. s.record) ss
 abbrev pub windows_of : {H K C : Type 0} → List (Seat H K C) → List WindowValue
 windows_of ss = map (λ s. s.window) ss
 
--- the number of each seat, by what is left of it
+-- the number of each seat, by its record
 abbrev pub numbers_of : {K C : Type 0} → List (SeatRecord K C) → List ℕ
 numbers_of rs = map (λ r. r.number) rs
 

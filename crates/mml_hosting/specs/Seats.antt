@@ -15,8 +15,8 @@ use Rattle.mml_hosting.specs.declared.seat.Seat.{Seat}
 use Rattle.mml_hosting.specs.declared.seat.SeatRecord.{SeatRecord}
 
 -- the parameters of a house's contracts: its lab, the events that came before it was opened, and what the recorder of
--- the seat with each number had kept then; what a connection's reader has still to give, and what its writer was given;
--- what a recorder has kept; and the session that is shown by what is kept of it
+-- the seat with each number had kept then; the bytes that a connection's reader has still to return, and those that
+-- were written to its writer; what a recorder has kept; and the session that is shown by what is kept of it
 pub record Terms (K C R W : Type 0) : Type 0 where
   pub lab : LabValue
   pub begun : List Event
@@ -46,7 +46,7 @@ Leads t number s a b =
     EndedRecorded s.ending.end s.ending.who number t.lab a.window b.window (t.remaining s.came.value.0) (t.remaining s.reader)
     (t.contents s.came.value.1) (t.contents s.writer) a.kept b.kept
 
--- what the recorder of the seat with this number has kept, where they are numbered from the first number on
+-- what the recorder of the seat with this number has kept, if they are numbered from the first number on
 abbrev pub kept_from : {C : Type 0} → (C → Option Kept) → ℕ → List C → ℕ → Option Kept
 kept_from kept first [] n = None
 kept_from kept first (c ∷ cs) n = if n == first then kept c else kept_from kept (first + 1) cs n
@@ -64,7 +64,7 @@ sessions_of shows r = map shows r.sessions.items
 abbrev pub came_to : {K C R W : Type 0} → (K → ServedSession R W) → SeatRecord K C → List (R × W)
 came_to shows r = map (λ s. s.came.value) (sessions_of shows r)
 
--- a bye of one who is known as the teacher
+-- a bye of a connection that is known as the teacher
 abbrev bye_of : SessionEnd → Option Who → Bool
 bye_of end.Bye (Some who.Teacher) = true
 bye_of _ _ = false
@@ -93,13 +93,13 @@ pub record IsSeat {H K C R W : Type 0} (t : Terms K C R W) (s : Seat H K C) : Ty
   pub dismissed : s.is_dismissed ≡ true → IsDismissed (sessions_of t.shows s.record)
   pub going_on : s.is_desk ≡ true → s.is_dismissed ≡ false → AreGoingOn (sessions_of t.shows s.record)
 
--- one connection more may be served in the seat, and there is room for what is kept of that
+-- one more connection may be served in the seat, and there is room for its record
 pub record IsReady {H K C R W : Type 0} (t : Terms K C R W) (s : Seat H K C) : Type 0 where
   pub seat : IsSeat t s
   pub going_on : s.is_dismissed ≡ false
   pub room : vec_len s.record.sessions < vec_capacity s.record.sessions
 
--- the seat afterwards is lawful, and has its number and its connections, and this one behind them
+-- the seat afterwards is lawful, and has its number and its connections, and this one after them
 pub record ServesIn {H K C R W : Type 0} (t : Terms K C R W) (old : Seat H K C) (ends : R × W) (new : Seat H K C) : Type 0 where
   pub seat : IsSeat t new
   pub came : came_to t.shows new.record ≡ came_to t.shows old.record ++ ends ∷ []

@@ -1,8 +1,8 @@
 //! A house that goes on from events that came before, and from what was recorded.
 use mml_window::{Brand, House};
 
-/// Names one house, for contracts alone, the events that came before it was opened, and what the recorders
-/// of its seats had kept.
+/// Names one house, for contracts alone, with the events that came before it was opened, and what the recorders of its
+/// seats had kept.
 pub trait Begun: House {
     ghost use Rattle.std.specs.Prelude.{ℕ, List, Option};
     ghost use Rattle.mml_session.specs.Records.{Kept};
@@ -11,7 +11,7 @@ pub trait Begun: House {
     // The events that came before, in their order.
     ghost begun: { List Event };
 
-    // What the recorder of the seat with each number had kept, where it tells.
+    // What the recorder of the seat with each number had kept, if contracts can name it.
     ghost given: { ℕ → Option Kept };
 }
 

@@ -1,4 +1,4 @@
-//! A port: connections are taken as they come, each to a seat that is free.
+//! A port: it accepts connections as they come, and serves each in a seat that is free.
 ghost use Rattle.std.specs.Prelude.{◌≡◌, ◌<◌, ◌≤◌, ◌+◌, ℕ, true, All, IfOk, IfErr, IfSome, IfNone, [], vec_len, vec_capacity};
 ghost use Rattle.std.specs.Thread.{IsSync, IsSend};
 ghost use Rattle.mml_hosting.specs.Seats.{IsReady, IsSeat, ServesIn, came_to, terms};
@@ -22,7 +22,7 @@ use std::sync::atomic::{AtomicU64, Ordering};
 use std::thread;
 use std::thread::{Promise, PromisedHandle, Scope, Threads};
 
-/// What a connection is told for which no seat is free.
+/// The line that is sent to a connection for which no seat is free.
 pub const BUSY: &[u8] = b"{\"refuse\":\"busy\"}\n";
 
 // A thread's promise that the connection was served in the seat.
@@ -51,7 +51,7 @@ struct Busy<
     U: Drop,
 > {
     number: u8,
-    // What ends the connection from this thread.
+    // The cut-off that ends the connection from this thread.
     cut_off: U,
     handle: PromisedHandle<Seat<H, K, C>, SeatPledge<H, K, C, R, W>>,
 }
@@ -64,8 +64,8 @@ impl<
     W: Write + Drop,
     U: Drop,
 > Busy<H, K, C, R, W, U> {
-    // The index of the first busy seat of which the marks say that its thread has come to its end; none where they say
-    // it of no seat.
+    // Returns the index of the first busy seat whose thread has ended according to the marks, or `None` if there is
+    // none.
     fn first_done(busy: &Vec<Self>, marks: &[AtomicU64]) -> Option<usize>
         ensures { IfSome result (λ index. index < vec_len busy.now) }
     {
@@ -78,8 +78,8 @@ impl<
         None
     }
 
-    // Lets go of what ends the connection of the busy seat at this index, waits for the seat's thread, and gives back
-    // the seat, which is busy no longer.
+    // Drops the cut-off of the busy seat at this index, waits for the seat's thread, and returns the seat, which is no
+    // longer busy.
     fn join_one<Rt: Threads>(rt: &Rt, busy: &mut Vec<Self>, index: usize) -> Seat<H, K, C>
         requires { index < vec_len busy.old }
         ensures seat { IsSeat (terms H.lab H.begun H.given R.remaining W.contents C.kept K.shows) result }
@@ -98,8 +98,8 @@ impl<
         seat
     }
 
-    // The index of the busy seat to wait for next: the first of which the marks say that its thread has come to its
-    // end; without marks the first of all. None where there is no such seat.
+    // Returns the index of the busy seat to wait for next: the first whose thread has ended according to the marks, or
+    // the first of all if there are no marks. Returns `None` if there is no such seat.
     fn next_to_join(busy: &Vec<Self>, marks: Option<&[AtomicU64]>) -> Option<usize>
         ensures some { IfSome result (λ index. index < vec_len busy.now) }
         ensures none { IfNone result (IfNone marks.entry (busy.now.items ≡ [])) }
@@ -111,8 +111,8 @@ impl<
         }
     }
 
-    // Takes back the seats of which the marks say that their threads have come to their end. Without marks it waits for
-    // all threads, and takes back all seats.
+    // Takes back the seats whose threads have ended according to the marks. Without marks, waits for all threads, and
+    // takes back all seats.
     fn gather<Rt: Threads>(
         rt: &Rt,
         free: &mut Vec<Seat<H, K, C>>,
@@ -134,8 +134,8 @@ impl<
     }
 }
 
-// Takes a free seat in which one session more may be served. None, and all stay free, where no seat is free, or the
-// last of the free ones, which alone is looked at, is dismissed or gets no room for what is kept of a session.
+// Takes a free seat in which one more session may be served. Returns `None`, and all stay free, if no seat is free, or
+// the last of the free ones, which is the only one checked, is dismissed or has no memory for the record of a session.
 fn next_free<H: Begun, K: Keep<R, W> + Drop, C: Recorder + Drop, R: Read + Drop, W: Write + Drop>(
     free: &mut Vec<Seat<H, K, C>>,
 ) -> Option<Seat<H, K, C>>
@@ -158,8 +158,8 @@ fn next_free<H: Begun, K: Keep<R, W> + Drop, C: Recorder + Drop, R: Read + Drop,
     Some(seat)
 }
 
-// Takes room in the seat for what is kept of one session more, and tells whether that session may be served there:
-// false where the seat is dismissed, for which no room is taken, or where memory for the room is refused.
+// Reserves room in the seat for the record of one more session, and returns whether that session may be served there:
+// `false` if the seat is dismissed, for which nothing is reserved, or if memory runs out.
 fn make_ready<H: Begun, K: Keep<R, W> + Drop, C: Recorder + Drop, R: Read + Drop, W: Write + Drop>(
     seat: &mut Seat<H, K, C>,
 ) -> bool
@@ -172,7 +172,7 @@ fn make_ready<H: Begun, K: Keep<R, W> + Drop, C: Recorder + Drop, R: Read + Drop
     !seat.is_dismissed && seat.record.sessions.reserve(1).is_ok()
 }
 
-// Tells a connection by `BUSY` that it has no seat, and hangs up.
+// Sends `BUSY` to a connection that has no seat, and hangs up.
 fn turn_away<R: Drop, W: Write + HangUp + Drop>(ends: (R, W)) {
     let (_reader, mut writer) = ends;
     // The other side may be gone.
@@ -194,8 +194,8 @@ fn cut_off_all<
     }
 }
 
-// A mark for each number that a seat may have, which is a byte: 0, since no thread has come to its end yet; `Memory`
-// where it was refused.
+// Returns a mark for each number that a seat may have, which is a byte: 0, since no thread has ended yet. Returns
+// `Memory` if memory runs out.
 fn new_marks(alloc: Global) -> Result<Vec<AtomicU64>, Memory> {
     let mut marks = Vec::new(alloc);
     for _ in 0..256u16 {
@@ -206,7 +206,7 @@ fn new_marks(alloc: Global) -> Result<Vec<AtomicU64>, Memory> {
     Ok(marks)
 }
 
-// What the threads of a port share.
+// The data that the threads of a port share.
 #[derive(Drop)]
 struct Shared<'s, Rt, S: Sink, H: Begun, G, B> {
     rt: &'s Rt,
@@ -214,7 +214,7 @@ struct Shared<'s, Rt, S: Sink, H: Begun, G, B> {
     desk: &'s Desk<S, H>,
     gate: &'s G,
     bell: &'s B,
-    // By the number of a seat, whether its thread has come to its end.
+    // By the number of a seat, whether its thread has ended.
     marks: &'s [AtomicU64],
 }
 
@@ -226,9 +226,10 @@ impl<
     G: Gate + Sync + 's,
     B: Bell + Sync + 's,
 > Shared<'s, Rt, S, H, G, B> {
-    // Serves a connection in a seat, in a thread of its own, whose handle is given; when the session has ended the bell
-    // is rung. Where no thread can be made, the error is the seat, in which the connection was served at once. One that
-    // isn't at the desk is ended by `cut_off` before that, so that who comes later needn't wait for it.
+    // Serves a connection in a seat, in a thread of its own, and returns the thread's handle. When the session has
+    // ended the bell is rung. If no thread can be made, returns the seat as an error, after the connection was served
+    // in it at once. One that isn't at the desk is ended by `cut_off` before that, so that later connections needn't
+    // wait for it.
     fn serve_apart<
         E,
         K: Keep<R, W> + Send + Drop + 's,
@@ -279,8 +280,8 @@ impl<
         }
     }
 
-    // Takes back the seats whose threads have come to their end, and serves a connection in a seat that is free then;
-    // it is turned away where none can serve it. `cut_off` is what ends the connection from here.
+    // Takes back the seats whose threads have ended, and serves a connection in a seat that is free then, or turns it
+    // away if none can serve it. `cut_off` ends the connection from here.
     fn take_in<
         E,
         K: Keep<R, W> + Send + Drop + 's,
@@ -322,8 +323,8 @@ impl<
         }
     }
 
-    // Serves those who come until no more are to be served, then ends the connections that are still served, waits for
-    // their threads, and gives all seats back. `Memory`, and nobody is served, where it is refused at the beginning.
+    // Serves the connections that come until no more are to be served, then ends those that are still served, waits for
+    // their threads, and returns all seats. Returns `Memory`, and serves nobody, if memory runs out at the beginning.
     fn serve_until_over<
         E,
         K: Keep<R, W> + Send + Drop + 's,
@@ -345,7 +346,7 @@ impl<
         let mut arrivals = arrivals;
         let mut free = seats;
         let mut busy = Vec::with_capacity(self.alloc, free.len())?;
-        // This takes nothing: it tells the proof that there is room for each seat that comes back.
+        // This allocates nothing: by its contract there is room for each seat that comes back.
         free.reserve(0)?;
         for _ in self.rt.forever() {
             match arrivals.accept_next() {
@@ -356,7 +357,7 @@ impl<
                 Accepted::Over => break,
             }
         }
-        // Who waits at the port is let go of before the sessions are waited for.
+        // The connections that wait at the port are dropped before the sessions are waited for.
         drop(arrivals);
         cut_off_all(&busy);
         Busy::gather(self.rt, &mut free, &mut busy, None);
@@ -364,10 +365,10 @@ impl<
     }
 }
 
-/// Takes connections as they come, each to a seat that is free, where a thread of its own serves it, and turns away
-/// those for which none is. At the end all that are still served are ended, and all threads have ended when it gives
-/// the seats back. A connection for which no thread can be made is ended before anything is read, but at the desk it is
-/// served at once. `Memory`, and nobody is served, where it is refused at the beginning.
+/// Accepts connections as they come, serves each in a thread of its own in a free seat, and turns away those for which
+/// there is none. At the end, ends all that are still served; all threads have ended when it returns the seats. A
+/// connection for which no thread can be made is ended before anything is read, but at the desk it is served at once.
+/// Returns `Memory`, and serves nobody, if memory runs out at the beginning.
 pub fn serve_port<
     Rt: Threads + Wait + Sync,
     S: Sink + Send + Drop,

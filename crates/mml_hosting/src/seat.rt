@@ -13,8 +13,7 @@ use std::snapshot::Snapshot;
 use std::sync::Wait;
 use std::sync::atomic::{AtomicU64, Ordering};
 
-/// A session that has ended: its connection as it came, how it ended, and what is left of the
-/// connection.
+/// A session that has ended: its connection as it came, how it ended, and the connection's two ends.
 #[derive(Drop)]
 pub struct ServedSession<R: Drop, W: Drop> {
     pub came: Snapshot<(R, W)>,
@@ -23,23 +22,23 @@ pub struct ServedSession<R: Drop, W: Drop> {
     pub writer: W,
 }
 
-/// What is kept of a session that has ended.
+/// The part of a session that is kept after its end.
 pub trait Keep<R: Drop, W: Drop>: Sized {
     ghost use Rattle.mml_hosting.specs.declared.seat.ServedSession.{ServedSession};
 
     // The session.
     ghost shows: { Self → ServedSession R W };
 
-    /// Keeps of a session that has ended what is to be kept, and lets the rest go.
+    /// Returns the part of a session that is kept, and drops the rest.
     fn keep(session: ServedSession<R, W>) -> Self
         ensures { shows result ≡ session };
 }
 
-/// Keeps all of a session.
+/// Keeps a whole session.
 impl<R: Drop, W: Drop> Keep<R, W> for ServedSession<R, W> {
     ghost shows = { λ s. s };
 
-    // The session itself.
+    // Returns the session itself.
     fn keep(session: ServedSession<R, W>) -> ServedSession<R, W>
         ensures { result ≡ session }
     {
@@ -47,11 +46,11 @@ impl<R: Drop, W: Drop> Keep<R, W> for ServedSession<R, W> {
     }
 }
 
-/// Keeps of a session nothing but what contracts say of it, so that any number can be kept.
+/// Keeps of a session only what contracts say of it, so that any number can be kept.
 impl<R: Drop, W: Drop> Keep<R, W> for Snapshot<ServedSession<R, W>> {
     ghost shows = { λ s. s.value };
 
-    // What a contract says of the session; its connection's two ends are let go.
+    // Returns what a contract says of the session, and drops its connection's two ends.
     fn keep(session: ServedSession<R, W>) -> Snapshot<ServedSession<R, W>>
         ensures { result.value ≡ session }
     {
@@ -59,18 +58,18 @@ impl<R: Drop, W: Drop> Keep<R, W> for Snapshot<ServedSession<R, W>> {
     }
 }
 
-/// What is left of a seat.
+/// The record of a seat.
 #[derive(Drop)]
 pub struct SeatRecord<K: Drop, C: Drop> {
     pub number: u8,
-    /// What is kept of the sessions that were served in it, in order.
+    /// The kept parts of the sessions that were served in it, in order.
     pub sessions: Vec<K>,
-    /// What records the sessions.
+    /// The recorder of the sessions.
     pub recorder: C,
 }
 
-/// A window through which connections are served, with what is left of its seat at the end: the number by
-/// which a gate and a record know it, what is kept of the sessions, and what records them.
+/// A window through which connections are served, with the record of its seat: the number by which a gate and a record
+/// know it, the kept parts of the sessions, and their recorder.
 #[derive(Drop)]
 pub struct Seat<H: Begun, K: Drop, C: Drop> {
     /// Whether the teacher's bye ends its service.
@@ -81,8 +80,8 @@ pub struct Seat<H: Begun, K: Drop, C: Drop> {
     pub is_dismissed: bool,
 }
 
-/// Serves a connection in a seat, hangs up, and sets the seat's mark, since its thread is then at its end. Gives the
-/// seat back, with what is kept of the session, and with whether the teacher's bye ended it at the desk.
+/// Serves a connection in a seat, hangs up, and sets the seat's mark, since its thread is then at its end. Returns the
+/// seat, with the kept part of the session, and with whether the teacher's bye ended it at the desk.
 pub fn serve_in<
     Rt: Wait,
     S: Sink + Drop,
@@ -126,7 +125,7 @@ pub fn serve_in<
     );
     let Gated { gate: _, recorder } = observer;
     writer.hang_up();
-    // From here on the thread waits for nobody, and so who joins it doesn't either.
+    // From here on the thread waits for nobody, and so the thread that joins it doesn't either.
     set_mark(marks, number, 1);
     let is_dismissed = is_dismissed_by(&ending, is_desk);
     let session = ServedSession {
@@ -148,15 +147,14 @@ pub fn serve_in<
     }
 }
 
-// Whether the seat is that of the desk, and the session was ended by the teacher's bye.
+// Returns whether the seat is that of the desk, and the session was ended by the teacher's bye.
 fn is_dismissed_by(ending: &Ending, is_desk: bool) -> bool
     ensures { result ≡ (is_desk && is_teachers_bye ending.now) }
 {
     is_desk && matches!(ending.end, SessionEnd::Bye) && matches!(ending.who, Some(Who::Teacher))
 }
 
-// Sets the mark of the seat with this number, if there is one: 1 where the seat's thread has come to its end, 0 while
-// it serves.
+// Sets the mark of the seat with this number, if there is one: 1 if the seat's thread has ended, 0 while it serves.
 pub(crate) fn set_mark(marks: &[AtomicU64], number: u8, value: u64) {
     if let Some(mark) = marks.get(usize::from(number)) {
         mark.store(value, Ordering::SeqCst);

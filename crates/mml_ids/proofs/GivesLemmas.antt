@@ -49,10 +49,10 @@ need-same b c d e t u p q h = grind arith
 pub both_none : {E : Type 0} (a b : Option E) → first_fault a b ≡ None → (a ≡ None) × (b ≡ None)
 both_none a b h = grind arith
 
--- where a test gave no error, it was false
+-- if a test found no error, it was false
 pub if_none : {E : Type 0} (b : Bool) (e : E) → fault_if b e ≡ None → b ≡ false
 if_none b e h = grind arith
 
--- where nothing came of a map, nothing was there
+-- if a map of something absent or present is absent, the thing was absent
 pub map_none : {A B : Type 0} (f : A → B) (o : Option A) → option_map f o ≡ None → o ≡ None
 map_none f o h = grind arith

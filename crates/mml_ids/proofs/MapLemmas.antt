@@ -31,7 +31,7 @@ pub map-map : {X Y Z : Type 0} (g : Y → Z) (f : X → Y) (xs : List X) → map
 map-map g f [] = refl
 map-map g f (x ∷ xs) = ap (λ zs. g (f x) ∷ zs) (map-map g f xs)
 
--- where the first element passes, its index is 0
+-- if the first element passes, its index is 0
 pub position-first : {X : Type 0} (p : X → Bool) (x : X) (xs : List X) → p x ≡ true → position p (x ∷ xs) ≡ Some 0
 position-first p x xs here = rw (here, lt-ltb 0 (suc (length xs)) (omega arith)) refl
 
@@ -42,6 +42,6 @@ shift n m = grind (arith, cases_lt, lt-ltb, le-ltb)
 index-later : {X : Type 0} (p : X → Bool) (x : X) (xs : List X) → p x ≡ false → position_or_len p (x ∷ xs) ≡ suc (position_or_len p xs)
 index-later p x xs not_here = rw not_here (omega arith)
 
--- where the first element doesn't pass, the index is one past that in the rest
+-- if the first element doesn't pass, the index is one past that in the rest
 pub position-later : {X : Type 0} (p : X → Bool) (x : X) (xs : List X) → p x ≡ false → position p (x ∷ xs) ≡ option_map suc (position p xs)
 position-later p x xs not_here = grind (arith, index-later, shift)

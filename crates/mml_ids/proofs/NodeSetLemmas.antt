@@ -76,7 +76,7 @@ set_of-and_not n a b new fits each = same_ranks _ _ (λ q.
 abbrev pub ones_above : ℕ → ℕ
 ones_above r = bit_and ((2 ^ 64 - 1) * 2 ^ r % 2 ^ 64) (bit_not w64 (1 * 2 ^ r % 2 ^ 64))
 
--- among the ones above r, the bit at k is set exactly where k is above r
+-- among the ones above r, the bit at k is set exactly if k is above r
 pub bit-ones_above : (r k : ℕ) → r < 64 → k < 64 → eqb (bit_at (ones_above r) k) 1 ≡ ltb r k
 bit-ones_above r k below lt = elim (cases_order k r) [
   | inl same ↦ rw (same, bit_at_clear_same w64 ((2 ^ 64 - 1) * 2 ^ r % 2 ^ 64) r below, le-ltb r r (omega arith)) refl
@@ -183,7 +183,7 @@ has-highest n words w k inside below low high =
     ∙ ap (λ x. eqb (bit_at (get_or words w 0) x) 1) bit
     ∙ eq-eqb (bit_at (get_or words w 0) k) 1 (ap (λ x. x % 2) one)
 
--- where no later word has a one, none is above it
+-- if no later word has a one, none is above it
 pub none_above_highest : (n : ℕ) (words : List ℕ) (w k q : ℕ) → get_or words w 0 < 2 * 2 ^ k → ((v : ℕ) → w < v → 64 * v < n → get_or words v 0 ≡ 0)
     → sets.contains (set_of n words) q ≡ true → q ≤ 64 * w + k
 none_above_highest n words w k q high zeros there =
@@ -212,7 +212,7 @@ pub has-one : (n : ℕ) (words : List ℕ) (w k : ℕ) → 64 * w + k < n → k 
     → sets.contains (set_of n words) (64 * w + k) ≡ true
 has-one n words w k inside below one = grind (arith, has-set_of, lt-ltb, eq-eqb)
 
--- where no earlier word has a one, none is below the lowest of this one
+-- if no earlier word has a one, none is below the lowest of this one
 pub none_below_lowest : (n : ℕ) (words : List ℕ) (w k q : ℕ) → k < 64 → ((i : ℕ) → i < k → bit_at (get_or words w 0) i ≡ 0)
     → ((v : ℕ) → v < w → get_or words v 0 ≡ 0) → sets.contains (set_of n words) q ≡ true → 64 * w + k ≤ q
 none_below_lowest n words w k q below low zeros there = grind (arith, and_parts, has-set_of, eqb-true, cases_lt, cases_eq, bit_at-zero)

@@ -48,7 +48,7 @@ room_of-one ps n p is inside = omega (arith, room_of-next ps n p is inside, room
 pub room_of-front : (ps : List Piece) (n : ℕ) → room_of (take n ps) ≤ room_of ps
 room_of-front ps n = omega (arith, ap room_of (take-append-drop n ps), room_of-append (take n ps) (drop n ps))
 
--- where there is room for all, all are put
+-- if there is room for all, all are put
 pub fills_all : (was now : List ℕ) (capacity : ℕ) (ps : List Piece) (n : ℕ) → Fills was now capacity ps n → length was + room_of ps ≤ capacity → n ≡ length ps
 fills_all was now capacity ps n f room = elim (eq-or-lt_of_le f.bound) [
   | inl whole ↦ whole

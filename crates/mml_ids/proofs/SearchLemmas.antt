@@ -37,15 +37,15 @@ first_of test s (suc n) k found = grind (arith, one_step, cases_order, first_of 
 pub first-is : (test : ℕ → Bool) (n k : ℕ) → first_below test n ≡ Some k → (k < n) × (test k ≡ true) × ((i : ℕ) → i < k → test i ≡ false)
 first-is test n k found = let at = first_of test 0 n k found in let within = at.within in (omega arith, at.here, λ i lt. at.before i (omega arith) lt)
 
--- a number below n that passes, where none before it does, is the first
+-- a number below n that passes, if none before it does, is the first
 pub first-at : (test : ℕ → Bool) (n k : ℕ) → k < n → test k ≡ true → ((i : ℕ) → i < k → test i ≡ false) → first_below test n ≡ Some k
 first-at test n k lt here before = from_first test 0 n k (omega arith) (omega arith) here (λ i le to. before i to)
 
--- where the search below n finds none, no number below n passes
+-- if the search below n finds none, no number below n passes
 pub none-is : (test : ℕ → Bool) (n : ℕ) → first_below test n ≡ None → (i : ℕ) → i < n → test i ≡ false
 none-is test n none i lt = none_from test 0 n i none (omega arith) (omega arith)
 
--- where no number below n passes, the search finds none
+-- if no number below n passes, the search finds none
 pub none-at : (test : ℕ → Bool) (n : ℕ) → ((i : ℕ) → i < n → test i ≡ false) → first_below test n ≡ None
 none-at test n nowhere = from_none test 0 n (λ i le lt. nowhere i (omega arith))
 
@@ -65,18 +65,18 @@ first_next bad k n h e = sym (next_step bad k (n - k) (n - (k + 1)) (omega arith
 pub first_end : (bad : ℕ → Bool) (k n : ℕ) → n ≤ k → first_from bad k (n - k) ≡ None
 first_end bad k n h = let e : n - k ≡ 0 = omega arith in rw e
 
--- where no element passes, there is no index to name
+-- if no element passes, there is no index to name
 pub position-none : {X : Type 0} (p : X → Bool) (xs : List X) (d : X) → ((k : ℕ) → k < length xs → p (get_or xs k d) ≡ false) → position p xs ≡ None
 position-none p xs d nowhere =
     let e : position_or_len p xs ≡ length xs = position_or_len_is p xs (length xs) d (omega arith) nowhere (λ lt. absurd (omega arith)) in
     rw (e, le-ltb (length xs) (length xs) (omega arith))
 
--- the index of an element that passes, where none before it does
+-- the index of an element that passes, if none before it does
 pub position-at : {X : Type 0} (p : X → Bool) (xs : List X) (i : ℕ) (d : X) → i < length xs → p (get_or xs i d) ≡ true
     → ((k : ℕ) → k < i → p (get_or xs k d) ≡ false) → position p xs ≡ Some i
 position-at p xs i d lt here before = grind (arith, position_or_len_is, lt-ltb)
 
--- where no index is named, no element passes
+-- if no index is named, no element passes
 pub position-None : {X : Type 0} (p : X → Bool) (xs : List X) (d : X) → position p xs ≡ None → (k : ℕ) → k < length xs → p (get_or xs k d) ≡ false
 position-None p xs d none k lt = grind (arith, fails_before_first, nat_lt, ltb-false)
 
@@ -85,21 +85,21 @@ pub position-only : {X : Type 0} (p : X → Bool) (xs : List X) (i : ℕ) (d : X
     → ((k : ℕ) → k < length xs → p (get_or xs k d) ≡ true → k ≡ i) → position p xs ≡ Some i
 position-only p xs i d lt here only = grind (arith, position-at, cases_Bool)
 
--- two tests that are each true where the other is are the same
+-- two tests that are each true if the other is are the same
 pub same_bool : (a b : Bool) → (a ≡ true → b ≡ true) → (b ≡ true → a ≡ true) → a ≡ b
 same_bool a b h k = grind arith
 
--- where the test is true of some number below n, there is one to name
+-- if the test is true of some number below n, there is one to name
 pub some_below-find : (n : ℕ) (t : ℕ → Bool) → some_below n t ≡ true → (k : ℕ) × (k < n) × (t k ≡ true)
 some_below-find zero t h = absurd (false≢true h)
 some_below-find (suc n) t h = grind (arith, or_cases, some_below-find n t)
 
--- where a number below n passes, some does
+-- if a number below n passes, some does
 pub some_below-at : (n k : ℕ) (t : ℕ → Bool) → k < n → t k ≡ true → some_below n t ≡ true
 some_below-at zero k t l h = absurd (omega arith)
 some_below-at (suc n) k t l h = grind (arith, cases_order, or_left, or_right, some_below-at n k t)
 
--- where the test is true of no number below n, each one fails it
+-- if the test is true of no number below n, each one fails it
 pub some_below-none : (n k : ℕ) (t : ℕ → Bool) → some_below n t ≡ false → k < n → t k ≡ false
 some_below-none zero k t h l = absurd (omega arith)
 some_below-none (suc n) k t h l = grind (arith, cases_order, or_parts, some_below-none n k t)
@@ -114,7 +114,7 @@ pub greatest_below-some : (n j : ℕ) (t : ℕ → Bool) → greatest_below n t 
 greatest_below-some zero j t h = cc
 greatest_below-some (suc n) j t h = grind (arith, greatest_below-some n j t)
 
--- where there is no greatest number that passes, none below n passes
+-- if there is no greatest number that passes, none below n passes
 pub greatest_below-none : (n k : ℕ) (t : ℕ → Bool) → greatest_below n t ≡ None → k < n → t k ≡ false
 greatest_below-none zero k t h l = absurd (omega arith)
 greatest_below-none (suc n) k t h l = grind (arith, cases_order, greatest_below-none n k t)
@@ -123,7 +123,7 @@ pub greatest_below_same : (n : ℕ) (t u : ℕ → Bool) → ((k : ℕ) → k < 
 greatest_below_same zero t u h = refl
 greatest_below_same (suc n) t u h = grind (arith, greatest_below_same n t u)
 
--- a number below n that passes, where none above it does, is the greatest
+-- a number below n that passes, if none above it does, is the greatest
 pub greatest_is : (n j : ℕ) (t : ℕ → Bool) → j < n → t j ≡ true → ((k : ℕ) → j < k → k < n → t k ≡ false) → greatest_below n t ≡ Some j
 greatest_is zero j t l h above = absurd (omega arith)
 greatest_is (suc n) j t l h above = grind (arith, cases_order, greatest_is n j t)

@@ -72,7 +72,7 @@ range_more n =
 abbrev pub passing : {X : Type 0} → (ℕ → Bool) → (ℕ → X) → ℕ → List X
 passing t f n = map f (filter t (range_with_len 0 n))
 
--- one number more below n adds what is made of n, where n passes, at the end
+-- one number more below n adds what is made of n at the end, if n passes
 pub passing_more : {X : Type 0} (t : ℕ → Bool) (f : ℕ → X) (n : ℕ) → passing t f (n + 1) ≡ passing t f n ++ map f (cond (t n) (n ∷ []) [])
 passing_more t f n = grind (arith, range_more, filter-append, map-append)
 

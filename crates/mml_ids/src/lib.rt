@@ -1,4 +1,4 @@
-//! Identifiers and ranks of nodes, sets of ranks, and the words that every crate above shares.
+//! Identifiers and ranks of nodes, sets of ranks, and the basic types that every crate above shares.
 #![tactic(auto)]
 
 mod condition;
@@ -24,8 +24,8 @@ pub use piece::{
 pub use rank::Rank;
 pub use word::Word;
 
-/// How many nodes a network may have at most. Ranks are below it.
+/// The most nodes that a network may have. Ranks are below it.
 pub const MAX_NODES: u64 = 256;
 
-/// The greatest identifier; the least is 1.
+/// The greatest identifier. The least is 1.
 pub const MAX_ID: u64 = 65535;

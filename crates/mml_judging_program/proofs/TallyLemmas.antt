@@ -1,4 +1,4 @@
--- What is told of a journal.
+-- The tally of a journal.
 use Rattle.std.proofs.Common.{◌≡◌, ℕ, List, [], ◌++◌, Option, Result, Ok, Err, subst, ap, ◌∙◌}
 use Rattle.std.specs.Prelude.{OnOk}
 use Rattle.std.specs.Io.KnownBytes.{Appends}
@@ -10,7 +10,7 @@ use Rattle.mml_audit.specs.AuditMeaning.{IsJournalOf}
 use Rattle.mml_tally.specs.Texts.{tally_text}
 use Rattle.mml_judging_program.specs.Tallies.{IsTally, TellsTally}
 
--- the text of the events that an audit gave, and of the world to which they led
+-- the text of the events that an audit returned, and of the world that they led to
 pub tally_of : (lab : LabValue) (es slice : List Event) (bytes first text : List ℕ) (w : World) → IsJournalOf lab es bytes
     → text ≡ first ++ tally_text lab w slice → first ≡ [] → slice ≡ es → w ≡ world_in lab es → IsTally lab bytes text
 tally_of lab es slice bytes first text w journal told empty same leads = record {
@@ -19,7 +19,7 @@ tally_of lab es slice bytes first text w journal told empty same leads = record 
   told = told ∙ ap (λ f. f ++ tally_text lab w slice) empty ∙ (λ k. tally_text lab (leads k) (same k));
 }
 
--- a text that was written is the tally where it was that before
+-- a text that was written is the tally if it was that before
 pub tally_told : {E : Type 0} (r : Result (Unit {0}) E) (lab : LabValue) (bytes text now : List ℕ) (wrote wrote' : Option (List ℕ)) → IsTally lab bytes text
     → now ≡ text → OnOk r (Appends wrote wrote' now) → OnOk r (TellsTally lab bytes wrote wrote')
 tally_told (Ok x) lab bytes text now wrote wrote' tally same told = record {

@@ -24,6 +24,6 @@ one_moved s t s' t' r q both put taken there h =
     ∙ ap (λ (b : Bool). (eqb q r || sets.contains s q) || b) (has_remove t r q)
     ∙ moved (eqb q r) (sets.contains s q) (sets.contains t q) both (is_there t r q there) h
 
--- where nothing is left, all is in the one
+-- if nothing is left, all is in the one
 pub all_moved : (s t : FinSet nat_cmp) (q : ℕ) (both : Bool) → t ≡ sets.empty → (sets.contains s q || sets.contains t q) ≡ both → sets.contains s q ≡ both
 all_moved s t q both none h = grind (arith, nat_tests, has_empty)

@@ -1,4 +1,4 @@
--- What a program tells of a journal's run.
+-- The tally that a program prints of a journal.
 use Rattle.std.specs.Prelude.{◌≡◌, ℕ, List, Option}
 use Rattle.std.specs.Io.KnownBytes.{Appends}
 use Rattle.mml_lab.specs.Labs.{LabValue}
@@ -7,7 +7,7 @@ use Rattle.mml_board.specs.Lists.{world_in}
 use Rattle.mml_audit.specs.AuditMeaning.{IsJournalOf}
 use Rattle.mml_tally.specs.Texts.{tally_text}
 
--- the bytes are the journal of a legal list of the lab's, and the text is what is told of that list
+-- the bytes are the journal of a legal list of the lab's, and the text is the tally of that list
 pub record IsTally (lab : LabValue) (bytes text : List ℕ) : Type 0 where
   pub events : List Event
   pub journal : IsJournalOf lab events bytes

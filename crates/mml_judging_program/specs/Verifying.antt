@@ -1,4 +1,4 @@
--- What is told of a record.
+-- The lines that are printed of a record.
 use Rattle.std.specs.Prelude.{ℕ, Bool, true, false, List, [], ◌∷◌, ◌++◌, codes, decimal}
 use Rattle.std.specs.List.{concat}
 use Rattle.std.specs.FinSet as set
@@ -6,24 +6,24 @@ use Rattle.mml_lab.specs.Labs.{LabValue}
 use Rattle.mml_tally.specs.declared.record_text.Findings.{Findings}
 use Rattle.mml_tally.specs.Lacking.{recorded_line}
 
--- what is found where there are no records
+-- the findings if there are no records
 abbrev pub no_findings : Findings
 no_findings = record { sessions = 0; lines = 0; whole = true; is_cut = false; lacks_teacher = false; lacking = set.empty }
 
--- what stands behind the number of events, by whether a record is whole
+-- what stands after the number of events, by whether a record is whole
 abbrev pub end_of : Bool → List ℕ
 end_of true = codes " events\n"
 end_of false = codes " events, not whole\n"
 
--- the line that tells what a record that passed comes to, and how many events its journal has
+-- the line with the summary of a record that passed, and how many events its journal has
 abbrev pub verified_line : Findings → ℕ → List ℕ
 verified_line found events =
     concat (codes "ok: " ∷ decimal found.sessions ∷ codes " sessions, " ∷ decimal found.lines ∷ codes " lines, " ∷ decimal events ∷ end_of found.whole ∷ [])
 
--- the line that tells how many events came before the record
+-- the line with the number of events that came before the record
 abbrev pub begun_line : ℕ → List ℕ
 begun_line begun = concat (codes "begun after " ∷ decimal begun ∷ codes " events\n" ∷ [])
 
--- these two lines, and between them the line of those of whom all is recorded
+-- these two lines, and between them the line of those whose lines are all recorded
 abbrev pub verified_text : LabValue → Findings → ℕ → ℕ → List ℕ
 verified_text lab found events begun = verified_line found events ++ (recorded_line lab found ++ begun_line begun)

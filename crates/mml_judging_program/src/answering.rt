@@ -6,9 +6,9 @@ use mml_program::{answer_script, lab_of, memory_if_lacked};
 use std::io;
 use std::rt::Files;
 
-/// Answers the script on standard input over the lab of a file. All replies have gone out before each read, so that who
-/// writes a line gets its reply before the next one has to be written. The error is that of the lab's file, or what
-/// ended the script before its last line.
+/// Answers the script on standard input over the lab of a file. All replies are written before each read, so that the
+/// writer of a line gets its reply before the next one has to be written. Returns the error of the lab's file, or why
+/// the script ended before its last line.
 pub fn answer<R: Files + Input + Print + AllocGlobal>(rt: &R, lab: &str) -> Result<(), Fault> {
     let lab = lab_of(rt, lab)?;
     let mut reader = Retrying::new(rt.reader());

@@ -1,4 +1,4 @@
-//! What ends a subcommand early: one line on standard error and a status.
+//! Errors that end a subcommand early: one line on standard error and a status.
 ghost use Rattle.std.specs.Prelude.{◌≡◌};
 
 use crate::record_refusal::RecordRefusal;
@@ -9,10 +9,10 @@ use thiserror::Error;
 /// Why a subcommand ended before its work was done.
 #[derive(Debug, Drop, Error)]
 pub enum Fault {
-    /// What `mml_server` tells in the same words: of command line, lab, journal, script, output and memory.
+    /// An error that `mml_server` reports in the same words: of command line, lab, journal, script, output and memory.
     #[error("{0}")]
     Common(ProgramFault),
-    /// The record is none of the lab and the journal.
+    /// The record isn't one of the lab and the journal.
     #[error("verify: {0}")]
     Record(RecordRefusal),
     /// A file of the record can't be opened or read, or is too large.
@@ -21,8 +21,8 @@ pub enum Fault {
 }
 
 impl Fault {
-    /// The exit status that goes with the error: 3 where the record is none, 4 where it can't be read; of an error that
-    /// `mml_server` has too, the same as there.
+    /// Returns the exit status of the error: 3 if the record is none, and 4 if it can't be read. An error that
+    /// `mml_server` has too has the same status as there.
     pub fn status(&self) -> u8 {
         match self {
             Fault::Common(fault) => fault.status(),
@@ -37,14 +37,14 @@ impl From<ProgramFault> for Fault {
 
     ghost from_gives = { λ fault e. e ≡ Common fault };
 
-    // Tells an error that `mml_server` has too in the same words.
+    // Turns an error that `mml_server` has too into one in the same words.
     fn from(fault: ProgramFault) -> Fault {
         Fault::Common(fault)
     }
 }
 
 impl From<Memory> for Fault {
-    // Tells want of memory as `mml_server` does.
+    // Turns out of memory into the same error as `mml_server`.
     fn from(_memory: Memory) -> Fault
         ensures { result ≡ Fault.Common ProgramFault.Memory }
     {

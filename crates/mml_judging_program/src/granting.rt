@@ -1,8 +1,8 @@
-//! Whether the records of all seats grant each event once.
+//! The check that the records of all seats grant each event once.
 use mml_ids::Memory;
 use std::alloc::Global;
 
-/// What is amiss with the places that records grant.
+/// The error in the places that records grant.
 #[derive(Clone, Copy, Debug, PartialEq, Eq, Drop)]
 pub enum Misgranted {
     /// The event at this place happened before the record began; or there is no event at this place.
@@ -13,9 +13,9 @@ pub enum Misgranted {
     Nowhere(u64),
 }
 
-/// What is first found amiss with the places that records grant, none where nothing is; the error is want of memory.
-/// Each of `places` has to be one from `begun` + 1 to `count`, and none may stand there twice; where the records are
-/// `whole`, each number from `begun` + 1 to `count` has to be there.
+/// Returns the first error in the places that records grant, or `None` if there is none. Each of `places` has to be one
+/// from `begun` + 1 to `count`, and none may stand there twice. If the records are `whole`, each number from `begun` +
+/// 1 to `count` has to be there. Returns `Memory` if memory runs out.
 pub fn find_misgranted(
     alloc: Global,
     places: &[u64],
@@ -46,7 +46,7 @@ pub fn find_misgranted(
     Ok(None)
 }
 
-// The first place behind `begun` that has no mark, which is granted nowhere then; none where each is marked.
+// Returns the first place after `begun` that has no mark, which is then granted nowhere, or `None` if each is marked.
 fn first_unmarked(marks: &[bool], begun: u64) -> Option<Misgranted> {
     for at in 0..marks.len() {
         let place = at as u64 + 1;

@@ -1,5 +1,5 @@
-//! The words of the host's program that serve nobody: a class's record and its journal are judged, and a script
-//! is answered as its lines come.
+//! The subcommands of the host's program that serve nobody: they judge a class's record and its journal, and answer a
+//! script as its lines come.
 #![tactic(auto)]
 
 mod answering;

@@ -1,4 +1,4 @@
-//! Why a record is none.
+//! Why a record is refused.
 use crate::granting::Misgranted;
 use mml_record::{BadEntry, Why};
 use thiserror::Error;
@@ -6,10 +6,10 @@ use thiserror::Error;
 /// Why a text is no record of a seat, in the words of its error line.
 #[derive(Debug, Drop, Error)]
 pub enum RecordRefusal {
-    /// The entry of this seat at this line is none that a record can have there.
+    /// The entry of this seat at this line can't stand there in a record.
     #[error("seat {0}, line {1}: {2}")]
     Entry(u8, u64, &'static str),
-    /// The entry of this seat at this line doesn't tell what this place of the journal has.
+    /// The entry of this seat at this line doesn't match this place of the journal.
     #[error("seat {0}, line {1}: not the {2} at place {3}")]
     Place(u8, u64, &'static str, u64),
     /// The event at this place isn't granted once.
@@ -18,8 +18,9 @@ pub enum RecordRefusal {
 }
 
 impl RecordRefusal {
-    /// Returns the refusal of a record for the first bad entry of a seat. Where an entry grants another event than the
-    /// journal has, the place is that of the journal's event: one more than how many events the entry says had been seen.
+    /// Returns the refusal of a record for the first bad entry of a seat. If an entry grants another event than the
+    /// journal has, the place is that of the journal's event: one more than how many events the entry says had been
+    /// seen.
     pub fn of(seat: u8, bad: BadEntry) -> RecordRefusal {
         let BadEntry { line, place, .. } = bad;
         match bad.why {
@@ -41,7 +42,7 @@ impl RecordRefusal {
         }
     }
 
-    /// Returns the refusal of a record for what is amiss with the places that all seats' records grant.
+    /// Returns the refusal of a record for an error in the places that all seats' records grant.
     pub fn of_places(amiss: Misgranted) -> RecordRefusal {
         match amiss {
             Misgranted::Early(place) => RecordRefusal::Granted(place, "before the record began"),

@@ -1,4 +1,4 @@
-//! What a journal tells of its run, and a record of what its lines asked.
+//! The tally of a journal with a record of its lines.
 ghost use Rattle.std.specs.Prelude.{◌≡◌, true, IfOk, OnOk};
 ghost use Rattle.std.specs.Io.KnownBytes.{Appends};
 ghost use Rattle.mml_board.specs.Lists.{is_legal_in};
@@ -22,8 +22,8 @@ use std::io;
 use std::io::Write;
 use std::rt::Files;
 
-/// Prints the tally of a journal's file with what its record tells, which is verified first. The error is why lab,
-/// journal or record doesn't pass, or can't be read, or that a write failed, or want of memory.
+/// Prints the tally of a journal's file with that of its record, which is verified first. Returns an error if lab,
+/// journal or record doesn't pass or can't be read, a write fails, or memory runs out.
 pub fn tally_recorded<R: Files<File = File> + Print + AllocGlobal>(
     rt: &R,
     task: VerifyTask<'_>,
@@ -51,15 +51,16 @@ pub fn tally_recorded<R: Files<File = File> + Print + AllocGlobal>(
     }
 }
 
-// Audits the text of a journal of the lab: its events, and the board to which they lead; the error is the audit's.
+// Audits the text of a journal of the lab, and returns its events and the board that they lead to. Returns the audit's
+// error if it doesn't pass.
 fn audited_of(alloc: Global, lab: &Lab, text: &[u8]) -> Result<Audited, ProgramFault>
     ensures { IfOk result (λ audited. is_legal_in lab.now audited.events.items ≡ true) }
 {
     Ok(audit_events(alloc, lab, text)?)
 }
 
-// Adds to `all` what the records of all seats in the folder come to; what their lines asked goes behind `asks`. The error
-// is why one is none, or can't be read, or what is amiss with the places that they grant, or want of memory.
+// Adds the summaries of the records of all seats in the folder to `all`, and appends what their lines asked to `asks`.
+// Returns an error if one is no record or can't be read, the places that they grant are wrong, or memory runs out.
 fn read_seats<R: Files<File = File> + AllocGlobal>(
     rt: &R,
     lab: &Lab,
@@ -90,8 +91,8 @@ fn read_seats<R: Files<File = File> + AllocGlobal>(
     granted_once(rt.alloc(), all.whole, granted.as_slice(), begun, count)
 }
 
-// Adds to `all` what a text comes to as the record of a seat, or why it is none; the places that a record grants go
-// behind `granted`, what its lines asked behind `asks`.
+// Adds the summary of a text as the record of a seat to `all`, or returns why it is none. The places that the record
+// grants are appended to `granted`, and what its lines asked to `asks`.
 fn read_lines(
     alloc: Global,
     lab: &Lab,
@@ -115,7 +116,8 @@ fn read_lines(
     }
 }
 
-/// Writes the tally of the events that led to the board, with what a record comes to and what its lines asked.
+/// Writes the tally of the events that led to the board, with the summary of a record and what its lines asked. Returns
+/// an error if the write fails, or memory runs out.
 pub fn write_recorded<W: Write>(
     alloc: Global,
     lab: &Lab,

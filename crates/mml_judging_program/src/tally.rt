@@ -1,4 +1,4 @@
-//! What a journal tells of its run, as a program reads it.
+//! The tally of a journal's run, for a program to read.
 ghost use Rattle.std.specs.Prelude.{IfOk, OnOk};
 ghost use Rattle.std.specs.Io.KnownBytes.{Appends};
 ghost use Rattle.mml_judging_program.specs.Tallies.{IsTally, TellsTally};
@@ -14,8 +14,8 @@ use std::io;
 use std::io::Write;
 use std::rt::Files;
 
-/// Prints the tally of a journal's file over the lab of a file. The error is why lab or journal doesn't pass, or can't
-/// be read, or that a write failed, or want of memory.
+/// Prints the tally of a journal's file over the lab of a file. Returns an error if lab or journal doesn't pass or
+/// can't be read, a write fails, or memory runs out.
 pub fn tally<R: Files + Print + AllocGlobal>(
     rt: &R,
     task: TallyTask<'_>,
@@ -29,8 +29,8 @@ pub fn tally<R: Files + Print + AllocGlobal>(
     }
 }
 
-/// Audits a journal, and writes the tally of its events. Where it doesn't pass nothing is written, and the
-/// error is the audit's.
+/// Audits a journal, and writes the tally of its events. If it doesn't pass, writes nothing and returns the audit's
+/// error.
 pub fn write_tally<W: Write>(
     alloc: Global,
     lab: &Lab,
@@ -44,7 +44,7 @@ pub fn write_tally<W: Write>(
     write_text(&text, writer)
 }
 
-// The text of a journal's tally; where the journal doesn't pass the audit, the error is the audit's.
+// Returns the text of a journal's tally. If the journal doesn't pass the audit, returns the audit's error.
 fn text_of(alloc: Global, lab: &Lab, journal: &[u8]) -> Result<Vec<u8>, ProgramFault>
     ensures { IfOk result (λ text. IsTally lab.now journal.now text.items) }
 {
@@ -62,7 +62,7 @@ fn text_of(alloc: Global, lab: &Lab, journal: &[u8]) -> Result<Vec<u8>, ProgramF
     }
 }
 
-// Writes a text in one go; where that fails the error is a write fault, or want of memory.
+// Writes a text in one go. Returns a write fault if that fails, or `Memory` if memory runs out.
 pub(crate) fn write_text<W: Write>(text: &[u8], writer: &mut W) -> Result<(), ProgramFault>
     ensures { OnOk result (Appends (W.contents writer.old) (W.contents writer.new) text.now) }
 {

@@ -1,4 +1,4 @@
-//! Whether the record of a class is one beside its journal.
+//! The check of a class's record beside its journal.
 ghost use Rattle.std.specs.Prelude.{◌≡◌, ◌≤◌, ◌++◌, ◌&&◌, ◌||◌, ℕ, true, OnOk, IfOk, vec_len};
 ghost use Rattle.std.specs.FinSet as set;
 ghost use Rattle.std.specs.Io.KnownBytes.{Appends};
@@ -30,11 +30,11 @@ use std::{fs, io};
 /// The most bytes of a seat's record.
 pub const MAX_RECORD: u32 = 1_073_741_824;
 
-// The most bytes of the file that tells where the record begins.
+// The most bytes of the file with the number of events before the record.
 const MAX_BEGUN: u32 = 20;
 
-/// Verifies the record of a class, after its journal was audited, and prints what it comes to. The error is why lab,
-/// journal or record doesn't pass, or can't be read, or that a write failed, or want of memory.
+/// Verifies the record of a class, after its journal was audited, and prints its summary. Returns an error if lab,
+/// journal or record doesn't pass or can't be read, a write fails, or memory runs out.
 pub fn verify<R: Files<File = File> + Print + AllocGlobal>(
     rt: &R,
     task: VerifyTask<'_>,
@@ -52,8 +52,8 @@ pub fn verify<R: Files<File = File> + Print + AllocGlobal>(
     }
 }
 
-// The events of a journal's file, which passes the audit over the lab; the error is why it doesn't, or can't be read.
-// Its text isn't kept.
+// Returns the events of a journal's file, which passes the audit over the lab. Returns an error if it doesn't pass or
+// can't be read. Its text isn't kept.
 fn read_events<R: Files<File = File> + AllocGlobal>(
     rt: &R,
     lab: &Lab,
@@ -66,8 +66,9 @@ fn read_events<R: Files<File = File> + AllocGlobal>(
     Ok(audited.events)
 }
 
-// Adds to `all` what the records of all seats in the folder come to; the journal had `begun` events before they began.
-// The error is why one is none, or can't be read, or what is amiss with the places that they grant, or want of memory.
+// Adds the summaries of the records of all seats in the folder to `all`. The journal had `begun` events before they
+// began. Returns an error if one is no record or can't be read, the places that they grant are wrong, or memory runs
+// out.
 fn verify_seats<R: Files<File = File> + AllocGlobal>(
     rt: &R,
     lab: &Lab,
@@ -86,7 +87,7 @@ fn verify_seats<R: Files<File = File> + AllocGlobal>(
     granted_once(rt.alloc(), all.whole, granted.as_slice(), begun, count)
 }
 
-// What is found where there are no records: nothing ended, nothing answered, nothing left out.
+// Returns the findings if there are no records: nothing ended, nothing answered, nothing left out.
 pub(crate) fn no_findings() -> Findings
     ensures { result ≡ no_findings }
 {
@@ -100,8 +101,8 @@ pub(crate) fn no_findings() -> Findings
     }
 }
 
-// The error is what is amiss with the places that all records grant, behind the first `begun` and up to `count`, which
-// are each of them if the records are `whole`; or want of memory.
+// Returns an error if the places that all records grant are wrong: they must be after the first `begun` and up to
+// `count`, each of these if the records are `whole`. Returns `Memory` if memory runs out.
 pub(crate) fn granted_once(
     alloc: Global,
     whole: bool,
@@ -115,8 +116,8 @@ pub(crate) fn granted_once(
     }
 }
 
-// How many events the journal had before the record began, by the file in the record's folder that says it; the
-// record's read fault where that can't be read or spells no number.
+// Returns how many events the journal had before the record began, by the file in the record's folder. Returns the
+// record's read fault if that can't be read or spells no number.
 pub(crate) fn read_begun<R: Files<File = File> + AllocGlobal>(
     rt: &R,
     folder: &str,
@@ -129,12 +130,13 @@ pub(crate) fn read_begun<R: Files<File = File> + AllocGlobal>(
     }
 }
 
-// The path of the file in a record's folder that says how many events the journal had before the record began.
+// Returns the path of the file in a record's folder with the number of events that the journal had before the record
+// began.
 fn begun_path(alloc: Global, folder: &str) -> Result<String, ProgramFault> {
     Ok(format!(in alloc; "{folder}/begun")?)
 }
 
-// The text without its newline, if it has one.
+// Returns the text without its newline, if it has one.
 fn digits_in(text: &[u8]) -> &[u8] {
     let count = text.len();
     if count > 0 && text[count - 1] == 10 {
@@ -144,7 +146,7 @@ fn digits_in(text: &[u8]) -> &[u8] {
     }
 }
 
-// The number that 1 to 19 decimal digits spell; none for other bytes.
+// Returns the number that 1 to 19 decimal digits spell, or `None` for other bytes.
 fn decimal_in(digits: &[u8]) -> Option<u64> {
     if digits.is_empty() || digits.len() > 19 {
         return None;
@@ -161,7 +163,7 @@ fn decimal_in(digits: &[u8]) -> Option<u64> {
     Some(number)
 }
 
-// What two parts of a record come to together: the sum of their sessions and of their lines, whether both are whole, and
+// Returns the sum of the summaries of two parts of a record: their sessions, their lines, whether both are whole, and
 // for whom recording paused in either.
 pub(crate) fn together(a: &Findings, b: &Findings) -> Findings
     ensures whole { result.whole ≡ (a.now.whole && b.now.whole) }
@@ -178,7 +180,7 @@ pub(crate) fn together(a: &Findings, b: &Findings) -> Findings
     }
 }
 
-// The ranks that are in either set.
+// Returns the ranks that are in either set.
 fn union(a: NodeSet, b: NodeSet) -> NodeSet
     ensures { (q : ℕ) → set.contains result q ≡ (set.contains a q || set.contains b q) }
 {
@@ -190,8 +192,8 @@ fn union(a: NodeSet, b: NodeSet) -> NodeSet
     all
 }
 
-// The bytes of the file of a seat's record; the record's read fault where that can't be opened or read, or is too
-// large.
+// Returns the bytes of the file of a seat's record. Returns the record's read fault if that can't be opened or read, or
+// is too large.
 pub(crate) fn read_seat<R: Files<File = File> + AllocGlobal>(
     rt: &R,
     folder: &str,
@@ -201,9 +203,9 @@ pub(crate) fn read_seat<R: Files<File = File> + AllocGlobal>(
     read_up_to(rt, path.as_str(), MAX_RECORD)
 }
 
-// Adds to `all` what the file of a seat's record comes to, read by pieces. The places of the events that it grants go
-// behind `granted`. The error is why it is no record, or that it can't be opened or read or is too large, or want of
-// memory.
+// Adds the summary of the file of a seat's record, read by pieces, to `all`. The places of the events that it grants
+// are appended to `granted`. Returns an error if it is no record, can't be opened or read, or is too large, or memory
+// runs out.
 fn verify_seat<R: Files<File = File> + AllocGlobal>(
     rt: &R,
     lab: &Lab,
@@ -230,13 +232,13 @@ fn verify_seat<R: Files<File = File> + AllocGlobal>(
     }
 }
 
-// The path of the file of a seat's record in a record's folder.
+// Returns the path of the file of a seat's record in a record's folder.
 fn record_path(alloc: Global, folder: &str, seat: u8) -> Result<String, ProgramFault> {
     Ok(format!(in alloc; "{folder}/{seat}.record")?)
 }
 
-// The bytes of a file of the record; the record's read fault where it can't be opened or read, or has more than the
-// limit.
+// Returns the bytes of a file of the record. Returns the record's read fault if it can't be opened or read, or has more
+// than the limit.
 fn read_up_to<R: Files<File = File> + AllocGlobal>(
     rt: &R,
     path: &str,
@@ -252,8 +254,8 @@ fn read_up_to<R: Files<File = File> + AllocGlobal>(
     }
 }
 
-// Opens a plain file of the record; where that fails, or a folder, a pipe or a device is there, it is the record's read
-// fault, or out of memory.
+// Opens a plain file of the record. Returns the record's read fault if that fails, or a folder, a pipe or a device is
+// there, and `Memory` if memory runs out.
 fn open_part<R: Files<File = File> + AllocGlobal>(rt: &R, path: &str) -> Result<File, Fault> {
     match open_plain(rt, path) {
         Ok(Some(file)) => Ok(file),
@@ -265,8 +267,8 @@ fn open_part<R: Files<File = File> + AllocGlobal>(rt: &R, path: &str) -> Result<
     }
 }
 
-// Opens a plain file; none where another file is there. It is looked at first, since the opening of a pipe waits for
-// one who writes to it.
+// Opens a plain file, or returns `None` if another kind of file is there. This is checked first, since opening a pipe
+// waits for a writer.
 fn open_plain<R: Files<File = File>>(rt: &R, path: &str) -> io::Result<Option<File>> {
     if fs::metadata(rt, path)?.is_file() {
         Ok(Some(fs::open(rt, path)?))
@@ -275,8 +277,9 @@ fn open_plain<R: Files<File = File>>(rt: &R, path: &str) -> io::Result<Option<Fi
     }
 }
 
-/// Writes what a record that passed comes to, and how many events its journal has, then the line of those of whom all is
-/// recorded, and then how many events came before the record. Returns an error if the write fails, or memory lacks.
+/// Writes the summary of a record that passed, and how many events its journal has, then the line of those whose lines
+/// are all recorded, and then how many events came before the record. Returns an error if the write fails, or memory
+/// runs out.
 pub fn write_verified<W: Write>(
     alloc: Global,
     lab: &Lab,
@@ -295,7 +298,7 @@ pub fn write_verified<W: Write>(
     }
 }
 
-// Puts how many events came before the record.
+// Appends how many events came before the record.
 fn put_begun(text: &mut Vec<u8>, begun: u64) -> Result<(), Memory>
     ensures { OnOk result (text.new.items ≡ text.old.items ++ begun_line begun) }
 {
@@ -307,7 +310,7 @@ fn put_begun(text: &mut Vec<u8>, begun: u64) -> Result<(), Memory>
     put(text, &pieces)
 }
 
-// Puts the lines of a record that passed.
+// Appends the lines of a record that passed.
 fn put_verified(
     text: &mut Vec<u8>,
     lab: &Lab,
@@ -333,7 +336,7 @@ fn put_verified(
     put_begun(text, begun)
 }
 
-// What stands behind the number of events, by whether a record is whole.
+// Returns the text after the number of events, by whether a record is whole.
 fn end_of(is_whole: bool) -> &'static str
     ensures { result.now ≡ end_of is_whole }
 {

@@ -3,16 +3,16 @@ use clap::{ArgMatches, Command};
 use mml_program::{Fault as ProgramFault, match_words, subcommand_of, with_optional};
 use std::alloc::{AllocError, Global};
 
-/// What the words ask for.
+/// The task that the command line asks for.
 #[derive(Drop)]
 pub enum Task<'a> {
-    /// To answer the script on standard input over the lab of a file.
+    /// Answers the script on standard input over the lab of a file.
     Answer { lab: &'a str },
-    /// To verify the record of a class.
+    /// Verifies the record of a class.
     Verify(VerifyTask<'a>),
-    /// To tell what a journal tells of its run.
+    /// Prints the tally of a journal.
     Tally(TallyTask<'a>),
-    /// To tell what a journal and a record beside it tell of a run.
+    /// Prints the tally of a journal and a record beside it.
     TallyRecorded(VerifyTask<'a>),
 }
 
@@ -31,8 +31,8 @@ pub struct TallyTask<'a> {
     pub journal: &'a str,
 }
 
-/// What the words ask for, of which the first is the program's name; the error is that they ask for nothing that the
-/// program does, or want of memory.
+/// Returns the task that the words ask for, of which the first is the program's name. Returns `CommandLine` if they ask
+/// for none, and `Memory` if memory runs out.
 pub fn read_words<'a>(alloc: Global, words: &'a [String]) -> Result<Task<'a>, ProgramFault> {
     let matches = match_words(command_line(alloc)?, words)?;
     match matches.subcommand() {
@@ -41,7 +41,7 @@ pub fn read_words<'a>(alloc: Global, words: &'a [String]) -> Result<Task<'a>, Pr
     }
 }
 
-// The whole command line of the words that serve nobody, with its three subcommands.
+// Returns the whole command line of the subcommands that serve nobody, of which there are three.
 fn command_line<'a>(alloc: Global) -> Result<Command<'a>, AllocError> {
     subcommand_of(alloc, "mml_host", &[])?
         .subcommand(subcommand_of(alloc, "answer", &["lab"])?)?
@@ -53,8 +53,8 @@ fn command_line<'a>(alloc: Global) -> Result<Command<'a>, AllocError> {
         )?)
 }
 
-// What a subcommand of this name with these values asks for; none where the program has no such name, or a value is
-// missing.
+// Returns the task of a subcommand of this name with these values, or `None` if the program has no such name, or a
+// value is missing.
 fn task_of<'a>(name: &str, values: &ArgMatches<'a>) -> Option<Task<'a>> {
     let lab = values.get_str("lab")?;
     match name {
@@ -69,7 +69,7 @@ fn task_of<'a>(name: &str, values: &ArgMatches<'a>) -> Option<Task<'a>> {
     }
 }
 
-// The task of a tally: of a journal alone, or, where a record is named, with what that tells.
+// Returns the task of a tally: of a journal alone, or, if a record is named, with the record's.
 fn tally_of<'a>(lab: &'a str, journal: &'a str, record: Option<&'a str>) -> Task<'a> {
     match record {
         Some(record) => Task::TallyRecorded(VerifyTask {

@@ -19,7 +19,7 @@ rank-names : (ids : List ℕ) → IsTable ids → (z : ℤ) (j : ℕ) → rank_a
 unfolding rank_at
 rank-names ids table z j at = grind (arith, position-Some, positive, id_of_rank)
 
--- a rank stands in the row of another exactly where a link joins their nodes
+-- a rank stands in the row of another exactly if a link joins their nodes
 near-linked : (ids : List ℕ) → IsTable ids → (links : List (ℤ × ℤ)) (rows : List (FinSet nat_cmp)) → AreRows ids links rows → (z w : ℤ)
     → is_some (rank_at ids z) ≡ true → is_some (rank_at ids w) ≡ true
     → are_near rows (rank_at ids z) (rank_at ids w) ≡ is_linked links z w
@@ -30,7 +30,7 @@ near-linked ids table links rows are z w some_z some_w =
     let at_i = rank-names ids table z i.0 i.1 in
     grind (arith, nat_tests, rank-names, has-neighbours_of, lt-ltb)
 
--- where each end is a node of the file, each has a rank
+-- if each end is a node of the file, each has a rank
 pub all-ranked : (nodes : List NodeSpec) → IsTable (in_order (file_ids nodes)) → (links : List (ℤ × ℤ)) → pass_unless (ends_fault nodes links) ≡ Ok tt
     → position (lacks_rank (in_order (file_ids nodes))) links ≡ None
 unfolding ends_fault rank_at
@@ -54,7 +54,7 @@ pub record AreFresh (ids : List ℕ) (links : List (ℤ × ℤ)) (k : ℕ) (rows
   pub are : AreRows ids (take k links) rows
   pub fresh : first_from (is_link_again links) k (length links - k) ≡ first_below (is_link_again links) (length links)
 
--- the row of one end has the other exactly where the link stood before
+-- the row of one end has the other exactly if the link stood before
 pub again-at : (ids : List ℕ) → IsTable ids → (links : List (ℤ × ℤ)) (k : ℕ) (rows : List (FinSet nat_cmp)) (d : ℤ × ℤ) → k < length links
     → position (lacks_rank ids) links ≡ None → AreRows ids (take k links) rows
     → are_near rows (rank_at ids (get_or links k d).0) (rank_at ids (get_or links k d).1) ≡ is_link_again links k

@@ -15,7 +15,7 @@ pub goes_on : {A : Type 0} (f : Data → Result A LabFault) (vs : List Value) (i
     → with_front front (each f (items_view (drop i vs))) ≡ total → with_front (front ++ x ∷ []) (each f (items_view (drop (i + 1) vs))) ≡ total
 goes_on f vs i d x front total lt h so_far = grind (arith, items_view-drop, append_assoc)
 
--- what follows where an error isn't out of memory
+-- what follows if an error isn't out of memory
 pub weaker : (b : Bool) {P Q : Type 0} → (P → Q) → MatchBool b (Unit {0}) P → MatchBool b (Unit {0}) Q
 weaker b f h = grind arith
 

@@ -1,4 +1,4 @@
--- The errors of a lab file are told in their order.
+-- The errors of a lab file are reported in their order.
 use Rattle.std.proofs.lemmas.Bool.{Decides.nat_tests, cases_lt, lt-ltb, le-ltb, lt-leb, le-leb}
 use Rattle.std.proofs.Common.{◌≡◌, ◌<◌, ◌+◌, ℕ, suc, List, [], ◌∷◌, ◌++◌, Option, Some, None, Result, Ok, Err, option_map, nat_lt, nat_le, sym, ◌∙◌, subst, arith}
 use Rattle.std.specs.List.{slice_get}
@@ -12,7 +12,7 @@ abbrev pub first_of : List (Option LabFault) → Option LabFault
 first_of [] = None
 first_of (t ∷ ts) = first_fault t (first_of ts)
 
--- ---- where each comes in the order
+-- ---- the position of each in the order
 
 abbrev HasOrder : ℕ → Option LabFault → Type 0
 HasOrder n t = (f : LabFault) → t ≡ Some f → order_of f ≡ n
@@ -75,7 +75,7 @@ pub first_error : (raw : RawSpec) → EndsIn (checked raw) (errors_of raw)
 unfolding checked identified enrolled owned linked limited
 first_error raw = grind (arith, more, one, one_above)
 
--- it is told before those that come after it in the order
+-- it is reported before those that come after it in the order
 pub told_in_order : (raw : RawSpec) (f : LabFault) → lab_fault raw ≡ Some f → IsFirstError raw f
 told_in_order raw f h =
     let first = first_in 0 (errors_of raw) f (have_order raw) (sym (first_error raw).first ∙ h) in

@@ -55,7 +55,7 @@ faultless raw none =
       students = ltb-false MAX_STUDENTS (length raw.students) (if_none _ _ (at 12 _ refl));
     }
 
--- a file gives a lab exactly where it has no error, and it is the lab in it
+-- a file gives a lab exactly if it has no error, and it is the lab in it
 pub made : (raw : RawSpec) (lab : LabValue) → lab_from raw ≡ Ok lab → (lab_fault raw ≡ None) × (lab_in raw ≡ lab)
 unfolding lab_from
 made raw lab is = let passed = bind-ok (checked raw) (λ _. Ok (lab_in raw)) lab is in let same : lab_in raw ≡ lab = cc in (ap error_of passed.1, same)

@@ -17,7 +17,7 @@ use Rattle.mml_lab.proofs.{RosterMeaningLemmas.student_of_name, RosterMeaningLem
 use Rattle.mml_lab.proofs.LabInLemmas.{positive, lawful_from, node_at, IsNodeAt, linked-in, registers-in, net, table, roster, index-position, owners-known}
 use Rattle.mml_lab.specs.declared.who.Who.TheVariants as who
 
--- a link is found to join two numbers exactly where it does
+-- a link is found to join two numbers exactly if it does
 pub joins-means : (a b : ℤ) (link : ℤ × ℤ) → (joins a b link ≡ true) ↔ Joins a b link
 joins-means a b link = grind (arith, nat_tests, or_cases, and_parts, Decides-int_eq, and_from)
 
@@ -27,11 +27,11 @@ any_means p P means xs = grind (arith, nat_tests, Any-from_list_any, list_any-fr
 pub linked-means : (raw : RawSpec) (a b : ℤ) → (is_linked raw.links a b ≡ true) ↔ HasLink raw a b
 linked-means raw a b = any_means (joins a b) (Joins a b) (joins-means a b) raw.links
 
--- a node is found in a file exactly where the file has it
+-- a node is found in a file exactly if the file has it
 pub node-means : (raw : RawSpec) (id : ℤ) → (is_node raw.nodes id ≡ true) ↔ HasNode raw id
 node-means raw id = any_means (λ node. int_eq node.id id) (λ node. node.id ≡ id) (λ node. Decides-int_eq node.id id) raw.nodes
 
--- no link lacks an end or is a loop exactly where each joins two nodes that differ
+-- no link lacks an end or is a loop exactly if each joins two nodes that differ
 pub join-means : (raw : RawSpec) → ((position (lacks_end raw.nodes) raw.links ≡ None) × (position is_loop raw.links ≡ None)) ↔ JoinNodes raw
 join-means raw = (λ none. there none.0 none.1, back)
   where
@@ -63,7 +63,7 @@ join-means raw = (λ none. there none.0 none.1, back)
           (λ k lt. apart (get_or raw.links k (pos 0, pos 0)) (join.different k (pos 0, pos 0) lt) (cases_Bool (is_loop (get_or raw.links k (pos 0, pos 0))))),
     )
 
--- an identifier is in the table exactly where it is some node's
+-- an identifier is in the table exactly if it is some node's
 listed : (nodes : List NodeSpec) (n : ℕ) → list_any (λ k. k == n) (in_order (file_ids nodes)) ≡ list_any (λ node. number_of node.id == n) nodes
 listed nodes n =
     sym (list_any-map (λ k. k == n) (λ (node : NodeSpec). number_of node.id) nodes

@@ -1,4 +1,4 @@
--- Which bytes are read as a lab, and what the error of a file tells: never that memory ran out.
+-- Which bytes are read as a lab, and which errors a file has: never that memory ran out.
 use Rattle.std.proofs.Common.{◌≡◌, ◌≢◌, ◌↔◌, ℕ, List, length, Bool, Option, Some, None, Ok, arith}
 use Rattle.std.specs.Prelude.{option_map}
 use Rattle.mml_ids.specs.{Gives.fault_if, Search.first_below, Ids.id_fault, declared.id_table.IdFault.IdFault}
@@ -9,7 +9,7 @@ use Rattle.mml_lab.proofs.{LabErrorsLemmas.told_in_order, LabFaultLemmas.made, L
 use Rattle.mml_ids.specs.declared.id_table.IdFault.TheVariants as id
 use Rattle.mml_lab.specs.declared.lab_fault.LabFault.TheVariants as fault
 
--- bytes are read as a lab exactly where they spell a file without an error, whose lab it is
+-- bytes are read as a lab exactly if they spell a file without an error, whose lab it is
 pub of_file : (bytes : List ℕ) (lab : LabValue) → (lab_of bytes ≡ Ok lab) ↔ ((raw : RawSpec) × IsLabOfFile bytes raw lab)
 unfolding lab_of
 of_file bytes lab = grind (arith, bind-ok, made, bind-from, makes)

@@ -1,4 +1,4 @@
--- A network has as many links as its file, where the file has no error.
+-- A network has as many links as its file, if the file has no error.
 use Rattle.std.proofs.lemmas.{Bool.Decides.nat_tests, Bool.cases_Bool, Bool.cases_order, Bool.eqb-true, Bool.eq-eqb, Bool.lt-ltb, Option.slice_get-get_or}
 use Rattle.std.proofs.Common.{◌≡◌, ◌≢◌, ℕ, ℤ, pos, zero, suc, ◌+◌, ◌<◌, ◌≤◌, ◌==◌, ◌⊎◌, Bool, true, false, ◌||◌, ◌&&◌, List, length, get_or, take, Option, sym, ap, ◌∙◌, subst, arith, inl, inr}
 use Rattle.std.proofs.Common.{add-one}

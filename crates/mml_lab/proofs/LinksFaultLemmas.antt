@@ -59,7 +59,7 @@ all_none a b c e = grind arith
 third : (a b c d : Option ℕ) → a ≡ None → b ≡ None → c ≡ d → three a b c ≡ pass_unless (option_map fault.LinkTwice d)
 third a b c d no_a no_b is = rw (no_a, no_b, is) refl
 
--- the error is a link twice exactly where all links join different nodes and it is the first that stood before
+-- the error is a link twice exactly if all links join different nodes and it is the first that stood before
 pub twice-fault : (raw : RawSpec) (k : ℕ) → (linked raw.nodes raw.links ≡ Err (fault.LinkTwice k)) ↔ (JoinNodes raw × IsFirstLinkAgain raw.links k)
 unfolding linked ends_fault loops_fault again_fault
 twice-fault raw k = (
@@ -67,7 +67,7 @@ twice-fault raw k = (
   λ is. let none = (join-means raw).1 is.0 in third _ _ _ (Some k) none.0 none.1 ((first-means raw.links k).1 is.1),
 )
 
--- links are without an error exactly where they all join different nodes and none stands twice
+-- links are without an error exactly if they all join different nodes and none stands twice
 pub twice-none : (raw : RawSpec) → (linked raw.nodes raw.links ≡ Ok tt) ↔ (JoinNodes raw × ((k : ℕ) → ¬ IsLinkAgain raw.links k))
 unfolding linked ends_fault loops_fault again_fault
 twice-none raw = (

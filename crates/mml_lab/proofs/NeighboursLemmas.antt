@@ -19,7 +19,7 @@ pub inserted : (rows : Rows) (a b : ℕ) (old new : FinSet nat_cmp) → a < leng
     → sets.contains (neighbours_at (set rows a new) i) q ≡ (sets.contains (neighbours_at rows i) q || (eqb a i && eqb b q))
 inserted rows a b old new lt here is i q = grind (arith, cases_eq, get_or_default, get_or-set_same, has_insert, eq-eqb, get_or-set_other, ne_eqb, same_bool, eqb-true)
 
--- an end is a node's identifier exactly where it has the node's rank
+-- an end is a node's identifier exactly if it has the node's rank
 pub end_at : (ids : List ℕ) → IsTable ids → (z : ℤ) (i : ℕ) → i < length ids → int_eq z (pos (slice_index ids i)) ≡ holds (rank_in ids (number_of z)) i
 end_at ids table z i lt = search (rules, same_bool, pos, holds-from, rank_of_id, get_or_default, id_of_rank, holds-true, negsuc)
 

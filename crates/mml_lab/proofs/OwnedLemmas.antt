@@ -47,7 +47,7 @@ pub all_nodes : (students n : ℕ) (owners : List (List ℕ)) (rows : Rows) → 
     → ((s i : ℕ) → sets.contains (row_at rows s) i ≡ (ltb i n && is_owner owners s i)) → AreOwned students owners rows
 all_nodes students n owners rows end count each = grind (arith, cases_lt, lt-ltb, le-ltb, get_or_past)
 
--- the row at an index, or the empty one where it is past the last student
+-- the row at an index, or the empty one if it is past the last student
 pub owned_by : (students s index i : ℕ) (owners : List (List ℕ)) (rows : Rows) → AreOwned students owners rows → All (All (λ o. o < students)) owners
     → ((s ≤ students) × (index ≡ s)) ⊎ ((students ≤ s) × (index ≡ students)) → sets.contains (row_at rows index) i ≡ is_owner owners s i
 owned_by students s index i owners rows are known at = grind (arith, cases_lt, list_any_none, ne_eqb, get_or_past)

@@ -14,7 +14,7 @@ file_ids-read nodes = map-map (λ node. number_of node.id) node_view nodes
 pub node_with-read : (nodes : List RawNode) (id : ℕ) → option_map node_view (find (λ node. number_of node.id == id) nodes) ≡ node_with (map node_view nodes) id
 node_with-read nodes id = find-map (λ node. number_of node.id == id) node_view nodes
 
--- the map of students has a name exactly where some student has it
+-- the map of students has a name exactly if some student has it
 pub some-lookup : (name : List ℕ) (entries : List (String Global × String Global))
     → is_some (lookup (λ k. bytes_eq name (string_bytes k)) entries) ≡ list_any (has_name name) (map entry_account entries)
 some-lookup name [] = refl

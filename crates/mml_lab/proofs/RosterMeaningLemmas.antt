@@ -12,7 +12,7 @@ use Rattle.mml_lab.proofs.StudentNamedLemmas.{student_is}
 use Rattle.mml_lab.specs.declared.who.Who.TheVariants as who
 use Rattle.mml_lab.specs.declared.lab_fault.LabFault.TheVariants as fault
 
--- ---- who greets
+-- ---- the participant of a greeting
 
 has_both : (name key : List ℕ) (a : Account) → has_name_and_key name key a ≡ true → (a.name ≡ name) × (a.key ≡ key)
 has_both name key a both = grind (arith, and_parts, bytes_eq-Decides)
@@ -45,7 +45,7 @@ known_is_found r name key (who.Student s) roster known = by (cases_Bool (has_nam
 pub principal-one : (r : RosterValue) (name key : List ℕ) (w : Who) → IsRoster r → (principal r name key ≡ Some w) ↔ IsKnownAs r w name key
 principal-one r name key w roster = (grind (arith, position-Some, has_both), known_is_found r name key w roster)
 
--- nobody is found by a name and a key exactly where nobody takes part under them
+-- nobody is found by a name and a key exactly if nobody takes part under them
 pub principal-nobody : (r : RosterValue) (name key : List ℕ) → IsRoster r → (principal r name key ≡ None) ↔ ((w : Who) → ¬ IsKnownAs r w name key)
 principal-nobody r name key roster =
     ((λ none w known. absurd (apart w (sym none ∙ known_is_found r name key w roster known))), λ nobody. by (principal r name key) refl nobody)
@@ -59,7 +59,7 @@ principal-nobody r name key roster =
 
 -- ---- owners
 
--- a student is found to own a node exactly where listed among its owners
+-- a student is found to own a node exactly if listed among its owners
 pub owns-student : (r : RosterValue) (s i : ℕ) → (owns r (who.Student s) i ≡ true) ↔ Contains (owners_of r i) s
 owns-student r s i = grind (arith, nat_tests, Any-from_list_any, list_any_at, eq-eqb, eqb-true)
 
@@ -91,11 +91,11 @@ name_of_student r name s found = (student_is r name s found).1
 again_means : (accounts : List Account) (k : ℕ) → k < length accounts → is_name_again accounts k ≡ true → (j : ℕ) × (j < k) × (name_at accounts j ≡ name_at accounts k)
 again_means accounts k within is = grind (arith, nat_tests, Any-from_list_any, length-take-le, get_or_default, get_or-take, bytes_eq-Decides)
 
--- up to n no name stands before, exactly where the first n differ
+-- up to n no name stands before, exactly if the first n differ
 fresh-differ : (accounts : List Account) (n : ℕ) → n ≤ length accounts → ((k : ℕ) → k < n → is_name_again accounts k ≡ false) → AreDistinctBelow accounts n
 fresh-differ accounts n le fresh j k lt within same = true≢false (sym (grind (arith, get_or-take, bytes_eq-Decides, list_any_at, length-take-le)) ∙ fresh k within)
 
--- the error is a name twice exactly where it is the first name that stood before
+-- the error is a name twice exactly if it is the first name that stood before
 pub name_twice-fault : (accounts : List Account) (k : ℕ) → (name_twice accounts ≡ Some (fault.NameTwice k)) ↔ IsFirstAgain accounts k
 name_twice-fault accounts k = (
   λ found.
@@ -111,7 +111,7 @@ name_twice-fault accounts k = (
     below : (o : Option ℕ) → option_map fault.NameTwice o ≡ Some (fault.NameTwice k) → o ≡ Some k
     below o e = grind arith
 
--- no name is found twice exactly where all names differ
+-- no name is found twice exactly if all names differ
 pub name_twice-none : (accounts : List Account) → (name_twice accounts ≡ None) ↔ AreDistinctBelow accounts (length accounts)
 name_twice-none accounts = (
   λ none. fresh-differ accounts (length accounts) (omega arith)

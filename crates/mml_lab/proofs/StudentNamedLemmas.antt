@@ -24,7 +24,7 @@ length_same (e ∷ es) = rw (length_same es)
 pub position_same : (name : List ℕ) (es : List Entry) → position (λ k. bytes_eq name (string_bytes k)) (keys_of es) ≡ position (has_name name) (map entry_account es)
 position_same name es = rw (index_same name es, length_same es)
 
--- the map's search for a name, where the map holds the roster's students
+-- the map's search for a name, if the map holds the roster's students
 pub search_same : (r : RosterValue) (name : List ℕ) (es : List Entry) (o : Option ℕ) → map entry_account es ≡ r.students
     → o ≡ position (λ k. bytes_eq name (string_bytes k)) (keys_of es) → o ≡ student_named r name
 search_same r name es o same found = found ∙ position_same name es ∙ ap (position (has_name name)) same

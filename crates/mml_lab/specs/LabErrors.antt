@@ -11,10 +11,10 @@ use Rattle.mml_lab.specs.Rosters.{name_twice}
 use Rattle.mml_lab.specs.Labs.{both_fault, ids_fault, forms_fault, no_owner_fault, owner_twice_fault, ends_fault, loops_fault, again_fault, pointers_fault}
 use Rattle.mml_lab.specs.Labs.{is_within}
 
--- the index of an error, from 0, in the order in which errors are told of a file that has all keys, each of its kind:
--- both keys for owners, identifiers, names and keys, names that stand twice, owners that are no students, two owners
--- that are one, ends that are no nodes, loops, links that stand twice, pointers, and the numbers of events, of sessions
--- and of students; 13 for any other error
+-- the index of an error, from 0, in the order in which errors of a file that has all keys, each of its kind, are
+-- reported: both keys for owners, identifiers, names and keys, names that stand twice, owners that are no students, two
+-- owners that are one, ends that are no nodes, loops, links that stand twice, pointers, and the numbers of events, of
+-- sessions and of students; 13 for any other error
 abbrev pub order_of : LabFault → ℕ
 order_of (fault.BothOwners i) = 0
 order_of (fault.Id f) = 1

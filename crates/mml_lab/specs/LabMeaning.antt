@@ -1,4 +1,4 @@
--- What the definitions of a lab mean, stated as facts.
+-- The definitions of a lab, stated as facts.
 use Rattle.std.specs.Prelude.{◌≡◌, ◌≢◌, ◌<◌, ◌⊎◌, ℕ, ℤ, pos, List, length, slice_get, slice_index, All, Contains, Ok, Some, None}
 use Rattle.std.specs.List.{Any}
 use Rattle.mml_lab.specs.Shape.{NodeSpec, RawSpec, spelled}

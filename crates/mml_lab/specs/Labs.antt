@@ -19,7 +19,7 @@ use Rattle.mml_lab.specs.declared.lab_fault.Key.TheVariants as key
 use Rattle.mml_lab.specs.Shape.{Account, NodeSpec, RawSpec, spelled}
 use Rattle.mml_lab.specs.Rosters.{RosterValue, IsRoster, is_account, has_name, name_twice, with_owners}
 
--- what a lab file says, with its nodes by their ranks
+-- the contents of a lab file, with its nodes by their ranks
 pub record LabValue : Type 0 where
   -- the identifiers of the nodes in rising order; a node's rank is its index here
   pub ids : List ℕ
@@ -153,7 +153,7 @@ limited events sessions students = do
   need (is_within MAX_SESSIONS sessions) (fault.Limit key.Sessions)
   need (nat_le students MAX_STUDENTS) (fault.Limit key.Student)
 
--- the tests of a file, in the order in which errors are told: each goes over the whole file before the next
+-- the tests of a file, in the order in which errors are reported: each goes over the whole file before the next
 unfoldable pub checked : RawSpec → Result (Unit {0}) LabFault
 checked raw = do
   identified raw.nodes
@@ -180,11 +180,11 @@ node_with nodes id = find (λ node. number_of node.id == id) nodes
 unfoldable pub neighbours_of : List ℕ → List (ℤ × ℤ) → ℕ → FinSet nat_cmp
 neighbours_of ids links id = those_below (length ids) (λ rank. is_linked links (pos id) (pos (slice_index ids rank)))
 
--- the registers that the file gives a node: the rank that it points at, if it points at one
+-- a node's registers by the file: the rank that it points at, if it points at one
 abbrev pub registers_in : List ℕ → NodeSpec → Regs
 registers_in ids node = record { p = option_and_then (λ p. rank_in ids (number_of p)) node.p; m = node.m }
 
--- the index of that name among the students; 0 where none has it, which is an error
+-- the index of that name among the students; 0 if none has it, which is an error
 abbrev pub student_index : List Account → List ℕ → ℕ
 student_index students name = unwrap_or (position (has_name name) students) 0
 
@@ -192,11 +192,11 @@ student_index students name = unwrap_or (position (has_name name) students) 0
 abbrev pub owners_in : List Account → NodeSpec → List ℕ
 owners_in students node = map (student_index students) node.owners
 
--- the registers of the node with that identifier; null and false where there is none
+-- the registers of the node with that identifier; null and false if there is none
 abbrev pub registers_with : List ℕ → List NodeSpec → ℕ → Regs
 registers_with ids nodes id = option_map_or (registers_in ids) (node_with nodes id) no_regs
 
--- the owners of the node with that identifier; none where there is no such node
+-- the owners of the node with that identifier; none if there is no such node
 abbrev pub owners_with : List Account → List NodeSpec → ℕ → List ℕ
 owners_with students nodes id = option_map_or (owners_in students) (node_with nodes id) []
 

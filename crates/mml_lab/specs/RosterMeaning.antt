@@ -1,4 +1,4 @@
--- What the roster's definitions mean, stated as facts.
+-- The roster's definitions, stated as facts.
 use Rattle.std.specs.Prelude.{◌≡◌, ◌≢◌, ℕ, ◌<◌, ◌≤◌, ◌⊎◌, List, length, slice_index, slice_index_or, All}
 use Rattle.std.specs.Int.{IsInRange}
 use Rattle.mml_lab.specs.declared.TheConstants.{MAX_NAME, MAX_KEY}

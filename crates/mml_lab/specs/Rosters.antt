@@ -1,4 +1,4 @@
--- Who takes part in a lab, under which name and key, and who owns each node.
+-- The participants of a lab: under which name and key each takes part, and who owns each node.
 use Rattle.std.specs.Prelude.{◌≡◌, ◌==◌, ℕ, ◌<◌, ◌≤◌, nat_lt, nat_le, Bool, false, ◌&&◌, ◌||◌, IsTrue, List, [], ◌∷◌, length, take, position, slice_index_or}
 use Rattle.std.specs.Prelude.{All, Option, Some, option_map, if◌then◌else◌, bytes_eq}
 use Rattle.std.specs.List.{list_any, list_all}
@@ -54,20 +54,20 @@ is_name_again accounts k = list_any (has_name (slice_index_or accounts k no_acco
 abbrev pub name_twice : List Account → Option LabFault
 name_twice accounts = option_map fault.NameTwice (first_below (is_name_again accounts) (length accounts))
 
--- the account of one who takes part
+-- the account of a participant
 abbrev pub account_of : RosterValue → Who → Account
 account_of r who.Teacher = r.teacher
 account_of r (who.Student s) = slice_index_or r.students s no_account
 
--- the name of one who takes part
+-- the name of a participant
 abbrev pub name_of : RosterValue → Who → List ℕ
 name_of r who = (account_of r who).name
 
--- the key of one who takes part
+-- the key of a participant
 abbrev pub key_of : RosterValue → Who → List ℕ
 key_of r who = (account_of r who).key
 
--- the one who takes part under that name and key, if there is one
+-- the participant under that name and key, if there is one
 abbrev pub principal : RosterValue → List ℕ → List ℕ → Option Who
 principal r name key =
     if has_name_and_key name key r.teacher then Some who.Teacher else option_map who.Student (position (has_name_and_key name key) r.students)
@@ -85,7 +85,7 @@ abbrev pub owns : RosterValue → Who → ℕ → Bool
 owns r who.Teacher i = false
 owns r (who.Student s) i = list_any (λ o. o == s) (owners_of r i)
 
--- one who takes part
+-- a participant
 abbrev pub IsPrincipal : RosterValue → Who → Type 0
 IsPrincipal r who.Teacher = Unit {0}
 IsPrincipal r (who.Student s) = s < length r.students

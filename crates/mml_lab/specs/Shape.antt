@@ -1,4 +1,4 @@
--- What a TOML table spells as a lab, or the first key that is missing or of the wrong kind.
+-- The contents of a TOML table as a lab, or the first key that is missing or of the wrong kind.
 use Rattle.std.specs.Prelude.{ℕ, ℤ, Bool, true, false, ◌&&◌, nat_lt, nat_le, codes, List, [], ◌∷◌, length, Option, Some, None, option_map, is_some, Result, Ok}
 use Rattle.std.specs.Prelude.{Err, ok_or}
 use Rattle.std.specs.Prelude.{if◌then◌else◌}
@@ -12,7 +12,7 @@ use Rattle.mml_lab.specs.declared.lab_fault.LabFault.TheVariants as fault
 use Rattle.mml_lab.specs.declared.lab_fault.Key.{Key}
 use Rattle.mml_lab.specs.declared.lab_fault.Key.TheVariants as key
 
--- a growth was refused, of which a definition says nothing
+-- memory ran out, about which a definition says nothing
 abbrev pub is_lab_memory : LabFault → Bool
 is_lab_memory fault.Memory = true
 is_lab_memory _ = false
@@ -38,7 +38,7 @@ optional read (Some value) = read value >>= λ found. Ok (Some found)
 abbrev pub optional_of : {A : Type 0} → Key → (Data → Option A) → Option Data → Result (Option A) LabFault
 optional_of at kind = optional (of_kind at kind)
 
--- false where there is none
+-- false if there is none
 abbrev pub or_false : Option Bool → Bool
 or_false None = false
 or_false (Some b) = b
@@ -48,7 +48,7 @@ abbrev pub each : {A : Type 0} → (Data → Result A LabFault) → Items → Re
 each f no_items = Ok []
 each f (item first rest) = f first >>= λ x. each f rest >>= λ xs. Ok (x ∷ xs)
 
--- the name and the key of one who takes part
+-- the name and the key of a participant
 pub record Account : Type 0 where
   pub name : List ℕ
   pub key : List ℕ
@@ -112,12 +112,12 @@ link_of value = do
   b ← of_kind key.Link as_integer pair.1
   Ok (a, b)
 
--- the links under `links`; none where the key is left out
+-- the links under `links`; none if the key is left out
 abbrev pub links_of : Option Data → Result (List (ℤ × ℤ)) LabFault
 links_of None = Ok []
 links_of (Some value) = of_kind key.Links as_array value >>= λ links. each link_of links
 
--- what a file spells, before its values are compared with one another
+-- the contents of a file, before its values are compared with one another
 pub record RawSpec : Type 0 where
   pub events : ℤ
   pub sessions : ℤ
@@ -144,7 +144,7 @@ nodes_of members = do
   items ← needed key.Node (codes "node") as_array members
   each node_of items
 
--- what the table of a document spells: its keys are read in the order of `Key`
+-- the contents of a document's table: its keys are read in the order of `Key`
 unfoldable pub raw_of : Members → Result RawSpec LabFault
 raw_of members = do
   events ← needed key.Events (codes "events") as_integer members
@@ -159,6 +159,6 @@ raw_of members = do
 unfoldable pub table_in : List ℕ → Option Members
 table_in bytes = if is_utf8 bytes then parse_document bytes else None
 
--- what the bytes of a file spell
+-- the contents of a file's bytes
 unfoldable pub spelled : List ℕ → Result RawSpec LabFault
 spelled bytes = ok_or (table_in bytes) fault.NotToml >>= raw_of

@@ -21,7 +21,7 @@ use mml_ids::{IdTable, Rank};
 use mml_rules::{Network, Regs};
 use std::alloc::Global;
 
-/// The lab of a file that was checked; no error is left but `Memory`.
+/// Returns the lab of a file that was checked. The only error left is `Memory`.
 #[tactic(auto, unfolding(crate::specs::inside::Checks::lab_with))]
 pub(crate) fn build(alloc: Global, checked: Checked) -> Result<Lab, LabFault>
     requires { IsLab (checked_view checked) }
@@ -42,7 +42,8 @@ pub(crate) fn build(alloc: Global, checked: Checked) -> Result<Lab, LabFault>
     Ok(Lab::new(ids, roster, network, events, sessions))
 }
 
-/// What the nodes of a file give, by rank: the registers of each (first) and the owners of each (second).
+/// Returns the parts of a lab by the nodes of a file, both by rank: the registers of each node (first) and the owners
+/// of each (second).
 fn parts(alloc: Global, checked: &Checked) -> Result<(Vec<Regs>, Vec<Vec<Student>>), LabFault>
     requires { length checked.now.students.entries ≤ MAX_STUDENTS }
     ensures registers { IfOk result (λ parts. parts.0.items ≡ map (registers_with
@@ -57,7 +58,7 @@ fn parts(alloc: Global, checked: &Checked) -> Result<(Vec<Regs>, Vec<Vec<Student
     Ok((registers, owners))
 }
 
-/// Each node's registers, by rank.
+/// Returns each node's registers, by rank.
 pub(crate) fn registers(
     alloc: Global,
     ids: &IdTable,
@@ -74,7 +75,7 @@ pub(crate) fn registers(
     Ok(found)
 }
 
-/// The registers of the node with an identifier; null and false where the file has no such node.
+/// Returns the registers of the node with an identifier, or null and false if the file has no such node.
 fn registers_with(ids: &IdTable, nodes: &[RawNode], id: u64) -> Regs
     ensures { result ≡ registers_with ids.now (map node_view nodes.now) id }
 {
@@ -84,15 +85,14 @@ fn registers_with(ids: &IdTable, nodes: &[RawNode], id: u64) -> Regs
     }
 }
 
-/// The file's first node with an identifier; `None` where it has none.
+/// Returns the file's first node with an identifier, or `None` if it has none.
 fn node_with(nodes: &[RawNode], id: u64) -> Option<&RawNode>
     ensures { option_copied result ≡ find (λ node. number_of node.id == id) nodes.now }
 {
     nodes.iter().find(|node| number_of(node.id) == id)
 }
 
-/// The registers that the file gives a node: its pointer is the rank of the node that it names, null where it names
-/// none.
+/// Returns a node's registers by the file: its pointer is the rank of the node that it names, or null if it names none.
 #[tactic(auto, unfolding(crate::specs::inside::Checks::rank_at))]
 fn registers_in(ids: &IdTable, node: &RawNode) -> Regs
     ensures { result ≡ registers_in ids.now (node_view node.now) }
@@ -101,7 +101,7 @@ fn registers_in(ids: &IdTable, node: &RawNode) -> Regs
     Regs { p, m: node.m }
 }
 
-/// Each node's owners, by rank.
+/// Returns each node's owners, by rank.
 pub(crate) fn owners(
     alloc: Global,
     ids: &IdTable,
@@ -120,7 +120,8 @@ pub(crate) fn owners(
     Ok(found)
 }
 
-/// The owners of the node with an identifier; an empty list where the file has no such node.
+/// Returns the owners of the node with an identifier, or an empty list if the file has no such node. Returns `Memory`
+/// if memory runs out.
 fn owners_with(
     alloc: Global,
     students: &IndexMap<String, String>,
@@ -138,8 +139,8 @@ fn owners_with(
     }
 }
 
-/// The students with the names in `names`, in order. A name that no student has, which a checked file rules out, gives
-/// the first student.
+/// Returns the students with the names in `names`, in order. For a name that no student has, which a checked file rules
+/// out, returns the first student.
 fn owners_in(
     alloc: Global,
     students: &IndexMap<String, String>,
@@ -157,7 +158,7 @@ fn owners_in(
     Ok(found)
 }
 
-/// The student with a name; the first one where none has it, which a checked file rules out.
+/// Returns the student with a name, or the first student if none has it, which a checked file rules out.
 fn student_named(students: &IndexMap<String, String>, name: &str) -> Student
     requires { length students.now.entries ≤ MAX_STUDENTS }
     ensures { result ≡ student_index (map entry_account students.now.entries) name.now }

@@ -1,4 +1,4 @@
-//! The errors between what a file spells and a lab.
+//! The checks between what a file spells and a lab.
 ghost use Rattle.std.specs.Prelude.{◌≡◌, ◌≤◌, ◌&&◌, ◌∷◌, not, position, map, length, string_bytes, IfOk};
 ghost use Rattle.std.specs.List.{list_any};
 ghost use Rattle.std.specs.Ordering.{int_eq};
@@ -23,15 +23,15 @@ use indexmap::IndexMap;
 use mml_ids::{IdFault, IdTable, NodeSet};
 use std::alloc::{AllocError, Global};
 
-/// The number itself, and 0 for a negative one: 0 is outside the range of an identifier, of the number of events and of
-/// that of sessions.
+/// Returns the number itself, or 0 for a negative one: 0 is outside the range of an identifier, of the number of events
+/// and of that of sessions.
 pub(crate) fn number_of(number: i64) -> u64
     ensures { result ≡ number_of number }
 {
     u64::try_from(number).unwrap_or(0)
 }
 
-/// What is known of a file without an error: its nodes and their identifiers, who takes part, for each node by rank its
+/// The contents of a file without an error: its nodes and their identifiers, who takes part, for each node by rank its
 /// neighbours, and the limits of a run.
 #[derive(Drop)]
 pub struct Checked {
@@ -44,7 +44,7 @@ pub struct Checked {
     pub sessions: u8,
 }
 
-/// The first error of what a file spells, in the order of `LabFault`, or else what is known of the file.
+/// Returns the contents of a file, or its first error in the order of `LabFault`.
 pub(crate) fn check(alloc: Global, raw: RawLab) -> Result<Checked, LabFault>
     ensures { Gives is_lab_memory checked_view result (lab_from (raw_view raw)) }
 {
@@ -73,7 +73,7 @@ pub(crate) fn check(alloc: Global, raw: RawLab) -> Result<Checked, LabFault>
     })
 }
 
-/// What a file without an error has beside its teacher and its nodes.
+/// The contents of a file without an error, beside its teacher and its nodes.
 #[derive(Drop)]
 struct Found {
     ids: IdTable,
@@ -83,8 +83,8 @@ struct Found {
     sessions: u8,
 }
 
-/// The first error of a file that is given in parts, or else what was made of them while they were checked. The
-/// teacher and the nodes are lent, and stay with the caller.
+/// Returns the contents of a file in parts, or its first error. The teacher and the nodes are borrowed, and stay with
+/// the caller.
 #[tactic(auto, unfolding(crate::specs::Labs::lab_from, crate::specs::Labs::checked))]
 fn check_parts(
     alloc: Global,
@@ -118,8 +118,8 @@ fn check_parts(
     })
 }
 
-/// The table of the nodes' identifiers; or the error of the first node with both keys of its owners, `owner` and
-/// `owners`, else that of the identifiers.
+/// Returns the table of the nodes' identifiers. Returns the error of the first node with both keys of its owners,
+/// `owner` and `owners`, or else that of the identifiers.
 #[tactic(auto, unfolding(crate::specs::Labs::identified))]
 fn identify(alloc: Global, nodes: &[RawNode]) -> Result<IdTable, LabFault>
     ensures tests { Gives is_lab_memory (λ _. tt {0}) result (identified (map node_view nodes.now)) }
@@ -129,8 +129,8 @@ fn identify(alloc: Global, nodes: &[RawNode]) -> Result<IdTable, LabFault>
     id_table(alloc, nodes)
 }
 
-/// The students' names and keys in the file's order; or the error of the first name or key, the teacher's too, that
-/// isn't of its form, else of the first name that stands twice.
+/// Returns the students' names and keys in the file's order. Returns the error of the first name or key, the teacher's
+/// too, that isn't of its form, or else of the first name that stands twice.
 #[tactic(auto, unfolding(crate::specs::Labs::enrolled))]
 fn enrol(
     alloc: Global,
@@ -146,8 +146,8 @@ fn enrol(
     students_map(alloc, teacher, students)
 }
 
-/// The error of the first node with an owner who is no student, else of the first whose two owners are one student;
-/// `Ok(())` where there is neither.
+/// Returns the error of the first node with an owner who is no student, or else of the first whose two owners are one
+/// student, or `Ok(())` if there is neither.
 #[tactic(auto, unfolding(crate::specs::Labs::owned))]
 fn check_owners(students: &IndexMap<String, String>, nodes: &[RawNode]) -> Result<(), LabFault>
     ensures { Gives is_lab_memory (λ u. u) result
@@ -157,14 +157,14 @@ fn check_owners(students: &IndexMap<String, String>, nodes: &[RawNode]) -> Resul
     pass_unless(owner_twice_fault(nodes))
 }
 
-/// How many students a file has. The contract counts the accounts that the entries of the map stand for.
+/// Returns how many students a file has. The contract counts the accounts that the entries of the map stand for.
 fn student_count(students: &IndexMap<String, String>) -> usize
     ensures { result ≡ length (map entry_account students.now.entries) }
 {
     students.len()
 }
 
-/// `Err` with the error, where there is one, at which `?` ends the caller; else `Ok(())`.
+/// Returns `Ok(())`, or `Err` with the error if there is one. With `?`, the caller returns that error.
 pub(crate) fn pass_unless(fault: Option<LabFault>) -> Result<(), LabFault>
     ensures { Gives is_lab_memory (λ u. u) result (pass_unless fault) }
 {
@@ -174,7 +174,8 @@ pub(crate) fn pass_unless(fault: Option<LabFault>) -> Result<(), LabFault>
     }
 }
 
-/// The error of the first node with both keys of its owners, `owner` and `owners`; `None` where no node has both.
+/// Returns the error of the first node with both keys of its owners, `owner` and `owners`, or `None` if no node has
+/// both.
 #[tactic(auto, unfolding(crate::specs::Labs::both_fault))]
 fn both_fault(nodes: &[RawNode]) -> Option<LabFault>
     ensures { result ≡ both_fault (map node_view nodes.now) }
@@ -182,14 +183,15 @@ fn both_fault(nodes: &[RawNode]) -> Option<LabFault>
     first_with_both(nodes).map(LabFault::BothOwners)
 }
 
-/// The index of the first node with both keys of its owners, `owner` and `owners`; `None` where no node has both.
+/// Returns the index of the first node with both keys of its owners, `owner` and `owners`, or `None` if no node has
+/// both.
 fn first_with_both(nodes: &[RawNode]) -> Option<usize>
     ensures { result ≡ position (λ node. node.both) nodes.now }
 {
     nodes.iter().position(|node| node.both)
 }
 
-/// The table of the nodes' identifiers, or the first error of the identifiers.
+/// Returns the table of the nodes' identifiers, or the first error of the identifiers.
 fn id_table(alloc: Global, nodes: &[RawNode]) -> Result<IdTable, LabFault>
     ensures tests { Gives is_lab_memory (λ _. tt {0}) result
         (pass_unless (ids_fault (map node_view nodes.now))) }
@@ -199,7 +201,8 @@ fn id_table(alloc: Global, nodes: &[RawNode]) -> Result<IdTable, LabFault>
     IdTable::new(alloc, &ids).map_err(fault_of_ids)
 }
 
-/// The error of a lab that an error of identifiers is: out of memory is `LabFault::Memory`, each other one an `Id`.
+/// Returns the error of a lab for an error of identifiers: `LabFault::Memory` for out of memory, and an `Id` for each
+/// other one.
 fn fault_of_ids(fault: IdFault) -> LabFault
     ensures { result ≡ id_fault_as fault }
 {
@@ -209,15 +212,15 @@ fn fault_of_ids(fault: IdFault) -> LabFault
     }
 }
 
-/// The nodes' identifiers, in the file's order; a negative one counts as 0.
+/// Returns the nodes' identifiers, in the file's order. A negative one counts as 0.
 fn file_ids(alloc: Global, nodes: &[RawNode]) -> Result<Vec<u64>, AllocError>
     ensures { IfOk result (λ ids. ids.items ≡ map (λ node. number_of node.id) nodes.now) }
 {
     nodes.iter().map(|node| number_of(node.id)).collect(alloc)
 }
 
-/// The error of the first name or key, the teacher's before the students', that isn't of its form; `None` where each
-/// is.
+/// Returns the error of the first name or key, the teacher's before the students', that isn't of its form, or `None` if
+/// each is.
 #[tactic(auto, unfolding(crate::specs::Labs::forms_fault))]
 fn forms_fault(teacher: &Account, students: &[Account]) -> Option<LabFault>
     ensures { result ≡ forms_fault (account_view teacher.now ∷ map account_view students.now) }
@@ -225,7 +228,7 @@ fn forms_fault(teacher: &Account, students: &[Account]) -> Option<LabFault>
     first_malformed(teacher, students).map(LabFault::Name)
 }
 
-/// The error of the first node with an owner who is no student; `None` where each owner is one.
+/// Returns the error of the first node with an owner who is no student, or `None` if each owner is one.
 #[tactic(auto, unfolding(crate::specs::Labs::no_owner_fault))]
 fn no_owner_fault(students: &IndexMap<String, String>, nodes: &[RawNode]) -> Option<LabFault>
     ensures { result ≡
@@ -234,7 +237,7 @@ fn no_owner_fault(students: &IndexMap<String, String>, nodes: &[RawNode]) -> Opt
     first_without_owner(students, nodes).map(LabFault::NoOwner)
 }
 
-/// The error of the first node whose two owners are one student; `None` where there is no such node.
+/// Returns the error of the first node whose two owners are one student, or `None` if there is no such node.
 #[tactic(auto, unfolding(crate::specs::Labs::owner_twice_fault))]
 fn owner_twice_fault(nodes: &[RawNode]) -> Option<LabFault>
     ensures { result ≡ owner_twice_fault (map node_view nodes.now) }
@@ -242,7 +245,7 @@ fn owner_twice_fault(nodes: &[RawNode]) -> Option<LabFault>
     first_with_owner_twice(nodes).map(LabFault::OwnerTwice)
 }
 
-/// The index of the first node with an owner who is no student; `None` where each owner is one.
+/// Returns the index of the first node with an owner who is no student, or `None` if each owner is one.
 fn first_without_owner(students: &IndexMap<String, String>, nodes: &[RawNode]) -> Option<usize>
     ensures { result ≡ position
         (λ node. lacks_owner (map entry_account students.now.entries) (node_view node)) nodes.now }
@@ -250,14 +253,14 @@ fn first_without_owner(students: &IndexMap<String, String>, nodes: &[RawNode]) -
     nodes.iter().position(|node| lacks_owner(students, node))
 }
 
-/// Whether some owner of a node is no student.
+/// Returns whether some owner of a node is no student.
 fn lacks_owner(students: &IndexMap<String, String>, node: &RawNode) -> bool
     ensures { result ≡ lacks_owner (map entry_account students.now.entries) (node_view node.now) }
 {
     lacks_student(students, &node.owners)
 }
 
-/// Whether some of the names is no student's.
+/// Returns whether some of the names is no student's.
 fn lacks_student(students: &IndexMap<String, String>, names: &[String]) -> bool
     ensures { result ≡ list_any (λ name. not (list_any (has_name (string_bytes name))
         (map entry_account students.now.entries))) names.now }
@@ -265,7 +268,7 @@ fn lacks_student(students: &IndexMap<String, String>, names: &[String]) -> bool
     names.iter().any(|name| !is_students_name(students, name))
 }
 
-/// Whether the name is a student's.
+/// Returns whether the name is a student's.
 fn is_students_name(students: &IndexMap<String, String>, name: &String) -> bool
     ensures { result ≡ list_any (has_name (string_bytes name.now))
         (map entry_account students.now.entries) }
@@ -273,21 +276,21 @@ fn is_students_name(students: &IndexMap<String, String>, name: &String) -> bool
     students.contains_key(name.as_str())
 }
 
-/// The index of the first node whose two owners are one student; `None` where there is no such node.
+/// Returns the index of the first node whose two owners are one student, or `None` if there is no such node.
 fn first_with_owner_twice(nodes: &[RawNode]) -> Option<usize>
     ensures { result ≡ position (λ node. are_one_twice (node_view node).owners) nodes.now }
 {
     nodes.iter().position(|node| are_one_twice(&node.owners))
 }
 
-/// Whether `names` are two, and the same name.
+/// Returns whether `names` are two, and the same name.
 fn are_one_twice(names: &[String]) -> bool
     ensures { result ≡ are_one_twice (map string_bytes names.now) }
 {
     names.len() == 2 && names[0] == names[1]
 }
 
-/// The number, if it is from 1 to `greatest`; else the error that what stands under `key` is out of its range.
+/// Returns the number, if it is from 1 to `greatest`, or the error that the value under `key` is out of its range.
 fn within(greatest: u64, number: i64, key: Key) -> Result<u64, LabFault>
     ensures test { Gives is_lab_memory (λ _. tt {0}) result
         (need (is_within greatest number) (Limit key)) }
@@ -302,8 +305,8 @@ fn within(greatest: u64, number: i64, key: Key) -> Result<u64, LabFault>
     }
 }
 
-/// The numbers of events (first) and sessions (second), if they and that of the students are within their limits; else
-/// the error of the first of the three that isn't.
+/// Returns the numbers of events (first) and sessions (second), if they and that of the students are within their
+/// limits. Otherwise returns the error of the first of the three that isn't.
 #[tactic(auto, unfolding(crate::specs::Labs::limited))]
 fn limits(bounds: RawLimits, students: usize) -> Result<(u64, u8), LabFault>
     ensures tests { Gives is_lab_memory (λ _. tt {0}) result
@@ -320,7 +323,7 @@ fn limits(bounds: RawLimits, students: usize) -> Result<(u64, u8), LabFault>
     }
 }
 
-/// The error of the first node that points at one that it isn't linked to; `None` where there is no such node.
+/// Returns the error of the first node that points at one that it isn't linked to, or `None` if there is no such node.
 #[tactic(auto, unfolding(crate::specs::Labs::pointers_fault))]
 fn pointers_fault(links: &[(i64, i64)], nodes: &[RawNode]) -> Option<LabFault>
     ensures { result ≡ pointers_fault links.now (map node_view nodes.now) }
@@ -328,7 +331,7 @@ fn pointers_fault(links: &[(i64, i64)], nodes: &[RawNode]) -> Option<LabFault>
     first_at_unlinked(links, nodes).map(LabFault::BadPointer)
 }
 
-/// The index of the first node that points at one that it isn't linked to; `None` where there is no such node.
+/// Returns the index of the first node that points at one that it isn't linked to, or `None` if there is no such node.
 fn first_at_unlinked(links: &[(i64, i64)], nodes: &[RawNode]) -> Option<usize>
     ensures { result ≡ position (λ node. points_at_unlinked links.now (node_view node)) nodes.now }
 {
@@ -337,28 +340,28 @@ fn first_at_unlinked(links: &[(i64, i64)], nodes: &[RawNode]) -> Option<usize>
         .position(|node| points_at_unlinked(links, node))
 }
 
-/// Whether the node points, and at one that it isn't linked to.
+/// Returns whether the node points, and at one that it isn't linked to.
 fn points_at_unlinked(links: &[(i64, i64)], node: &RawNode) -> bool
     ensures { result ≡ points_at_unlinked links.now (node_view node.now) }
 {
     node.p.is_some_and(|p| !is_linked(links, node.id, p))
 }
 
-/// Whether some link joins the nodes with the identifiers `a` and `b`, in either order.
+/// Returns whether some link joins the nodes with the identifiers `a` and `b`, in either order.
 fn is_linked(links: &[(i64, i64)], a: i64, b: i64) -> bool
     ensures { result ≡ is_linked links.now a b }
 {
     links.iter().any(|link| joins(a, b, *link))
 }
 
-/// Whether a link has the ends `a` and `b`, in either order.
+/// Returns whether a link has the ends `a` and `b`, in either order.
 fn joins(a: i64, b: i64, link: (i64, i64)) -> bool
     ensures { result ≡ joins a b link }
 {
     has_ends(link, a, b) || has_ends(link, b, a)
 }
 
-/// Whether the first end of a link is `first`, and the second one `second`.
+/// Returns whether the first end of a link is `first`, and the second one `second`.
 fn has_ends(link: (i64, i64), first: i64, second: i64) -> bool
     ensures { result ≡ (int_eq link.0 first && int_eq link.1 second) }
 {

@@ -36,7 +36,8 @@ impl Model for Lab {
 }
 
 impl Lab {
-    /// The lab of its identifiers, roster, first network and limits of events and sessions, which fit one another.
+    /// Returns the lab of its identifiers, roster, first network and limits of events and sessions, which fit one
+    /// another.
     pub(crate) fn new(
         ids: IdTable,
         roster: Roster,
@@ -68,21 +69,21 @@ impl Lab {
         }
     }
 
-    /// The nodes' identifiers, whose order gives the ranks.
+    /// Returns the nodes' identifiers, whose order gives the ranks.
     pub fn ids(&self) -> &IdTable
         ensures { result.now ≡ self.now.ids }
     {
         &self.ids
     }
 
-    /// Who takes part, and who owns which node.
+    /// Returns who takes part, and who owns which node.
     pub fn roster(&self) -> &Roster
         ensures { result.now ≡ self.now.roster }
     {
         &self.roster
     }
 
-    /// Whether two nodes are linked at the beginning.
+    /// Returns whether two nodes are linked at the beginning.
     pub fn linked(&self, a: Rank, b: Rank) -> bool
         requires { a < length self.now.ids }
         ensures { result ≡ set.contains (neighbours_at self.now.network.neighbours a) b }
@@ -90,7 +91,7 @@ impl Lab {
         self.network.neighbours(a).has(b)
     }
 
-    /// A node's registers at the beginning.
+    /// Returns a node's registers at the beginning.
     pub fn regs(&self, node: Rank) -> Regs
         requires { node < length self.now.ids }
         ensures { result ≡ registers_at self.now.network.registers node }
@@ -98,28 +99,28 @@ impl Lab {
         self.network.registers(node)
     }
 
-    /// The links and registers at the beginning.
+    /// Returns the links and registers at the beginning.
     pub fn network(&self) -> &Network
         ensures { result.now ≡ self.now.network }
     {
         &self.network
     }
 
-    /// How many events a run may have at most.
+    /// Returns the most events that a run may have.
     pub fn events(&self) -> u64
         ensures { result ≡ self.now.events }
     {
         self.events
     }
 
-    /// How many connections there may be at once, at most.
+    /// Returns the most connections that there may be at once.
     pub fn sessions(&self) -> u8
         ensures { result ≡ self.now.sessions }
     {
         self.sessions
     }
 
-    /// How many nodes the network has, at least one.
+    /// Returns the number of nodes, which is at least one.
     pub fn node_count(&self) -> u64
         ensures count { result ≡ length self.now.ids }
         ensures lab { IsLab self.now }
@@ -127,14 +128,14 @@ impl Lab {
         self.ids.len()
     }
 
-    /// How many links there are at the beginning.
+    /// Returns the number of links at the beginning.
     pub fn link_count(&self) -> u64
         ensures { result ≡ link_count self.now.network }
     {
         link_count(&self.network)
     }
 
-    /// How many students take part, without the teacher.
+    /// Returns the number of students, without the teacher.
     pub fn student_count(&self) -> u64
         ensures { result ≡ length self.now.roster.students }
     {
@@ -142,7 +143,7 @@ impl Lab {
     }
 }
 
-/// How many links a network has.
+/// Returns how many links a network has.
 #[tactic(auto, unfolding(crate::specs::Labs::link_count))]
 pub fn link_count(network: &Network) -> u64
     ensures { result ≡ link_count network.now }
@@ -154,7 +155,7 @@ pub fn link_count(network: &Network) -> u64
     count
 }
 
-/// How many of the nodes with ranks below that of `node` are linked to it.
+/// Returns how many of the nodes with ranks below that of `node` are linked to it.
 fn neighbours_below(network: &Network, node: Rank) -> u64
     ensures count { result ≡ count_below node ((configuration_of network.now).linked node) }
     ensures few { result ≤ node }

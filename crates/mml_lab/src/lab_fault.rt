@@ -7,9 +7,9 @@ use std::alloc::{AllocError, AllocFailed};
 /// A key of the lab file, in the order in which the keys are read.
 #[derive(Clone, Copy, Debug, PartialEq, Eq)]
 pub enum Key {
-    /// `events`: how many events a run may have at most.
+    /// `events`: the most events that a run may have.
     Events,
-    /// `sessions`: how many connections there may be at once.
+    /// `sessions`: the most connections that there may be at once.
     Sessions,
     /// The table `teacher`.
     Teacher,
@@ -32,15 +32,15 @@ pub enum Key {
     Link,
 }
 
-/// Why bytes are no lab: the first error. Indices of nodes and links count from 0 in the file's order; of
-/// those who take part the teacher has 0, and the students count from 1.
+/// Why bytes are no lab: the first error. Indices of nodes and links count from 0 in the file's order. Of those who
+/// take part the teacher has 0, and the students count from 1.
 #[derive(Clone, Copy, Debug, PartialEq, Eq)]
 pub enum LabFault {
     /// The bytes are no TOML document.
     NotToml,
-    /// The key isn't there.
+    /// The key is missing.
     Missing(Key),
-    /// What stands under the key is of another kind.
+    /// The value under the key is of another kind.
     WrongKind(Key),
     /// A node has both keys, `owner` and `owners`.
     BothOwners(usize),
@@ -48,7 +48,7 @@ pub enum LabFault {
     Id(IdFault),
     /// A name or a key isn't of its form.
     Name(usize),
-    /// A name stood before: the index is that of the later one.
+    /// This name stands before, too: the index is that of the later one.
     NameTwice(usize),
     /// A name among a node's owners is no student's.
     NoOwner(usize),
@@ -58,20 +58,20 @@ pub enum LabFault {
     LinkEnd(usize),
     /// Both ends of a link are one node.
     Loop(usize),
-    /// A link stood before, in this order of its ends or the other.
+    /// This link stands before, too, with its ends in this order or the other.
     LinkTwice(usize),
     /// A node points at one that isn't its neighbour.
     BadPointer(usize),
     /// A number is out of its range: that of the events, of the sessions or of the students.
     Limit(Key),
-    /// A growth was refused.
+    /// Memory ran out.
     Memory,
 }
 
 impl From<AllocError> for LabFault {
     ghost from_gives = { λ _ e. e ≡ Memory };
 
-    /// Lets `?` turn a growth that was refused into `LabFault::Memory`.
+    /// Turns a failed allocation into `LabFault::Memory`, so that `?` returns it.
     fn from(_e: AllocError) -> LabFault {
         LabFault::Memory
     }
@@ -80,7 +80,8 @@ impl From<AllocError> for LabFault {
 impl<T: Drop> From<AllocFailed<T>> for LabFault {
     ghost from_gives = { λ _ e. e ≡ Memory };
 
-    /// Lets `?` turn a growth that was refused into `LabFault::Memory`; the value that was to be kept is dropped.
+    /// Turns a failed allocation into `LabFault::Memory`, so that `?` returns it, and drops the value that was to be
+    /// kept.
     fn from(_e: AllocFailed<T>) -> LabFault {
         LabFault::Memory
     }

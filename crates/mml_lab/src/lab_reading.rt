@@ -10,8 +10,8 @@ use crate::lab_fault::LabFault;
 use crate::raw_lab::read_bytes;
 use std::alloc::Global;
 
-/// The lab that bytes spell, or their first error: that they are no TOML, then the first key that is missing or of
-/// another kind, then the others in the order of `LabFault`. `Memory` tells that a growth was refused.
+/// Returns the lab that bytes spell, or their first error: that they are no TOML, then the first key that is missing or
+/// of another kind, then the others in the order of `LabFault`. Returns `Memory` if memory runs out.
 #[tactic(auto, unfolding(crate::specs::Labs::lab_of))]
 pub fn read_lab(alloc: Global, bytes: &[u8]) -> Result<Lab, LabFault>
     ensures { Gives is_lab_memory (λ lab. lab) result (lab_of bytes.now) }

@@ -1,4 +1,4 @@
-//! Laws of the lab. Each is the clause of a function that does nothing.
+//! Laws of the lab. Each is the contract of a function that does nothing.
 ghost use Rattle.std.specs.Prelude.{◌≡◌, ◌≢◌, ◌↔◌, ℕ, ℤ, pos, ◌<◌, ◌≤◌, List, length, true, false, All, Contains, Some, None, Ok, Err, slice_get, slice_index};
 ghost use Rattle.mml_ids.specs.Ids.{IsTable};
 ghost use Rattle.mml_ids.specs.declared.id_table.IdFault.TheVariants as id;
@@ -12,7 +12,7 @@ ghost use Rattle.mml_lab.specs.LabMeaning.{Joins, HasLink, HasNode, IsNodeOf, Is
 ghost use Rattle.mml_lab.specs.Rosters.{RosterValue, IsRoster, principal, owns, owners_of, name_of, student_named, is_name, is_key, name_twice};
 ghost use Rattle.mml_lab.specs.RosterMeaning.{IsKnownAs, IsName, IsKey, IsFirstAgain, AreDistinctBelow};
 
-/// Who greets with a name and a key is the one who takes part under them, and there is one at most.
+/// The participant of a greeting is the one who takes part under its name and key, and there is at most one.
 pub fn principal_is_the_one_known()
     ensures one { (r : RosterValue) (name key : List ℕ) (w : Who) → IsRoster r →
         (principal r name key ≡ Some w) ↔ IsKnownAs r w name key }
@@ -20,7 +20,7 @@ pub fn principal_is_the_one_known()
         (principal r name key ≡ None) ↔ ((w : Who) → ¬ IsKnownAs r w name key) }
 {}
 
-/// A student owns a node exactly where the student is among its owners, and the teacher owns none.
+/// A student owns a node exactly if the student is among its owners, and the teacher owns none.
 pub fn owns_means_owner()
     ensures student { (r : RosterValue) (s i : ℕ) →
         (owns r (Who.Student s) i ≡ true) ↔ Contains (owners_of r i) s }
@@ -41,7 +41,7 @@ pub fn forms_mean_facts()
     ensures key { (key : List ℕ) → (is_key key ≡ true) ↔ IsKey key }
 {}
 
-/// The error of a name that stands twice comes exactly where there is one, and tells the first.
+/// The error of a name that stands twice comes exactly if there is one, and names the first.
 pub fn name_twice_is_the_first()
     ensures fault { (accounts : List Account) (k : ℕ) →
         (name_twice accounts ≡ Some (fault.NameTwice k)) ↔ IsFirstAgain accounts k }
@@ -60,8 +60,8 @@ pub fn links_join_two_nodes()
         ¬ Joins again.0 again.1 link }
 {}
 
-/// Where each link joins two nodes that differ, the error of a link that stands twice comes exactly where there is one,
-/// and tells the first.
+/// If each link joins two nodes that differ, the error of a link that stands twice comes exactly if there is one, and
+/// names the first.
 pub fn link_twice_is_the_first()
     ensures fault { (raw : RawSpec) (k : ℕ) →
         (linked raw.nodes raw.links ≡ Err (fault.LinkTwice k))
@@ -80,7 +80,7 @@ pub fn identifiers_are_the_nodes()
         Contains (lab_in raw).ids id ↔ HasNode raw (pos id) }
 {}
 
-/// Two nodes are linked exactly where the file has a link with their identifiers as ends.
+/// Two nodes are linked exactly if the file has a link with their identifiers as ends.
 pub fn links_are_those_of_the_file()
     ensures { (raw : RawSpec) (i j : ℕ) → lab_fault raw ≡ None →
         i < length (lab_in raw).ids → j < length (lab_in raw).ids →
@@ -109,7 +109,7 @@ pub fn registers_are_those_of_the_file()
         × ((configuration_of (lab_in raw).network).linked i j ≡ true) }
 {}
 
-/// A student owns a node exactly where the file names the student as one of its owners.
+/// A student owns a node exactly if the file names the student as one of its owners.
 pub fn owners_are_those_of_the_file()
     ensures { (raw : RawSpec) (i s : ℕ) (node : NodeSpec) → lab_fault raw ≡ None →
         IsNodeOf raw (lab_in raw) i node → s < length raw.students →
@@ -143,7 +143,7 @@ pub fn labs_are_lawful()
     ensures { (bytes : List ℕ) (lab : LabValue) → lab_of bytes ≡ Ok lab → IsLab lab }
 {}
 
-/// Bytes are read as a lab exactly where they spell a file without an error, and the lab is that of the file.
+/// Bytes are read as a lab exactly if they spell a file without an error, and the lab is that of the file.
 pub fn labs_are_those_of_files()
     ensures { (bytes : List ℕ) (lab : LabValue) →
         (lab_of bytes ≡ Ok lab) ↔ ((raw : RawSpec) × IsLabOfFile bytes raw lab) }

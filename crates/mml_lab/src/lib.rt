@@ -21,16 +21,16 @@ pub use lab_reading::read_lab;
 pub use roster::Roster;
 pub use who::{Student, Who};
 
-/// How many events a run may have at most.
+/// The most events that a run may have.
 pub const MAX_EVENTS: u64 = 100_000;
 
-/// How many connections there may be at once, at most.
+/// The most connections that there may be at once.
 pub const MAX_SESSIONS: u64 = 16;
 
-/// How many students a lab may have at most.
+/// The most students that a lab may have.
 pub const MAX_STUDENTS: u64 = 256;
 
-/// How many owners a node may have at most.
+/// The most owners that a node may have.
 pub const MAX_OWNERS: u64 = 2;
 
 /// The greatest length of a name, in bytes.

@@ -19,8 +19,8 @@ use crate::raw_lab::RawNode;
 use mml_ids::{IdTable, NodeSet, Rank};
 use std::alloc::Global;
 
-/// For each node by rank the set of its neighbours; or the first error of the links: an end that is no node, then a
-/// loop, then a link that stands twice.
+/// Returns the set of neighbours of each node, by rank. Returns the first error of the links: an end that is no node,
+/// then a loop, then a link that stands twice.
 #[tactic(auto, unfolding(crate::specs::Labs::linked))]
 pub(crate) fn neighbours(
     alloc: Global,
@@ -40,7 +40,7 @@ pub(crate) fn neighbours(
     rows(alloc, ids, links)
 }
 
-/// The error of the first link with an end that is no node; `None` where each end is one.
+/// Returns the error of the first link with an end that is no node, or `None` if each end is one.
 #[tactic(auto, unfolding(crate::specs::Labs::ends_fault))]
 fn ends_fault(nodes: &[RawNode], links: &[(i64, i64)]) -> Option<LabFault>
     ensures { result ≡ ends_fault (map node_view nodes.now) links.now }
@@ -48,14 +48,14 @@ fn ends_fault(nodes: &[RawNode], links: &[(i64, i64)]) -> Option<LabFault>
     first_without_end(nodes, links).map(LabFault::LinkEnd)
 }
 
-/// The index of the first link with an end that is no node; `None` where each end is one.
+/// Returns the index of the first link with an end that is no node, or `None` if each end is one.
 fn first_without_end(nodes: &[RawNode], links: &[(i64, i64)]) -> Option<usize>
     ensures { result ≡ position (lacks_end (map node_view nodes.now)) links.now }
 {
     links.iter().position(|link| lacks_end(nodes, *link))
 }
 
-/// Whether the first end of a link, or the second, is no node.
+/// Returns whether the first end of a link, or the second, is no node.
 fn lacks_end(nodes: &[RawNode], link: (i64, i64)) -> bool
     ensures { result ≡ lacks_end (map node_view nodes.now) link }
 {
@@ -63,22 +63,22 @@ fn lacks_end(nodes: &[RawNode], link: (i64, i64)) -> bool
     !(is_node(nodes, a) && is_node(nodes, b))
 }
 
-/// Whether an identifier is that of one of the file's nodes. The contract speaks of the nodes as definitions have them,
-/// that of `has_id` of the nodes as they were read.
+/// Returns whether an identifier is that of one of the file's nodes. The contract is about the nodes as the definitions
+/// have them, and that of `has_id` about the nodes as they were read.
 fn is_node(nodes: &[RawNode], id: i64) -> bool
     ensures { result ≡ is_node (map node_view nodes.now) id }
 {
     has_id(nodes, id)
 }
 
-/// Whether one of the nodes has the identifier `id`.
+/// Returns whether one of the nodes has the identifier `id`.
 fn has_id(nodes: &[RawNode], id: i64) -> bool
     ensures { result ≡ list_any (λ node. int_eq node.id id) nodes.now }
 {
     nodes.iter().any(|node| node.id == id)
 }
 
-/// The error of the first link whose ends are one node; `None` where there is no such link.
+/// Returns the error of the first link whose ends are one node, or `None` if there is no such link.
 #[tactic(auto, unfolding(crate::specs::Labs::loops_fault))]
 fn loops_fault(links: &[(i64, i64)]) -> Option<LabFault>
     ensures { result ≡ loops_fault links.now }
@@ -86,21 +86,21 @@ fn loops_fault(links: &[(i64, i64)]) -> Option<LabFault>
     first_loop(links).map(LabFault::Loop)
 }
 
-/// The index of the first link whose ends are one node; `None` where there is no such link.
+/// Returns the index of the first link whose ends are one node, or `None` if there is no such link.
 fn first_loop(links: &[(i64, i64)]) -> Option<usize>
     ensures { result ≡ position is_loop links.now }
 {
     links.iter().position(|link| is_loop(*link))
 }
 
-/// Whether both ends of a link are one node.
+/// Returns whether both ends of a link are one node.
 fn is_loop(link: (i64, i64)) -> bool
     ensures { result ≡ is_loop link }
 {
     link.0 == link.1
 }
 
-/// For each node by rank the set of its neighbours; or the error of the first link whose ends, in either order, are
+/// Returns the set of neighbours of each node, by rank, or the error of the first link whose ends, in either order, are
 /// those of a link before it.
 fn rows(alloc: Global, ids: &IdTable, links: &[(i64, i64)]) -> Result<Vec<NodeSet>, LabFault>
     requires { position (lacks_rank ids.now) links.now ≡ None }
@@ -109,7 +109,7 @@ fn rows(alloc: Global, ids: &IdTable, links: &[(i64, i64)]) -> Result<Vec<NodeSe
 {
     let mut rows = vec![in alloc; NodeSet::empty(); ids.len() as usize]?;
     for index in 0..links.len() {
-        // By reference: a value with a rank inside isn't copied by the toolchain where it is used again.
+        // By reference: a value with a rank inside isn't copied by the toolchain if it is used again.
         let a = &rank_at(ids, links[index].0);
         let b = &rank_at(ids, links[index].1);
         if are_near(&rows, *a, *b) {
@@ -120,7 +120,7 @@ fn rows(alloc: Global, ids: &IdTable, links: &[(i64, i64)]) -> Result<Vec<NodeSe
     Ok(rows)
 }
 
-/// Whether `a` and `b` are both nodes, and neighbours in `rows`; `None` is no node.
+/// Returns whether `a` and `b` are both nodes, and neighbours in `rows`. `None` is no node.
 #[tactic(auto, unfolding(crate::specs::inside::Checks::are_near))]
 fn are_near(rows: &[NodeSet], a: Option<Rank>, b: Option<Rank>) -> bool
     requires { ForSome a (λ rank. rank < length rows.now) }
@@ -132,7 +132,7 @@ fn are_near(rows: &[NodeSet], a: Option<Rank>, b: Option<Rank>) -> bool
     }
 }
 
-/// The rank of the node with an identifier; `None` where there is no such node.
+/// Returns the rank of the node with an identifier, or `None` if there is no such node.
 #[tactic(auto, unfolding(crate::specs::inside::Checks::rank_at))]
 pub(crate) fn rank_at(ids: &IdTable, id: i64) -> Option<Rank>
     ensures rank { result ≡ rank_at ids.now id }
@@ -141,7 +141,7 @@ pub(crate) fn rank_at(ids: &IdTable, id: i64) -> Option<Rank>
     ids.rank_of(number_of(id))
 }
 
-/// Makes `a` and `b` neighbours in `rows`; nothing where one of them is `None`, and so no node.
+/// Makes `a` and `b` neighbours in `rows`. Does nothing if one of them is `None`, and so no node.
 fn join(rows: &mut [NodeSet], a: Option<Rank>, b: Option<Rank>)
     requires a { ForSome a (λ rank. rank < length rows.old) }
     requires b { ForSome b (λ rank. rank < length rows.old) }
@@ -157,7 +157,7 @@ fn join(rows: &mut [NodeSet], a: Option<Rank>, b: Option<Rank>)
     }
 }
 
-/// Puts `neighbour` among the neighbours of `node`.
+/// Adds `neighbour` to the neighbours of `node`.
 fn insert(rows: &mut [NodeSet], node: Rank, neighbour: Rank)
     requires { node < length rows.old }
     ensures { (i q : ℕ) → set.contains (neighbours_at rows.new i) q

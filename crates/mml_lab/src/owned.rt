@@ -1,4 +1,4 @@
-//! What each student owns, as rows of bits.
+//! The nodes that each student owns, as rows of bits.
 ghost use Rattle.std.specs.Prelude.{◌≡◌, ℕ, ◌<◌, ◌≤◌, ◌==◌, ◌&&◌, ◌||◌, All, length, map, IfOk, IfErr};
 ghost use Rattle.std.specs.List.{list_any};
 ghost use Rattle.std.specs.FinSet as set;
@@ -12,7 +12,8 @@ use crate::who::Student;
 use mml_ids::{NodeSet, Rank};
 use std::alloc::Global;
 
-/// For each student the set of the nodes that the student owns, and an empty set past the last student.
+/// Returns for each student the set of the nodes that the student owns, and an empty set past the last student. Returns
+/// `Memory` if memory runs out.
 pub(crate) fn owned_by_each(
     alloc: Global,
     students: usize,
@@ -31,7 +32,7 @@ pub(crate) fn owned_by_each(
     Ok(rows)
 }
 
-/// Puts a node into the rows of its owners.
+/// Adds a node to the rows of its owners.
 fn give(rows: &mut [NodeSet], node: Rank, owners: &[Student])
     requires { All (λ s. s < length rows.old) owners.now }
     ensures { (s i : ℕ) → set.contains (row_at rows.new s) i ≡ (set.contains (row_at rows.old s) i

@@ -37,46 +37,46 @@ pub struct RawLimits {
     pub sessions: i64,
 }
 
-/// What the file spells, before its values are compared with one another.
+/// The contents of a file, before its values are compared with one another.
 #[derive(Drop)]
 pub struct RawLab {
     pub bounds: RawLimits,
     pub teacher: Account,
     pub students: Vec<Account>,
     pub nodes: Vec<RawNode>,
-    /// Of each link the identifiers of its two ends.
+    /// For each link the identifiers of its two ends.
     pub links: Vec<(i64, i64)>,
 }
 
-/// What stands under the key `name` of a table; `None` where the table doesn't have it.
+/// Returns the value under the key `name` of a table, or `None` if the table doesn't have it.
 fn find<'a>(table: &'a Table, name: &str) -> Option<&'a Value>
     ensures { option_map (λ v. view v.now) result ≡ get_member name.now (table_view table.now) }
 {
     table.get(name)
 }
 
-/// What stands under the key `name` of a table; else the error that the key, told as `key`, isn't there.
+/// Returns the value under the key `name` of a table, or the error that the key, named as `key`, is missing.
 fn value_at<'a>(table: &'a Table, name: &str, key: Key) -> Result<&'a Value, LabFault>
     ensures { Gives is_lab_memory (λ v. view v.now) result (value_under key name.now (table_view table.now)) }
 {
     find(table, name).ok_or(LabFault::Missing(key))
 }
 
-/// The integer that a value is; else the error that what stands under `key` is of another kind.
+/// Returns the value's integer, or the error that the value under `key` is of another kind.
 fn integer(value: &Value, key: Key) -> Result<i64, LabFault>
     ensures { Gives is_lab_memory (λ z. z) result (of_kind key as_integer (view value.now)) }
 {
     value.as_integer().ok_or(LabFault::WrongKind(key))
 }
 
-/// The truth value that a value is; else the error that what stands under `key` is of another kind.
+/// Returns the value's truth value, or the error that the value under `key` is of another kind.
 fn boolean(value: &Value, key: Key) -> Result<bool, LabFault>
     ensures { Gives is_lab_memory (λ b. b) result (of_kind key as_bool (view value.now)) }
 {
     value.as_bool().ok_or(LabFault::WrongKind(key))
 }
 
-/// The string that a value is; else the error that what stands under `key` is of another kind.
+/// Returns the value's string, or the error that the value under `key` is of another kind.
 fn text(alloc: Global, value: &Value, key: Key) -> Result<String, LabFault>
     ensures { Gives is_lab_memory string_bytes result (of_kind key as_str (view value.now)) }
 {
@@ -84,21 +84,21 @@ fn text(alloc: Global, value: &Value, key: Key) -> Result<String, LabFault>
     Ok(String::from_str(alloc, text)?)
 }
 
-/// The table that a value is; else the error that what stands under `key` is of another kind.
+/// Returns the value's table, or the error that the value under `key` is of another kind.
 fn table_of(value: &Value, key: Key) -> Result<&Table, LabFault>
     ensures { Gives is_lab_memory (λ t. table_view t.now) result (of_kind key as_table (view value.now)) }
 {
     value.as_table().ok_or(LabFault::WrongKind(key))
 }
 
-/// The array that a value is; else the error that what stands under `key` is of another kind.
+/// Returns the value's array, or the error that the value under `key` is of another kind.
 fn array_of(value: &Value, key: Key) -> Result<&Array, LabFault>
     ensures { Gives is_lab_memory (λ t. array_view t.now) result (of_kind key as_array (view value.now)) }
 {
     value.as_array().ok_or(LabFault::WrongKind(key))
 }
 
-/// The integer under the key `name`; else the error that the key, told as `key`, is missing or of another kind.
+/// Returns the integer under the key `name`, or the error that the key, named as `key`, is missing or of another kind.
 fn integer_at(table: &Table, name: &str, key: Key) -> Result<i64, LabFault>
     ensures { Gives is_lab_memory (λ z. z) result
         (needed key name.now as_integer (table_view table.now)) }
@@ -106,7 +106,7 @@ fn integer_at(table: &Table, name: &str, key: Key) -> Result<i64, LabFault>
     integer(value_at(table, name, key)?, key)
 }
 
-/// The string under the key `name`; else the error that the key, told as `key`, is missing or of another kind.
+/// Returns the string under the key `name`, or the error that the key, named as `key`, is missing or of another kind.
 fn text_at(alloc: Global, table: &Table, name: &str, key: Key) -> Result<String, LabFault>
     ensures { Gives is_lab_memory string_bytes result
         (needed key name.now as_str (table_view table.now)) }
@@ -114,7 +114,7 @@ fn text_at(alloc: Global, table: &Table, name: &str, key: Key) -> Result<String,
     text(alloc, value_at(table, name, key)?, key)
 }
 
-/// The table under the key `name`; else the error that the key, told as `key`, is missing or of another kind.
+/// Returns the table under the key `name`, or the error that the key, named as `key`, is missing or of another kind.
 fn table_at<'a>(table: &'a Table, name: &str, key: Key) -> Result<&'a Table, LabFault>
     ensures { Gives is_lab_memory (λ t. table_view t.now) result
         (needed key name.now as_table (table_view table.now)) }
@@ -122,7 +122,7 @@ fn table_at<'a>(table: &'a Table, name: &str, key: Key) -> Result<&'a Table, Lab
     table_of(value_at(table, name, key)?, key)
 }
 
-/// The array under the key `name`; else the error that the key, told as `key`, is missing or of another kind.
+/// Returns the array under the key `name`, or the error that the key, named as `key`, is missing or of another kind.
 fn array_at<'a>(table: &'a Table, name: &str, key: Key) -> Result<&'a Array, LabFault>
     ensures { Gives is_lab_memory (λ t. array_view t.now) result
         (needed key name.now as_array (table_view table.now)) }
@@ -130,7 +130,8 @@ fn array_at<'a>(table: &'a Table, name: &str, key: Key) -> Result<&'a Array, Lab
     array_of(value_at(table, name, key)?, key)
 }
 
-/// The strings under `name` and `key` of a table. An error of the first names `name_key`, one of the second `key_key`.
+/// Returns the strings under `name` and `key` of a table. An error of the first names `name_key`, one of the second
+/// `key_key`.
 #[tactic(auto, unfolding(crate::specs::Shape::account_in))]
 fn account_at(
     alloc: Global,
@@ -146,7 +147,7 @@ fn account_at(
     Ok(Account { name, key })
 }
 
-/// The name and key of an element of `student`, or the first error of the element.
+/// Returns the name and key of an element of `student`, or the first error of the element.
 #[tactic(auto, unfolding(crate::specs::Shape::student_of))]
 fn student(alloc: Global, value: &Value) -> Result<Account, LabFault>
     ensures { Gives is_lab_memory account_view result (student_of (view value.now)) }
@@ -155,7 +156,7 @@ fn student(alloc: Global, value: &Value) -> Result<Account, LabFault>
     account_at(alloc, table, Key::StudentName, Key::StudentKey)
 }
 
-/// The names and keys of the elements of `student`, in order, or the first error of one.
+/// Returns the names and keys of the elements of `student`, in order, or the first error of one.
 fn students(alloc: Global, list: &Array) -> Result<Vec<Account>, LabFault>
     ensures { Gives is_lab_memory (λ v. map account_view v.items) result
         (each student_of (array_view list.now)) }
@@ -167,8 +168,8 @@ fn students(alloc: Global, list: &Array) -> Result<Vec<Account>, LabFault>
     Ok(found)
 }
 
-/// The integer under the key `name`, `None` where the key is left out; else the error that the key, told as `key`,
-/// is of another kind.
+/// Returns the integer under the key `name`, or `None` if the key is left out. Returns the error that the key, named as
+/// `key`, is of another kind.
 fn optional_integer(table: &Table, name: &str, key: Key) -> Result<Option<i64>, LabFault>
     ensures { Gives is_lab_memory (λ z. z) result
         (optional_of key as_integer (get_member name.now (table_view table.now))) }
@@ -179,8 +180,8 @@ fn optional_integer(table: &Table, name: &str, key: Key) -> Result<Option<i64>, 
     }
 }
 
-/// The truth value under the key `name`, `None` where the key is left out; else the error that the key, told as `key`,
-/// is of another kind.
+/// Returns the truth value under the key `name`, or `None` if the key is left out. Returns the error that the key,
+/// named as `key`, is of another kind.
 fn optional_boolean(table: &Table, name: &str, key: Key) -> Result<Option<bool>, LabFault>
     ensures { Gives is_lab_memory (λ z. z) result
         (optional_of key as_bool (get_member name.now (table_view table.now))) }
@@ -191,8 +192,8 @@ fn optional_boolean(table: &Table, name: &str, key: Key) -> Result<Option<bool>,
     }
 }
 
-/// The string under the key `name`, `None` where the key is left out; else the error that the key, told as `key`,
-/// is of another kind.
+/// Returns the string under the key `name`, or `None` if the key is left out. Returns the error that the key, named as
+/// `key`, is of another kind.
 fn optional_text(
     alloc: Global,
     table: &Table,
@@ -208,7 +209,7 @@ fn optional_text(
     }
 }
 
-/// The strings of an array, in order; else the error that an element of what stands under `key` is of another kind.
+/// Returns the strings of an array, in order, or the error that an element of the value under `key` is of another kind.
 fn texts(alloc: Global, list: &Array, key: Key) -> Result<Vec<String>, LabFault>
     ensures { Gives is_lab_memory (λ v. map string_bytes v.items) result
         (each (of_kind key as_str) (array_view list.now)) }
@@ -220,7 +221,7 @@ fn texts(alloc: Global, list: &Array, key: Key) -> Result<Vec<String>, LabFault>
     Ok(found)
 }
 
-/// The names that stand under `owners`: one or two strings, else the error that the key is of another kind.
+/// Returns the names under `owners`, which are one or two strings, or the error that the key is of another kind.
 #[tactic(auto, unfolding(crate::specs::Shape::names_of))]
 fn names(alloc: Global, value: &Value) -> Result<Vec<String>, LabFault>
     ensures { Gives is_lab_memory (λ v. map string_bytes v.items) result (names_of (view value.now)) }
@@ -232,7 +233,7 @@ fn names(alloc: Global, value: &Value) -> Result<Vec<String>, LabFault>
     Ok(names)
 }
 
-/// The names under `owners`, `None` where the key is left out; or the error that it is of another kind.
+/// Returns the names under `owners`, or `None` if the key is left out, or the error that it is of another kind.
 fn optional_names(alloc: Global, table: &Table) -> Result<Option<Vec<String>>, LabFault>
     ensures { Gives is_lab_memory (option_map (λ v. map string_bytes v.items)) result
         (optional names_of (get_member (codes "owners") (table_view table.now))) }
@@ -243,7 +244,8 @@ fn optional_names(alloc: Global, table: &Table) -> Result<Option<Vec<String>>, L
     }
 }
 
-/// The names under `owners`, or else the one under `owner`; where neither is there, the error that `owner` is missing.
+/// Returns the names under `owners`, or else the one under `owner`, or the error that `owner` is missing if neither is
+/// there.
 fn owner_names(
     alloc: Global,
     owner: Option<String>,
@@ -262,7 +264,8 @@ fn owner_names(
     Ok(names)
 }
 
-/// A node as an element of `node` spells it, with m false where the key is left out; or the first error of the element.
+/// Returns a node as an element of `node` spells it, with m false if the key is left out, or the first error of the
+/// element.
 #[tactic(auto, unfolding(crate::specs::Shape::node_of))]
 fn node(alloc: Global, value: &Value) -> Result<RawNode, LabFault>
     ensures { Gives is_lab_memory node_view result (node_of (view value.now)) }
@@ -284,7 +287,7 @@ fn node(alloc: Global, value: &Value) -> Result<RawNode, LabFault>
     })
 }
 
-/// The nodes that the elements of `node` spell, in order, or the first error of one.
+/// Returns the nodes that the elements of `node` spell, in order, or the first error of one.
 fn nodes(alloc: Global, list: &Array) -> Result<Vec<RawNode>, LabFault>
     ensures { Gives is_lab_memory (λ v. map node_view v.items) result
         (each node_of (array_view list.now)) }
@@ -296,7 +299,7 @@ fn nodes(alloc: Global, list: &Array) -> Result<Vec<RawNode>, LabFault>
     Ok(found)
 }
 
-/// The first and the second value of an array of exactly two; else the error that a link is of another kind.
+/// Returns the first and the second value of an array of exactly two, or the error that a link is of another kind.
 fn two_of(list: &Array) -> Result<(&Value, &Value), LabFault>
     ensures { Gives is_lab_memory (λ e. (view e.0.now, view e.1.now)) result
         (ok_or (two_of (array_view list.now)) (LabFault.WrongKind Key.Link)) }
@@ -307,7 +310,8 @@ fn two_of(list: &Array) -> Result<(&Value, &Value), LabFault>
     Ok((&list[0], &list[1]))
 }
 
-/// The identifiers of the first and the second end of a link; or the error that it isn't an array of two integers.
+/// Returns the identifiers of the first and the second end of a link, or the error that it isn't an array of two
+/// integers.
 #[tactic(auto, unfolding(crate::specs::Shape::link_of))]
 fn link_ends(value: &Value) -> Result<(i64, i64), LabFault>
     ensures { Gives is_lab_memory (λ e. e) result (link_of (view value.now)) }
@@ -318,8 +322,8 @@ fn link_ends(value: &Value) -> Result<(i64, i64), LabFault>
     Ok((a, b))
 }
 
-/// Of each link that the elements of `links` spell, in order, the identifiers of its two ends; or the first error of
-/// one.
+/// Returns for each link that the elements of `links` spell, in order, the identifiers of its two ends, or the first
+/// error of one.
 fn links(alloc: Global, list: &Array) -> Result<Vec<(i64, i64)>, LabFault>
     ensures { Gives is_lab_memory (λ v. v.items) result (each link_of (array_view list.now)) }
 {
@@ -330,8 +334,8 @@ fn links(alloc: Global, list: &Array) -> Result<Vec<(i64, i64)>, LabFault>
     Ok(found)
 }
 
-/// The links under `links`, each by the identifiers of its two ends, none where the key is left out; or the first
-/// error.
+/// Returns the links under `links`, each by the identifiers of its two ends, or no links if the key is left out, or the
+/// first error.
 fn links_at(alloc: Global, table: &Table) -> Result<Vec<(i64, i64)>, LabFault>
     ensures { Gives is_lab_memory (λ v. v.items) result
         (links_of (get_member (codes "links") (table_view table.now))) }
@@ -342,8 +346,8 @@ fn links_at(alloc: Global, table: &Table) -> Result<Vec<(i64, i64)>, LabFault>
     }
 }
 
-/// The name and key under `teacher`; or the error of the first key, `teacher` among them, that is missing or of another
-/// kind.
+/// Returns the name and key under `teacher`, or the error of the first key, `teacher` among them, that is missing or of
+/// another kind.
 #[tactic(auto, unfolding(crate::specs::Shape::teacher_of))]
 fn teacher_at(alloc: Global, table: &Table) -> Result<Account, LabFault>
     ensures { Gives is_lab_memory account_view result (teacher_of (table_view table.now)) }
@@ -352,7 +356,7 @@ fn teacher_at(alloc: Global, table: &Table) -> Result<Account, LabFault>
     account_at(alloc, teacher, Key::TeacherName, Key::TeacherKey)
 }
 
-/// What a document's table spells. The first key that is missing or of the wrong kind is the error.
+/// Returns the contents of a document's table, or the error of the first key that is missing or of the wrong kind.
 #[tactic(auto, unfolding(crate::specs::Shape::raw_of, crate::specs::Shape::students_of, crate::specs::Shape::nodes_of))]
 pub fn read_raw(alloc: Global, table: &Table) -> Result<RawLab, LabFault>
     ensures { Gives is_lab_memory raw_view result (raw_of (table_view table.now)) }
@@ -372,8 +376,8 @@ pub fn read_raw(alloc: Global, table: &Table) -> Result<RawLab, LabFault>
     })
 }
 
-/// What the bytes of a lab file spell, or the error that they are no TOML, or of the first key that is missing or of
-/// the wrong kind.
+/// Returns the contents of the bytes of a lab file, or the error that they are no TOML, or of the first key that is
+/// missing or of the wrong kind.
 #[tactic(auto, unfolding(crate::specs::Shape::spelled))]
 pub fn read_bytes(alloc: Global, bytes: &[u8]) -> Result<RawLab, LabFault>
     ensures { Gives is_lab_memory raw_view result (spelled bytes.now) }

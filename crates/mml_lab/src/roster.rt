@@ -23,7 +23,7 @@ use mml_ids::{NodeSet, Rank};
 use std::alloc::Global;
 use std::marker::Model;
 
-/// Who takes part in a lab, under which name and key, and who owns each node.
+/// The participants of a lab: under which name and key each takes part, and who owns each node.
 #[derive(Debug, Drop)]
 pub struct Roster {
     teacher: Account,
@@ -48,7 +48,8 @@ impl Model for Roster {
 }
 
 impl Roster {
-    /// The roster of a teacher, of the students' names and keys in the file's order, and of each node's owners by rank.
+    /// Returns the roster of a teacher, of the students' names and keys in the file's order, and of each node's owners
+    /// by rank.
     pub(crate) fn new(
         alloc: Global,
         teacher: Account,
@@ -71,7 +72,7 @@ impl Roster {
         })
     }
 
-    /// How many students there are.
+    /// Returns the number of students.
     pub fn student_count(&self) -> u64
         ensures count { result ≡ length self.now.students }
         ensures roster { IsRoster self.now }
@@ -79,7 +80,7 @@ impl Roster {
         self.students.len() as u64
     }
 
-    /// The one who takes part under that name and that key; `None` where there is no one.
+    /// Returns the participant under that name and that key, or `None` if there is none.
     pub fn hello(&self, name: &str, key: &str) -> Option<Who>
         ensures value { result ≡ principal self.now name.now key.now }
         ensures member { IfSome result (IsPrincipal self.now) }
@@ -93,8 +94,8 @@ impl Roster {
         index.map(|index| Who::Student(Student::new(index as u16)))
     }
 
-    /// The nodes that `who` owns, none for the teacher or a student past the last. For every student the steps are the
-    /// same, whatever the student owns.
+    /// Returns the nodes that `who` owns, and no nodes for the teacher or a student past the last. For every student
+    /// the steps are the same, whatever the student owns.
     pub fn owned(&self, who: Who) -> NodeSet
         ensures { (i : ℕ) → set.contains result i ≡ owns self.now who i }
     {
@@ -106,14 +107,14 @@ impl Roster {
         }
     }
 
-    /// Whether `who` owns the node; the teacher owns none.
+    /// Returns whether `who` owns the node. The teacher owns none.
     pub fn owns(&self, who: Who, node: Rank) -> bool
         ensures { result ≡ owns self.now who node }
     {
         self.owned(who).has(node)
     }
 
-    /// The name of one who takes part.
+    /// Returns the name of a participant.
     pub fn name_of(&self, who: Who) -> &str
         requires { IsPrincipal self.now who }
         ensures value { result.now ≡ name_of self.now who }
@@ -129,7 +130,7 @@ impl Roster {
         }
     }
 
-    /// The student with the name `name`; `None` where no student has it.
+    /// Returns the student with the name `name`, or `None` if no student has it.
     pub fn student_named(&self, name: &str) -> Option<Student>
         ensures value { result ≡ student_named self.now name.now }
         ensures member { IfSome result (λ s. s < length self.now.students) }
@@ -140,7 +141,7 @@ impl Roster {
     }
 }
 
-/// Whether name and key are the known name and its key. Both are compared, also where the name is another.
+/// Returns whether name and key are the known name and its key. Both are compared, even if the name is another.
 fn are_name_and_key(name: &str, key: &str, known: &str, secret: &str) -> bool
     ensures { result ≡
         has_name_and_key name.now key.now (record { name = known.now; key = secret.now }) }
@@ -150,9 +151,9 @@ fn are_name_and_key(name: &str, key: &str, known: &str, secret: &str) -> bool
     is_named & is_keyed
 }
 
-/// The index of the student with that name and key, from 0 in the file's order; `None` where there is no such student.
-/// Each student's name and key are compared, so that a student's name takes the same steps as an unknown name of its
-/// length.
+/// Returns the index of the student with that name and key, from 0 in the file's order, or `None` if there is no such
+/// student. Each student's name and key are compared, so that a student's name takes the same steps as an unknown name
+/// of its length.
 fn student_with(students: &IndexMap<String, String>, name: &str, key: &str) -> Option<usize>
     ensures value { result ≡
         position (has_name_and_key name.now key.now) (map entry_account students.now.entries) }
@@ -167,7 +168,7 @@ fn student_with(students: &IndexMap<String, String>, name: &str, key: &str) -> O
     found
 }
 
-/// Whether the student at an index has that name and key.
+/// Returns whether the student at an index has that name and key.
 fn is_at(students: &IndexMap<String, String>, index: usize, name: &str, key: &str) -> bool
     requires { index < length students.now.entries }
     ensures { result ≡ has_name_and_key name.now key.now
@@ -179,7 +180,7 @@ fn is_at(students: &IndexMap<String, String>, index: usize, name: &str, key: &st
     }
 }
 
-/// Whether a name is `teacher`, the teacher's, or that of one of `students`, the students read so far.
+/// Returns whether a name is `teacher`, the teacher's, or that of one of `students`, the students read so far.
 fn is_taken(students: &IndexMap<String, String>, teacher: &str, name: &str) -> bool
     ensures { result ≡ (bytes_eq name.now teacher.now
         || is_some (lookup (λ k. bytes_eq name.now (string_bytes k)) students.now.entries)) }
@@ -187,8 +188,8 @@ fn is_taken(students: &IndexMap<String, String>, teacher: &str, name: &str) -> b
     name == teacher || students.contains_key(name)
 }
 
-/// The students' names and keys in the file's order, or the error of the first name that stands twice, the teacher's
-/// being before the students'.
+/// Returns the students' names and keys in the file's order, or the error of the first name that stands twice, the
+/// teacher's being before the students'.
 pub(crate) fn students_map(
     alloc: Global,
     teacher: &Account,
@@ -203,8 +204,8 @@ pub(crate) fn students_map(
     Ok(found)
 }
 
-/// Puts the students' names and keys into an empty map, up to a name that the teacher or an earlier student has: the
-/// error then tells its index, counted from 1.
+/// Adds the students' names and keys to an empty map, up to a name that the teacher or an earlier student has: then
+/// returns an error with its index, counted from 1.
 fn fill(
     found: &mut IndexMap<String, String>,
     teacher: &Account,
@@ -225,7 +226,7 @@ fn fill(
     Ok(())
 }
 
-/// Puts a name that the map doesn't have yet, with its key, at the end of the map.
+/// Adds a name that the map doesn't have yet, with its key, at the end of the map.
 fn append(found: &mut IndexMap<String, String>, name: String, key: String) -> Result<(), LabFault>
     requires { get string_eq found.old name ≡ None }
     ensures entries { OnOk result (found.new.entries ≡ found.old.entries ++ (name, key) ∷ []) }

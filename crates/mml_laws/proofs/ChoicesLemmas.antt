@@ -34,7 +34,7 @@ module _ (w : World) (is : IsWorld w) where
   granted_here : (r : RosterValue) (s i : ℕ) (q : Rule) → is_legal r w (event.Grant s i q) ≡ true → chosen_at (after w (event.Grant s i q)).chosen i ≡ Some q
   granted_here r s i q legal = grind (arith, nat_tests, ltb-true, and_parts, legal-possible, get_or-set_same)
 
-  -- a grant isn't legal where a move is chosen
+  -- a grant isn't legal if a move is chosen
   kept_on : (r : RosterValue) (e : Event) (i : ℕ) (q : Rule) → is_legal r w e ≡ true → leaves i e ≡ true → chosen_at w.chosen i ≡ Some q
       → chosen_at (after w e).chosen i ≡ Some q
   kept_on r e i q legal keep h = grind (arith, nat_tests, cases_eq, get_or-set_other, and_parts, legal-possible, false≢true, eq-eqb)

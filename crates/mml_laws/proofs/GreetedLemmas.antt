@@ -1,4 +1,4 @@
--- Who a connection is known as, in a hall and in a session.
+-- The participant that a connection is known as, in a hall and in a session.
 use Rattle.std.proofs.Common.{◌≡◌, ◌⊎◌, ℕ, List, Option, None, Some, Ok, ap, ◌∙◌, arith}
 use Rattle.std.proofs.lemmas.{List.set-get_or, Bool.Decides.nat_tests}
 use Rattle.mml_lab.specs.{declared.who.Who.Who, Labs.LabValue, Rosters.RosterValue, Rosters.IsRoster, RosterMeaning.IsKnownAs}

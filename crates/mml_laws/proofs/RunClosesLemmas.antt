@@ -1,4 +1,4 @@
--- No student is told more closes than the run has.
+-- No student's marks have more closes than the run has.
 use Rattle.std.proofs.Common.{◌≡◌, ℕ, ◌+◌, ◌<◌, ◌≤◌, Bool, true, false, cond, eqb, List, [], ◌∷◌, length, refl, ap, arith}
 use Rattle.std.specs.{Prelude.count_by, List.filter}
 use Rattle.std.proofs.lemmas.{List.Sums.sum_by-cons, Bool.cases_eq, Bool.eq-eqb, Bool.ne_eqb, Bool.Decides.nat_tests}
@@ -18,7 +18,7 @@ module _ (test : Move → Bool) where
   abbrev counted : ℕ → ℕ → List Event → ℕ
   counted last q es = count_new last (filter test (moves_from q es))
 
-  -- they are at most the closes, and fewer where the next one was counted before
+  -- they are at most the closes, and fewer if the next one was counted before
   record AreFew (last q : ℕ) (es : List Event) : Type 0 where
     most : counted last q es ≤ count_by is_close es
     fewer : last ≡ next_close q es → next_close q es < q + length es → counted last q es + 1 ≤ count_by is_close es
@@ -28,7 +28,7 @@ module _ (test : Move → Bool) where
       → count_by is_close (e ∷ es) ≡ count_by is_close es → AreFew last (q + 1) es → AreFew last q (e ∷ es)
   passed last q e es same next closes rest = grind (arith, nat_tests)
 
-  -- a grant is counted where its close is another than the one before: then it is the next one
+  -- a grant is counted if its close is another than the one before: then it is the next one
   granted : (last q k : ℕ) (es : List Event) → IsNext last (q + 1) es k → AreFew k (q + 1) es
       → (cond (eqb k last) 0 1 + counted k (q + 1) es ≤ count_by is_close es)
       × (last ≡ next_close (q + 1) es → next_close (q + 1) es < q + 1 + length es → cond (eqb k last) 0 1 + counted k (q + 1) es + 1 ≤ count_by is_close es)

@@ -53,7 +53,7 @@ module _ (lab : LabValue) where
       ap (λ (l : List ℕ). l ++ told_of ws) (sessions_places (window begun []) w one served.0)
       ∙ ap (λ (l : List ℕ). named_in one ++ l) (house_places begun others ws served.1)
 
--- what windows were told is what the replies of their sessions name
+-- the places of windows are those that the replies of their sessions name
 pub house_once : (lab : LabValue) (begun : List Event) (most : ℕ) (sessions : List (List (List Reply))) (windows : List WindowValue)
     → AreServed lab begun sessions windows
     → IsEachOnceFrom (length begun) most (told_of windows) → IsEachOnceFrom (length begun) most (named_by sessions)

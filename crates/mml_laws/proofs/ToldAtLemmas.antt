@@ -27,7 +27,7 @@ line_at lab is w (f ∷ before) e later on legal few =
     ap (λ (ls : List (List ℕ)). slice_get ls (length (f ∷ before))) (lines_next lab is w f (before ++ e ∷ later) on both.0 (omega (arith, few)))
     ∙ line_at lab is (after w f) before e later (reached_next lab w f on both.0) both.1 (omega (arith, few, next_place w f))
 
--- ---- a reply that names a place tells a grant
+-- ---- a reply that names a place is that to a grant
 
 pub names_grant : (w : World) (ruled : Ruling) (p : ℕ) → place_in (reply_of (after_ruling w ruled) ruled) ≡ Some p
     → (e : Event) × (done : Done) × (ruled ≡ Granted e done) × (p ≡ w.place + 1)

@@ -1,4 +1,4 @@
--- What asks each request, what a reader finds in a reply, and which replies tell registers.
+-- What asks each request, what a reader finds in a reply, and which replies have registers.
 use Rattle.std.proofs.Common.{◌≡◌, ◌↔◌, ℕ, Bool, false, List, Option, Some, subst, arith}
 use Rattle.std.{specs.List.list_any, proofs.lemmas.Bool.false≢true, proofs.lemmas.Bool.Decides.nat_tests}
 use Rattle.serde_json.specs.{Data.Data, Find.get, Read.read}

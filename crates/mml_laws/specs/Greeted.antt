@@ -6,10 +6,10 @@ use Rattle.mml_codec.specs.declared.reply.Reply.TheVariants as reply
 use Rattle.mml_hall.specs.Turns as hall
 use Rattle.mml_session.specs.Turns as session
 
--- the reply is this one, or memory was refused while the line was read; the state is as it was
+-- the reply is this one, or memory ran out while the line was read; the state is as it was
 abbrev pub IsTold : hall.State → Reply → hall.Outcome → Type 0
 IsTold st r out = (out ≡ hall.replied st r) ⊎ (out ≡ hall.without_memory st)
 
--- the denial, or memory was refused while the line was read; the session stands as it did
+-- the denial, or memory ran out while the line was read; the session is as it was
 abbrev pub IsDenied : Denial → session.Standing → Reply → session.Standing → Type 0
 IsDenied d st r next = ((r ≡ reply.Deny d) × (next ≡ st)) ⊎ session.Unread st r next

@@ -10,7 +10,7 @@ use Rattle.mml_session.specs.declared.session.SessionEnd.TheVariants as end
 use Rattle.mml_session.specs.Turns.{places_in}
 use Rattle.mml_session.specs.Ends.{Ended}
 
--- the replies of a session, by how it ended: where a write failed, only a beginning of their lines went out
+-- the replies of a session, by how it ended: if a write failed, only a beginning of their lines was written
 abbrev pub replies_in : (end : SessionEnd) (lab : LabValue) (old new : WindowValue) (input left wrote wrote' : Option (List ℕ))
     → Ended end lab old new input left wrote wrote' → List Reply
 replies_in end.Bye lab old new input left wrote wrote' e = e.1.talk.replies ++ e.1.last.reply ∷ []

@@ -22,7 +22,7 @@ use Rattle.mml_journal.specs.JournalText.{text_in}
 use Rattle.mml_window.specs.Rulings.{ruling_at}
 
 -- event p of the list is the one that x is granted for the command after the events before it, line p of the list's
--- journal is the event's line, and the reply tells what the event did, its place, and the number of the configuration
+-- journal is the event's line, and the reply has the event's effect, its place, and the number of the configuration
 -- after it
 pub record IsToldAt (lab : LabValue) (l : List Event) (p : ℕ) (x : Who) (command : Command) (r : Reply) : Type 0 where
   pub before : List Event
@@ -35,8 +35,8 @@ pub record IsToldAt (lab : LabValue) (l : List Event) (p : ℕ) (x : Who) (comma
   pub line : slice_get (lines_of (text_in lab l)) (length before) ≡ Some (event_line lab.ids lab.roster p (world_in lab before).number event)
   pub reply : r ≡ reply_of_done (world_in lab (before ++ event ∷ [])).number p done
 
--- where the reply to a line names a place of the list, somebody was known when the line came, and the event at that
--- place is the one that the line asked for
+-- if the reply to a line names a place of the list, somebody was known when the line came, and the event at that place
+-- is the one that the line asked for
 abbrev pub NamesItsEvent : LabValue → List Event → Option Who → List ℕ → Reply → Type 0
 NamesItsEvent lab l known line r =
     (p : ℕ) → place_in r ≡ Some p
@@ -48,7 +48,7 @@ abbrev pub EachNamesItsEvent : (lab : LabValue) (l : List Event) (st : State) (l
 EachNamesItsEvent lab l st lines rs end run =
     AtEach (TurnOf lab) (λ st line r next. NamesItsEvent lab l (known_on st line.connection) line.request r) st lines rs end run
 
--- where a session's reply names a place of the list, the event there is the one that its line asked for
+-- if a session's reply names a place of the list, the event there is the one that its line asked for
 abbrev pub NamesItsEventIn : LabValue → List Event → session.Standing → List ℕ → Reply → Type 0
 NamesItsEventIn lab l st line r = NamesItsEvent lab l st.known line r
 

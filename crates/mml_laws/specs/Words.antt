@@ -20,7 +20,7 @@ use Rattle.mml_codec.specs.Facts.{Fact}
 use Rattle.mml_codec.specs.Fields.{Field, number, word, text, truth, null}
 use Rattle.mml_codec.specs.Requests.{register}
 
--- a denial with its clause, its name and its text: these are what it is told with
+-- a denial with its clause, its name and its text
 abbrev pub IsDenial : Denial × ℕ × List ℕ × List ℕ → Type 0
 IsDenial (d, clause, name, said) = (clause_of d ≡ clause) × (denial_name d ≡ name) × (text_of d ≡ said)
 
@@ -30,14 +30,14 @@ IsDenial (d, clause, name, said) = (clause_of d ≡ clause) × (denial_name d �
 abbrev pub does : List ℕ → List ℕ × Field
 does w = (codes "do", word w)
 
--- what a request for a move of this rule holds beside the node and the number of the configuration
+-- the other keys of a request for a move of this rule, beside the node and the number of the configuration
 abbrev pub move_fields : Asked → List (List ℕ × Field)
 move_fields asked.Update = (codes "rule", word (codes "update")) ∷ []
 move_fields (asked.Marriage partner) = (codes "rule", word (codes "marriage")) ∷ (codes "with", number partner) ∷ []
 move_fields asked.Seduction = (codes "rule", word (codes "seduction")) ∷ []
 move_fields asked.Abandonment = (codes "rule", word (codes "abandonment")) ∷ []
 
--- what a request holds, by which key: each number, word, text, truth value and register
+-- the keys of a request, and their values: each number, word, text, truth value and register
 abbrev pub asked_fields : Request → List (List ℕ × Field)
 asked_fields (requests.Hello name key) = does (codes "hello") ∷ (codes "key", text key) ∷ (codes "name", text name) ∷ []
 asked_fields requests.Bye = does (codes "bye") ∷ []
@@ -75,7 +75,7 @@ abbrev pub rule_field : Option Kind → Field
 rule_field None = null
 rule_field (Some k) = word (kind_word k)
 
--- what the reply to each granted event tells: the word, the number of the configuration and the event's place
+-- the keys of the reply to each granted event: the word, the number of the configuration and the event's place
 abbrev pub granted_fields : List ℕ → ℕ → ℕ → List (List ℕ × Field)
 granted_fields told at place = (codes "ok", word told) ∷ (codes "at", number at) ∷ (codes "place", number place) ∷ []
 
@@ -90,16 +90,16 @@ refused_word refused.Full = codes "full"
 refused_word refused.Journal = codes "journal"
 refused_word refused.Memory = codes "memory"
 
--- the number of the current configuration, which only the denial `stale` tells
+-- the number of the current configuration, which only the denial `stale` has
 abbrev pub late_fields : Denial → List (List ℕ × Field)
 late_fields (denial.Stale at) = (codes "at", number at) ∷ []
 late_fields _ = []
 
--- what a denial is told with
+-- the keys of a denial
 abbrev pub denied_fields : Denial → List (List ℕ × Field)
 denied_fields d = (codes "deny", word (denial_name d)) ∷ (codes "clause", number (clause_of d)) ∷ (codes "text", word (text_of d)) ∷ late_fields d
 
--- what a reader finds in a reply, by which key: each number, word, truth value and register
+-- the keys of a reply, and their values: each number, word, truth value and register
 abbrev pub found_fields : List ℕ → RosterValue → Reply → List (List ℕ × Field)
 found_fields ids roster (reply.Hello who) = (codes "ok", word (codes "hello")) ∷ (codes "who", text (name_of roster who)) ∷ []
 found_fields ids roster reply.Bye = (codes "ok", word (codes "bye")) ∷ []
@@ -121,9 +121,9 @@ found_fields ids roster (reply.Report r) = (codes "ok", word (codes "report")) �
 found_fields ids roster (reply.Deny d) = denied_fields d
 found_fields ids roster (reply.Refuse r) = (codes "refuse", word (refused_word r)) ∷ []
 
--- ---- which replies tell registers
+-- ---- which replies have registers
 
--- what a key of a reply tells is a register, is computed of registers, or is the rule of the chosen move in a look
+-- a key of a reply has a register, something computed of registers, or the rule of the chosen move in a look
 abbrev pub tells_registers : Fact → Bool
 tells_registers (fact.truth b) = true
 tells_registers (fact.pointer p) = true
@@ -135,7 +135,7 @@ tells_registers (fact.privileged ns) = true
 tells_registers (fact.open_links ls) = true
 tells_registers _ = false
 
--- the reply shows a node or tells a report
+-- the reply shows a node or a report
 abbrev pub is_view : Reply → Bool
 is_view (reply.See s) = true
 is_view (reply.Look l) = true

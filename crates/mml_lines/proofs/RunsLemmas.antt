@@ -34,7 +34,7 @@ module _ {A L R : Type 0} (Step : A → L → R → A → Type 0) where
   run_keeps Keeps none trans each =
       by_steps (λ st lines rs end. Keeps st end) none (λ st next end line r lines rs one rest. trans st next end (each st next line r one) rest)
 
-  -- what holds at each step that begins where the first holds and leads to where the second holds
+  -- if P holds at the beginning of a step and Q at its end, each step of the run has both
   pub run_at_each : (P : A → L → R → A → Type 0) (Begins Ends : A → Type 0)
       → ((st next : A) (line : L) (r : R) → Step st line r next → Begins st → Begins next)
       → ((st next : A) (line : L) (r : R) → Step st line r next → Ends next → Ends st)

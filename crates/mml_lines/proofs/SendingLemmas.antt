@@ -1,4 +1,4 @@
--- Lines that go out together, over several steps.
+-- Lines that are written together, over several steps.
 use Rattle.std.proofs.Common.{◌≡◌, ℕ, zero, suc, ◌+◌, ◌-◌, ◌<◌, ◌≤◌, arith, List, [], ◌∷◌, ◌++◌, length, take, drop, map, refl, sym, ◌∙◌, ap, append_assoc}
 use Rattle.std.proofs.lemmas.Bool.Decides.{nat_tests}
 use Rattle.std.proofs.Common.{append-nil, length-append, length-take, length-drop, Option, subst, Result, Ok, Err, OnOk, IfErr, cond}
@@ -14,11 +14,11 @@ use Rattle.mml_lines.specs.declared.write_fault.WriteFault.{WriteFault}
 use Rattle.mml_lines.specs.inside.OutgoingView.{parted, total}
 use Rattle.mml_lines.specs.Sending.{BreaksOff, Sends, part_in}
 
--- where nothing went out, all lines are held
+-- if nothing was written, all lines are held
 pub nothing_sent : (a : Option (List ℕ)) (lines : List (List ℕ)) → Sends a a lines lines
 nothing_sent a lines = ([], refl, Appends-nil a)
 
--- all of them went out
+-- all of them were written
 pub all_sent : (a b : Option (List ℕ)) (lines : List (List ℕ)) (bytes : List ℕ) → concat lines ≡ bytes → Appends a b bytes → Sends a b lines []
 all_sent a b lines bytes e h = (lines, sym (append-nil lines), subst (λ (t : List ℕ). Appends a b t) (sym e) h)
 
@@ -39,7 +39,7 @@ pub sends_more : (a b c : Option (List ℕ)) (lines held more left : List (List 
     → Sends a c (lines ++ more) left
 sends_more a b c lines held more left h k = sends_on a b c (lines ++ more) (held ++ more) left (sends_before a b lines held more h) k
 
--- where none is held, all are out
+-- if none is held, all are written
 pub all_out : (a b : Option (List ℕ)) (lines : List (List ℕ)) → Sends a b lines [] → Appends a b (concat lines)
 all_out a b lines h = subst (λ (t : List (List ℕ)). Appends a b (concat t)) (sym (h.1 ∙ append-nil h.0)) h.2
 
@@ -47,7 +47,7 @@ part_past : (sent rest : List (List ℕ)) (out : ℕ) → part_in (map length (s
 part_past [] rest out = let same : 0 + out ≡ out = omega arith in ap (λ n. part_in (map length rest) n) same
 part_past (x ∷ sent) rest out = grind (arith, nat_tests, length-append, le-ltb, part_past sent rest out)
 
--- what was held breaks off, after what went out before
+-- the held lines break off, after what was written before
 pub breaks_on : (f : WriteFault) (a b c : Option (List ℕ)) (lines held : List (List ℕ)) → Sends a b lines held → BreaksOff f b c held → BreaksOff f a c lines
 breaks_on f a b c lines held h k =
     let bytes : concat lines ≡ concat h.0 ++ concat held = ap concat h.1 ∙ concat-append h.0 held in (
@@ -123,7 +123,7 @@ pub total_longer : (ns : List ℕ) (n : ℕ) → total (ns ++ n ∷ []) ≡ tota
 total_longer [] n = omega arith
 total_longer (m ∷ ns) n = omega (arith, total_longer ns n)
 
--- a line put behind the held bytes in two parts is one held line more
+-- a line put after the held bytes in two parts is one held line more
 pub held_more : (ns ns' bytes bytes' front rest : List ℕ) (lines : List (List ℕ)) → lines ≡ parted ns bytes → total ns ≡ length bytes
     → ns' ≡ ns ++ (length front + length rest) ∷ [] → bytes' ≡ (bytes ++ front) ++ rest → parted ns' bytes' ≡ lines ++ (front ++ rest) ∷ []
 held_more ns ns' bytes bytes' front rest lines e whole size grown =
@@ -144,7 +144,7 @@ held_counted ns bytes lines e = ap length e ∙ parts_counted ns bytes
     parts_counted [] bytes = refl
     parts_counted (n ∷ ns) bytes = ap suc (parts_counted ns (drop n bytes))
 
--- where some of the held bytes went out and not all, the lines are broken off there
+-- if some of the held bytes were written and not all, the lines are broken off there
 pub breaks_held : (written out : ℕ) (a b : Option (List ℕ)) (ns bytes : List ℕ) (lines : List (List ℕ)) → lines ≡ parted ns bytes → total ns ≡ length bytes
     → out < length bytes → written ≡ part_in ns out → Appends a b (take out bytes) → BreaksOff (record { written = written }) a b lines
 breaks_held written out a b ns bytes lines e whole short counted h =
@@ -156,7 +156,7 @@ breaks_held written out a b ns bytes lines e whole short counted h =
       subst (λ (t : List ℕ). Appends a b (take out t)) (sym bytes_are) h,
     )
 
--- a flush keeps what is out
+-- a flush keeps what was written
 pub sends_kept : (a b c : Option (List ℕ)) (lines : List (List ℕ)) → Sends a b lines [] → Keeps b c → Sends a c lines []
 sends_kept a b c lines h kept = (h.0, h.1, Appends-kept a b c (concat h.0) h.2 kept)
 
@@ -168,7 +168,8 @@ put_through (Ok done) a b c lines held held' line h none same ok =
     rw (same, none) (sends_more a b c lines [] (line ∷ []) [] h (all_sent b c (line ∷ []) line (append-nil line) ok))
 put_through (Err fault) a b c lines held held' line h none same ok = tt
 
--- where a write of the last line stops before its end, and all lines before it are out, the lines are broken off there
+-- if a write of the last line stops before its end, and all lines before it were written, the lines are broken off
+-- there
 pub put_short : (r : Result ⊤ WriteFault) (a b c : Option (List ℕ)) (lines : List (List ℕ)) (line : List ℕ) → Sends a b lines []
     → IfErr r (λ fault. fault.written < length line) → IfErr r (λ fault. Appends b c (take fault.written line))
     → IfErr r (λ fault. BreaksOff fault a c (lines ++ line ∷ []))

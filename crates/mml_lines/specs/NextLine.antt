@@ -1,4 +1,4 @@
--- What the answers of `next` say.
+-- What the results of `next` mean.
 use Rattle.std.specs.Prelude.{ℕ, ◌+◌, ◌<◌, ◌≤◌, List, [], length, Option, Some, None}
 use Rattle.std.specs.Io.KnownBytes.{IsAtEnd}
 use Rattle.mml_lines.specs.declared.lines.Step.{Step}
@@ -8,24 +8,24 @@ use Rattle.mml_ids.specs.Lines.{ended}
 use Rattle.mml_lines.specs.LinesOf.{IsWithinLimit, IsTooLong}
 use Rattle.mml_lines.specs.LinesState.{LinesState}
 
--- each answer but a line is the last
+-- each result but a line is final
 abbrev pub ending_of : Step → Option Step
 ending_of Line = None
 ending_of TooLong = Some TooLong
 ending_of End = Some End
 ending_of ReadFault = Some ReadFault
 
--- the bytes that the answer took: of a line those with its newline, of another answer none
+-- the bytes that the result took: of a line those with its newline, of another result none
 abbrev pub bytes_taken : Step → List ℕ → List ℕ
 bytes_taken Line line = ended line
 bytes_taken TooLong line = []
 bytes_taken End line = []
 bytes_taken ReadFault line = []
 
--- what the answer says. Line: it is within the limit. TooLong: more bytes than the limit have no newline. End,
+-- what the result means. Line: it is within the limit. TooLong: more bytes than the limit have no newline. End,
 -- ReadFault: it was not known what comes next, and a read found the end, or failed, or was needed after the last that
--- may be made. Nothing is read once it is known what comes next: fewer than READ_SIZE bytes are unread behind a line,
--- and at most READ_SIZE behind the limit where the bytes are too long
+-- may be made. Nothing is read once it is known what comes next: fewer than READ_SIZE bytes are unread after a line,
+-- and at most READ_SIZE after the limit if the bytes are too long
 abbrev pub Says : Step → LinesState → LinesState → Option (List ℕ) → Type 0
 Says Line old new left = IsWithinLimit new.limit new.line × (length new.unread < READ_SIZE)
 Says TooLong old new left = IsTooLong new.limit new.unread × (length new.unread ≤ new.limit + READ_SIZE)

@@ -1,27 +1,26 @@
--- One step after another: what lines lead to, with the reply to each.
+-- Runs of steps: the states that lines lead to, and the reply to each line.
 use Rattle.std.specs.Prelude.{◌≡◌, List, [], ◌∷◌}
 use Rattle.std.specs.List.{AllByRecursion}
 
--- one step after another, from a state to the end, each from where the one before led
+-- steps in order, from a state to the end, each beginning in the state that the one before led to
 abbrev pub Runs : {A L R : Type 0} → (A → L → R → A → Type 0) → A → List L → List R → A → Type 0
 Runs Step st [] [] end = end ≡ st
 Runs {A} Step st (line ∷ lines) (r ∷ rs) end = (next : A) × Step st line r next × Runs Step next lines rs end
 Runs Step st [] (r ∷ rs) end = ⊥
 Runs Step st (line ∷ lines) [] end = ⊥
 
--- one step after another, of steps that have no reply, from a state to the end
+-- steps without a reply, in order, from a state to the end
 abbrev pub Chain : {A L : Type 0} → (L → A → A → Type 0) → A → List L → A → Type 0
 Chain Step st lines end = Runs (λ st line r next. Step line st next) st lines lines end
 
--- P holds at each step of a run: of the state where the step begins, its line, its reply, and the state where it leads
+-- P holds at each step of a run: of the state before the step, its line, its reply, and the state after it
 abbrev pub AtEach : {A L R : Type 0} (Step P : A → L → R → A → Type 0) (st : A) (lines : List L) (rs : List R) (end : A) → Runs Step st lines rs end → Type 0
 AtEach Step P st [] [] end run = Unit {0}
 AtEach Step P st [] (r ∷ rs) end run = Unit {0}
 AtEach Step P st (line ∷ lines) [] end run = Unit {0}
 AtEach Step P st (line ∷ lines) (r ∷ rs) end run = P st line r run.0 × AtEach Step P run.0 lines rs end run.2
 
--- an exchange in a lab, or what else its steps are taken in: lines that may come, to each a reply that may be given,
--- and the state where they lead
+-- an exchange: lines that may come, a reply to each that may be returned, and the state that they lead to
 pub record Exchange {X A L R : Type 0} (Step : X → A → L → R → A → Type 0) (MayCome : X → L → Type 0) (MayReply : R → Type 0) (lab : X) (st : A) : Type 0 where
   pub lines : List L
   pub replies : List R

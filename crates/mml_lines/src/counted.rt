@@ -1,4 +1,4 @@
-//! Reads that are counted. The lines of a reader come by no other call.
+//! A reader whose reads are counted. Lines are read by no other call.
 ghost use Rattle.std.specs.Prelude.{◌≡◌, [], ◌+◌, ◌<◌, ◌≤◌, ◌⊎◌, take, vec_len, IfErr};
 ghost use Rattle.std.specs.Vec.{vec_capacity};
 ghost use Rattle.std.specs.Io.KnownBytes.{Consumes, IsAtEnd, prepend_known};
@@ -7,14 +7,14 @@ ghost use Rattle.mml_ids.specs.Lines.{IsUnbroken};
 use crate::lines::{MAX_READS, READ_SIZE, Step};
 use std::io::Read;
 
-/// A reader that nobody else reads meanwhile, and how often it was read.
+/// A reader that is borrowed for counting, and how often it was read.
 pub(crate) struct Counted<'a, R> {
     reader: &'a mut R,
     reads: u32,
 }
 
 impl<R> Drop for Counted<'_, R> {
-    // Gives the reader back to its owner, as the last read left it.
+    // Returns the reader to its owner, as the last read left it.
     fn drop(self)
         ensures { self.exit.0.now ≡ self.entry.reader.now }
     {
@@ -26,7 +26,7 @@ impl<R> Drop for Counted<'_, R> {
 }
 
 impl<'a, R: Read> Counted<'a, R> {
-    /// The reader, which was read `reads` times before.
+    /// Returns the counted reader, which was read `reads` times before.
     pub(crate) fn of(reader: &'a mut R, reads: u32) -> Counted<'a, R>
         ensures same_reader { result.reader.ghost_name ≡ reader.entry.ghost_name }
         ensures reader { result.reader.now ≡ reader.old }
@@ -35,15 +35,15 @@ impl<'a, R: Read> Counted<'a, R> {
         Counted { reader, reads }
     }
 
-    /// How often the reader was read, with the reads that were made before `of`.
+    /// Returns how often the reader was read, including the reads made before `of`.
     pub(crate) fn reads(&self) -> u32
         ensures { result ≡ self.now.reads }
     {
         self.reads
     }
 
-    /// Reads once, into `chunk`, counts the read, and puts the bytes behind those in `held`, which are the front of a
-    /// line. The error, with `held` as it was: `End` at the reader's end, `ReadFault` where the read failed.
+    /// Reads once into `chunk`, counts the read, and appends the bytes to `held`, which has the beginning of a line.
+    /// Returns `End` at the reader's end and `ReadFault` if the read fails, and leaves `held` as it was.
     pub(crate) fn read_onto(&mut self, held: &mut Vec<u8>, chunk: &mut Vec<u8>) -> Result<(), Step>
         requires needed { IsUnbroken held.old.items }
         requires few { self.old.reads < MAX_READS }

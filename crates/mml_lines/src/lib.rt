@@ -1,4 +1,4 @@
-//! Lines of a reader, lines that go out together, and whole reads and writes.
+//! Reading lines, buffering lines that are written together, and whole reads and writes.
 #![tactic(auto)]
 
 mod counted;

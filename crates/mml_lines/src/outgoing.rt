@@ -1,4 +1,4 @@
-//! Lines that go out together.
+//! A buffer of lines that are written together.
 
 ghost use Rattle.std.specs.Prelude.{◌≡◌, ◌<◌, ◌≤◌, ◌+◌, ◌++◌, ◌∷◌, [], length, take, IfOk, IfErr, OnOk, if◌then◌else◌};
 ghost use Rattle.std.specs.List.{concat};
@@ -18,12 +18,11 @@ pub const OUTGOING_BYTES: usize = 8192;
 /// The most lines that an `Outgoing` holds.
 pub const OUTGOING_LINES: usize = 512;
 
-/// Lines that aren't written yet, so that one write takes many. It takes memory only when it is made.
-/// Contracts see the lines.
+/// A buffer of lines, so that one write takes many. It allocates only when it is made. Contracts see the lines.
 #[derive(Drop)]
 pub struct Outgoing {
     bytes: Vec<u8>,
-    // How many bytes each line has.
+    // The number of bytes of each line.
     lengths: Vec<usize>,
 }
 
@@ -40,7 +39,7 @@ impl Model for Outgoing {
 }
 
 impl Outgoing {
-    /// An `Outgoing` that holds no line, with all the memory that it needs; the error is that there is none.
+    /// Returns an empty `Outgoing`, with all the memory that it needs. Returns `Memory` if memory runs out.
     pub fn new(alloc: Global) -> Result<Outgoing, Memory>
         ensures { IfOk result (λ lines. lines ≡ []) }
     {
@@ -50,9 +49,9 @@ impl Outgoing {
         })
     }
 
-    /// Puts a line, `front` and then `rest`, after the lines that are held. Where there is no room for it, the held
-    /// lines are written first, and then the line too, if it has more than `OUTGOING_BYTES` bytes. Nothing is flushed.
-    /// The error: a write failed or took nothing.
+    /// Appends a line, `front` and then `rest`, to the buffer. If there is no room for it, writes the held lines first,
+    /// and then the line too if it has more than `OUTGOING_BYTES` bytes. Flushes nothing. Returns `WriteFault` if a
+    /// write fails or takes nothing.
     #[tactic(auto, using(crate::proofs::SendingLemmas::breaks_before))]
     pub fn put<W: Write>(
         &mut self,
@@ -76,7 +75,8 @@ impl Outgoing {
         put_both(front, rest, writer)
     }
 
-    /// Writes all that is held, and flushes the writer. The error: a write failed or took nothing, or the flush failed.
+    /// Writes all held lines, and flushes the writer. Returns `WriteFault` if a write fails or takes nothing, or the
+    /// flush fails.
     pub fn flush<W: Write>(&mut self, writer: &mut W) -> Result<(), WriteFault>
         ensures empty { OnOk result (self.new ≡ []) }
         ensures ok { OnOk result (Sends (W.contents writer.old) (W.contents writer.new) self.old []) }
@@ -90,8 +90,8 @@ impl Outgoing {
         }
     }
 
-    // Writes all that is held, and then holds nothing. The error: a write failed or took nothing; then all stays held,
-    // though some of it may be out. Nothing is flushed.
+    // Writes all held lines and empties the buffer. Flushes nothing. If a write fails or takes nothing, returns the
+    // error and keeps all lines, though some of their bytes may be written.
     fn write_out<W: Write>(&mut self, writer: &mut W) -> Result<(), WriteFault>
         ensures empty { OnOk result (self.new ≡ []) }
         ensures ok { OnOk result (Sends (W.contents writer.old) (W.contents writer.new) self.old []) }
@@ -111,8 +111,7 @@ impl Outgoing {
         }
     }
 
-    /// Puts a line, `front` and then `rest`, after those that are held, if the rest is short and there is room, and
-    /// tells whether it did.
+    /// Appends a line, `front` and then `rest`, if the rest is short and there is room for it. Returns whether it did.
     pub fn append<L: LineRest>(&mut self, front: &[u8], rest: &L) -> bool
         requires { L.may_tell rest.now }
         ensures lines { self.new ≡ (if result
@@ -134,7 +133,7 @@ impl Outgoing {
         false
     }
 
-    // Puts a line, `front` and then `rest`, behind those that are held, if there is room, and tells whether there is.
+    // Appends a line, `front` and then `rest`, if there is room for it. Returns whether it did.
     fn hold(&mut self, front: &[u8], rest: &[u8]) -> bool
         ensures { self.new ≡ (if result then self.old ++ (front.now ++ rest.now) ∷ [] else self.old) }
     {
@@ -153,8 +152,8 @@ impl Outgoing {
     }
 }
 
-// Where the first `out` bytes of lines of the lengths in `lengths` are out: how many of those bytes are of
-// the first line that isn't wholly out.
+// Returns how many of the first `out` bytes are of the first line that isn't wholly written, if the lines have these
+// lengths.
 fn part_of(lengths: &[usize], out: usize) -> usize
     ensures { result ≡ part_in lengths.now out }
 {

@@ -5,19 +5,19 @@ ghost use Rattle.std.specs.Prelude.{◌≡◌, ◌≤◌, ◌<◌, IfOk, IfSome,
 use std::alloc::Global;
 use std::io::{ErrorKind, Read};
 
-/// Why a reader was not read whole.
+/// Why a reader's bytes couldn't be read to the end.
 #[derive(Clone, Copy, Debug, PartialEq, Eq)]
 pub enum WholeFault {
     /// A read failed.
     Read,
-    /// The reader gives more bytes than the limit.
+    /// The reader has more bytes than the limit.
     TooLong,
-    /// Memory ran out: a growth was refused, or a read failed by `OutOfMemory`.
+    /// Memory ran out: an allocation failed, or a read failed with `OutOfMemory`.
     Memory,
 }
 
-/// All that a reader gives, where that is no more than `limit` bytes, else `TooLong`; `Read` where a read fails, and
-/// `Memory` where memory runs out. One byte more than the limit is asked for, which tells whether there is one.
+/// Returns all bytes of a reader, up to `limit`. Asks for one byte more, to see whether there is one. Returns `TooLong`
+/// if there is, `Read` if a read fails, and `Memory` if memory runs out.
 pub fn read_whole<R: Read + Drop>(
     alloc: Global,
     reader: R,

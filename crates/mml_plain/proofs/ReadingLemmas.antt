@@ -21,7 +21,7 @@ beside f rest x = grind arith
 
 -- ---- arrays
 
--- what a turn gives, by what follows the bracket, where it stands
+-- the result of a turn, by what follows the bracket, if it stands there
 abbrev pub items_turn : ℕ → ℕ → List Token → Option (List Token) → Option (Items × List Token)
 items_turn depth n ts (Some rest) = Some (no_items, rest)
 items_turn depth n ts None = option_and_then (λ p. parse_map (item p.0) (items_at depth n p.1)) (value_at depth ts)
@@ -66,7 +66,7 @@ mapped_twice f g o = grind arith
 
 -- ---- objects
 
--- what a turn gives, by the key that comes next
+-- the result of a turn, by the key that comes next
 abbrev pub members_turn : ℕ → Members → ℕ → Option (Option (List ℕ) × List Token) → Option (Members × List Token)
 members_turn depth found n None = None
 members_turn depth found n (Some (None, rest)) = Some (found, rest)

@@ -1,4 +1,4 @@
--- The fields, member by member.
+-- The fields of an object, member by member.
 use Rattle.std.specs.Prelude.{ℕ, List, Bool, codes, bytes_eq, if◌then◌else◌, Option, Some, None}
 use Rattle.std.specs.Borrow.{Bor}
 use Rattle.mml_plain.specs.declared.member_value.MemberValue.{MemberValue}
@@ -29,7 +29,7 @@ truth_in (Number n) = None
 truth_in (Text s) = None
 truth_in Other = None
 
--- what a register is to point at by a value: Some None for null, and None where it is neither null nor such a number
+-- what a register shall point at by a value: Some None for null, and None if it is neither null nor such a number
 abbrev pub register_in : MemberValue → Option (Option ℕ)
 register_in Null = Some None
 register_in (Truth b) = None
@@ -37,11 +37,11 @@ register_in (Number n) = Some (Some n)
 register_in (Text s) = None
 register_in Other = None
 
--- what the key q names once a member of the key k has come: the new if q is k, and else the old
+-- what the key q names after a member with the key k: the new value if q is k, and else the old one
 abbrev pub after : {A : Type 0} → List ℕ → A → List ℕ → A → A
 after k new q old = if bytes_eq k q then new else old
 
--- the fields with one member more, by its key and its value
+-- the fields after one more member, by its key and its value
 abbrev pub with : List ℕ → MemberValue → Fields → Fields
 with k v f = record {
   word = after k (text_in v) (codes "do") f.word;

@@ -7,19 +7,19 @@ use Rattle.serde_json.specs.Data.{Data, Items, Members, no_members}
 use Rattle.serde_json.specs.Find.{as_object}
 use Rattle.serde_json.specs.Read.{of_json, of_items, of_members, converted, read}
 
--- the value that comes next, nested no deeper than the number, and the tokens behind it
+-- the value that comes next, nested no deeper than the number, and the tokens after it
 abbrev pub value_at : ℕ → List Token → Option (Data × List Token)
 value_at depth ts = converted of_json (value depth ts)
 
--- the values up to the bracket that closes an array, in at most n turns, and the tokens behind it
+-- the values up to the bracket that closes an array, in at most n turns, and the tokens after it
 abbrev pub items_at : ℕ → ℕ → List Token → Option (Items × List Token)
 items_at depth n ts = converted of_items (items (value depth) n ts)
 
--- the members up to the brace that closes an object, after those found so far, and the tokens behind it
+-- the members up to the brace that closes an object, after those found so far, and the tokens after it
 abbrev pub members_at : ℕ → Members → ℕ → List Token → Option (Members × List Token)
 members_at depth found n ts = converted (λ ms. of_members ms found) (members (value depth) n ts)
 
--- the members that were read, where nothing follows them
+-- the members that were read, if nothing follows them
 abbrev pub if_over : Option (Members × List Token) → Option Members
 if_over None = None
 if_over (Some (ms, [])) = Some ms

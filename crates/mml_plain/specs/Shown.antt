@@ -1,4 +1,4 @@
--- What a member's value shows of the data that it is.
+-- What a member's value shows of the JSON data.
 use Rattle.std.specs.Prelude.{◌≡◌, option_map, option_and_then}
 use Rattle.serde_json.specs.Data.{Data}
 use Rattle.serde_json.specs.Find.{as_str, as_bool, as_number, as_u64}
@@ -6,7 +6,7 @@ use Rattle.mml_plain.specs.declared.member_value.MemberValue.{MemberValue}
 use Rattle.mml_plain.specs.LookUps.{as_register}
 use Rattle.mml_plain.specs.Fields.{text_in, number_in, truth_in, register_in}
 
--- the value tells of the data what a request may ask of it, and no more
+-- the value shows what a request may read of the data, and no more
 pub record Shows (v : MemberValue) (d : Data) : Type 0 where
   pub text : option_map (λ s. s.now) (text_in v) ≡ as_str d
   pub number : number_in v ≡ option_and_then as_u64 (as_number d)

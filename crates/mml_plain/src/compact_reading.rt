@@ -1,5 +1,5 @@
-//! Objects whose strings have no escape, read from front to back, of a known key four bytes at once.
-//! Spaces stand only behind the opening brace, commas and colons, where a hand types them.
+//! Reads objects whose strings have no escapes, from front to back, and a known key four bytes at once. Spaces stand
+//! only after the opening brace, commas and colons, as they do in a line that somebody typed.
 ghost use Rattle.std.specs.Prelude.{◌≡◌, ◌<◌, ◌^◌, ◌++◌, ◌∷◌, ◌+◌, ℕ, List, [], Some, IfSome, None, true, length, decimal, slice_index, IsUtf8};
 ghost use Rattle.std.specs.Int.{w32, to_be_bytes};
 ghost use Rattle.json.specs.Lex.{tokens};
@@ -12,7 +12,7 @@ ghost use Rattle.mml_plain.specs.declared.member_value.MemberValue.TheVariants.{
 use crate::fields::Fields;
 use crate::member_value::MemberValue;
 
-// The keys that most requests have, by their first four bytes behind the quotation mark.
+// The first four bytes after the quotation mark of the keys that most requests have.
 const DO: u32 = 0x646f_223a;
 
 const NODE: u32 = 0x6e6f_6465;
@@ -27,8 +27,8 @@ const KEY: u32 = 0x6b65_7922;
 
 const NAME: u32 = 0x6e61_6d65;
 
-/// Whether the line is an object that is laid out so plainly that it is read here; then the fields, which
-/// come empty, hold what its keys name. Where it isn't, they hold anything, and the line may be an object.
+/// Returns whether the line is an object in the plain layout that this function reads. Then the fields, which come
+/// empty, hold what its keys name. Otherwise they hold anything, and the line may still be an object.
 #[inline(always)]
 pub(crate) fn read_compact<'a>(line: &'a [u8], fields: &mut Fields<'a>) -> bool
     requires { Holds fields.old (object no_members) }
@@ -49,7 +49,8 @@ pub(crate) fn read_compact<'a>(line: &'a [u8], fields: &mut Fields<'a>) -> bool
     }
 }
 
-/// Puts the next member of an object into the fields, and gives what follows it. `None` where it isn't read here.
+/// Puts the next member of an object into the fields, and returns the text after it, or `None` if the member isn't read
+/// here.
 #[inline(always)]
 fn member<'a>(text: &'a [u8], fields: &mut Fields<'a>) -> Option<&'a [u8]>
     ensures { IfSome result (λ rest. PutsMember text.now rest.now fields.old fields.new) }
@@ -67,8 +68,8 @@ fn member<'a>(text: &'a [u8], fields: &mut Fields<'a>) -> Option<&'a [u8]>
     any_member(in_key, fields)
 }
 
-/// Puts a member into the fields, and gives what follows it. The member begins with a quotation mark and the four bytes
-/// of `front`, behind which `text` comes. `None`, with the fields as they were, where its key isn't one of the seven
+/// Puts a member into the fields, and returns the text after it. The member begins with a quotation mark and the four
+/// bytes of `front`, followed by `text`. Returns `None`, with the fields unchanged, if its key isn't one of the seven
 /// that most requests have, or its value isn't one of that key's kind that is read here.
 #[inline(always)]
 fn known_value<'a>(front: u32, text: &'a [u8], fields: &mut Fields<'a>) -> Option<&'a [u8]>
@@ -113,8 +114,8 @@ fn known_value<'a>(front: u32, text: &'a [u8], fields: &mut Fields<'a>) -> Optio
     None
 }
 
-/// Puts a member of any key into the fields, and gives what follows it; `None` where it isn't read here. The text
-/// begins behind the quotation mark before the key.
+/// Puts a member with any key into the fields, and returns the text after it, or `None` if the member isn't read here.
+/// The text begins after the quotation mark before the key.
 #[inline(never)]
 fn any_member<'a>(text: &'a [u8], fields: &mut Fields<'a>) -> Option<&'a [u8]>
     ensures { IfSome result (λ rest. (whole : List ℕ) → BeginsQuoted whole text.now →
@@ -128,7 +129,7 @@ fn any_member<'a>(text: &'a [u8], fields: &mut Fields<'a>) -> Option<&'a [u8]>
     Some(rest)
 }
 
-/// What follows the spaces and the quotation mark at the front, if a quotation mark stands there.
+/// Returns the text after the spaces and the quotation mark at the front, or `None` if no quotation mark stands there.
 #[inline(always)]
 fn in_quotes<'a>(text: &'a [u8]) -> Option<&'a [u8]>
     ensures { IfSome result (λ rest. BeginsQuoted text.now rest.now) }
@@ -139,7 +140,7 @@ fn in_quotes<'a>(text: &'a [u8]) -> Option<&'a [u8]>
     behind(unspaced(text), b'"')
 }
 
-/// What follows the quotation mark and the colon behind a key, if they stand at the front.
+/// Returns the text after the quotation mark and the colon that end a key, or `None` if they don't stand at the front.
 #[inline(always)]
 fn quote_and_colon<'a>(text: &'a [u8]) -> Option<&'a [u8]>
     ensures { IfSome result (λ rest. text.now ≡ 34 ∷ 58 ∷ rest.now) }
@@ -147,8 +148,8 @@ fn quote_and_colon<'a>(text: &'a [u8]) -> Option<&'a [u8]>
     behind(behind(text, b'"')?, b':')
 }
 
-/// The string behind a colon, and what follows its closing quotation mark. `None` where no string stands there, or one
-/// that isn't read here.
+/// Returns the string after a colon, and the text after its closing quotation mark, or `None` if no string stands there
+/// that is read here.
 #[inline(always)]
 fn text_value<'a>(text: &'a [u8]) -> Option<(&'a str, &'a [u8])>
     ensures { IfSome result (λ r. BeginsAfter text.now (Text r.0) r.1.now) }
@@ -156,7 +157,7 @@ fn text_value<'a>(text: &'a [u8]) -> Option<(&'a str, &'a [u8])>
     bare_word(in_quotes(text)?)
 }
 
-/// The number behind a colon, and what follows it. `None` where no number stands there, or one that isn't read here.
+/// Returns the number after a colon, and the text after it, or `None` if no number stands there that is read here.
 #[inline(always)]
 fn number_value<'a>(text: &'a [u8]) -> Option<(u64, &'a [u8])>
     ensures { IfSome result (λ r. BeginsAfter text.now (Number r.0) r.1.now) }
@@ -164,7 +165,7 @@ fn number_value<'a>(text: &'a [u8]) -> Option<(u64, &'a [u8])>
     whole_number(unspaced(text))
 }
 
-/// What follows `byte` at the front of the text, if that byte stands there.
+/// Returns the text after `byte` at the front, or `None` if another byte stands there.
 #[inline(always)]
 fn behind<'a>(text: &'a [u8], byte: u8) -> Option<&'a [u8]>
     ensures { IfSome result (λ rest. text.now ≡ byte ∷ rest.now) }
@@ -175,7 +176,7 @@ fn behind<'a>(text: &'a [u8], byte: u8) -> Option<&'a [u8]>
     Some(&text[1..])
 }
 
-/// What follows the spaces at the front; the whole text where it begins with none.
+/// Returns the text after the spaces at the front, or the whole text if it begins with none.
 #[inline(always)]
 fn unspaced<'a>(text: &'a [u8]) -> &'a [u8]
     ensures { Spaced text.now result.now }
@@ -189,7 +190,7 @@ fn unspaced<'a>(text: &'a [u8]) -> &'a [u8]
     past_spaces(text)
 }
 
-/// What follows the spaces at the front: the rare case of `unspaced`, of more than one.
+/// Returns the text after the spaces at the front: the rare case of `unspaced` with more than one space.
 #[inline(never)]
 fn past_spaces<'a>(text: &'a [u8]) -> &'a [u8]
     ensures { Spaced text.now result.now }
@@ -201,8 +202,8 @@ fn past_spaces<'a>(text: &'a [u8]) -> &'a [u8]
     rest
 }
 
-/// The value at the front and what follows it: a string without escapes, a number, a truth value, null, or an array or
-/// object with nothing in it. `None` where none of them stands there that is read here.
+/// Returns the value at the front and the text after it: a string without escapes, a number, a truth value, null, or an
+/// empty array or object. Returns `None` if none of them stands there that is read here.
 #[inline(always)]
 fn member_value<'a>(text: &'a [u8]) -> Option<(MemberValue<'a>, &'a [u8])>
     ensures { IfSome result (λ r. BeginsValue text.now r.0 r.1.now) }
@@ -229,7 +230,7 @@ fn member_value<'a>(text: &'a [u8]) -> Option<(MemberValue<'a>, &'a [u8])>
     empty_value(text)
 }
 
-/// The array or object at the front, if one stands there and nothing is in it, and what follows it.
+/// Returns the empty array or object at the front and the text after it, or `None` if none stands there.
 #[inline(always)]
 fn empty_value<'a>(text: &'a [u8]) -> Option<(MemberValue<'a>, &'a [u8])>
     ensures { IfSome result (λ r. BeginsValue text.now r.0 r.1.now) }
@@ -243,8 +244,8 @@ fn empty_value<'a>(text: &'a [u8]) -> Option<(MemberValue<'a>, &'a [u8])>
     Some((MemberValue::Other, rest))
 }
 
-/// The word before the next quotation mark, and what follows the mark. `None` where a byte before it isn't from 32
-/// to 127 or is a backslash, or no mark comes.
+/// Returns the word before the next quotation mark, and the text after the mark. Returns `None` if no mark comes, or a
+/// byte before it isn't from 32 to 127 or is a backslash.
 #[inline(always)]
 fn bare_word<'a>(text: &'a [u8]) -> Option<(&'a str, &'a [u8])>
     ensures { IfSome result (λ r. (text.now ≡ r.0.now ++ 34 ∷ r.1.now)
@@ -267,8 +268,8 @@ fn bare_word<'a>(text: &'a [u8]) -> Option<(&'a str, &'a [u8])>
     Some((word, &text[end + 1..]))
 }
 
-/// The number at the front, in decimal digits with no nought before them, and what follows it. `None` where no
-/// digit stands there, and where there may be more than 64 bits.
+/// Returns the number at the front, in decimal digits without leading zeros, and the text after it. Returns `None` if
+/// no digit stands there, or the number may need more than 64 bits.
 #[inline(always)]
 fn whole_number<'a>(text: &'a [u8]) -> Option<(u64, &'a [u8])>
     ensures { IfSome result (λ r. (text.now ≡ decimal r.0 ++ r.1.now) × (r.0 < 2 ^ 64)) }
@@ -290,7 +291,7 @@ fn whole_number<'a>(text: &'a [u8]) -> Option<(u64, &'a [u8])>
     Some((number, &text[end..]))
 }
 
-/// The value of the digit at an index of the text, if a digit stands there.
+/// Returns the value of the digit at an index of the text, or `None` if no digit stands there.
 #[inline(always)]
 fn digit(text: &[u8], at: usize) -> Option<u64>
     ensures { IfSome result (λ digit. (digit < 10) × (at < length text.now)

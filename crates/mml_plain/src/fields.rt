@@ -5,11 +5,10 @@ ghost use Rattle.mml_plain.specs.Fields.{with};
 
 use crate::member_value::MemberValue;
 
-/// What the keys of a request name in an object. A key that isn't there, or that names another kind
-/// of value, names nothing.
+/// What the keys of a request name in an object. A missing key, or one with another kind of value, names nothing.
 #[derive(Clone, Copy, Debug, Drop)]
 pub struct Fields<'a> {
-    /// What is asked, by the key `do`.
+    /// The request's word, under the key `do`.
     pub word: Option<&'a str>,
     pub name: Option<&'a str>,
     pub key: Option<&'a str>,
@@ -17,7 +16,7 @@ pub struct Fields<'a> {
     pub rule: Option<&'a str>,
     pub with: Option<u64>,
     pub at: Option<u64>,
-    /// What a register is to point at: `Some(Some(id))` for a node's identifier, `Some(None)` for null.
+    /// What a register shall point at: `Some(Some(id))` for a node's identifier, `Some(None)` for null.
     pub p: Option<Option<u64>>,
     pub m: Option<bool>,
     pub a: Option<u64>,
@@ -25,7 +24,7 @@ pub struct Fields<'a> {
 }
 
 impl<'a> Fields<'a> {
-    /// What the keys name in an object with no members.
+    /// Returns the fields of an object with no members.
     pub fn empty() -> Fields<'a>
         ensures { Holds result (object no_members) }
     {
@@ -44,9 +43,8 @@ impl<'a> Fields<'a> {
         }
     }
 
-    /// Takes one member more of an object into the fields. The field of its key, if there is one, becomes the value, or
-    /// `None` where the value is of another kind, whatever the field was. Keys of one letter stand apart, so that
-    /// fewer are compared.
+    /// Adds one member of an object. The field of its key, if there is one, becomes the value, or `None` if the value
+    /// is of another kind. Keys of one letter are compared apart, so that fewer comparisons are made.
     #[inline(always)]
     pub(crate) fn put(&mut self, key: &str, value: &MemberValue<'a>)
         ensures { self.new ≡ with key.now value.now self.old }

@@ -1,7 +1,7 @@
 //! What the keys of a request name in a line.
 //!
-//! A line of JSON that is an object is read from its bytes or from its tokens, with no tree and with
-//! the memory of the line before. What it says is what `serde_json` says.
+//! A line of JSON that is an object is read from its bytes or from its tokens. No tree is built, and the memory of the
+//! line before is used again. The result is what `serde_json` reads.
 #![tactic(auto)]
 
 mod compact_reading;

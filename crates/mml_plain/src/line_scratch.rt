@@ -6,8 +6,7 @@ use std::alloc::{AllocError, Global};
 use std::fmt::{self, Debug, Formatter, Write};
 use std::marker::Model;
 
-/// The memory that reading lines needs, kept from line to line. Contracts see how long a line it has
-/// room for.
+/// The working memory of reading lines, kept from line to line. Contracts see how long a line it has room for.
 #[derive(Drop)]
 pub struct LineScratch {
     // On the heap: it holds 16 KB.
@@ -24,7 +23,7 @@ impl Model for LineScratch {
 }
 
 impl LineScratch {
-    /// Memory with room for lines of `limit` bytes; the error is that there is none.
+    /// Returns memory with room for lines of `limit` bytes. Returns `AllocError` if memory runs out.
     pub fn new(alloc: Global, limit: usize) -> Result<LineScratch, AllocError>
         ensures { IfOk result (λ scratch. limit ≤ scratch) }
     {
@@ -33,7 +32,7 @@ impl LineScratch {
         Ok(LineScratch { inner })
     }
 
-    /// The memory that the reader of one line works in.
+    /// Returns the memory that the reader of one line works in.
     #[inline(always)]
     pub(crate) fn for_line(&mut self) -> &mut Scratch
         ensures { room result.now ≡ self.old }
@@ -43,7 +42,7 @@ impl LineScratch {
 }
 
 impl Debug for LineScratch {
-    // Writes the name of the type alone: what stands in the memory is of no line in particular.
+    // Writes only the name of the type: the memory's contents belong to no line in particular.
     fn fmt<W: Write>(&self, f: &mut Formatter<W>) -> fmt::Result {
         f.write_str("LineScratch")
     }

@@ -7,7 +7,7 @@ ghost use Rattle.mml_plain.specs.Fields.{text_in, number_in, truth_in, register_
 
 use fast_float::Numeral;
 
-/// A member's value, as far as a request asks.
+/// A member's value, as far as a request reads it.
 #[derive(Clone, Copy, Drop)]
 pub(crate) enum MemberValue<'a> {
     Null,
@@ -20,8 +20,8 @@ pub(crate) enum MemberValue<'a> {
 }
 
 impl<'a> MemberValue<'a> {
-    /// The value of a number: `found` is the number where it is one of 64 bits without a sign, a point or an exponent,
-    /// as a request may ask for; else it is `None`, and the value is `Other`.
+    /// Returns the value of a number. `found` is the number if it has 64 bits and no sign, point or exponent, as a
+    /// request may have. If `found` is `None`, the value is `Other`.
     #[inline(always)]
     pub(crate) fn of_number(found: Option<u64>) -> MemberValue<'a>
         ensures { (n : Num) → as_u64 n ≡ found → Shows result (number n) }
@@ -32,7 +32,7 @@ impl<'a> MemberValue<'a> {
         }
     }
 
-    /// The text that the value is, if it is one.
+    /// Returns the value's text, or `None` if it is no text.
     #[inline(always)]
     pub(crate) fn text(&self) -> Option<&'a str>
         ensures { result ≡ text_in self.now }
@@ -43,7 +43,7 @@ impl<'a> MemberValue<'a> {
         }
     }
 
-    /// The number of 64 bits that the value is, if it is one.
+    /// Returns the value's number, or `None` if it is no number of 64 bits.
     #[inline(always)]
     pub(crate) fn number(&self) -> Option<u64>
         ensures { result ≡ number_in self.now }
@@ -54,7 +54,7 @@ impl<'a> MemberValue<'a> {
         }
     }
 
-    /// The truth value that the value is, if it is one.
+    /// Returns the value's truth value, or `None` if it is none.
     #[inline(always)]
     pub(crate) fn truth(&self) -> Option<bool>
         ensures { result ≡ truth_in self.now }
@@ -65,8 +65,8 @@ impl<'a> MemberValue<'a> {
         }
     }
 
-    /// What a register is to point at by the value: `Some(Some(number))`, `Some(None)` for null, and `None`
-    /// where the value is neither a number of 64 bits nor null.
+    /// Returns what a register shall point at by this value: `Some(Some(number))` for a number, `Some(None)` for null,
+    /// and `None` if the value is neither a number of 64 bits nor null.
     #[inline(always)]
     pub(crate) fn register(&self) -> Option<Option<u64>>
         ensures { result ≡ register_in self.now }
@@ -79,8 +79,8 @@ impl<'a> MemberValue<'a> {
     }
 }
 
-/// Reads the number of a token: `None` where it is too great to be read, `Some(None)` where a request can't ask
-/// for it, `Some(Some(number))` for one of 64 bits that is written without a sign, a point and an exponent.
+/// Reads the number of a token. Returns `Some(Some(number))` for one of 64 bits that is written without a sign, a point
+/// and an exponent, `Some(None)` for one that a request can't have, and `None` for one that is too great to be read.
 #[inline(always)]
 pub(crate) fn read_number(text: &str) -> Option<Option<u64>>
     ensures { result ≡ option_map as_u64 (number_of text.now) }
@@ -93,8 +93,8 @@ pub(crate) fn read_number(text: &str) -> Option<Option<u64>>
     }
 }
 
-// The number of a numeral with no minus at its front: `None` where it is too great to be read, `Some(None)` where it
-// takes more than 64 bits or has a point or an exponent, so that a request can't ask for it.
+// Returns the number of a numeral with no minus at its front. Returns `Some(None)` if it takes more than 64 bits or has
+// a point or an exponent, so that a request can't have it, and `None` if it is too great to be read.
 #[inline(always)]
 fn unsigned(numeral: &Numeral<'_>) -> Option<Option<u64>>
     ensures { result ≡ option_map as_u64 (number_from false numeral.now) }
@@ -105,8 +105,8 @@ fn unsigned(numeral: &Numeral<'_>) -> Option<Option<u64>>
     }
 }
 
-// What is read of a numeral behind a minus: `Some(None)`, since no request asks for such a number, -0 too, or `None`
-// where the numeral is too great to be read. A whole number below 0 of 64 bits isn't read as a float in vain.
+// Returns what is read of a numeral after a minus: `Some(None)`, since no request has such a number, not even -0, or
+// `None` if the numeral is too great to be read. A whole number below 0 of 64 bits isn't read as a float, to save time.
 #[inline(never)]
 fn below_zero(numeral: &Numeral<'_>) -> Option<Option<u64>>
     ensures { result ≡ option_map as_u64 (number_from true numeral.now) }
@@ -119,8 +119,8 @@ fn below_zero(numeral: &Numeral<'_>) -> Option<Option<u64>>
     float(true, numeral)
 }
 
-/// What is read of a numeral as a float, behind a minus if `negative`: `Some(None)`, since no request asks for one,
-/// or `None` where it is too great for one.
+/// Returns what is read of a numeral as a float, after a minus if `negative`: `Some(None)`, since no request has a
+/// float, or `None` if it is too great for one.
 #[inline(never)]
 fn float(negative: bool, numeral: &Numeral<'_>) -> Option<Option<u64>>
     ensures { result ≡ option_map as_u64 (float_of negative numeral.now) }
@@ -129,7 +129,7 @@ fn float(negative: bool, numeral: &Numeral<'_>) -> Option<Option<u64>>
     if float.is_finite() { Some(None) } else { None }
 }
 
-// Whether a minus stands at the front of a number's text.
+// Returns whether a minus stands at the front of a number's text.
 #[inline(always)]
 fn has_minus(bytes: &[u8]) -> bool
     ensures { result ≡ (slice_index bytes.now 0 == 45) }

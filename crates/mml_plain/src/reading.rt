@@ -15,8 +15,8 @@ use std::alloc::AllocError;
 /// How deep arrays and objects in the members of a line may nest.
 const DEPTH: usize = 126;
 
-/// Whether a line is an object that `serde_json` reads; then the fields, which come empty, hold what its keys
-/// name. Where it isn't, they hold anything. The error: there is no memory for a line for which `scratch` lacks room.
+/// Returns whether a line is an object that `serde_json` reads. Then the fields, which come empty, hold what its keys
+/// name; otherwise they hold anything. Returns `AllocError` if `scratch` has no room for the line and memory runs out.
 pub fn read_fields<'a>(
     line: &'a [u8],
     scratch: &'a mut LineScratch,
@@ -34,8 +34,9 @@ pub fn read_fields<'a>(
     read_tokens(line, scratch, fields)
 }
 
-/// Whether a line is an object, by its tokens; then the fields, whatever they held, hold what its keys name. For a
-/// line that `read_compact` didn't read. The error: there is no memory for a line for which `scratch` lacks room.
+/// Returns whether a line is an object, by its tokens. Then the fields hold what its keys name, whatever they held
+/// before. This is called if `read_compact` didn't read the line. Returns `AllocError` if `scratch` has no room for the
+/// line and memory runs out.
 #[inline(never)]
 fn read_tokens<'a>(
     line: &'a [u8],
@@ -55,7 +56,7 @@ fn read_tokens<'a>(
     Ok(read_object(&mut reader, fields))
 }
 
-/// Whether the tokens to come are one object, with nothing behind it; then the fields, which come empty, hold
+/// Returns whether the coming tokens are one object, with nothing after it. Then the fields, which come empty, hold
 /// what its keys name.
 #[inline(always)]
 fn read_object<'a>(reader: &mut Reader<'a>, fields: &mut Fields<'a>) -> bool
@@ -69,8 +70,8 @@ fn read_object<'a>(reader: &mut Reader<'a>, fields: &mut Fields<'a>) -> bool
     }
 }
 
-/// Whether the tokens behind an opening brace are members up to the end of the object, with nothing behind it;
-/// then the fields, which come empty, hold what the keys name.
+/// Returns whether the tokens after an opening brace are members up to the end of the object, with nothing after it.
+/// Then the fields, which come empty, hold what the keys name.
 #[inline(always)]
 fn read_members<'a>(reader: &mut Reader<'a>, fields: &mut Fields<'a>) -> bool
     requires { Holds fields.old (object no_members) }
@@ -93,7 +94,7 @@ fn read_members<'a>(reader: &mut Reader<'a>, fields: &mut Fields<'a>) -> bool
     }
 }
 
-/// Whether no token follows, so that the members that were read are all.
+/// Returns whether no token follows, so that all members were read.
 #[inline(always)]
 fn is_over(reader: &mut Reader<'_>) -> bool
     ensures { (ms : Members) → MatchBool result (if_over (Some (ms, reader.old)) ≡ Some ms)
@@ -102,8 +103,8 @@ fn is_over(reader: &mut Reader<'_>) -> bool
     reader.next().is_none()
 }
 
-/// The next value, if it is one that `serde_json` reads and whose arrays and objects nest no deeper than `depth`: an
-/// array or object as `Other`.
+/// Returns the next value, or `None` if `serde_json` doesn't read it or its arrays and objects nest deeper than
+/// `depth`. An array or object is `Other`.
 #[cycle(nested)]
 #[inline(always)]
 fn read_value<'a>(reader: &mut Reader<'a>, depth: usize) -> Option<MemberValue<'a>>
@@ -144,8 +145,8 @@ fn read_value<'a>(reader: &mut Reader<'a>, depth: usize) -> Option<MemberValue<'
     }
 }
 
-/// Passes over the rest of an array, behind its opening bracket, and tells whether it was one, whose values
-/// nest no deeper than `depth`.
+/// Skips the rest of an array, after its opening bracket, and returns whether it was one whose values nest no deeper
+/// than `depth`.
 #[cycle(nested)]
 #[inline(never)]
 fn pass_items(reader: &mut Reader<'_>, depth: usize) -> bool
@@ -162,8 +163,8 @@ fn pass_items(reader: &mut Reader<'_>, depth: usize) -> bool
     true
 }
 
-/// Passes over the rest of an object, behind its opening brace, and tells whether it was one, whose values nest
-/// no deeper than `depth`.
+/// Skips the rest of an object, after its opening brace, and returns whether it was one whose values nest no deeper
+/// than `depth`.
 #[cycle(nested)]
 #[inline(never)]
 fn pass_members(reader: &mut Reader<'_>, depth: usize) -> bool

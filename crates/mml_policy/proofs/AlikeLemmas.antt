@@ -117,7 +117,7 @@ module _ (ids : List ℕ) (r : RosterValue) (limit : ℕ) (is_halted : Bool) (s 
   choosing_alike : (i : ℕ) (q : Option Rule) → i < length ids → Alike r s (choosing w i q) (choosing v i q)
   choosing_alike i q l = grind (arith, nat_tests, chosen_alike)
 
-  -- what the leave tells is the same, and the worlds afterwards are alike
+  -- what is shown of what the clauses allow is the same, and the worlds afterwards are alike
   abbrev Keeps : Leave → Type 0
   Keeps l =
       (ruling_on_leave limit is_halted w l ≡ ruling_on_leave limit is_halted v l) × Alike r s (after_ruling w (ruling_on_leave limit is_halted w l)) (after_ruling v (ruling_on_leave limit is_halted v l))

@@ -1,4 +1,4 @@
--- Steps of clauses: what they hand on, and why they deny.
+-- The steps of clauses: what they return, and why they deny.
 use Rattle.std.proofs.Common.{◌≡◌, ℕ, ◌<◌, List, length, ◌==◌, None, Some, Ok, Err, arith}
 use Rattle.std.proofs.lemmas.List.Quantifiers.{position-Some}
 use Rattle.mml_ids.specs.Ids.{rank_in}
@@ -19,10 +19,10 @@ student-ok x d s h = grind arith
 pub node_there : (ids : List ℕ) (id : ℕ) (d : Denial) (i : ℕ) → node ids id d ≡ Ok i → i < length ids
 node_there ids id d i h = (position-Some (λ n. n == id) ids i 0 (node-ok ids id d i h)).0
 
--- a step that finds no node has no node with this identifier, and answers the denial that it is given
+-- a step that finds no node has no node with this identifier, and returns the denial that it was called with
 pub node-err : (ids : List ℕ) (id : ℕ) (d e : Denial) → node ids id d ≡ Err e → (rank_in ids id ≡ None) × (e ≡ d)
 node-err ids id d e h = grind arith
 
--- a step that finds no student was asked by the teacher, and answers the denial that it is given
+-- a step that finds no student was asked by the teacher, and returns the denial that it was called with
 pub student-err : (x : Who) (d e : Denial) → student x d ≡ Err e → (x ≡ who.Teacher) × (e ≡ d)
 student-err x d e h = grind arith

@@ -32,7 +32,7 @@ use Rattle.mml_policy.proofs.VisibleLemmas.{teacher_is, visible_means}
 pub some-value : {A : Type 0} (o : Option A) → is_some o ≡ true → (x : A) × (o ≡ Some x)
 some-value o h = grind arith
 
--- where some move is chosen, there is a node that has it
+-- if some move is chosen, there is a node that has it
 pub chosen-some : (chosen : List (Option Rule)) → list_any is_some chosen ≡ true → (i : ℕ) × (q : Rule) × (chosen_at chosen i ≡ Some q)
 chosen-some [] h = absurd (grind arith)
 chosen-some (o ∷ os) h = elim (or_cases (is_some o) (list_any is_some os) h) [
@@ -40,7 +40,7 @@ chosen-some (o ∷ os) h = elim (or_cases (is_some o) (list_any is_some os) h) [
   | inr later ↦ let found = chosen-some os later in (suc found.0, found.1, found.2)
 ]
 
--- where a node has a chosen move, some move is chosen
+-- if a node has a chosen move, some move is chosen
 pub some-chosen : (chosen : List (Option Rule)) (i : ℕ) (q : Rule) → chosen_at chosen i ≡ Some q → list_any is_some chosen ≡ true
 some-chosen [] i q h = absurd (grind arith)
 some-chosen (o ∷ os) zero q h = or_left (is_some o) (list_any is_some os) (ap is_some h)
@@ -80,11 +80,11 @@ module _ (ids : List ℕ) (x : Who) (first second : ℕ) (rest : ℕ → ℕ →
   abbrev pub asked_of_both : Result Leave Denial
   asked_of_both = need (is_teacher x) NotTeacher >> (node ids first NoNode >>= (λ a. node ids second NoNode >>= rest a))
 
-  -- where both are there, what comes next
+  -- if both are there, what comes next
   pub both_ends : (a b : ℕ) (v : Result Leave Denial) → IsAskedOfBoth ids x first second a b → rest a b ≡ v → asked_of_both ≡ v
   both_ends a b v asked e = grind (arith, need-from, bind-from)
 
-  -- where it is granted, both are there
+  -- if it is granted, both are there
   pub both_found : (l : Leave) → asked_of_both ≡ Ok l → (a : ℕ) × (b : ℕ) × IsAskedOfBoth ids x first second a b × (rest a b ≡ Ok l)
   both_found l h = grind (arith, need-ok, bind-ok, teacher_is, node-ok)
 

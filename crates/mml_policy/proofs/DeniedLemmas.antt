@@ -64,16 +64,16 @@ same_pointer : (p q : Option ℕ) → (let s : Result (Option ℕ) Denial = Ok p
 same_pointer p q e = grind arith
 
 module _ (ids : List ℕ) (r : RosterValue) (w : World) (x : Who) where
-  -- who isn't the teacher, whatever comes next
+  -- an asker who isn't the teacher, whatever comes next
   not_teachers : (rest : Result Leave Denial) → x ≢ who.Teacher → (need (is_teacher x) NotTeacher >> rest) ≡ Err NotTeacher
   not_teachers rest h = need-fails (is_teacher x) _ rest (from_no_teacher x h)
 
   module _ (id : ℕ) (rest : ℕ → Result Leave Denial) where
-    -- where the node isn't there, whatever comes next
+    -- if the node isn't there, whatever comes next
     no_node : (x ≡ who.Teacher) × (rank_in ids id ≡ None) → (need (is_teacher x) NotTeacher >> (node ids id NoNode >>= rest)) ≡ Err NoNode
     no_node h = need-from (is_teacher x) _ _ _ (ap is_teacher h.0) (bind-fails (node ids id NoNode) _ _ (ap (λ o. ok_or o NoNode) h.1))
 
-    -- where it is there, what comes next
+    -- if it is there, what comes next
     at_node : (i : ℕ) (v : Result Leave Denial) → IsAskedOf ids x id i → rest i ≡ v → (need (is_teacher x) NotTeacher >> (node ids id NoNode >>= rest)) ≡ v
     at_node i v asked e = grind (arith, need-from, bind-from)
 
@@ -124,7 +124,7 @@ module _ (ids : List ℕ) (r : RosterValue) (w : World) (x : Who) where
         → ((a b : ℕ) → IsAskedOfBoth ids x first second a b → IfErr (rest a b) why) → IfErr (asked_of_both ids x first second rest) why
     both_deny why rest alone lacks found = grind (arith, need-deny, no_teacher, bind-deny, node-err, teacher_is, node-ok)
 
-    -- where an end isn't there, whatever comes next
+    -- if an end isn't there, whatever comes next
     no_end : (rest : ℕ → ℕ → Result Leave Denial) → LacksAnEnd ids x first second
         → asked_of_both ids x first second rest ≡ Err NoNode
     no_end rest h = grind (arith, need-from, bind-fails, bind-from)

@@ -53,7 +53,7 @@ ok-same p q e = grind arith
 asked_once : (ids : List ℕ) (a : Asked) (p q : Rule) → rule_of ids a Guard ≡ Ok p → IsAsked ids a q → p ≡ q
 asked_once ids a p q h k = ok-same p q (sym h ∙ asked_from ids a Guard q k)
 
--- where no rule was found the denial is that of the guard, and no rule is asked for
+-- if no rule was found the denial is that of the guard, and no rule is asked for
 pub no_rule : (ids : List ℕ) (a : Asked) (d : Denial) → rule_of ids a Guard ≡ Err d → (d ≡ Guard) × ((q : Rule) → ¬ IsAsked ids a q)
 no_rule ids a d h = grind (arith, none_some)
 

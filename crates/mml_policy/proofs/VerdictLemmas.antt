@@ -25,7 +25,7 @@ use Rattle.mml_policy.specs.Verdicts.{clauses, settled, verdict}
 use Rattle.mml_ids.proofs.GivesLemmas.{bind-if, need-if}
 use Rattle.mml_policy.proofs.ClausesLemmas.{node_there, student-ok}
 
--- a verdict that grants an event comes of leave for that event
+-- a verdict that grants an event comes of clauses that allow that event
 pub settled-grant : (s : Result Leave Denial) (e : Event) → settled s ≡ verdicts.Grant e → s ≡ Ok (Grant e)
 settled-grant s e h = grind arith
 
@@ -48,18 +48,18 @@ node_is ids w i same there = lt-ltb i (size w) (omega (arith, same, there))
 pub owner_is : (r : RosterValue) (x : Who) (s i : ℕ) → x ≡ who.Student s → owns r x i ≡ true → owns r (who.Student s) i ≡ true
 owner_is r x s i e h = ap (λ y. owns r y i) (sym e) ∙ h
 
--- an event is given leave to, and nothing to be shown
+-- an event is allowed, and nothing to be shown
 abbrev pub is_event : Leave → Bool
 is_event (See i) = false
 is_event (Look i) = false
 is_event Report = false
 is_event (Grant e) = true
 
--- leave is for an event exactly where b is true
+-- an event is allowed exactly if b is true
 abbrev pub IsEvent : Bool → Leave → Type 0
 IsEvent b l = is_event l ≡ b
 
--- an event, or none; and fine, where there are as many identifiers as nodes
+-- an event, or none; and fine, if there are as many identifiers as nodes
 abbrev Good : List ℕ → RosterValue → World → Bool → Leave → Type 0
 Good ids r w b l = IsEvent b l × (length ids ≡ size w → IsFine ids r w l)
 
@@ -95,7 +95,7 @@ module _ (ids : List ℕ) (r : RosterValue) (w : World) (x : Who) where
   good (command.Release id) = grind (arith, nat_tests, need-if, bind-if)
   good command.Report = need-if view (is_teacher x) _ _ (λ _. (refl, λ same. tt))
 
-  -- acts alone are given leave to an event
+  -- only acts are allowed an event
   pub of_kind : (c : Command) (b : Bool) → is_act c ≡ b → IfOk (clauses ids r w x c) (IsEvent b)
   of_kind c b h = grind (arith, both_of, good)
 

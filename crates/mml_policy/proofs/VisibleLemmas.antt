@@ -38,7 +38,7 @@ from_fact r c x i l v = elim v [
   ]
 ]
 
--- a node is found visible exactly where it is
+-- a node is found visible exactly if it is
 pub visible_means : (r : RosterValue) (c : Configuration) (x : Who) (i : ℕ) → IsLawful c → (is_visible r c x i ≡ true) ↔ IsVisible r c x i
 visible_means r c x i l = (to_fact r c x i, from_fact r c x i l)
 
@@ -69,7 +69,7 @@ none_around : (r : RosterValue) (c : Configuration) (x : Who) (i : ℕ) → ((j 
     → false ≡ (owns r x i || owns_neighbour r c x i)
 none_around r c x i none = grind (arith, no_owner, or_right, or_left, eq-eqb, false≢true)
 
--- where a node is found in the set of those around i that x owns, x owns i or a neighbour of it; where none is, neither
+-- if a node is found in the set of those around i that x owns, x owns i or a neighbour of it; if none is, neither
 pub around_is_some : (r : RosterValue) (c : Configuration) (x : Who) (i : ℕ) (both : FinSet nat_cmp) (found : Option ℕ) → IsLawful c
     → ((j : ℕ) → sets.contains both j ≡ owned_around r c x i j) → IfSome found (λ j. sets.contains both j ≡ true) → IfNone found (both ≡ sets.empty)
     → is_some found ≡ (owns r x i || owns_neighbour r c x i)

@@ -1,4 +1,4 @@
--- What comes of a command names nodes of the lab.
+-- The reply to a command names only nodes of the lab.
 use Rattle.std.specs.Prelude.{ℕ, ◌<◌, List, length, IfSome}
 use Rattle.std.specs.List.{All}
 use Rattle.mml_rules.specs.declared.regs.Regs.{Regs}
@@ -24,7 +24,7 @@ pub record IsLookedAt (ids : List ℕ) (l : Look) : Type 0 where
   pub pointer : IfSome l.regs.p (λ j. j < length ids)
   pub near : All (IsNear ids) l.near
 
--- the nodes of what an event did are the lab's; of the set of nodes that a close moved nothing is said
+-- the nodes of an event's effect are the lab's; nothing is said of the set of nodes that a close moved
 abbrev pub IsDone : List ℕ → Done → Type 0
 IsDone ids (done.Move node kind) = node < length ids
 IsDone ids (done.Close moved) = Unit {0}
@@ -33,7 +33,7 @@ IsDone ids (done.Link a b dropped) = (a < length ids) × (b < length ids)
 IsDone ids (done.Cut a b dropped) = (a < length ids) × (b < length ids)
 IsDone ids (done.Release node) = node < length ids
 
--- the nodes that a ruling shows, those that they point at, and the nodes of what an event did are the lab's
+-- the nodes that a ruling shows, those that they point at, and the nodes of an event's effect are the lab's
 abbrev pub IsRuled : List ℕ → Ruling → Type 0
 IsRuled ids (Denied d) = Unit {0}
 IsRuled ids (Seen s) = IsSeen ids s

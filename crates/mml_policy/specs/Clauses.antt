@@ -1,4 +1,4 @@
--- Steps of clauses: each hands on what it found, or answers the denial that it is given.
+-- The steps of clauses: each returns what it found, or the denial that it was called with.
 use Rattle.std.specs.Prelude.{ℕ, List, Option, None, Some, Result, Ok, Err}
 use Rattle.std.specs.Option.{ok_or}
 use Rattle.mml_ids.specs.Ids.{rank_in}
@@ -11,17 +11,16 @@ use Rattle.mml_policy.specs.declared.command.Asked.{Asked}
 use Rattle.mml_policy.specs.declared.command.Asked.TheVariants as asked
 use Rattle.mml_policy.specs.declared.denial.Denial.{Denial}
 
--- the node with this identifier; the denial where there is none
+-- the node with this identifier; the denial if there is none
 abbrev pub node : List ℕ → ℕ → Denial → Result ℕ Denial
 node ids id d = ok_or (rank_in ids id) d
 
--- the student who asks; the denial where the teacher asks
+-- the student who asks; the denial if the teacher asks
 abbrev pub student : Who → Denial → Result ℕ Denial
 student who.Teacher d = Err d
 student (who.Student s) d = Ok s
 
--- the rule that is asked for, the partner of a marriage as a node; the denial where no node has the partner's
--- identifier
+-- the rule that is asked for, the partner of a marriage as a node; the denial if no node has the partner's identifier
 abbrev pub rule_of : List ℕ → Asked → Denial → Result Rule Denial
 rule_of ids asked.Update d = Ok rules.Update
 rule_of ids (asked.Marriage id) d = do
@@ -30,7 +29,7 @@ rule_of ids (asked.Marriage id) d = do
 rule_of ids asked.Seduction d = Ok rules.Seduction
 rule_of ids asked.Abandonment d = Ok rules.Abandonment
 
--- null where p is null, else the node with the identifier p; the denial where no node has it
+-- null if p is null, else the node with the identifier p; the denial if no node has it
 abbrev pub pointer : List ℕ → Option ℕ → Denial → Result (Option ℕ) Denial
 pointer ids None d = Ok None
 pointer ids (Some id) d = do

@@ -1,4 +1,4 @@
--- What is decided of a command in a course, over what its parts show.
+-- The decision on a command in a course, over what its parts show.
 use Rattle.std.specs.Prelude.{ℕ, ◌≡◌, Bool, length, Result, Ok, Err, MatchResult}
 use Rattle.mml_lab.specs.declared.who.Who.{Who}
 use Rattle.mml_policy.specs.declared.command.Command.{Command}
@@ -13,14 +13,14 @@ use Rattle.mml_policy.specs.Verdicts.{clauses}
 abbrev pub NamesEachNode : Course → Type 0
 NamesEachNode k = length k.ids.now ≡ length k.board.now.network.registers
 
--- the clauses of a command in a course, and what they give leave to
+-- the clauses of a command in a course, and what they allow
 abbrev pub clauses_in : Course → Who → Command → Result Leave Denial
 clauses_in k x c = clauses k.ids.now k.roster.now k.board.now x c
 
--- what is found, made a leave, is what the clauses of the command give leave to; a denial is that of the clauses
+-- what is found, as something allowed, is what the clauses of the command allow; a denial is that of the clauses
 abbrev pub AnswersClauses : {A : Type 0} → Course → Who → Command → (A → Leave) → Result A Denial → Type 0
 AnswersClauses k x c leave found = MatchResult found (λ a. clauses_in k x c ≡ Ok (leave a)) (λ d. clauses_in k x c ≡ Err d)
 
--- what comes of a command in a course
+-- the ruling on a command in a course
 abbrev pub ruling_in : Course → ℕ → Bool → Who → Command → Ruling
 ruling_in k limit is_halted x c = ruling k.ids.now k.roster.now limit is_halted k.board.now x c

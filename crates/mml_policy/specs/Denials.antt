@@ -10,7 +10,7 @@ pub record DenialWords : Type 0 where
   pub name : List ℕ
   pub text : List ℕ
 
--- what a denial is told with
+-- the clause, the word and the sentence of a denial
 abbrev pub words_of : Denial → DenialWords
 words_of denial.NotGreeted = record { clause = 0; name = codes "not-greeted"; text = codes "say hello first" }
 words_of denial.Greeted = record { clause = 1; name = codes "greeted"; text = codes "this connection has a name already" }

@@ -30,7 +30,7 @@ pub record IsAskedOfBoth (ids : List ℕ) (x : Who) (first second a b : ℕ) : T
   pub node_a : rank_in ids first ≡ Some a
   pub node_b : rank_in ids second ≡ Some b
 
--- why a close is denied: a student asks; or the teacher, where no move is chosen
+-- why a close is denied: a student asks; or the teacher, if no move is chosen
 abbrev pub DeniesClose : World → Who → Denial → Type 0
 DeniesClose w x denial.NotTeacher = x ≢ who.Teacher
 DeniesClose w x denial.Empty = (x ≡ who.Teacher) × ((i : ℕ) → chosen_at w.chosen i ≡ None)

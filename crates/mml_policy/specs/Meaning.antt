@@ -1,4 +1,4 @@
--- What it takes that a command is granted or shown, stated as facts.
+-- The facts that hold if a command is granted or shown.
 use Rattle.std.specs.Prelude.{◌≡◌, ◌≢◌, ◌⊎◌, ℕ, Bool, true, false, List, Option, None, Some, All}
 use Rattle.mml_ids.specs.Ids.{rank_in}
 use Rattle.mml_rules.specs.declared.rule.Rule.{Rule}
@@ -88,14 +88,14 @@ MaySee ids r w x id = (i : ℕ) × (rank_in ids id ≡ Some i) × IsVisible r (c
 abbrev pub MayLook : List ℕ → RosterValue → Who → ℕ → Type 0
 MayLook ids r x id = (i : ℕ) × (rank_in ids id ≡ Some i) × ((x ≡ who.Teacher) ⊎ (owns r x i ≡ true))
 
--- what is shown of each node are its registers, and each of these nodes is visible to x
+-- the registers of each node are shown, and each of these nodes is visible to x
 pub record ShowsWhatIsVisible (r : RosterValue) (w : World) (x : Who) (l : Look) : Type 0 where
   pub node : is_visible r (configuration w) x l.node ≡ true
   pub registers : l.regs ≡ registers_at w.network.registers l.node
   pub near : All (λ n. is_visible r (configuration w) x n.0 ≡ true) l.near
   pub near_registers : All (λ n. n.1 ≡ registers_at w.network.registers n.0) l.near
 
--- q is null where p is null, else the node with the identifier p
+-- q is null if p is null, else the node with the identifier p
 abbrev pub IsNamed : List ℕ → Option ℕ → Option ℕ → Type 0
 IsNamed ids None q = q ≡ None
 IsNamed ids (Some id) q = (j : ℕ) × (rank_in ids id ≡ Some j) × (q ≡ Some j)

@@ -1,4 +1,4 @@
--- What comes of a command, and what it leaves of the world.
+-- The ruling on a command, and the world after it.
 use Rattle.std.specs.Prelude.{ℕ, Bool, true, false, nat_le, if◌then◌else◌, List, Option, None, Some, Result, Ok, Err}
 use Rattle.std.specs.Option.{option_map_or}
 use Rattle.mml_lab.specs.declared.who.Who.{Who}
@@ -15,21 +15,21 @@ use Rattle.mml_policy.specs.declared.verdict.Leave.TheVariants.{See, Look, Repor
 use Rattle.mml_policy.specs.Verdicts.{clauses}
 use Rattle.mml_policy.specs.Shown.{see_of, look_of}
 
--- what comes of a leave: what is shown; or the event with what it does, but no event where the limit is reached, nor
--- else where the journal is halted
+-- the ruling if the clauses allow something: what is shown; or the event with its effect, but no event if the limit is
+-- reached, nor else if the journal is halted
 abbrev pub ruling_on_leave : ℕ → Bool → World → Leave → Ruling
 ruling_on_leave limit is_halted w (See i) = Seen (see_of w i)
 ruling_on_leave limit is_halted w (Look i) = Looked (look_of w i)
 ruling_on_leave limit is_halted w Report = Reported
 ruling_on_leave limit is_halted w (Grant e) = if nat_le limit w.place then Full else (if is_halted then Journal else Granted e (done_by w e))
 
--- what comes of clauses: of the leave that they give, or of their denial
+-- the ruling by clauses: that on what they allow, or their denial
 abbrev pub ruled : ℕ → Bool → World → Result Leave Denial → Ruling
 ruled limit is_halted w (Ok l) = ruling_on_leave limit is_halted w l
 ruled limit is_halted w (Err d) = Denied d
 
--- the denial of the first clause that doesn't hold, or what is shown, or the event that happens with what it
--- does, or why none does: the limit is reached, or else the journal is halted
+-- the denial of the first clause that doesn't hold, or what is shown, or the event that happens with its effect, or why
+-- none does: the limit is reached, or else the journal is halted
 abbrev pub ruling : List ℕ → RosterValue → ℕ → Bool → World → Who → Command → Ruling
 ruling ids r limit is_halted w x c = ruled limit is_halted w (clauses ids r w x c)
 
@@ -47,7 +47,7 @@ event_of (Granted e d) = Some e
 abbrev pub after_ruling : World → Ruling → World
 after_ruling w r = option_map_or (after w) (event_of r) w
 
--- what a look shows is told: only this ruling takes memory
+-- the ruling shows a look: only this ruling needs memory
 abbrev pub is_look : Ruling → Bool
 is_look (Looked l) = true
 is_look _ = false

@@ -1,4 +1,4 @@
--- What is shown of a node.
+-- A node as it is shown.
 use Rattle.std.specs.Prelude.{ℕ, List, map, filter, option_map}
 use Rattle.std.specs.List.{range_with_len}
 use Rattle.mml_rules.specs.declared.regs.Regs.{Regs}

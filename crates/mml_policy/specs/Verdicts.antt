@@ -1,4 +1,4 @@
--- What is decided of a command: its clauses in the order in which they are tried, and then what it is granted.
+-- The decision on a command: its clauses in the order in which they are tried, and then what they allow.
 use Rattle.std.specs.Prelude.{ℕ, ◌==◌, ◌||◌, not, is_none, is_some, List, Result, Ok, Err}
 use Rattle.mml_ids.specs.Gives.{◌>>=◌, ◌>>◌, need}
 use Rattle.mml_rules.specs.Rules.{guard}
@@ -19,7 +19,7 @@ use Rattle.mml_policy.specs.declared.verdict.Leave.TheVariants.{See, Look, Repor
 use Rattle.mml_policy.specs.Visible.{is_teacher, is_visible}
 use Rattle.mml_policy.specs.Clauses.{node, student, rule_of, pointer}
 
--- the clauses of each command, in the order in which they are tried, and what they give leave to
+-- the clauses of each command, in the order in which they are tried, and what they allow
 abbrev pub clauses : List ℕ → RosterValue → World → Who → Command → Result Leave Denial
 clauses ids r w x (command.See id) = do
   i ← node ids id Hidden
@@ -70,7 +70,7 @@ clauses ids r w x command.Report = do
   need (is_teacher x) NotTeacher
   Ok Report
 
--- the verdict of clauses: what they give leave to, or their denial
+-- the verdict of clauses: what they allow, or their denial
 abbrev pub settled : Result Leave Denial → Verdict
 settled (Ok (See i)) = verdicts.Show
 settled (Ok (Look i)) = verdicts.Show

@@ -1,4 +1,4 @@
-//! Steps of clauses: each hands on what it found, or answers the denial that it is given.
+//! The steps of clauses: each returns what it found, or the denial that it was called with.
 ghost use Rattle.std.specs.Prelude.{◌≡◌, ◌<◌, length, IfOk, IfSome};
 ghost use Rattle.mml_ids.specs.Ids.{rank_in};
 ghost use Rattle.mml_rules.specs.Rules.{IsWithin};
@@ -15,14 +15,14 @@ use mml_rules::Rule;
 pub(crate) struct AskedNode {
     /// The node with the identifier, if there is one.
     pub(crate) found: Option<Rank>,
-    /// The one who asks; a student who owns nothing where no node was found.
+    /// The asker, or a student who owns nothing if no node was found.
     pub(crate) who: Who,
     /// The node that was found, or another one.
     pub(crate) node: Rank,
 }
 
-/// The node that is asked for, and who asks. Where there is no such node, another node and a student who owns
-/// nothing stand in, so that the same tests are made as for a node that isn't shown; the caller then denies, since
+/// Returns the node that is asked for, and who asks. If there is no such node, another node and a student who owns
+/// nothing stand in, so that the same tests are made as for a node that isn't shown. The caller then denies, since
 /// `found` is `None`.
 pub(crate) fn asked_for(ids: &IdTable, who: Who, id: u64) -> AskedNode
     ensures found { result.found ≡ rank_in ids.now id }
@@ -41,8 +41,8 @@ pub(crate) fn asked_for(ids: &IdTable, who: Who, id: u64) -> AskedNode
     }
 }
 
-/// The rule that is asked for, where the partner of a marriage is the node with the identifier that was named. The
-/// error is `denial`, where no node has that identifier.
+/// Returns the rule that is asked for, with the node whose identifier is named as a marriage's partner. Returns
+/// `denial` if no node has that identifier.
 pub(crate) fn rule_of(ids: &IdTable, asked: Asked, denial: Denial) -> Result<Rule, Denial>
     ensures step { result ≡ rule_of ids.now asked denial }
     ensures there { IfOk result (IsWithin (length ids.now)) }
@@ -55,7 +55,7 @@ pub(crate) fn rule_of(ids: &IdTable, asked: Asked, denial: Denial) -> Result<Rul
     }
 }
 
-/// The node with the identifier `p`, or `None` where `p` is null. The error is `denial`, where no node has that
+/// Returns the node with the identifier `p`, or `None` if `p` is null. Returns `denial` as an error if no node has that
 /// identifier.
 pub(crate) fn pointer(ids: &IdTable, p: Option<u64>, denial: Denial) -> Result<Option<Rank>, Denial>
     ensures step { result ≡ pointer ids.now p denial }

@@ -1,26 +1,26 @@
 ghost use Rattle.std.specs.Prelude.{◌≡◌};
 ghost use Rattle.mml_policy.specs.Acts.{is_act};
 
-/// What a connection that has a name may ask. Nodes are named by their identifiers.
+/// The command of a connection that has a name. Nodes are named by their identifiers.
 #[derive(Clone, Copy, Debug, PartialEq, Eq)]
 pub enum Command {
-    /// To be shown the registers of a node.
+    /// Shows the registers of a node.
     See { node: u64 },
-    /// To be shown a node as its owners see it, and the nodes linked to it.
+    /// Shows a node as its owners see it, and the nodes linked to it.
     Look { node: u64 },
-    /// To have a move chosen for a node, in the configuration with this number.
+    /// Chooses a move for a node, in the configuration with this number.
     Move { node: u64, rule: Asked, at: u64 },
-    /// To have all chosen moves applied at once.
+    /// Applies all chosen moves at once.
     Close,
-    /// To have the registers of a node set.
+    /// Sets the registers of a node.
     Fault { node: u64, p: Option<u64>, m: bool },
-    /// To have a link made.
+    /// Makes a link.
     Link { a: u64, b: u64 },
-    /// To have a link removed.
+    /// Removes a link.
     Cut { a: u64, b: u64 },
-    /// To have the chosen move of a node dropped.
+    /// Drops the chosen move of a node.
     Release { node: u64 },
-    /// To be told of all pairs, free and privileged nodes and open links.
+    /// Shows all pairs, free and privileged nodes and open links.
     Report,
 }
 
@@ -35,7 +35,7 @@ pub enum Asked {
 }
 
 impl Command {
-    /// Whether the command asks for an event, and not to be shown something.
+    /// Returns whether the command asks for an event, and not to be shown something.
     pub fn is_act(&self) -> bool
         ensures { result ≡ is_act self.now }
     {

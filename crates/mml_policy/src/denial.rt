@@ -10,17 +10,17 @@ pub enum Denial {
     Greeted,
     /// Nobody has that name with that key.
     Unknown,
-    /// There is no such node, or it isn't visible to the one who asks.
+    /// There is no such node, or it isn't visible to the asker.
     Hidden,
-    /// There is no such node, or the one who asks doesn't own it.
+    /// There is no such node, or the asker doesn't own it.
     NotOwner,
     /// The move was asked for in another configuration than the current one, whose number this is.
     Stale(u64),
-    /// A move is chosen for the node already.
+    /// A move is already chosen for the node.
     Chosen,
     /// The rule may not be applied at the node.
     Guard,
-    /// The one who asks isn't the teacher.
+    /// The asker isn't the teacher.
     NotTeacher,
     /// No node has a chosen move.
     Empty,
@@ -39,8 +39,8 @@ pub enum Denial {
 }
 
 impl Denial {
-    /// The number of the clause that doesn't hold, by the order in which the clauses of the denied request are tried:
-    /// from 1, or 0 for `NotGreeted`, which is tried before them.
+    /// Returns the number of the clause that doesn't hold, by the order in which the clauses of the denied request are
+    /// tried: from 1, or 0 for `NotGreeted`, which is tried before them.
     pub fn clause(self) -> u8
         ensures { result ≡ clause_of self }
     {
@@ -64,7 +64,7 @@ impl Denial {
         }
     }
 
-    /// The word for the denial in a reply, for programs to read.
+    /// Returns the word for the denial in a reply, for programs to read.
     pub fn name(self) -> &'static str
         ensures { result.now ≡ denial_name self }
     {
@@ -88,7 +88,7 @@ impl Denial {
         }
     }
 
-    /// The sentence for the denial in a reply, for people to read.
+    /// Returns the sentence for the denial in a reply, for people to read.
     pub fn text(self) -> &'static str
         ensures { result.now ≡ text_of self }
     {

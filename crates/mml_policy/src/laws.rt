@@ -1,4 +1,4 @@
-//! Laws of the policy. Each is the clause of a function that does nothing.
+//! Laws of the policy. Each is the contract of a function that does nothing.
 ghost use Rattle.std.specs.Prelude.{◌≡◌, ◌≢◌, ◌<◌, ◌↔◌, ◌⊎◌, ℕ, Bool, List, Option, None, Some, true, false, length, slice_index};
 ghost use Rattle.mml_rules.specs.declared.rule.Rule.{Rule};
 ghost use Rattle.mml_rules.specs.Configuration.{Configuration, IsLawful};
@@ -42,9 +42,8 @@ pub fn visible_means_facts()
         (is_visible r c x i ≡ true) ↔ IsVisible r c x i }
 {}
 
-/// A move is granted exactly when the one who asks owns the node, the number is the current one, no
-/// move is chosen for the node, and the rule may be applied there; it is denied by the first of these
-/// that doesn't hold.
+/// A move is granted exactly if the asker owns the node, the number is the current one, no move is chosen for the node,
+/// and the rule may be applied there. It is denied by the first of these that doesn't hold.
 pub fn a_move_takes_four_facts()
     ensures granted { (ids : List ℕ) (r : RosterValue) (w : World) (x : Who) (id : ℕ)
         (asked : Asked) (at : ℕ) (e : Event) → IsLawful (configuration w) →
@@ -57,8 +56,8 @@ pub fn a_move_takes_four_facts()
         DeniesMove ids r w x id asked at d }
 {}
 
-/// A see is shown its node exactly where some node has the identifier that it names, and that node is visible to the
-/// one who asks.
+/// A see is shown its node exactly if some node has the identifier that it names, and that node is visible to the
+/// asker.
 pub fn a_see_takes_a_visible_node()
     ensures { (ids : List ℕ) (r : RosterValue) (w : World) (x : Who) (id : ℕ) →
         IsLawful (configuration w) →
@@ -66,7 +65,7 @@ pub fn a_see_takes_a_visible_node()
 {}
 
 /// A see is answered with its node's registers and the number of the configuration, as the world `w` has them, exactly
-/// where some node has the identifier that the see names, and that node is visible to the one who asks; else the see is
+/// if some node has the identifier that the see names, and that node is visible to the asker. Otherwise the see is
 /// denied as hidden.
 pub fn a_see_shows_the_registers()
     ensures seen { (ids : List ℕ) (r : RosterValue) (limit : ℕ) (is_halted : Bool) (w : World)
@@ -79,50 +78,50 @@ pub fn a_see_shows_the_registers()
         ruling ids r limit is_halted w x (command.See id) ≡ Denied Hidden }
 {}
 
-/// A look is answered exactly where some node has the identifier that it names, and one of that node's owners or the
+/// A look is answered exactly if some node has the identifier that it names, and one of that node's owners or the
 /// teacher asks.
 pub fn a_look_takes_an_owner()
     ensures { (ids : List ℕ) (r : RosterValue) (w : World) (x : Who) (id : ℕ) →
         (verdict ids r w x (command.Look id) ≡ verdicts.Show) ↔ MayLook ids r x id }
 {}
 
-/// A look shows the registers of its node and of the neighbours, and each of these nodes is visible to
-/// the one who may look.
+/// A look shows the registers of its node and of the neighbours, and each of these nodes is visible to anyone who may
+/// look.
 pub fn a_look_shows_what_is_visible()
     ensures { (r : RosterValue) (w : World) (x : Who) (i : ℕ) → IsLawful (configuration w) →
         (x ≡ who.Teacher) ⊎ (owns r x i ≡ true) → ShowsWhatIsVisible r w x (look_of w i) }
 {}
 
-/// A close is granted exactly where the teacher asks and some move is chosen; else it is denied by the first of the two
-/// that doesn't hold.
+/// A close is granted exactly if the teacher asks and some move is chosen. Otherwise it is denied by the first of the
+/// two that doesn't hold.
 pub fn a_close_takes_a_chosen_node()
     ensures { (ids : List ℕ) (r : RosterValue) (w : World) (x : Who) →
         IsDecided ids r w x command.Close (MayClose w) (DeniesClose w x) }
 {}
 
-/// A fault is granted exactly where the teacher asks, some node has the identifier that it names, and the node's
-/// pointer is to be null or a neighbour; else it is denied by the first of the three that doesn't hold.
+/// A fault is granted exactly if the teacher asks, some node has the identifier that it names, and the node's pointer
+/// is to be null or a neighbour. Otherwise it is denied by the first of the three that doesn't hold.
 pub fn a_fault_takes_a_neighbour()
     ensures { (ids : List ℕ) (r : RosterValue) (w : World) (x : Who) (id : ℕ) (p : Option ℕ) (m : Bool) →
         IsDecided ids r w x (command.Fault id p m) (MayFault ids w id p m) (DeniesFault ids w x id p) }
 {}
 
-/// A link is granted exactly where the teacher asks, both identifiers are those of nodes, these differ and they aren't
-/// linked; else it is denied by the first of the four that doesn't hold.
+/// A link is granted exactly if the teacher asks, both identifiers are those of nodes, these differ and they aren't
+/// linked. Otherwise it is denied by the first of the four that doesn't hold.
 pub fn a_link_takes_two_unlinked_nodes()
     ensures { (ids : List ℕ) (r : RosterValue) (w : World) (x : Who) (first second : ℕ) →
         IsDecided ids r w x (command.Link first second) (MayLink ids w first second) (DeniesLink ids w x first second) }
 {}
 
-/// A cut is granted exactly where the teacher asks, both identifiers are those of nodes, and these are linked; else it
-/// is denied by the first of the three that doesn't hold.
+/// A cut is granted exactly if the teacher asks, both identifiers are those of nodes, and these are linked. Otherwise
+/// it is denied by the first of the three that doesn't hold.
 pub fn a_cut_takes_two_linked_nodes()
     ensures { (ids : List ℕ) (r : RosterValue) (w : World) (x : Who) (first second : ℕ) →
         IsDecided ids r w x (command.Cut first second) (MayCut ids w first second) (DeniesCut ids w x first second) }
 {}
 
-/// A release is granted exactly where the teacher asks, some node has the identifier that it names, and the node has a
-/// chosen move; else it is denied by the first of the three that doesn't hold.
+/// A release is granted exactly if the teacher asks, some node has the identifier that it names, and the node has a
+/// chosen move. Otherwise it is denied by the first of the three that doesn't hold.
 pub fn a_release_takes_a_chosen_node()
     ensures { (ids : List ℕ) (r : RosterValue) (w : World) (x : Who) (id : ℕ) →
         IsDecided ids r w x (command.Release id) (MayRelease ids w id) (DeniesRelease ids w x id) }
@@ -143,8 +142,8 @@ pub fn granted_events_are_legal()
         length ids ≡ size w → verdict ids r w x c ≡ verdicts.Grant e → is_legal r w e ≡ true }
 {}
 
-/// An event is legal exactly where its asker, who asks for it at the current number, is granted it: so who checks a
-/// list of events may ask for verdicts.
+/// An event is legal exactly if its asker, who asks for it at the current number, is granted it. So a list of events
+/// can be checked by asking for verdicts.
 pub fn legal_events_are_granted()
     ensures { (ids : List ℕ) (r : RosterValue) (w : World) (e : Event) →
         IsTable ids → IsWorldOf ids w → (is_legal r w e ≡ true) ↔
@@ -164,8 +163,8 @@ pub fn privileged_nodes_are_granted()
         ≡ verdicts.Grant (event.Grant s i rule)) }
 {}
 
-/// What a student is answered depends on nothing that is hidden from the student: in worlds that are
-/// alike for a student each command has the same ruling, and the worlds afterwards are alike again.
+/// The reply to a student depends on nothing that is hidden from the student: in worlds that are alike for a student
+/// each command has the same ruling, and the worlds afterwards are alike again.
 pub fn hidden_values_change_no_ruling()
     ensures ruling { (ids : List ℕ) (r : RosterValue) (limit : ℕ) (is_halted : Bool)
         (w v : World) (s : ℕ)
@@ -178,7 +177,7 @@ pub fn hidden_values_change_no_ruling()
         (after_ruling v (ruling ids r limit is_halted v (who.Student s) c)) }
 {}
 
-/// A report is told exactly where the teacher asks, and denied as `NotTeacher` exactly where a student does.
+/// A report is shown exactly if the teacher asks, and denied as `NotTeacher` exactly if a student does.
 pub fn a_report_takes_the_teacher()
     ensures shown { (ids : List ℕ) (r : RosterValue) (w : World) (x : Who) →
         (verdict ids r w x command.Report ≡ verdicts.Show) ↔ (x ≡ who.Teacher) }
@@ -186,16 +185,15 @@ pub fn a_report_takes_the_teacher()
         (verdict ids r w x command.Report ≡ verdicts.Deny d) ↔ DeniesReport x d }
 {}
 
-/// An event happens only where it is legal, the limit of events isn't reached and the journal
-/// isn't halted.
+/// An event happens only if it is legal, the limit of events isn't reached and the journal isn't halted.
 pub fn events_that_happen_are_legal()
     ensures { (ids : List ℕ) (r : RosterValue) (limit : ℕ) (is_halted : Bool) (w : World) (x : Who)
         (c : Command) (e : Event) → length ids ≡ size w → event_of (ruling ids r limit is_halted w x c) ≡ Some e →
         (is_legal r w e ≡ true) × (w.place < limit) × (is_halted ≡ false) }
 {}
 
-/// The nodes that a ruling shows, those that they point at, and the nodes of what an event does are the lab's; of the
-/// set of nodes that a close moves nothing is said.
+/// The nodes that a ruling shows, those that they point at, and the nodes of an event's effect are the lab's. The law
+/// says nothing about the set of nodes that a close moves.
 pub fn rulings_name_nodes()
     ensures { (ids : List ℕ) (r : RosterValue) (limit : ℕ) (is_halted : Bool) (w : World) (x : Who)
         (c : Command) → IsWorldOf ids w → IsRuled ids (ruling ids r limit is_halted w x c) }
@@ -217,8 +215,8 @@ pub fn identifiers_are_names()
         IsEmptyElsewhere (slice_index ids) (configuration w) (with_identifiers ids (configuration w)) }
 {}
 
-/// Under names that keep the order of the nodes a node is visible to the same people, where each name has its
-/// node's owners.
+/// Under names that keep the order of the nodes, a node is visible to the same people, if each name has its node's
+/// owners.
 pub fn visible_keeps_under_names()
     ensures { (f : ℕ → ℕ) (c d : Configuration) (r s : RosterValue) (x : Who) (i : ℕ) →
         IsRenamed f c d → ((j : ℕ) → j < c.size → owners_of s (f j) ≡ owners_of r j) →

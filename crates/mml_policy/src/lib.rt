@@ -1,4 +1,4 @@
-//! Who may see and do what: the clauses of each command, and what the answers show.
+//! The policy, which says who may see and do what: the clauses of each command, and the contents of the answers.
 #![tactic(auto)]
 
 mod clause;

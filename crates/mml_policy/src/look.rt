@@ -6,22 +6,23 @@ use mml_ids::{Items, Memory, Rank};
 use mml_rules::{Kind, Regs, Scene, kind_of};
 use std::alloc::Global;
 
-/// What is shown of a node to its owners and the teacher.
+/// A node as shown to its owners and the teacher.
 #[derive(Debug, Drop)]
 pub struct Look {
     /// The number of the configuration that is shown.
     pub at: u64,
     pub node: Rank,
     pub regs: Regs,
-    /// The rule of the node's chosen move; `None` where no move is chosen.
+    /// The rule of the node's chosen move, or `None` if no move is chosen.
     pub chosen: Option<Kind>,
-    /// The rule that is enabled at the node; `None` where none is.
+    /// The rule that is enabled at the node, or `None` if none is.
     pub enabled: Option<Kind>,
     /// The nodes linked to the node, in rising order, with their registers.
     pub near: Items<(Rank, Regs)>,
 }
 
-/// A node as its owners see it, with the nodes linked to it, for which memory is taken.
+/// Returns a node as its owners see it, with the nodes linked to it, for which memory is allocated. Returns `Memory` if
+/// memory runs out.
 pub fn look_of(alloc: Global, board: &Board, node: Rank) -> Result<Look, Memory>
     requires { node < length board.now.network.registers }
     ensures { IfOk result (λ look. look ≡ look_of board.now node) }
@@ -36,7 +37,7 @@ pub fn look_of(alloc: Global, board: &Board, node: Rank) -> Result<Look, Memory>
     })
 }
 
-/// The nodes linked to `node` in rising order, each with its registers.
+/// Returns the nodes linked to `node` in rising order, each with its registers.
 fn near(alloc: Global, board: &Board, node: Rank) -> Result<Vec<(Rank, Regs)>, Memory>
     requires { node < length board.now.network.registers }
     ensures { IfOk result (λ nodes. nodes.items ≡ near board.now node) }

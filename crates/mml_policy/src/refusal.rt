@@ -1,13 +1,13 @@
 use mml_ids::Memory;
 
-/// Why an act that all clauses allow doesn't happen, or what is ruled isn't told.
+/// Why an act that all clauses allow doesn't happen, or the reply to a ruling can't be made.
 #[derive(Clone, Copy, Debug, PartialEq, Eq)]
 pub enum Refusal {
     /// As many events as the lab allows were granted.
     Full,
     /// The journal is halted, or its sink failed just now.
     Journal,
-    /// Memory was refused.
+    /// Memory ran out.
     Memory,
 }
 
@@ -17,7 +17,7 @@ impl From<Memory> for Refusal {
 
     ghost from_gives = { λ _ e. e ≡ refusal.Memory };
 
-    /// Lets `?` turn memory that was refused into `Refusal::Memory`.
+    /// Turns a failed allocation into `Refusal::Memory`, so that `?` returns it.
     fn from(_memory: Memory) -> Refusal {
         Refusal::Memory
     }

@@ -13,7 +13,7 @@ use mml_ids::Memory;
 use mml_lab::Who;
 use std::alloc::Global;
 
-/// What comes of a command.
+/// The ruling on a command.
 #[derive(Debug, Drop)]
 pub enum Ruling {
     /// A clause doesn't hold.
@@ -22,18 +22,18 @@ pub enum Ruling {
     Seen(See),
     /// What a node shows to its owners and the teacher.
     Looked(Look),
-    /// The report on the board's configuration is told.
+    /// The report on the board's configuration is shown.
     Reported,
-    /// All clauses hold, and no event may follow any longer.
+    /// All clauses hold, but the lab allows no more events.
     Full,
-    /// All clauses hold and an event may follow, but the journal takes no line any longer.
+    /// All clauses hold and an event may follow, but the journal takes no more lines.
     Journal,
-    /// The event happens, and does this.
+    /// The event happens, with this effect.
     Granted { event: Event, done: Done },
 }
 
 impl Ruling {
-    /// The event that happens, if one does.
+    /// Returns the event that happens, if one does.
     pub fn event(&self) -> Option<Event>
         ensures { result ≡ event_of self.now }
     {
@@ -49,11 +49,11 @@ impl Ruling {
     }
 }
 
-/// What comes of a command: the denial of the first clause that doesn't hold; where all hold, what the command asks
-/// to be shown (`Reported` for a report, which the caller makes), or the event that it asks for, with what that does.
-/// No event happens where the limit of events is reached, which is `Full`, nor else where the journal is halted,
-/// which is `Journal`. The error says that memory was refused, which only a look takes.
-// Inlined into its caller, it took other steps for a hidden node than for one that isn't there.
+/// Returns the ruling on a command: the denial of the first clause that doesn't hold; or, if all hold, what the command
+/// asks to be shown (`Reported` for a report, which the caller makes), or the event that it asks for, with its effect.
+/// No event happens if the limit of events is reached, which is `Full`, or else if the journal is halted, which is
+/// `Journal`. Only a look allocates. Returns `Memory` if memory runs out.
+// Inlined into its caller, it took other steps for a hidden node than for one that doesn't exist.
 #[inline(never)]
 pub fn rule_on(
     alloc: Global,

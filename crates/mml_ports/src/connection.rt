@@ -1,4 +1,4 @@
-//! What the parts of a connection share.
+//! The parts of a connection that its threads share.
 use crate::crowd::Crowd;
 use crate::end_reason::EndReason;
 use crate::shared_socket::SharedSocket;
@@ -7,7 +7,8 @@ use std::alloc::Global;
 use std::io;
 use std::sync::{Arc, Wait};
 
-/// What a connection's reader, its writer and what cuts it off share: their host, those at its port, and its socket.
+/// The data that a connection's reader, its writer and its cut-off share: their host, the crowd at its port, and its
+/// socket.
 #[derive(Drop)]
 pub struct SharedConnection<'a, Rt> {
     pub rt: &'a Rt,
@@ -19,8 +20,8 @@ pub struct SharedConnection<'a, Rt> {
 }
 
 impl<'a, Rt> SharedConnection<'a, Rt> {
-    /// Another value of this connection, over the same socket, for one more of its parts; the error is that memory
-    /// is lacking.
+    /// Returns another value of this connection, over the same socket, for one more of its parts. Returns an error if
+    /// memory runs out.
     pub fn share(&self) -> io::Result<SharedConnection<'a, Rt>> {
         let socket = Arc::try_clone(&self.socket)?;
         Ok(SharedConnection { socket, ..*self })
@@ -28,7 +29,7 @@ impl<'a, Rt> SharedConnection<'a, Rt> {
 }
 
 impl<'a, Rt: Wait> SharedConnection<'a, Rt> {
-    /// Keeps why the connection is ended, to be told to the other side, unless a reason is kept already.
+    /// Keeps why the connection is ended, to send it to the other side, unless a reason is kept already.
     pub fn note_end_reason(&self, why: EndReason) {
         self.socket.note_end_reason(self.rt, why);
     }

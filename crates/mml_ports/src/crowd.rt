@@ -1,4 +1,4 @@
-//! Those who are served at a port, and who of them leaves for a newcomer.
+//! The connections that are served at a port, and which of them leaves for a newcomer.
 ghost use Rattle.std.specs.Prelude.{◌<◌, IfSome, vec_len};
 
 use crate::end_reason::EndReason;
@@ -10,37 +10,37 @@ use std::sync::atomic::{AtomicBool, Ordering};
 use std::sync::{Arc, Mutex, Wait};
 use std::time::{Clock, Duration, Instant};
 
-// One in so many seats is for those who haven't greeted.
+// One in this many seats is for connections that haven't greeted.
 const STRANGERS: usize = 3;
 
-// How many seats a name may have where others wait for one.
+// How many seats a name may have if others wait for one.
 const SEATS_OF_A_NAME: usize = 4;
 
-// After how many milliseconds in which newcomers wait a name that has more than `SEATS_OF_A_NAME` gives a seat up: a
-// seat that is being given back is free sooner.
+// After newcomers have waited for this many milliseconds, a name that has more than `SEATS_OF_A_NAME` gives a seat up:
+// a seat that is being freed is free sooner.
 const MOMENT: u64 = 250;
 
-// How many milliseconds one who hasn't greeted, nor was answered, may stay, whoever waits.
+// How many milliseconds a connection that hasn't greeted, and has had no answer, may stay if others wait.
 const GRACE: u64 = 100;
 
-// One who is served.
+// A connection that is served.
 #[derive(Drop)]
 struct Guest {
     socket: Arc<SharedSocket, Global>,
     since: Instant,
-    // The reply to its hello, which tells its name, once that is granted; at the desk only the teacher's.
+    // The reply to its hello, which has its name, once that is granted; at the desk only the teacher's.
     greeting: Option<Vec<u8>>,
     is_leaving: bool,
 }
 
 impl Guest {
-    // Whether the guest hasn't greeted, at the desk not as the teacher, and isn't leaving.
+    // Returns whether the guest hasn't greeted, at the desk not as the teacher, and isn't leaving.
     fn is_stranger(&self) -> bool {
         self.greeting.is_none() && !self.is_leaving
     }
 
-    // Whether the guest is a stranger that has had its time: it was answered or denied, or has been here for `GRACE`.
-    // Who waits for the turn of a denial may wait for it without a seat.
+    // Returns whether the guest is a stranger that has had its time: it was answered or denied, or has been here for
+    // `GRACE`. If it waits for the turn of a denial, it may do so without a seat.
     fn may_go(&self, now: Instant) -> bool {
         self.is_stranger()
             && (self.socket.is_answered.load(Ordering::SeqCst)
@@ -48,7 +48,7 @@ impl Guest {
                 || now.duration_since(self.since) >= Duration::from_millis(GRACE))
     }
 
-    // Whether this guest and another have greeted by one name, and this one isn't leaving.
+    // Returns whether this guest and another have greeted by one name, and this one isn't leaving.
     fn has_name_of(&self, other: &Guest) -> bool {
         match (&self.greeting, &other.greeting) {
             (Some(own), Some(its)) => own.as_slice() == its.as_slice() && !self.is_leaving,
@@ -63,7 +63,7 @@ impl Guest {
     }
 }
 
-/// Those who are served at a port, in the order in which they came.
+/// The connections that are served at a port, in the order in which they came.
 #[derive(Drop)]
 pub struct Crowd {
     guests: Mutex<Vec<Guest>>,
@@ -75,7 +75,7 @@ pub struct Crowd {
 }
 
 impl Crowd {
-    /// The crowd of a port with this many seats, where nobody is served yet.
+    /// Returns the crowd of a port with this many seats, in which nobody is served yet.
     pub fn new(alloc: Global, seats: usize) -> Crowd {
         Crowd {
             guests: Mutex::new(Vec::new(alloc)),
@@ -85,8 +85,8 @@ impl Crowd {
         }
     }
 
-    /// Notes that a connection is served from the instant `since` on; `Memory`, and the connection isn't counted, where
-    /// there is none for it.
+    /// Notes that a connection is served from the instant `since` on. Returns `Memory`, and doesn't count the
+    /// connection, if memory runs out.
     pub fn note_served<Rt: Wait>(
         &self,
         rt: &Rt,
@@ -105,7 +105,7 @@ impl Crowd {
         }
     }
 
-    /// Notes that the hello of the connection of this number was granted, with this reply.
+    /// Notes that the hello of the connection with this number was granted, with this reply.
     pub fn note_greeting<Rt: Wait>(&self, rt: &Rt, alloc: Global, number: u64, reply: &[u8]) {
         let mut greeting = Vec::new(alloc);
         // Without memory it is known by a name that nobody has.
@@ -118,7 +118,7 @@ impl Crowd {
         }
     }
 
-    /// Notes that the connection of this number has left, so that its seat is free again.
+    /// Notes that the connection with this number has left, so that its seat is free again.
     pub fn note_left<Rt: Wait>(&self, rt: &Rt, number: u64) {
         let mut guests = self.guests.lock(rt);
         if let Some(at) = index_of_guest(&guests, number) {
@@ -131,7 +131,7 @@ impl Crowd {
         self.is_wanted.store(is_wanted, Ordering::SeqCst);
     }
 
-    /// Whether a newcomer waits for a seat.
+    /// Returns whether a newcomer waits for a seat.
     pub fn is_wanted(&self) -> bool {
         self.is_wanted.load(Ordering::SeqCst)
     }
@@ -165,10 +165,10 @@ impl Crowd {
         }
     }
 
-    /// Whether a guest is leaving, or one who has left is still owed a denial, or the time to take it.
+    /// Returns whether a guest is leaving, or one that has left is still owed a denial, or the time to read it.
     pub fn is_parting<Rt: Wait>(&self, rt: &Rt) -> bool {
         let is_leaving = is_one_leaving(&self.guests.lock(rt));
-        // The guests are looked at first: one who is owed a denial joins the partings before it stops being a guest.
+        // The guests are checked first: one that is owed a denial joins the partings before it stops being a guest.
         is_leaving || !self.partings.is_empty(rt)
     }
 
@@ -195,7 +195,7 @@ impl Crowd {
     }
 }
 
-// The index of the connection of this number among the guests; none where it isn't there.
+// Returns the index of the connection with this number among the guests, or `None` if it isn't there.
 fn index_of_guest(guests: &Vec<Guest>, number: u64) -> Option<usize>
     ensures { IfSome result (λ index. index < vec_len guests.now) }
 {
@@ -207,7 +207,7 @@ fn index_of_guest(guests: &Vec<Guest>, number: u64) -> Option<usize>
     None
 }
 
-// How many guests haven't greeted, and aren't leaving.
+// Returns how many guests haven't greeted, and aren't leaving.
 fn count_strangers(guests: &Vec<Guest>) -> usize {
     let mut count = 0usize;
     for index in 0..guests.len() {
@@ -218,8 +218,8 @@ fn count_strangers(guests: &Vec<Guest>) -> usize {
     count
 }
 
-// The index of the first guest who hasn't greeted, isn't leaving and has had its time; none where there is no such
-// guest.
+// Returns the index of the first guest that hasn't greeted, isn't leaving and has had its time, or `None` if there is
+// no such guest.
 fn first_who_may_go(guests: &Vec<Guest>, now: Instant) -> Option<usize> {
     for index in 0..guests.len() {
         if guests[index].may_go(now) {
@@ -229,7 +229,7 @@ fn first_who_may_go(guests: &Vec<Guest>, now: Instant) -> Option<usize> {
     None
 }
 
-// Whether one of the guests is leaving.
+// Returns whether one of the guests is leaving.
 fn is_one_leaving(guests: &Vec<Guest>) -> bool {
     for index in 0..guests.len() {
         if guests[index].is_leaving {
@@ -239,7 +239,7 @@ fn is_one_leaving(guests: &Vec<Guest>) -> bool {
     false
 }
 
-// The index of the last guest of a name that has more seats than it may; none where there is no such name.
+// Returns the index of the last guest of a name that has more seats than it may, or `None` if there is no such name.
 fn one_too_many(guests: &Vec<Guest>) -> Option<usize> {
     let mut found = None;
     for index in 0..guests.len() {

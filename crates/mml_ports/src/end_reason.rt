@@ -1,12 +1,12 @@
-//! What a connection is told at its end, outside the replies of its session.
+//! The messages to a connection at its end, outside the replies of its session.
 use mml_hosting::BUSY;
 
-/// Why a connection is ended that might have gone on.
+/// Why a connection is ended by the host.
 #[derive(Clone, Copy, Debug, PartialEq, Eq)]
 pub enum EndReason {
     /// There is no seat for it.
     Busy,
-    /// A line, or a granted hello, wasn't there in time.
+    /// A line, or a granted hello, didn't come in time.
     Late,
     /// A line was longer than a request may be.
     Long,
@@ -15,7 +15,7 @@ pub enum EndReason {
 }
 
 impl EndReason {
-    /// The line that the other side is sent for this reason.
+    /// Returns the line that is sent to the other side for this reason.
     pub fn line(self) -> &'static [u8] {
         match self {
             EndReason::Busy => BUSY,

@@ -1,4 +1,4 @@
-//! The ports of a host over sockets: who comes, who is served and who leaves, and a connection's ends.
+//! The ports of a host over sockets: newcomers, seats and departures, and a connection's two ends.
 #![tactic(auto)]
 
 mod connection;

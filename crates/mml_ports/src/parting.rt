@@ -1,4 +1,4 @@
-//! Connections that have left a port, and are looked after until they are closed.
+//! Connections that have left a port and aren't closed yet.
 use crate::end_reason::EndReason;
 use std::alloc::Global;
 use std::collections::VecDeque;
@@ -12,13 +12,13 @@ use std::time::{Clock, Duration, Instant};
 pub(crate) const UNKNOWN: &[u8] =
     b"{\"clause\":2,\"deny\":\"unknown\",\"text\":\"name and key do not match\"}\n";
 
-/// How many milliseconds the other side has to take what it was told.
+/// How many milliseconds the other side has to read what was sent to it.
 pub(crate) const PARTING: u64 = 20;
 
-// The most bytes that are taken of what the other side sent before its connection is closed.
+// The most bytes that are read of what the other side sent before its connection is closed.
 const PARTING_SIZE: usize = 4096;
 
-// How many connections are looked after before the oldest that was told all is closed early, so that a flood of
+// How many connections are kept here before the oldest that was sent all is closed early, so that a flood of
 // connections doesn't use up the descriptors.
 const MANY_PARTINGS: usize = 64;
 
@@ -26,15 +26,15 @@ const MANY_PARTINGS: usize = 64;
 #[derive(Drop)]
 struct Parting {
     stream: TcpStream,
-    // When it is told what it is owed, or closed if it was told all.
+    // When it is sent what it is owed, or closed if it was sent all.
     next: Instant,
-    // Whether it was told all, so that only its close is left.
+    // Whether it was sent all, so that it only has to be closed.
     is_told: bool,
 }
 
 impl Parting {
-    // Tells the connection the denial that it is owed, and that there is no seat for it, or closes one that was told
-    // all, if the time of that has come. Returns the connection if something is left to do.
+    // If its time has come, sends the connection the denial that it is owed, and that there is no seat for it, or
+    // closes one that was sent all. Returns the connection if something is left to do.
     fn step(self, now: Instant) -> Option<Parting> {
         if now < self.next {
             return Some(self);
@@ -50,10 +50,10 @@ impl Parting {
     }
 }
 
-// Says on a stream that doesn't wait that nothing more comes. Returns the connection, which is closed `PARTING`
-// milliseconds after `now`; none if the other side is gone already.
+// Shuts down the writing side of a stream that doesn't wait. Returns the connection, which is closed `PARTING`
+// milliseconds after `now`, or `None` if the other side is gone already.
 fn closing(stream: TcpStream, now: Instant) -> Option<Parting> {
-    // It is refused if the other side is gone.
+    // This fails if the other side is gone.
     if stream.shutdown(Shutdown::Write).is_err() || !take_unwanted(&stream) {
         return None;
     }
@@ -65,7 +65,7 @@ fn closing(stream: TcpStream, now: Instant) -> Option<Parting> {
     })
 }
 
-// The index of the first connection that was told all; none if there is no such connection.
+// Returns the index of the first connection that was sent all, or `None` if there is no such connection.
 fn first_told(all: &VecDeque<Parting>) -> Option<usize> {
     for index in 0..all.len() {
         if let Some(parting) = all.get(index)
@@ -77,15 +77,15 @@ fn first_told(all: &VecDeque<Parting>) -> Option<usize> {
     None
 }
 
-/// Writes a line, or as much of it as the other side takes within the stream's own time limit. An error is passed over.
+/// Writes a line, or as much of it as the other side takes within the stream's own time limit. Ignores errors.
 pub(crate) fn tell(stream: &TcpStream, line: &[u8]) {
     let mut stream = stream;
     let _ = stream.write(line);
 }
 
 /// Reads and drops what the other side sent, up to 4096 bytes in one read, which waits as long as the stream's own time
-/// limit lets it: a socket that is closed over bytes which nobody took throws away what it has still to send. Returns
-/// whether the other side may send more: false if it has ended, or is gone.
+/// limit allows: a socket that is closed with unread bytes discards what it has still to send. Returns whether the
+/// other side may send more: `false` if it has ended, or is gone.
 pub(crate) fn take_unwanted(stream: &TcpStream) -> bool {
     let mut stream = stream;
     let mut unwanted = [0; PARTING_SIZE];
@@ -96,27 +96,27 @@ pub(crate) fn take_unwanted(stream: &TcpStream) -> bool {
 }
 
 /// The connections that have left a port and aren't closed yet: those that are still owed the denial of their hello,
-/// and those that were told all and have a moment to take it. Nothing here waits for the other side.
+/// and those that were sent all and have a moment to read it. Nothing here waits for the other side.
 #[derive(Drop)]
 pub struct Partings {
     all: Mutex<VecDeque<Parting>>,
 }
 
 impl Partings {
-    /// The list of a port that nobody has left yet.
+    /// Returns the list of a port that nobody has left yet.
     pub fn new(alloc: Global) -> Partings {
         Partings {
             all: Mutex::new(VecDeque::new(alloc)),
         }
     }
 
-    /// Whether no connection is left to look after.
+    /// Returns whether no connection is left here.
     pub fn is_empty<Rt: Wait>(&self, rt: &Rt) -> bool {
         self.all.lock(rt).is_empty()
     }
 
-    /// Takes the stream of a connection that has left, and whose denial has this turn. Without memory, or if the system
-    /// doesn't let the stream be used without waiting, the stream is closed and the denial isn't told.
+    /// Takes the stream of a connection that has left, and whose denial has this turn. If memory runs out, or the
+    /// system doesn't allow non-blocking use, closes the stream without sending the denial.
     pub fn add_owed<Rt: Wait>(&self, rt: &Rt, stream: TcpStream, turn: Instant) {
         if stream.set_nonblocking(true).is_err() {
             return;
@@ -129,9 +129,9 @@ impl Partings {
         let _ = self.all.lock(rt).push_back(parting);
     }
 
-    /// Tells a connection why it ends, if a reason is given and its line fits at once, says that nothing more comes, and
-    /// keeps the stream until the other side had time to take that. Without memory or a clock, or if the system doesn't
-    /// let the stream be used without waiting, the stream is closed at once.
+    /// Sends a connection why it ends, if a reason is given and its line fits at once, shuts down the writing side, and
+    /// keeps the stream until the other side had time to read that. If memory runs out, the clock fails, or the system
+    /// doesn't allow non-blocking use, closes the stream at once.
     pub fn add_ending<Rt: Wait + Clock>(&self, rt: &Rt, stream: TcpStream, why: Option<EndReason>) {
         if stream.set_nonblocking(true).is_err() {
             return;
@@ -146,7 +146,7 @@ impl Partings {
         }
     }
 
-    // Keeps a connection that was told all. If there are many, the first of them that was told all is closed early.
+    // Keeps a connection that was sent all. If there are many, closes the first of them that was sent all early.
     fn keep<Rt: Wait>(&self, rt: &Rt, parting: Parting) {
         let mut all = self.all.lock(rt);
         if all.len() >= MANY_PARTINGS
@@ -157,8 +157,8 @@ impl Partings {
         let _ = all.push_back(parting);
     }
 
-    /// Tells the denial to those whose turn has come, and closes those that had time to take what they were told.
-    /// It waits for nobody; if the clock fails it does nothing.
+    /// Sends the denial to those whose turn has come, and closes those that had time to read what was sent. Waits for
+    /// nobody, and does nothing if the clock fails.
     pub fn tell_due<Rt: Wait + Clock>(&self, rt: &Rt) {
         let mut all = self.all.lock(rt);
         if all.is_empty() {
@@ -177,7 +177,7 @@ impl Partings {
         }
     }
 
-    /// Closes those that were told all before their time, so that their descriptors are free.
+    /// Closes those that were sent all before their time, so that their descriptors are free.
     pub fn close_told<Rt: Wait>(&self, rt: &Rt) {
         let mut all = self.all.lock(rt);
         for _ in 0..all.len() {
@@ -192,8 +192,8 @@ impl Partings {
         }
     }
 
-    /// Closes all connections, since the host is over, once they had `PARTING` milliseconds to take what they were told.
-    /// One that wasn't told its denial yet is told instead that the class has ended.
+    /// Closes all connections, since the host is over, after they had `PARTING` milliseconds to read what was sent. One
+    /// that wasn't sent its denial yet is sent instead that the class has ended.
     pub fn close_all<Rt: Wait + Clock>(&self, rt: &Rt) {
         let mut all = self.all.lock(rt);
         if all.is_empty() {

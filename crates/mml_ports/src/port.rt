@@ -1,4 +1,4 @@
-//! A host's ports, of whose connections no contract knows what they give and take.
+//! A host's ports. No contract knows the bytes of their connections.
 use crate::connection::SharedConnection;
 use crate::crowd::Crowd;
 use crate::end_reason::EndReason;
@@ -25,13 +25,13 @@ const WAITING: usize = 16;
 // How many milliseconds a newcomer may take until its first line has come, before it counts as silent.
 const SILENCE: u64 = 5;
 
-// How often a port is called that doesn't answer.
+// How often the host connects to a port that doesn't answer.
 const CALLS: u32 = 50;
 
-// How many milliseconds an answer to a call is waited for.
+// How many milliseconds it waits for an answer to that.
 const CALL: u64 = 100;
 
-// One who has come, and isn't served yet.
+// A connection that has come, and isn't served yet.
 #[derive(Drop)]
 struct Newcomer<'a, Rt> {
     reader: Incoming<'a, Rt>,
@@ -39,14 +39,14 @@ struct Newcomer<'a, Rt> {
     cut_off: SocketCutOff<'a, Rt>,
     connection: SharedConnection<'a, Rt>,
     since: Instant,
-    // Whether a look at what has come doesn't wait, as it is from the first look on.
+    // Whether reads of its socket don't wait, as from the first check on.
     is_looked_at: bool,
     // What was seen to have come.
     heard: Heard,
 }
 
 impl<'a, Rt: Clock + Wait + Eprint> Newcomer<'a, Rt> {
-    // Hangs up on the newcomer, which is told the reason: `why`, unless one is kept already.
+    // Hangs up on the newcomer and sends it the reason: `why`, unless one is kept already.
     fn turn_away(self, why: EndReason) {
         let mut newcomer = self;
         newcomer.connection.note_end_reason(why);
@@ -76,8 +76,8 @@ impl<'a, Rt: Clock + Wait + Eprint> Newcomer<'a, Rt> {
     }
 }
 
-/// A port at which connections are accepted until the host is over. One for whom there is no seat waits
-/// for it a moment, while others are accepted.
+/// A port at which connections are accepted until the host is over. A connection for which there is no seat waits for
+/// one for a moment, while others are accepted.
 #[derive(Drop)]
 pub struct Port<'a, Rt> {
     rt: &'a Rt,
@@ -88,19 +88,19 @@ pub struct Port<'a, Rt> {
     listener: TcpListener,
     // A connection that was accepted before the port was served.
     first: Option<TcpStream>,
-    // Those who wait for a seat, in the order in which they came.
+    // The newcomers that wait for a seat, in the order in which they came.
     waiting: VecDeque<Newcomer<'a, Rt>>,
-    // Since when somebody has waited for a seat without a break; none while nobody waits.
+    // Since when somebody has waited for a seat without a break, or `None` while nobody waits.
     wanted_since: Option<Instant>,
-    // How many have come.
+    // How many connections have come.
     count: u64,
 }
 
-// What an accept brings: a connection's reader and writer, and what cuts it off, where there is one.
+// An accepted connection: its reader and writer, and its cut-off, if there is one.
 type Brought<'a, Rt> = Accepted<Incoming<'a, Rt>, ReplyWriter<'a, Rt>, SocketCutOff<'a, Rt>>;
 
 impl<'a, Rt: Clock + Wait + Eprint> Port<'a, Rt> {
-    /// A port to which nobody has come yet, but for the connection `first`, if there is one.
+    /// Returns a port to which nobody has come yet, except the connection `first`, if there is one.
     pub fn new(
         rt: &'a Rt,
         alloc: Global,
@@ -123,17 +123,17 @@ impl<'a, Rt: Clock + Wait + Eprint> Port<'a, Rt> {
         }
     }
 
-    // Whether somebody waits for a seat, is leaving one, or is owed a denial or the time to take it: then no accept
-    // may wait.
+    // Returns whether somebody waits for a seat, is leaving one, or is owed a denial or the time to read it: then no
+    // accept may wait.
     fn is_hurried(&self) -> bool {
         !self.waiting.is_empty() || self.crowd.is_parting(self.rt)
     }
 
-    // Accepts the next connection, which isn't queued yet. While the port is hurried it isn't waited for: the error is
+    // Accepts the next connection, which isn't queued yet. While the port is hurried, doesn't wait: returns the error
     // `WouldBlock` if none has come. Any other error is the system's, or out of memory.
     fn accept(&mut self) -> io::Result<Newcomer<'a, Rt>> {
         let stream = self.next_stream()?;
-        // If the system refuses this, replies still go out, only later.
+        // If the system refuses this, replies are still sent, only later.
         let _ = stream.set_nodelay(true);
         stream.set_write_timeout(Some(Duration::from_secs(WRITE_LIMIT)))?;
         self.count = self.count.wrapping_add(1);
@@ -163,7 +163,7 @@ impl<'a, Rt: Clock + Wait + Eprint> Port<'a, Rt> {
         })
     }
 
-    // The stream of the next connection: the one that was accepted before, or one that comes.
+    // Returns the stream of the next connection: the one that was accepted before, or one that comes.
     fn next_stream(&mut self) -> io::Result<TcpStream> {
         match self.first.take() {
             Some(stream) => Ok(stream),
@@ -190,9 +190,9 @@ impl<'a, Rt: Clock + Wait + Eprint> Port<'a, Rt> {
         }
     }
 
-    // Returns one of those who wait, to be served, if there is a seat. If not, a guest who has to leave is sent away, and
-    // the first who waits is turned away once it has waited for half a second. The crowd is told whether a newcomer
-    // waits for a seat. Returns none too if nobody waits, or, with nothing else done, if the clock fails.
+    // Returns one of those that wait, to be served, if there is a seat. If not, ends a guest that has to leave, and
+    // turns the first that waits away once it has waited for half a second. Notes in the crowd whether a newcomer waits
+    // for a seat. Returns `None` if nobody waits, too, or, with nothing else done, if the clock fails.
     fn let_in(&mut self) -> Option<Brought<'a, Rt>> {
         let Some(first) = self.waiting.front() else {
             self.wanted_since = None;
@@ -256,9 +256,10 @@ impl<'a, Rt: Clock + Wait + Eprint> Port<'a, Rt> {
         first_with_line.unwrap_or(0)
     }
 
-    // Takes the first to speak out of those who wait, to be served from now on; none where nobody waits.
+    // Removes the first that sent a line from those that wait, to be served from now on. Returns `None` if nobody
+    // waits.
     fn bring(&mut self, now: Instant) -> Option<Brought<'a, Rt>> {
-        // One who waits alone isn't looked at.
+        // One that waits alone isn't checked.
         let index = if self.waiting.len() > 1 {
             self.first_to_speak()
         } else {
@@ -287,7 +288,7 @@ impl<'a, Rt: Clock + Wait + Eprint> Port<'a, Rt> {
         Some(Accepted::Came((reader, writer), cut_off))
     }
 
-    // Turns away all who wait, and closes all connections that have left, since the host is over; returns that it is.
+    // Turns away all that wait, and closes all connections that have left, since the host is over. Returns that it is.
     fn turn_all_away(&mut self) -> Brought<'a, Rt> {
         for _ in 0..self.waiting.len() {
             if let Some(first) = self.waiting.pop_front() {
@@ -298,10 +299,10 @@ impl<'a, Rt: Clock + Wait + Eprint> Port<'a, Rt> {
         Accepted::Over
     }
 
-    // After an accept failed, waits for a tenth of a second at most until a session ends, so that the next may succeed;
-    // not if a signal or the other side broke it off. `ended` is how many sessions had ended before the accept. If memory
-    // ran out, that is noted. If the system refused the accept otherwise, descriptors are given back: the first who waits
-    // for a seat is turned away, and connections that were told all are closed.
+    // After an accept failed, waits for at most a tenth of a second until a session ends, so that the next may succeed,
+    // unless a signal or the other side broke it off. `ended` is how many sessions had ended before the accept. If
+    // memory ran out, notes that. If the system refused the accept otherwise, frees descriptors: turns the first that
+    // waits for a seat away, and closes connections that were sent all.
     fn put_off(&mut self, kind: ErrorKind, ended: u64) {
         match kind {
             ErrorKind::OutOfMemory => self.state.note_memory(self.rt),
@@ -324,8 +325,8 @@ impl<'a, Rt: Clock + Wait + Eprint> Accept<
     ReplyWriter<'a, Rt>,
     SocketCutOff<'a, Rt>,
 > for Port<'a, Rt> {
-    // Gives one who waits, if there is a seat, before or after it accepts one more; nobody where there is no seat or
-    // none could be accepted, and over once the host is.
+    // Returns one that waits, if there is a seat, before or after it accepts one more. Returns nobody if there is no
+    // seat or none could be accepted, and `Over` once the host is.
     fn accept_next(&mut self) -> Brought<'a, Rt> {
         let ended = self.state.ended_count(self.rt);
         if self.state.is_over(self.rt) {
@@ -355,21 +356,21 @@ impl<'a, Rt: Clock + Wait + Eprint> Accept<
     }
 }
 
-/// Notes in the host's state that a session has ended. Where the host is over by that, or since a port couldn't be
-/// served, the accepts that wait are woken, each by a connection to its port.
+/// The signal that a session has ended. Notes it in the host's state. If the host is over by that, or since a port
+/// couldn't be served, wakes the accepts that wait, each by a connection to its port.
 #[derive(Drop)]
 pub struct EndBell<'a, Rt> {
     pub rt: &'a Rt,
     pub state: &'a HostState,
     pub ports: [SocketAddr; 2],
-    /// A descriptor that is given back at the end, so that one is free for the connection that wakes an accept.
+    /// A descriptor that is closed at the end, so that one is free for the connection that wakes an accept.
     pub spare: Mutex<Option<TcpListener>>,
 }
 
 impl<'a, Rt: Net<Listener = TcpListener, Stream = TcpStream> + Clock + Wait> Bell
     for EndBell<'a, Rt> {
-    // Notes that a session has ended. Where `is_dismissed`, by the teacher's bye or since a port couldn't be served,
-    // notes that the host is over, gives the spare descriptor back, and wakes the accepts at both ports.
+    // Notes that a session has ended. If `is_dismissed`, by the teacher's bye or since a port couldn't be served, notes
+    // that the host is over, closes the spare descriptor, and wakes the accepts at both ports.
     fn ring(&self, is_dismissed: bool) {
         self.state.note_end(self.rt, is_dismissed);
         if is_dismissed {

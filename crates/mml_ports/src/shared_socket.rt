@@ -1,4 +1,4 @@
-//! A connection's socket: one descriptor, which its reader, its writer and what cuts it off share.
+//! A connection's socket: one descriptor, which its reader, its writer and its cut-off share.
 use crate::end_reason::EndReason;
 use mml_codec::{Request, read_request};
 use std::alloc::Global;
@@ -10,7 +10,7 @@ use std::time::{Clock, Duration};
 // How many hellos of a connection may be denied before it is ended.
 const DENIALS: u64 = 3;
 
-// How many bytes are looked at of what a newcomer has sent.
+// How many bytes are checked of what a newcomer has sent.
 const GLANCE: usize = 512;
 
 /// What has come from a newcomer.
@@ -28,7 +28,7 @@ pub(crate) enum Heard {
 /// each read and each write fails.
 #[derive(Drop)]
 pub struct SharedSocket {
-    /// By which it is known among those of its port.
+    /// Its number among the connections of its port.
     pub number: u64,
     pub(crate) stream: RwLock<Option<TcpStream>>,
     // Whether its session has begun to read.
@@ -37,21 +37,21 @@ pub struct SharedSocket {
     pub(crate) is_greeted: AtomicBool,
     // Whether the connection may stay: a hello was granted, at the desk the teacher's.
     pub(crate) may_stay: AtomicBool,
-    // Whether a reply went out.
+    // Whether a reply was sent.
     pub(crate) is_answered: AtomicBool,
     // How many of its hellos were denied.
     denied: AtomicU64,
-    // Whether its thread is writing: who ends the connection then doesn't wait for that.
+    // Whether its thread is writing: a thread that ends the connection then doesn't wait for that.
     is_writing: AtomicBool,
     // Whether another thread ends the connection.
     is_ending: AtomicBool,
     end_reason: Mutex<Option<EndReason>>,
-    // By which a thread waits until another ends the connection.
+    // The condition on which a thread waits until another ends the connection.
     ending: Condvar,
 }
 
 impl SharedSocket {
-    /// A shared socket over this stream, from which nobody has read.
+    /// Returns a shared socket over this stream, from which nobody has read.
     pub fn new(stream: TcpStream, number: u64) -> SharedSocket {
         SharedSocket {
             number,
@@ -76,7 +76,7 @@ impl SharedSocket {
         }
     }
 
-    /// Why the connection is ended, if that is known already.
+    /// Returns why the connection is ended, if that is known already.
     pub(crate) fn end_reason<Rt: Wait>(&self, rt: &Rt) -> Option<EndReason> {
         *self.end_reason.lock(rt)
     }
@@ -101,7 +101,7 @@ impl SharedSocket {
         }
     }
 
-    /// Whether the connection is ended for want of a seat.
+    /// Returns whether the connection is ended because there is no seat.
     pub(crate) fn is_turned_away<Rt: Wait>(&self, rt: &Rt) -> bool {
         matches!(self.end_reason(rt), Some(EndReason::Busy))
     }
@@ -117,13 +117,13 @@ impl SharedSocket {
         };
         let stream = self.stream.read(rt);
         if let Some(stream) = &*stream {
-            // It is refused where the other side is gone.
+            // This fails if the other side is gone.
             let _ = stream.shutdown(how);
         }
     }
 
-    // Keeps the reason, unless one is kept already, and wakes who waits for the end: both under the lock of the reason,
-    // so that nobody is woken before it is kept.
+    // Keeps the reason, unless one is kept already, and wakes the thread that waits for the end: both under the lock of
+    // the reason, so that it isn't woken before the reason is kept.
     fn begin_end<Rt: Wait>(&self, rt: &Rt, why: EndReason) {
         let mut reason = self.end_reason.lock(rt);
         if reason.is_none() {
@@ -133,7 +133,7 @@ impl SharedSocket {
         self.ending.notify_all();
     }
 
-    /// Waits until another thread ends the connection, for `time` at most.
+    /// Waits until another thread ends the connection, for at most `time`.
     pub(crate) fn wait_for_end<Rt: Wait + Clock>(&self, rt: &Rt, time: Duration) {
         let _ended = self
             .ending
@@ -142,7 +142,7 @@ impl SharedSocket {
             });
     }
 
-    /// Notes that a write begins. Gives whether it may: false where another thread ends the connection.
+    /// Notes that a write begins. Returns whether it may: `false` if another thread ends the connection.
     pub(crate) fn begin_write(&self) -> bool {
         self.is_writing.store(true, Ordering::SeqCst);
         !self.is_ending.load(Ordering::SeqCst)
@@ -158,12 +158,12 @@ impl SharedSocket {
         self.denied.fetch_add(1, Ordering::SeqCst);
     }
 
-    /// Whether a hello of the connection was denied.
+    /// Returns whether a hello of the connection was denied.
     pub(crate) fn was_denied(&self) -> bool {
         self.denied.load(Ordering::SeqCst) > 0
     }
 
-    /// Whether nothing more is to be read: another thread ends the connection, or too many hellos were denied.
+    /// Returns whether nothing more is to be read: another thread ends the connection, or too many hellos were denied.
     pub(crate) fn is_done(&self) -> bool {
         self.is_ending.load(Ordering::SeqCst) || self.denied.load(Ordering::SeqCst) >= DENIALS
     }

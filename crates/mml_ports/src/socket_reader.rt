@@ -1,4 +1,4 @@
-//! The end of a connection from which lines are read, each within its time.
+//! The end of a connection from which lines are read, each with its deadline.
 ghost use Rattle.std.specs.Prelude.{◌≤◌, length};
 ghost use Rattle.std.specs.Io.{ReadsAtMost};
 
@@ -22,7 +22,7 @@ pub const DESK_GREETING: u64 = 5;
 /// take any time.
 pub const NEXT_LINE: u64 = 600;
 
-// How the first line begins: as a JSON object does, otherwise, or not yet.
+// The beginning of the first line: that of a JSON object, another, or none yet.
 #[derive(Clone, Copy, PartialEq, Eq)]
 enum FirstLine {
     Awaited,
@@ -31,32 +31,33 @@ enum FirstLine {
 }
 
 /// The end from which lines are read. A read fails if a line takes too long, however its bytes come. Until a hello is
-/// granted, at the desk the teacher's, a read returns one line at most, and fails after ten seconds, at the desk five,
-/// whatever is said.
+/// granted, at the desk the teacher's, a read returns at most one line, and fails after ten seconds, at the desk five,
+/// whatever is sent.
 #[derive(Drop)]
 pub struct SocketReader<'a, Rt> {
     pub(crate) connection: SharedConnection<'a, Rt>,
-    // When the hello has to be granted, and then when the line that is being read has to be there.
+    // The deadline of the hello, and then that of the line that is being read.
     deadline: Option<Instant>,
-    // How long each line after the hello may take, where there is an end to it.
+    // How long each line after the hello may take, if it has a deadline.
     patience: Option<Duration>,
     // Whether the connection may stay, as the last read found it.
     may_stay: bool,
-    // How the first line begins.
+    // The beginning of the first line.
     first: FirstLine,
     // Whether the first line was read to its end.
     is_first_line_read: bool,
     // How many bytes of the line that is being read have come.
     size: usize,
-    // How long the socket lets a read wait.
+    // The socket's read timeout.
     limit: Option<Duration>,
 }
 
-/// A reader that a signal doesn't end.
+/// A reader that retries after a signal.
 pub type Incoming<'a, Rt> = Retrying<SocketReader<'a, Rt>>;
 
 impl<'a, Rt: Clock + Wait> SocketReader<'a, Rt> {
-    /// A reader of the connection's socket. The time for its hello begins now; the error is the clock's.
+    /// Returns a reader of the connection's socket, and starts the deadline of its hello. Returns an error if the clock
+    /// fails.
     pub fn new(connection: SharedConnection<'a, Rt>) -> io::Result<Incoming<'a, Rt>> {
         let now = Instant::now(connection.rt)?;
         let (greeting, patience) = if connection.is_desk {
@@ -76,8 +77,8 @@ impl<'a, Rt: Clock + Wait> SocketReader<'a, Rt> {
         }))
     }
 
-    // How long a read may still wait, or none if it may wait for ever. Once the connection may stay, a line that isn't
-    // begun has its whole time. The error is that the time is over, or the clock's.
+    // Returns how long a read may still wait, or `None` if it may wait for ever. Once the connection may stay, a line
+    // that isn't begun has its whole time. Returns an error if the deadline is over, or the clock fails.
     fn time_left(&self) -> io::Result<Option<Duration>> {
         if self.may_stay && self.size == 0 {
             return Ok(self.patience);
@@ -92,7 +93,7 @@ impl<'a, Rt: Clock + Wait> SocketReader<'a, Rt> {
         Ok(Some(left))
     }
 
-    // Begins the time of the next line, if there is an end to it; the error is the clock's.
+    // Restarts the deadline of the next line, if it has one. Returns an error if the clock fails.
     fn renew(&mut self) -> io::Result<()> {
         self.deadline = match self.patience {
             Some(patience) => Instant::now(self.connection.rt)?.checked_add(patience),
@@ -101,8 +102,8 @@ impl<'a, Rt: Clock + Wait> SocketReader<'a, Rt> {
         Ok(())
     }
 
-    // Reads what has come, or comes within the time that is left, and gives how many bytes. The socket is told the time
-    // only where it is another than the one that it was told last.
+    // Reads what has come, or comes before the deadline, and returns how many bytes. Sets the socket's timeout only if
+    // it differs from the last one.
     fn read_in_time(&mut self, buf: &mut [u8]) -> io::Result<usize>
         ensures { ReadsAtMost result buf.new }
     {
@@ -122,8 +123,8 @@ impl<'a, Rt: Clock + Wait> SocketReader<'a, Rt> {
         }
     }
 
-    // Reads what has come, or comes within the time that is left, up to the end of a line, and returns how many bytes:
-    // before the connection may stay nothing after that line is taken.
+    // Reads what has come, or comes before the deadline, up to the end of a line, and returns how many bytes: before
+    // the connection may stay, nothing after that line is read.
     fn read_line_in_time(&mut self, buf: &mut [u8]) -> io::Result<usize>
         ensures { ReadsAtMost result buf.new }
     {
@@ -141,9 +142,9 @@ impl<'a, Rt: Clock + Wait> SocketReader<'a, Rt> {
         }
     }
 
-    // Takes note of bytes that were read: how long the line is, which is kept as the reason of the end if it is too
-    // long; how the first line begins; and, once the connection may stay, that the time of the next line begins when one
-    // ends. The error is the clock's.
+    // Notes bytes that were read: how long the line is, which becomes the reason of the end if it is too long; the
+    // beginning of the first line; and, once the connection may stay, that the deadline of the next line starts when
+    // one ends. Returns an error if the clock fails.
     fn note_bytes(&mut self, bytes: &[u8]) -> io::Result<()> {
         let mut has_line = false;
         let mut is_long = false;
@@ -166,7 +167,7 @@ impl<'a, Rt: Clock + Wait> SocketReader<'a, Rt> {
         Ok(())
     }
 
-    // Takes note of a byte, if it is one of the first line: how that begins, and whether it is read to its end.
+    // Notes a byte, if it is one of the first line: that line's beginning, and whether it is read to its end.
     fn note_first_line(&mut self, byte: u8) {
         if self.is_first_line_read {
             return;
@@ -184,12 +185,12 @@ impl<'a, Rt: Clock + Wait> SocketReader<'a, Rt> {
 }
 
 impl<'a, Rt: Clock + Wait> Read for SocketReader<'a, Rt> {
-    // Reads within the time of the hello or of the line, and gives how many bytes; where the time is over that is kept
-    // as the reason of the end. It gives no bytes where nothing more is to be read, or the class is dismissed.
+    // Reads before the deadline of the hello or of the line, and returns how many bytes. If the deadline is over, keeps
+    // that as the reason of the end. Returns no bytes if nothing more is to be read, or the class is dismissed.
     fn read(&mut self, buf: &mut [u8]) -> io::Result<usize> {
         let socket = &self.connection.socket;
         socket.is_served.store(true, Ordering::SeqCst);
-        // Nothing more is read where the first line, which was answered, was no JSON object.
+        // Nothing more is read if the first line, which was answered, was no JSON object.
         if socket.is_done() || self.is_first_line_read && self.first == FirstLine::Other {
             return Ok(0);
         }
@@ -222,8 +223,8 @@ impl<'a, Rt: Clock + Wait> Read for SocketReader<'a, Rt> {
     }
 }
 
-// How many bytes the first line among the first `count` bytes has, with its newline; where none ends there, how many
-// bytes there are up to `count`.
+// Returns how many bytes the first line among the first `count` bytes has, with its newline, or `count` if none ends
+// there.
 fn end_of_line(bytes: &[u8], count: usize) -> usize
     ensures { result ≤ length bytes.now }
 {

@@ -21,27 +21,27 @@ use std::{io, thread};
 /// How many seconds a write may wait until the other side takes a byte.
 pub const WRITE_LIMIT: u64 = 10;
 
-// In the last so many milliseconds before the turn of its denial a connection that is being ended doesn't wait for it.
+// In this many milliseconds before the turn of its denial, a connection that is being ended doesn't wait for it.
 const NEAR: u64 = 500;
 
-// How the reply to a hello that is granted begins, before the name.
+// The beginning of the reply to a hello that is granted, before the name.
 const GREETED: &[u8] = b"{\"ok\":\"hello\",\"who\":\"";
 
-// How the reply to a hello that is granted ends, behind the name.
+// The end of the reply to a hello that is granted, after the name.
 const GREETED_END: &[u8] = b"\"}\n";
 
 // The reply to a bye.
 const BID: &[u8] = b"{\"ok\":\"bye\"}\n";
 
-/// The end to which replies are written. Until a hello is granted it takes note of each reply before that goes out, and
-/// holds back denials of a name and key.
+/// The end to which replies are written. Until a hello is granted it notes each reply before that is sent, and delays
+/// denials of a name and key.
 #[derive(Drop)]
 pub struct SocketWriter<'a, Rt> {
     connection: SharedConnection<'a, Rt>,
     // Whether the teacher has greeted here, at the desk.
     is_teachers: bool,
-    // How many bytes of the line that is being written have gone out, if they begin the reply to a bye; none if the line
-    // is another one.
+    // How many bytes of the line that is being written were sent, if they begin the reply to a bye, or `None` if the
+    // line is another one.
     farewell: Option<usize>,
     // Whether the other side has taken nothing for too long.
     is_deaf: bool,
@@ -50,10 +50,10 @@ pub struct SocketWriter<'a, Rt> {
 }
 
 impl<'a, Rt: Clock + Wait + Eprint> SocketWriter<'a, Rt> {
-    // Takes note of a reply before it goes out, until a hello is granted. A denial of a name and key is counted, and
-    // standard error tells how many there were where `HostState::note_denial` gives that. Gives the turn of such a
-    // denial, once that has come, or is near and the connection is being ended; none for any other reply. The error is
-    // the clock's.
+    // Notes a reply before it is sent, until a hello is granted. A denial of a name and key is counted, and the count
+    // is printed on standard error if `HostState::note_denial` returns it. Returns the turn of such a denial, once that
+    // has come, or is near and the connection is being ended, or `None` for any other reply. Returns an error if the
+    // clock fails.
     fn note_reply(&mut self, reply: &[u8]) -> io::Result<Option<Instant>> {
         let SharedConnection {
             rt,
@@ -71,7 +71,7 @@ impl<'a, Rt: Clock + Wait + Eprint> SocketWriter<'a, Rt> {
             let is_teacher = state.is_teachers_name(name);
             self.is_teachers = *is_desk && is_teacher;
             socket.is_greeted.store(true, Ordering::SeqCst);
-            // At the desk who isn't the teacher stays a stranger.
+            // At the desk anyone but the teacher stays a stranger.
             if !*is_desk || is_teacher {
                 crowd.note_greeting(rt, *alloc, socket.number, reply);
                 socket.may_stay.store(true, Ordering::SeqCst);
@@ -91,7 +91,7 @@ impl<'a, Rt: Clock + Wait + Eprint> SocketWriter<'a, Rt> {
         Ok(None)
     }
 
-    // Notes that a reply has gone out. Who may not stay then leaves at once, if a newcomer needs the seat.
+    // Notes that a reply was sent. A connection that may not stay then leaves at once, if a newcomer needs the seat.
     fn note_answered(&self) {
         let SharedConnection {
             rt,
@@ -105,7 +105,8 @@ impl<'a, Rt: Clock + Wait + Eprint> SocketWriter<'a, Rt> {
         }
     }
 
-    // Waits for the turn of a denial; in the last half second before it, only until another thread ends the connection.
+    // Waits for the turn of a denial, and in the last half second before it only until another thread ends the
+    // connection.
     fn wait_for_turn(&self, turn: Instant) -> io::Result<()> {
         let rt = self.connection.rt;
         let wait = turn.duration_since(Instant::now(rt)?);
@@ -115,8 +116,9 @@ impl<'a, Rt: Clock + Wait + Eprint> SocketWriter<'a, Rt> {
         Ok(())
     }
 
-    // Writes what the other side takes within `WRITE_LIMIT`, and gives how many bytes; an error where the socket was
-    // given back, or refuses it. One that takes less than all, after as long as the limit, is deaf from then on.
+    // Writes what the other side takes within `WRITE_LIMIT`, and returns how many bytes. Returns an error if the socket
+    // was closed, or refuses the write. If the other side takes less than all within the limit, no more is written to
+    // it from then on.
     fn write_now(&mut self, buf: &[u8]) -> io::Result<usize>
         ensures { WritesAtMost result buf.now }
     {
@@ -135,8 +137,8 @@ impl<'a, Rt: Clock + Wait + Eprint> SocketWriter<'a, Rt> {
         }
     }
 
-    // Keeps the turn of a denial where the connection is being ended for want of a seat: it is told later, and all
-    // bytes of `buf` count as written. Any other reply fails, and so does a denial where the end has another reason.
+    // Keeps the turn of a denial if the connection is being ended because there is no seat: it is sent later, and all
+    // bytes of `buf` count as written. Any other reply fails, and so does a denial if the end has another reason.
     fn leave_owed(&mut self, buf: &[u8], turn: Option<Instant>) -> io::Result<usize>
         ensures { WritesAtMost result buf.now }
     {
@@ -148,9 +150,9 @@ impl<'a, Rt: Clock + Wait + Eprint> SocketWriter<'a, Rt> {
         Ok(buf.len())
     }
 
-    // Writes bytes that end with the reply to the teacher's bye, which ends the class, and returns how many went out:
-    // under the lock, so that a reader that has read something meanwhile waits until it is known whether the reply is
-    // out.
+    // Writes bytes that end with the reply to the teacher's bye, which ends the class, and returns how many were sent.
+    // It does so under the lock, so that a reader that has read something meanwhile waits until it is known whether the
+    // reply is sent.
     fn write_farewell(&mut self, buf: &[u8]) -> io::Result<usize>
         ensures { WritesAtMost result buf.now }
     {
@@ -161,7 +163,7 @@ impl<'a, Rt: Clock + Wait + Eprint> SocketWriter<'a, Rt> {
         Ok(taken)
     }
 
-    // Whether a line begins with the next byte that is written.
+    // Returns whether a line begins with the next byte that is written.
     fn is_at_line(&self) -> bool {
         match self.farewell {
             Some(count) => count == 0 || count == BID.len(),
@@ -169,8 +171,8 @@ impl<'a, Rt: Clock + Wait + Eprint> SocketWriter<'a, Rt> {
         }
     }
 
-    // Hangs up on the connection whose socket this is. One that leaves for a newcomer, or was never served, is told why,
-    // and its stream is looked after by the port. Any other is waited for here: it has a moment to take what was sent.
+    // Hangs up on the connection of this socket. One that leaves for a newcomer, or was never served, is sent the
+    // reason, and the port closes its stream. Any other is waited for here: it has a moment to read what was sent.
     fn part_from(&self, stream: TcpStream) {
         let SharedConnection {
             rt,
@@ -201,8 +203,8 @@ impl<'a, Rt: Clock + Wait + Eprint> SocketWriter<'a, Rt> {
     }
 }
 
-// How many bytes of the reply to a bye the line has that is being written, after `bytes` more: all of them if that
-// reply was just written, none if the line is another one. `farewell` is how many it had before.
+// Returns how many bytes of the reply to a bye the line has that is being written, after `bytes` more: all of them if
+// that reply was just written, and `None` if the line is another one. `farewell` is how many it had before.
 fn farewell_after(farewell: Option<usize>, bytes: &[u8]) -> Option<usize> {
     let mut farewell = farewell;
     for byte in bytes.iter() {
@@ -220,15 +222,15 @@ fn farewell_after(farewell: Option<usize>, bytes: &[u8]) -> Option<usize> {
     farewell
 }
 
-// The name in the reply to a hello that is granted; none in another reply.
+// Returns the name in the reply to a hello that is granted, or `None` for another reply.
 fn greeted_name(reply: &[u8]) -> Option<&[u8]> {
     reply.strip_prefix(GREETED)?.strip_suffix(GREETED_END)
 }
 
 impl<'a, Rt: Clock + Wait + Eprint> Write for SocketWriter<'a, Rt> {
-    // Takes note of a reply, holds a denial of a name and key back until its turn, and returns how many bytes went out;
-    // the reply to the teacher's bye, also behind other replies or in pieces, dismisses the class. It fails if the other
-    // side took nothing for too long, or the connection is being ended, but for a denial that is told later.
+    // Notes a reply, delays a denial of a name and key until its turn, and returns how many bytes were sent. The reply
+    // to the teacher's bye, even after other replies or in pieces, dismisses the class. Fails if the other side took
+    // nothing for too long, or the connection is being ended, except for a denial that is sent later.
     fn write(&mut self, buf: &[u8]) -> io::Result<usize> {
         if self.is_deaf {
             return Err(Error::from(ErrorKind::TimedOut));
@@ -254,20 +256,20 @@ impl<'a, Rt: Clock + Wait + Eprint> Write for SocketWriter<'a, Rt> {
         Ok(taken)
     }
 
-    // Does nothing: no byte is held back.
+    // Does nothing: no bytes are buffered.
     fn flush(&mut self) -> io::Result<()> {
         Ok(())
     }
 }
 
-/// A writer that a signal doesn't end, and by which the other side is told that nothing more comes.
+/// A writer that retries after a signal, and shuts down the writing side at the end.
 #[derive(Drop)]
 pub struct ReplyWriter<'a, Rt> {
     end: Retrying<SocketWriter<'a, Rt>>,
 }
 
 impl<'a, Rt: Clock + Wait + Eprint> ReplyWriter<'a, Rt> {
-    /// A writer to the connection's socket, to which nothing was written yet.
+    /// Returns a writer to the connection's socket, to which nothing was written yet.
     pub fn new(connection: SharedConnection<'a, Rt>) -> ReplyWriter<'a, Rt> {
         ReplyWriter {
             end: Retrying::new(SocketWriter {
@@ -282,19 +284,20 @@ impl<'a, Rt: Clock + Wait + Eprint> ReplyWriter<'a, Rt> {
 }
 
 impl<'a, Rt: Clock + Wait + Eprint> Write for ReplyWriter<'a, Rt> {
-    // Writes to the connection's socket, again where a signal interrupted it, and gives how many bytes went out.
+    // Writes to the connection's socket, retries if a signal interrupted it, and returns how many bytes were sent.
     fn write(&mut self, buf: &[u8]) -> io::Result<usize> {
         self.end.write(buf)
     }
 
-    // Does nothing: no byte is held back.
+    // Does nothing: no bytes are buffered.
     fn flush(&mut self) -> io::Result<()> {
         Ok(())
     }
 }
 
 impl<'a, Rt: Clock + Wait + Eprint> HangUp for ReplyWriter<'a, Rt> {
-    // Gives the socket back, and hangs up on the connection, once. Who was never served leaves the crowd here.
+    // Closes the socket, and hangs up on the connection, once. A connection that was never served leaves the crowd
+    // here.
     fn hang_up(&mut self) {
         let writer = &self.end.inner;
         let SharedConnection {
@@ -308,14 +311,14 @@ impl<'a, Rt: Clock + Wait + Eprint> HangUp for ReplyWriter<'a, Rt> {
         if let Some(stream) = stream {
             writer.part_from(stream);
         }
-        // Who was served leaves its seat when that may be used again, in `SocketSession::keep`.
+        // A connection that was served leaves its seat when that may be used again, in `SocketSession::keep`.
         if !socket.is_served.load(Ordering::SeqCst) {
             crowd.note_left(rt, socket.number);
         }
     }
 }
 
-// Says why the connection is ended, if the other side takes that within a moment.
+// Sends why the connection is ended, if the other side reads that within a moment.
 fn say(stream: &TcpStream, why: EndReason) {
     if stream
         .set_write_timeout(Some(Duration::from_millis(PARTING)))
@@ -325,14 +328,14 @@ fn say(stream: &TcpStream, why: EndReason) {
     }
 }
 
-/// What ends the connection from another thread.
+/// Ends the connection from another thread.
 #[derive(Drop)]
 pub struct SocketCutOff<'a, Rt> {
     connection: SharedConnection<'a, Rt>,
 }
 
 impl<'a, Rt: Wait> SocketCutOff<'a, Rt> {
-    /// What ends this connection from another thread.
+    /// Returns the cut-off of this connection, for another thread.
     pub fn new(connection: SharedConnection<'a, Rt>) -> SocketCutOff<'a, Rt> {
         SocketCutOff { connection }
     }
@@ -357,8 +360,8 @@ impl<'a, Rt: Wait> CutOff for SocketCutOff<'a, Rt> {
     }
 }
 
-/// What is kept of a session over a socket once it has ended: only what a contract says of it. Its seat is free
-/// again, and want of memory was told to the host.
+/// The part of a session over a socket that is kept once it has ended: only what a contract says of it. Its seat is
+/// free again, and running out of memory was noted in the host's state.
 #[derive(Drop)]
 pub struct SocketSession<'a, Rt>(Snapshot<ServedSession<Incoming<'a, Rt>, ReplyWriter<'a, Rt>>>);
 
@@ -366,8 +369,8 @@ impl<'a, Rt: Clock + Wait + Eprint> Keep<Incoming<'a, Rt>, ReplyWriter<'a, Rt>>
     for SocketSession<'a, Rt> {
     ghost shows = { λ kept. kept.0.value };
 
-    // Frees the seat of a session that has ended, and notes in the host's state if it wanted memory. What is kept
-    // shows the session to contracts alone.
+    // Frees the seat of a session that has ended, and notes in the host's state if it ran out of memory. Only contracts
+    // see the session in what is kept.
     fn keep(session: ServedSession<Incoming<'a, Rt>, ReplyWriter<'a, Rt>>) -> SocketSession<'a, Rt>
         ensures { result.0.value ≡ session.entry }
     {

@@ -1,4 +1,4 @@
-//! What the threads of a host tell one another.
+//! The state of a host that its threads share.
 use crate::crowd::Crowd;
 use mml_ids::Memory;
 use mml_lab::{Lab, Who};
@@ -16,10 +16,10 @@ const SHORT_PAUSE: u64 = 5;
 // How many milliseconds lie between two denials of a name and key, at both ports together.
 const DENIAL: u64 = 12;
 
-// How many denials of a name and key there are when that is told first.
+// How many denials of a name and key there are when that is first reported.
 const MANY: u64 = 30;
 
-// What the threads told so far.
+// What the threads noted so far.
 #[derive(Drop)]
 struct News {
     // How many sessions have ended.
@@ -30,27 +30,27 @@ struct News {
     next_denial: Option<Instant>,
     // How many names and keys were denied.
     denials: u64,
-    // At which number of denials the host tells next how many there were.
+    // At which number of denials the host next reports how many there were.
     told: u64,
 }
 
-/// How many sessions have ended, whether no more are to be served, and whether one was without memory;
-/// and who is served at each port.
+/// How many sessions have ended, whether no more are to be served, whether one ran out of memory, and who is served at
+/// each port.
 #[derive(Drop)]
 pub struct HostState {
     news: Mutex<News>,
     changed: Condvar,
     // The teacher's name.
     teacher: Vec<u8>,
-    // Whether the reply to the teacher's bye at the desk is out.
+    // Whether the reply to the teacher's bye at the desk was sent.
     pub(crate) is_dismissed: RwLock<bool>,
     at_desk: Crowd,
     elsewhere: Crowd,
 }
 
 impl HostState {
-    /// The state of a host of the lab, where nothing was told yet; `Memory` where there is none for the teacher's name.
-    /// One of the lab's sessions is the desk's.
+    /// Returns the state of a host of the lab, in which nothing was noted yet. One of the lab's sessions is the desk's.
+    /// Returns `Memory` if memory runs out.
     pub fn new(alloc: Global, lab: &Lab) -> Result<HostState, Memory> {
         let mut teacher = Vec::new(alloc);
         let name = lab.roster().name_of(Who::Teacher);
@@ -74,7 +74,7 @@ impl HostState {
         })
     }
 
-    /// Those who are served at the desk, where `is_desk`; else those at the other port.
+    /// Returns the crowd at the desk if `is_desk`, and else that at the other port.
     pub fn crowd(&self, is_desk: bool) -> &Crowd {
         if is_desk {
             &self.at_desk
@@ -83,17 +83,17 @@ impl HostState {
         }
     }
 
-    /// Whether `name` is the teacher's.
+    /// Returns whether `name` is the teacher's.
     pub fn is_teachers_name(&self, name: &[u8]) -> bool {
         self.teacher.as_slice() == name
     }
 
-    /// Whether the reply to the teacher's bye at the desk is out: what is read from then on isn't answered.
+    /// Returns whether the reply to the teacher's bye at the desk was sent: what is read from then on isn't answered.
     pub fn is_dismissed<Rt: Wait>(&self, rt: &Rt) -> bool {
         *self.is_dismissed.read(rt)
     }
 
-    /// Notes that a session has ended, and the host with it where `is_over`, and wakes who waits for that.
+    /// Notes that a session has ended, and the host with it if `is_over`, and wakes the threads that wait for that.
     pub fn note_end<Rt: Wait>(&self, rt: &Rt, is_over: bool) {
         let mut news = self.news.lock(rt);
         news.ended = news.ended.wrapping_add(1);
@@ -103,28 +103,28 @@ impl HostState {
         self.changed.notify_all();
     }
 
-    /// Notes that memory was wanted, and wasn't had.
+    /// Notes that memory ran out.
     pub fn note_memory<Rt: Wait>(&self, rt: &Rt) {
         self.news.lock(rt).lacked_memory = true;
     }
 
-    /// How many sessions have ended.
+    /// Returns how many sessions have ended.
     pub fn ended_count<Rt: Wait>(&self, rt: &Rt) -> u64 {
         self.news.lock(rt).ended
     }
 
-    /// Whether the host is over, so that no more connections are to be served.
+    /// Returns whether the host is over, so that no more connections are to be served.
     pub fn is_over<Rt: Wait>(&self, rt: &Rt) -> bool {
         self.news.lock(rt).is_over
     }
 
-    /// Whether memory was wanted and not had.
+    /// Returns whether memory ran out.
     pub fn lacked_memory<Rt: Wait>(&self, rt: &Rt) -> bool {
         self.news.lock(rt).lacked_memory
     }
 
-    /// Waits until other than `count` sessions have ended, for a tenth of a second at most, or for 5 milliseconds
-    /// where it is hurried.
+    /// Waits until another number of sessions than `count` have ended, for at most a tenth of a second, or 5
+    /// milliseconds if it is hurried.
     pub fn wait_past<Rt: Wait + Clock>(&self, rt: &Rt, count: u64, is_hurried: bool) {
         let pause = Duration::from_millis(if is_hurried { SHORT_PAUSE } else { PAUSE });
         let _ended = self
@@ -132,8 +132,8 @@ impl HostState {
             .wait_timeout_while(rt, self.news.lock(rt), pause, |news| news.ended == count);
     }
 
-    /// The turn of the next denial of a name and key, before which it isn't told: now, or 12 milliseconds after the
-    /// last turn that was given at either port, where that is later. The error is the clock's.
+    /// Returns the turn of the next denial of a name and key, before which it isn't sent: now, or 12 milliseconds after
+    /// the last turn at either port, if that is later. Returns an error if the clock fails.
     pub fn turn_of_denial<Rt: Wait + Clock>(&self, rt: &Rt) -> io::Result<Instant> {
         let now = Instant::now(rt)?;
         let mut news = self.news.lock(rt);
@@ -145,8 +145,8 @@ impl HostState {
         Ok(turn)
     }
 
-    /// Notes that a name and key were denied. Gives how many were, where the host is to tell that: at 30, and at ten
-    /// times as many each time; else none.
+    /// Notes that a name and key were denied. Returns how many were, if the host is to report that, at 30 and at ten
+    /// times as many each time, and else `None`.
     pub fn note_denial<Rt: Wait>(&self, rt: &Rt) -> Option<u64> {
         let mut news = self.news.lock(rt);
         news.denials = news.denials.saturating_add(1);

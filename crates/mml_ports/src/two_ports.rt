@@ -13,10 +13,10 @@ use std::{io, thread};
 // A library's own 128 are full after a tenth of a second of a flood.
 const BACKLOG: i32 = 4096;
 
-// How often it is looked at most whether a first connection has come to the desk.
+// How many times it is checked, at most, whether a first connection has come to the desk.
 const LOOKS: u32 = 1000;
 
-// How many milliseconds pass from one look to the next.
+// How many milliseconds pass between two checks.
 const LOOK: u64 = 1;
 
 /// Why a port can't be listened on.
@@ -24,12 +24,12 @@ const LOOK: u64 = 1;
 pub enum ListenFault {
     /// The system refuses it, or another listens there.
     Refused,
-    /// A growth was refused.
+    /// Memory ran out.
     Memory,
 }
 
 impl From<io::Error> for ListenFault {
-    // Want of memory is told as such, and any other error of the system as a refusal.
+    // Turns running out of memory into `Memory`, and any other error of the system into `Refused`.
     fn from(error: io::Error) -> ListenFault {
         match error.kind() {
             io::ErrorKind::OutOfMemory => ListenFault::Memory,
@@ -49,9 +49,9 @@ pub struct Ports {
     pub desk: u16,
 }
 
-/// Listens on the desk's port and then on the students', for connections of this machine alone. If 0 is asked for, the
-/// system chooses the number. A desk whose number was asked for is waited at, for a second at most, until a first
-/// connection has come: so the teacher's program is there before a student can know that a class begins. Returns a
+/// Listens on the desk's port and then on the students', for connections of this machine only. If 0 is asked for, the
+/// system chooses the number. If the desk's number was asked for, waits for at most a second until a first connection
+/// has come there: so the teacher's program is there before a student can know that a class begins. Returns a
 /// `ListenFault` if one of them can't be listened on.
 pub fn listen_at<R: Clock + Net<Listener = TcpListener, Stream = TcpStream>>(
     rt: &R,
@@ -76,8 +76,8 @@ pub fn listen_at<R: Clock + Net<Listener = TcpListener, Stream = TcpStream>>(
     })
 }
 
-// The first connection to a listener, which is waited for, for a second at most; none if none has come, or it couldn't
-// be accepted. The error is that the listener can't be used without waiting.
+// Waits for at most a second for the first connection to a listener and returns it, or `None` if none has come, or it
+// couldn't be accepted. Returns an error if the listener can't be used without waiting.
 fn first_within<R: Clock>(rt: &R, listener: &TcpListener) -> io::Result<Option<TcpStream>> {
     listener.set_nonblocking(true)?;
     for _ in 0..LOOKS {
@@ -92,7 +92,7 @@ fn first_within<R: Clock>(rt: &R, listener: &TcpListener) -> io::Result<Option<T
     Ok(None)
 }
 
-// Whether, after an accept that failed so, the next may succeed.
+// Returns whether the next accept may succeed after one that failed this way.
 fn is_passing(kind: io::ErrorKind) -> bool {
     matches!(
         kind,
@@ -100,7 +100,8 @@ fn is_passing(kind: io::ErrorKind) -> bool {
     )
 }
 
-// Listens on a port of this machine with a backlog of `BACKLOG`. If the system refuses that one, the listener's own stays.
+// Listens on a port of this machine with a backlog of `BACKLOG`. If the system refuses that one, the listener's own
+// stays.
 fn listen_on<R: Net<Listener = TcpListener, Stream = TcpStream>>(
     rt: &R,
     port: u16,
@@ -110,13 +111,13 @@ fn listen_on<R: Net<Listener = TcpListener, Stream = TcpStream>>(
     Ok(listener)
 }
 
-// The address of a port that this machine alone reaches.
+// Returns the address of a port that only this machine reaches.
 fn on_this_machine(port: u16) -> SocketAddr {
     SocketAddr::from((Ipv4Addr::LOCALHOST, port))
 }
 
-/// The bell that wakes the accepts at both ports once the host is over. It holds a spare descriptor until then, a copy of
-/// the desk's listener: the error is that the system refuses the copy, or want of memory.
+/// Returns the bell that wakes the accepts at both ports once the host is over. It holds a spare descriptor until then,
+/// a copy of the desk's listener. Returns an error if the system refuses the copy, or memory runs out.
 pub fn bell_of<'a, R>(
     rt: &'a R,
     state: &'a HostState,
@@ -131,14 +132,14 @@ pub fn bell_of<'a, R>(
     })
 }
 
-/// What gives the connections of the desk, and what those of the other port.
+/// The connections of the desk, and those of the other port.
 #[derive(Drop)]
 pub struct TwoPorts<A: Drop> {
     pub at_desk: A,
     pub elsewhere: A,
 }
 
-/// The accepts of both ports, which listen already.
+/// Accepts connections on the two listening sockets.
 pub fn open_ports<'a, R: Clock + Wait + Eprint>(
     rt: &'a R,
     alloc: Global,

@@ -1,4 +1,4 @@
--- What the program tells of a script that it answered.
+-- The result of a script that the program answered.
 use Rattle.std.specs.Prelude.{◌≡◌, ℕ, List, Option, Result, Ok, Err}
 use Rattle.mml_lab.specs.Labs.{LabValue}
 use Rattle.mml_hall.specs.declared.script.ScriptFault.{ScriptFault}

@@ -1,4 +1,4 @@
--- As which error of the program an error of the crates below is told.
+-- The program's error for each error of the crates below.
 use Rattle.mml_hall.specs.declared.script.ScriptFault.{ScriptFault}
 use Rattle.mml_hall.specs.declared.script.ScriptFault.TheVariants as script
 use Rattle.mml_serving.specs.declared.serving.ServeFault.{ServeFault}
@@ -8,14 +8,14 @@ use Rattle.mml_files.specs.declared.file_fault.FileFault.TheVariants as file
 use Rattle.mml_program.specs.declared.fault.Fault.{Fault}
 use Rattle.mml_program.specs.declared.fault.Fault.TheVariants as fault
 
--- what an error of a script is told as: how many bytes of a line went out before a write failed isn't told
+-- the program's error for an error of a script: how many bytes of a line were written before a write failed is dropped
 abbrev pub of_script : ScriptFault → Fault
 of_script script.Read = fault.ReadScript
 of_script (script.Write n) = fault.Write
 of_script (script.BadLine k) = fault.BadLine k
 of_script script.Memory = fault.Memory
 
--- what an error of serving is told as: a halted journal is told as one whose file can't be made
+-- the program's error for an error of serving: a halted journal becomes the error of one whose file can't be made
 abbrev pub of_serving : ServeFault → Fault
 of_serving serving.Memory = fault.Memory
 of_serving serving.Place = fault.Place
@@ -24,7 +24,7 @@ of_serving serving.Astray = fault.Astray
 of_serving serving.Halted = fault.Journal
 of_serving serving.Write = fault.Write
 
--- what an error of a journal's file is told as
+-- the program's error for an error of a journal's file
 abbrev pub of_journal_file : FileFault → Fault
 of_journal_file file.Refused = fault.Journal
 of_journal_file file.Memory = fault.Memory

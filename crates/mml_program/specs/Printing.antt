@@ -1,4 +1,4 @@
--- What the program prints of a lab and of a journal that passes.
+-- The lines that the program prints of a lab and of a journal that passes.
 use Rattle.std.specs.Prelude.{◌≡◌, ℕ, ◌==◌, Bool, true, false, List, [], ◌∷◌, length, codes, decimal, Option, Ok}
 use Rattle.std.specs.List.{concat}
 use Rattle.std.specs.Io.KnownBytes.{Appends}
@@ -25,7 +25,7 @@ abbrev pub world_line : World → List ℕ
 world_line w =
     concat (codes "ok: " ∷ decimal w.place ∷ codes " events, configuration " ∷ decimal w.number ∷ stability_text (privileged_count (configuration w) == 0) ∷ [])
 
--- the bytes pass the audit, and what was printed tells the world that they lead to
+-- the bytes pass the audit, and what was printed shows the world that they lead to
 pub record TellsAudited (lab : LabValue) (bytes : List ℕ) (wrote wrote' : Option (List ℕ)) : Type 0 where
   pub world : World
   pub passes : audited lab bytes ≡ Ok world

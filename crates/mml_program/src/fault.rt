@@ -1,4 +1,4 @@
-//! What ends the program early: one line on standard error and a status.
+//! Errors that end the program early: one line on standard error and a status.
 ghost use Rattle.std.specs.Prelude.{◌≡◌, ◌≢◌, ◌⊎◌, true, false};
 ghost use Rattle.std.specs.IoError.{error_kind};
 ghost use Rattle.mml_program.specs.declared.fault.Fault.TheVariants.{Memory};
@@ -16,7 +16,7 @@ use thiserror::Error;
 /// Why the program ended before its work was done.
 #[derive(Debug, Drop, PartialEq, Eq, Error)]
 pub enum Fault {
-    /// The words are none that the program has.
+    /// The command line isn't understood.
     #[error("command line: not understood")]
     CommandLine,
     /// The lab file spells no lab.
@@ -46,27 +46,27 @@ pub enum Fault {
     /// A connection couldn't be accepted.
     #[error("serve: cannot accept")]
     Accept,
-    /// The places that were told aren't those of the events, each once.
+    /// The places that were given aren't those of the events, each once.
     #[error("serve: the tally does not fit")]
     Astray,
-    /// There was no reader's slot for a window. It doesn't arise: slots are taken when a house is started.
+    /// There was no reader's slot for a window. This doesn't happen: slots are taken when a house is started.
     #[error("serve: no place for a window")]
     Place,
     /// The journal's file can't be made, locked or kept, or a line of the journal wasn't taken whole.
     #[error("journal fault")]
     Journal,
-    /// Standard output took less than all.
+    /// Standard output didn't take all.
     #[error("write fault")]
     Write,
-    /// A growth was refused, wherever it was.
+    /// Memory ran out, anywhere.
     #[error("out of memory")]
     Memory,
 }
 
 impl Fault {
-    /// The exit status that goes with the error: 1 where the words aren't understood, 2 where lab, script or number of
-    /// connections is refused, 3 where an audit says no, 4 where a read, a write, the journal or the network failed, or
-    /// the places that were told don't fit the events, 5 where memory or a reader's slot is lacking.
+    /// Returns the exit status of the error: 1 if the command line isn't understood; 2 if lab, script or number of
+    /// connections is refused; 3 if an audit fails; 4 if a read, a write, the journal or the network failed, or the
+    /// places that were given don't fit the events; 5 if memory ran out or a reader's slot is missing.
     pub fn status(&self) -> u8 {
         match self {
             Fault::CommandLine => 1,
@@ -85,8 +85,7 @@ impl Fault {
     }
 }
 
-/// The error of what was done with a reader or a writer: out of memory where that `lacked` memory, whatever the
-/// fault was told as, and else the fault.
+/// Returns `Memory` if the reader or writer ran out of memory (`lacked`), whatever the fault was, and else the fault.
 pub fn memory_if_lacked<F: From<Fault> + Drop>(fault: F, lacked: bool) -> F
     ensures memory { lacked ≡ true → F.from_gives Memory result }
     ensures other { lacked ≡ false → result ≡ fault }
@@ -98,7 +97,7 @@ pub fn memory_if_lacked<F: From<Fault> + Drop>(fault: F, lacked: bool) -> F
     }
 }
 
-/// The error of the program for one of a read or write: out of memory where that says so, and else `other`.
+/// Returns `Memory` if the error of a read or write says that memory ran out, and else `other`.
 pub fn memory_or(error: &IoError, other: Fault) -> Fault
     ensures memory { error_kind error.now ≡ ErrorKind.OutOfMemory → result ≡ Fault.Memory }
     ensures either { (result ≡ other) ⊎ (result ≡ Fault.Memory) }
@@ -114,7 +113,7 @@ pub fn memory_or(error: &IoError, other: Fault) -> Fault
 impl From<AllocError> for Fault {
     ghost from_gives = { λ _ e. e ≡ Memory };
 
-    // Tells that an allocation was refused as out of memory.
+    // Turns a failed allocation into the error of the program.
     fn from(_error: AllocError) -> Fault {
         Fault::Memory
     }
@@ -125,7 +124,7 @@ impl From<FileFault> for Fault {
 
     ghost from_gives = { λ fault e. e ≡ of_journal_file fault };
 
-    // Tells why a journal's file can't be had: as a journal fault, or out of memory.
+    // Turns the fault of a journal's file into the error of the program: a journal fault, or out of memory.
     fn from(fault: FileFault) -> Fault {
         match fault {
             FileFault::Refused => Fault::Journal,
@@ -135,7 +134,7 @@ impl From<FileFault> for Fault {
 }
 
 impl From<LabFault> for Fault {
-    // Tells what a lab file is refused for, or out of memory, for which none is refused.
+    // Turns the fault of a lab file into the error of the program: why the file is refused, or out of memory.
     fn from(fault: LabFault) -> Fault {
         match LabRefusal::of(fault) {
             Some(refusal) => Fault::Lab(refusal),
@@ -145,7 +144,7 @@ impl From<LabFault> for Fault {
 }
 
 impl From<AuditFault> for Fault {
-    // Tells what the text of a journal is refused for, or out of memory, for which none is refused.
+    // Turns the fault of a journal's text into the error of the program: why the text is refused, or out of memory.
     fn from(fault: AuditFault) -> Fault {
         match AuditRefusal::of(fault) {
             Some(refusal) => Fault::Audit(refusal),
@@ -159,7 +158,8 @@ impl From<ScriptFault> for Fault {
 
     ghost from_gives = { λ fault e. e ≡ of_script fault };
 
-    // Tells what ended a script early as the error of its cause; of a failed write not how many bytes went out.
+    // Turns the reason why a script ended early into the error of its cause. The number of bytes before a failed write
+    // is dropped.
     fn from(fault: ScriptFault) -> Fault {
         match fault {
             ScriptFault::BadLine(line) => Fault::BadLine(line),
@@ -175,7 +175,8 @@ impl From<ServeFault> for Fault {
 
     ghost from_gives = { λ fault e. e ≡ of_serving fault };
 
-    // Tells what ended a server early: a halted journal as a journal fault, and each other error as that of its cause.
+    // Turns the reason why a server ended early into an error: a halted journal into a journal fault, and each other
+    // reason into that of its cause.
     fn from(fault: ServeFault) -> Fault {
         match fault {
             ServeFault::Memory => Fault::Memory,

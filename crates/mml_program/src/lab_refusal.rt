@@ -1,4 +1,4 @@
-//! What a lab file and a journal are refused for, in the words of their error lines.
+//! Why a lab file or a journal is refused, in the words of the error lines.
 use mml_audit::AuditFault;
 use mml_ids::IdFault;
 use mml_lab::{Key, LabFault};
@@ -10,17 +10,17 @@ pub enum LabRefusal {
     /// The file as a whole.
     #[error("{0}")]
     File(&'static str),
-    /// What stands under a key, which has this name.
+    /// The value of the key with this name.
     #[error("{0} {1}")]
     Key(&'static str, &'static str),
-    /// A node, a link or a principal, by its number. Nodes and links are numbered from 0, in the order of the file; of
+    /// A node, a link or a principal, by its number. Nodes and links are numbered from 0, in the order of the file. Of
     /// the principals the teacher has 0, and the students have the numbers from 1.
     #[error("{0} {1}: {2}")]
     Element(&'static str, usize, &'static str),
 }
 
 impl LabRefusal {
-    /// Returns what an error refuses a lab file for; none for out of memory, which refuses no file.
+    /// Returns why an error refuses a lab file, or `None` for out of memory, which refuses no file.
     pub fn of(fault: LabFault) -> Option<LabRefusal> {
         let refusal = match fault {
             LabFault::NotToml => LabRefusal::File("not a TOML document"),
@@ -46,7 +46,7 @@ impl LabRefusal {
         Some(refusal)
     }
 
-    // Returns what an error of the nodes' identifiers refuses a lab file for; none for out of memory.
+    // Returns why an error of the nodes' identifiers refuses a lab file, or `None` for out of memory.
     fn of_identifiers(fault: IdFault) -> Option<LabRefusal> {
         match fault {
             IdFault::Empty => Some(LabRefusal::File("no nodes")),
@@ -66,16 +66,16 @@ impl LabRefusal {
 /// Why a text is no journal of a lab. The numbers are those of the first bad line.
 #[derive(Debug, Drop, PartialEq, Eq, Error)]
 pub enum AuditRefusal {
-    /// The line is none of a journal here.
+    /// The line can't stand in a journal here.
     #[error("line {0}: {1}")]
     Line(u64, &'static str),
-    /// The rules deny the event, by the denial of this name.
+    /// The rules deny the event, by the denial with this name.
     #[error("line {0}: illegal, {1}")]
     Illegal(u64, &'static str),
 }
 
 impl AuditRefusal {
-    /// Returns what an error refuses the text of a journal for; none for out of memory, which refuses no text.
+    /// Returns why an error refuses the text of a journal, or `None` for out of memory, which refuses no text.
     pub fn of(fault: AuditFault) -> Option<AuditRefusal> {
         match fault {
             AuditFault::Torn(line) => Some(AuditRefusal::Line(line, "torn")),
@@ -91,7 +91,7 @@ impl AuditRefusal {
     }
 }
 
-// Returns the name that a key of a lab file has in an error line.
+// Returns the name of a lab file's key in an error line.
 fn key_name(key: Key) -> &'static str {
     match key {
         Key::Events => "events",

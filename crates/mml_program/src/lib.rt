@@ -1,4 +1,4 @@
-//! The body of the program: its words, what each of them does, its error lines and statuses.
+//! The body of the program: its command line, its subcommands, its error lines and statuses.
 #![tactic(auto)]
 
 mod built_in;

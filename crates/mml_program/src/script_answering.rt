@@ -1,4 +1,4 @@
-//! What the subcommands do, over readers and writers.
+//! The subcommands, over readers and writers.
 ghost use Rattle.std.specs.Prelude.{◌<◌, ◌-◌, ◌^◌, ◌∷◌, [], codes, decimal, OnOk};
 ghost use Rattle.std.specs.List.{concat};
 ghost use Rattle.std.specs.Io.KnownBytes.{Appends};
@@ -18,7 +18,8 @@ use mml_lab::Lab;
 use std::alloc::Global;
 use std::io::{Read, Write};
 
-/// Writes how many nodes, links and students a lab has; the error is that the write failed, or want of memory.
+/// Writes how many nodes, links and students a lab has. Returns `Write` if the write fails, and `Memory` if memory runs
+/// out.
 pub fn write_size<W: Write>(alloc: Global, lab: &Lab, writer: &mut W) -> Result<(), Fault>
     ensures { OnOk result
         (Appends (W.contents writer.old) (W.contents writer.new) (lab_line lab.now)) }
@@ -35,8 +36,8 @@ pub fn write_size<W: Write>(alloc: Global, lab: &Lab, writer: &mut W) -> Result<
     write_pieces(alloc, &pieces, writer)
 }
 
-/// Audits the text of a journal, and writes how many events it has, and where they lead. A text that is no journal of
-/// the lab is an error, and nothing is written.
+/// Audits the text of a journal, and writes how many events it has, and the configuration that they lead to. If the
+/// text is no journal of the lab, returns the error and writes nothing.
 pub fn write_audit<W: Write>(
     alloc: Global,
     lab: &Lab,
@@ -50,8 +51,8 @@ pub fn write_audit<W: Write>(
     write_world(alloc, &board, writer)
 }
 
-// Writes the line of a journal that passes: how many events it has, the number of the configuration, and whether
-// that is stable.
+// Writes the line of a journal that passes: how many events it has, the number of the configuration, and whether that
+// is stable.
 fn write_world<W: Write>(alloc: Global, board: &Board, writer: &mut W) -> Result<(), Fault>
     ensures { OnOk result
         (Appends (W.contents writer.old) (W.contents writer.new) (world_line board.now)) }
@@ -84,7 +85,8 @@ fn write_ended<W: Write>(
     write_pieces(alloc, &pieces, writer)
 }
 
-/// Writes pieces of text, one behind the other, in one go; the error is that the write failed, or want of memory.
+/// Writes pieces of text, one after the other, in one go. Returns `Write` if the write fails, and `Memory` if memory
+/// runs out.
 pub fn write_pieces<W: Write>(alloc: Global, pieces: &[Piece], writer: &mut W) -> Result<(), Fault>
     ensures { OnOk result
         (Appends (W.contents writer.old) (W.contents writer.new) (joined pieces.now)) }
@@ -99,8 +101,8 @@ pub fn write_pieces<W: Write>(alloc: Global, pieces: &[Piece], writer: &mut W) -
     }
 }
 
-/// Answers the lines of a script, and gives the hall that they lead to. Replies go out together, and all of them before
-/// each read. The lines of the granted events go to the sink. The error is what ended the script early.
+/// Answers the lines of a script, and returns the hall that they lead to. Replies are buffered, and all are written
+/// before each read. The lines of the granted events go to the sink. Returns why the script ended if it ended early.
 pub fn answer_script<R: Read, W: Write, S: Sink + Drop>(
     alloc: Global,
     lab: Lab,

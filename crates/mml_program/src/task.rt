@@ -1,4 +1,4 @@
-//! From the words to the work.
+//! From the command line to the work.
 ghost use Rattle.std.specs.Prelude.{◌<◌, ◌≤◌, ◌-◌, ◌^◌};
 ghost use Rattle.mml_journal.specs.Taken.{IsFresh};
 
@@ -23,9 +23,9 @@ use std::sync::Wait;
 use std::thread::Threads;
 use std::{env, io};
 
-/// Does what the words of the command line ask for. The lab is read first, then the journal's file is
-/// opened, the script is read or the port taken, and only then the journal is begun: what stood in its
-/// file is kept under another name, and where an earlier step fails the file is as it was.
+/// Does what the command line asks for. First the lab is read, then the journal's file is opened, then the script is
+/// read or the port taken, and only then the journal is begun: the earlier bytes of its file are kept under another
+/// name. If an earlier step fails, the file is as it was.
 pub fn run<
     R: Env
         + Files<File = File>
@@ -47,8 +47,8 @@ pub fn run<
     }
 }
 
-// Checks that a file spells a lab, and prints how many nodes, links and students it has. The error is that the file can't
-// be read, why it spells no lab, that the write failed, or want of memory.
+// Checks that a file spells a lab, and prints how many nodes, links and students it has. Returns an error if the file
+// can't be read or spells no lab, the write fails, or memory runs out.
 fn check_file<R: Files + Print + AllocGlobal>(rt: &R, path: &str) -> Result<(), Fault> {
     let lab = lab_of(rt, path)?;
     write_size(rt.alloc(), &lab, &mut io::writer(rt))
@@ -66,7 +66,7 @@ fn answer_input<R: Input + Print + AllocGlobal>(rt: &R) -> Result<(), Fault> {
     }
 }
 
-// Answers the script of a file over the lab of a file, with a journal where one is named.
+// Answers the script of a file over the lab of a file, with a journal if one is named.
 fn script_file<R: Files<File = File> + Print + AllocGlobal>(
     rt: &R,
     task: ScriptTask<'_>,
@@ -86,7 +86,7 @@ fn script_file<R: Files<File = File> + Print + AllocGlobal>(
     }
 }
 
-// Answers the lines of a script over a lab. That the journal was halted is the error at the end.
+// Answers the lines of a script over a lab. At the end, returns `Journal` if the journal was halted.
 fn answer_lines<R: Print + AllocGlobal, S: Sink + Drop>(
     rt: &R,
     lab: Lab,
@@ -104,7 +104,7 @@ fn answer_lines<R: Print + AllocGlobal, S: Sink + Drop>(
     }
 }
 
-// The error `Journal` where the journal was halted while a script's lines were answered; else `Ok`.
+// Returns the error `Journal` if the journal was halted while a script's lines were answered, and else `Ok`.
 fn fault_if_halted<S: Sink>(hall: &Hall<S>) -> Result<(), Fault> {
     if hall.halted() {
         return Err(Fault::Journal);
@@ -112,7 +112,7 @@ fn fault_if_halted<S: Sink>(hall: &Hall<S>) -> Result<(), Fault> {
     Ok(())
 }
 
-// Audits the journal of a file over the lab of a file, and prints what it leads to.
+// Audits the journal of a file over the lab of a file, and prints where its events lead.
 fn audit_file<R: Files + Print + AllocGlobal>(
     rt: &R,
     lab: &str,
@@ -123,8 +123,8 @@ fn audit_file<R: Files + Print + AllocGlobal>(
     write_audit(rt.alloc(), &lab, text.as_slice(), &mut io::writer(rt))
 }
 
-// Serves connections over the lab of a file, with a journal where one is named; an error where more are asked for than
-// the lab has sessions.
+// Serves connections over the lab of a file, with a journal if one is named. Returns an error if more are asked for
+// than the lab has sessions.
 fn serve_file<
     R: Files<File = File>
         + Net<Listener = TcpListener, Stream = TcpStream>
@@ -170,8 +170,8 @@ struct Service {
     connections: u8,
 }
 
-// Prints on which port it listens, serves as many of the connections that come as the service says, and prints the
-// last line. Want of memory at a write is told as such.
+// Prints the port on which it listens, serves as many of the connections that come as the service says, and prints the
+// last line. Running out of memory at a write is reported as that.
 fn serve_listener<
     R: Net<Listener = TcpListener, Stream = TcpStream>
         + Threads
@@ -216,8 +216,8 @@ fn serve_lines<R: Threads + Wait + Sync + AllocGlobal, S: Sink + Send + Drop, W:
     serve_on(rt, alloc, lab, listener, connections, sink, &NoGate, writer)
 }
 
-// Listens on a port, for connections of this machine alone; the error is that it can't be listened on, or out of
-// memory.
+// Listens on a port, for connections of this machine only. Returns an error if the port can't be listened on, or memory
+// runs out.
 fn listen<R: Net<Listener = TcpListener, Stream = TcpStream>>(
     rt: &R,
     port: u16,
@@ -228,9 +228,9 @@ fn listen<R: Net<Listener = TcpListener, Stream = TcpStream>>(
     }
 }
 
-/// Begins a program, and gives its words. Before all else each standard stream that is closed is held, so that no file
-/// gets its descriptor; where that fails the error is a write fault. Over stacks that are too small nothing is begun, and
-/// the error is out of memory.
+/// Begins a program, and returns its command line. First holds each standard stream that is closed, so that no file
+/// gets its descriptor, and returns a write fault if that fails. If stacks are too small, begins nothing, and returns
+/// `Memory`.
 pub fn begin_program<R: Env + Files<File = File> + AllocGlobal>(
     rt: &R,
 ) -> Result<Vec<String>, Fault> {
@@ -241,20 +241,20 @@ pub fn begin_program<R: Env + Files<File = File> + AllocGlobal>(
     command_words(rt)
 }
 
-/// The words of the command line, the program's name first. The error is that the command line isn't understood, since
-/// a word isn't UTF-8, or want of memory.
+/// Returns the words of the command line, the program's name first. Returns `CommandLine` if a word isn't UTF-8, and
+/// `Memory` if memory runs out.
 pub fn command_words<R: Env + AllocGlobal>(rt: &R) -> Result<Vec<String>, Fault> {
     let words = env::args(rt).map_err(|error| memory_or(&error, Fault::CommandLine))?;
     Ok(words.collect(rt.alloc())?)
 }
 
-/// The lab of a file; the error is that it can't be read, or why it spells none, or want of memory.
+/// Returns the lab of a file. Returns an error if the file can't be read or spells no lab, or memory runs out.
 pub fn lab_of<R: Files + AllocGlobal>(rt: &R, path: &str) -> Result<Lab, Fault> {
     let bytes = read_file(rt, path, Fault::ReadLab)?;
     lab_in(rt.alloc(), bytes.as_slice())
 }
 
-/// The lab that the bytes of a lab file spell; the error is why they spell none, or want of memory.
+/// Returns the lab that the bytes of a lab file spell. Returns why they spell none, or `Memory` if memory runs out.
 pub fn lab_in(alloc: Global, bytes: &[u8]) -> Result<Lab, Fault> {
     Ok(read_lab(alloc, bytes)?)
 }

@@ -7,22 +7,22 @@ use mml_serving::{read_connections, read_port};
 use std::alloc::{AllocError, Global};
 use std::num::{NonZeroU8, NonZeroU16};
 
-/// What the words ask for.
+/// The task that the command line asks for.
 #[derive(Debug, Drop)]
 pub enum Task<'a> {
-    /// To answer the script on standard input over the built-in lab.
+    /// Answers the script on standard input over the built-in lab.
     BuiltIn,
-    /// To say how large the lab of a file is.
+    /// Prints how large the lab of a file is.
     Check { lab: &'a str },
-    /// To answer the script of a file over the lab of a file.
+    /// Answers the script of a file over the lab of a file.
     Script(ScriptTask<'a>),
-    /// To say whether the text of a file is the journal of a legal run of the lab of a file.
+    /// Audits the text of a file as the journal of a legal run of the lab of a file.
     Audit { lab: &'a str, journal: &'a str },
-    /// To serve connections over the lab of a file.
+    /// Serves connections over the lab of a file.
     Serve(ServeTask<'a>),
 }
 
-/// The files of a script. The lines of the granted events go to the journal, where one is named.
+/// The files of a script. The lines of the granted events go to the journal, if one is named.
 #[derive(Debug, Drop)]
 pub struct ScriptTask<'a> {
     pub lab: &'a str,
@@ -31,7 +31,7 @@ pub struct ScriptTask<'a> {
 }
 
 /// A lab's file, a port, and how many connections are served there. The lines of the granted events go to the journal,
-/// where one is named.
+/// if one is named.
 #[derive(Debug, Drop)]
 pub struct ServeTask<'a> {
     pub lab: &'a str,
@@ -40,8 +40,8 @@ pub struct ServeTask<'a> {
     pub journal: Option<&'a str>,
 }
 
-/// What the words ask for, of which the first is the program's name; the error is that they ask for nothing that the
-/// program does, or want of memory.
+/// Returns the task that the words ask for, of which the first is the program's name. Returns `CommandLine` if they ask
+/// for none, and `Memory` if memory runs out.
 pub fn read_words<'a>(alloc: Global, words: &'a [String]) -> Result<Task<'a>, Fault> {
     let matches = match_words(command_line(alloc)?, words)?;
     match matches.subcommand() {
@@ -50,8 +50,9 @@ pub fn read_words<'a>(alloc: Global, words: &'a [String]) -> Result<Task<'a>, Fa
     }
 }
 
-/// What a command finds in the words, of which the first is the program's name; words that don't fit it aren't
-/// understood. A later word that begins with `-` is refused before clap is asked, which would take `-` and `--`.
+/// Returns the values of a command in the words, of which the first is the program's name. Returns `CommandLine` if the
+/// words don't fit the command. A later word that begins with `-` is refused before clap is called, which would take
+/// `-` and `--`.
 pub fn match_words<'a>(command: Command<'a>, words: &'a [String]) -> Result<ArgMatches<'a>, Fault> {
     if words.iter().skip(1).any(|word| word.starts_with('-')) {
         return Err(Fault::CommandLine);
@@ -63,8 +64,8 @@ pub fn match_words<'a>(command: Command<'a>, words: &'a [String]) -> Result<ArgM
     }
 }
 
-// What a subcommand of this name with these values asks for; none where a number is out of its range, a value is
-// missing, or the program has no such name.
+// Returns the task of a subcommand of this name with these values, or `None` if a number is out of its range, a value
+// is missing, or the program has no such name.
 fn task_of<'a>(name: &str, values: &ArgMatches<'a>) -> Option<Task<'a>> {
     let lab = values.get_str("lab")?;
     match name {
@@ -88,7 +89,7 @@ fn task_of<'a>(name: &str, values: &ArgMatches<'a>) -> Option<Task<'a>> {
     }
 }
 
-// The whole command line of the program, with its four subcommands.
+// Returns the whole command line of the program, with its four subcommands.
 fn command_line<'a>(alloc: Global) -> Result<Command<'a>, AllocError> {
     command_without_help(alloc, "mml_server")
         .subcommand(subcommand_of(alloc, "check", &["lab"])?)?
@@ -105,7 +106,7 @@ fn command_line<'a>(alloc: Global) -> Result<Command<'a>, AllocError> {
         )?)
 }
 
-/// A command or subcommand of this name, with these values in this order, each of which is required.
+/// Returns a command or subcommand of this name, with these values in this order, each of which is required.
 pub fn subcommand_of<'a>(
     alloc: Global,
     name: &'a str,
@@ -118,7 +119,7 @@ pub fn subcommand_of<'a>(
     Ok(command)
 }
 
-/// The command with one value more behind its others: this one may be left out.
+/// Returns the command with one more value after its others, which is optional.
 pub fn with_optional<'a>(
     alloc: Global,
     command: Command<'a>,
@@ -127,7 +128,7 @@ pub fn with_optional<'a>(
     command.arg(Arg::new(alloc, value).action(ArgAction::Set))
 }
 
-// A command of this name, without the flags for help and version and without a subcommand for help.
+// Returns a command of this name, without the flags for help and version and without a subcommand for help.
 fn command_without_help<'a>(alloc: Global, name: &'a str) -> Command<'a> {
     Command::new(alloc, name)
         .disable_help_flag(true)

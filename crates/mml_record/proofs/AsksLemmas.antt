@@ -54,7 +54,7 @@ no_comma : (n : ℕ) → avoids 44 (decimal n) ≡ true
 unfolding digits
 no_comma n = no_comma_from 64 n [] refl
 
--- ---- the clause that a reply's text names
+-- ---- the clause in a reply's text
 
 -- a reply that begins with a current number
 abbrev numbered : ℕ → List ℕ → List ℕ
@@ -143,7 +143,7 @@ module _ (lab : LabValue) (l first : List Event) (known : Option Who) (r : Reply
     unfolding known_after
     known_is f = by_text (bytes_eq (text lab.ids lab.roster r) memory_text) refl f
 
--- who is known behind a line is told by the bytes of its reply's line
+-- who is known after a line follows from the bytes of its reply's line
 pub known_of : (lab : LabValue) (l : List Event) (p : ℕ) (known : Option Who) (line out : List ℕ) (r : Reply) (known' : Option Who)
     → out ≡ reply_line lab.ids lab.roster r → Fits lab l (take p l) known line r known' → known_after lab.roster known line (unended out) ≡ known'
 known_of lab l p known line out r known' at f =

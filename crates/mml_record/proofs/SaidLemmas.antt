@@ -42,7 +42,7 @@ use Rattle.mml_record.specs.Certified.{IsNext, may_refuse, FitsRuling, FitsGreet
 use Rattle.mml_record.proofs.FitLemmas.{first_of}
 use Rattle.mml_record.proofs.ShownLemmas.{CanBeShown}
 
--- the cause that a window keeps which tells this refusal
+-- the cause that a window keeps, for this refusal
 abbrev kept_for : Refused → Option Refusal
 kept_for refused.Memory = Some cause.Memory
 kept_for refused.Journal = Some cause.Journal
@@ -60,7 +60,7 @@ module _ (lab : LabValue) (l : List Event) (legal : is_legal_in lab l ≡ true) 
       legal-beginning lab.roster (opening_of lab.network) (take p l) (drop p l)
       (subst (λ (m : List Event). is_legal_in lab m ≡ true) (sym (take-append-drop p l)) legal)
 
-  -- where a window stands after a reply that was judged at p events
+  -- the state of a window after a reply that was judged at p events
   abbrev IsAfter : WindowValue → Reply → WindowValue → Type 0
   IsAfter w r new =
       (new.seen ≡ take (seen_after p (place_in r)) l) × (new.places ≡ w.places ++ places_in r) × (seen_after p (place_in r) ≤ length l)
@@ -93,7 +93,7 @@ module _ (lab : LabValue) (l : List Event) (legal : is_legal_in lab l ≡ true) 
   enters w (Granted e d) next = one_more e next ∙ ap (λ (o : Option ℕ). take (seen_after p o) l) (sym (place_of_done w.number w.place d))
   enters w _ next = refl
 
-  -- what fits a ruling is what the window may tell
+  -- a reply that fits a ruling is one that the window may return
   tells : (w : WindowValue) (who : Who) (c : Command) (r : Reply) → IsPrefix w.seen (take p l)
       → FitsRuling lab l (take p l) (ruling_at lab (world_in lab (take p l)) who c) r
       → (new : WindowValue) × Told lab w who c r new × IsAfter w r new

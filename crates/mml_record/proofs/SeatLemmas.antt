@@ -1,4 +1,4 @@
--- A record from above: sessions that can have said it.
+-- A record, made by sessions.
 use Rattle.std.proofs.Common.{◌≡◌, ◌⊎◌, ℕ, ◌≤◌, Bool, true, false, ◌&&◌, not, List, [], ◌∷◌, ◌++◌, length, take, drop, refl, sym, ap, ◌∙◌, subst, inl, inr, Option, None, Some, Result, Ok, Err}
 use Rattle.std.proofs.Common.{arith, append-nil, append_assoc, if◌then◌else◌}
 use Rattle.std.proofs.lemmas.List.{take-append-drop, length-take-le}
@@ -98,7 +98,7 @@ abbrev keeps_all : List ℕ → Option Kept
 keeps_all bytes = Some (record { bytes = bytes; whole = true })
 
 module _ (lab : LabValue) (is : IsLab lab) (l : List Event) (number : ℕ) where
-  -- how a session ends that has said so much: at the end of its input, or by a bye
+  -- how a session ends that made these entries: at the end of its input, or by a bye
   abbrev Tail : Standing → WindowValue → List Entry → Type 0
   Tail st mid es =
       ((t : Talk lab st) × (t.end.window ≡ mid) × (es ≡ entries_of t ++ left_at mid))
@@ -133,7 +133,7 @@ module _ (lab : LabValue) (is : IsLab lab) (l : List Event) (number : ℕ) where
             ∙ sym (append_assoc (turn_entries lab line r next.window) (entries_of x.0) (line_entries x.2 ++ left_at mid)),
       )
 
-  -- sessions lead a seat from one window to another, and say these entries
+  -- sessions lead a seat from one window to another, and make these entries
   abbrev Leads : WindowValue → WindowValue → List Entry → Type 0
   Leads old new es =
       (b : List ℕ) → (xs : List SessionEnd) × Chain (Held lab number) (stand old (keeps_all b)) xs (stand new (keeps_all (b ++ record_text number es)))
@@ -174,7 +174,7 @@ module _ (lab : LabValue) (is : IsLab lab) (l : List Event) (number : ℕ) where
     },
   )
 
-  -- the rest of what a seat says, from the middle of a session, or from between two
+  -- the rest of what a seat records, from the middle of a session, or from between two
   record Rest (st : Standing) (es : List Entry) (ps : List ℕ) : Type 0 where
     mid : WindowValue
     new : WindowValue
@@ -241,7 +241,7 @@ module _ (lab : LabValue) (is : IsLab lab) (l : List Event) (number : ℕ) where
       ap (λ (b : Bool). if b then [] else said (judged_at (length new.seen) r) line (reply_line lab.ids lab.roster r)) unshown
       ∙ ap (λ (n : ℕ). said n line (reply_line lab.ids lab.roster r)) judged ∙ ap (said p line) (sym is)
 
-  -- a reply that isn't that memory was refused fits what the line asks
+  -- a reply that isn't the refusal for memory fits what the line asks
   fits_asked : (known : Option Who) (line out : List ℕ) (r : Reply) (known' : Option Who) (p : ℕ) → out ≡ reply_line lab.ids lab.roster r
       → not (is_line lab out (reply.Refuse refused.Memory)) ≡ true → Fits lab l (take p l) known line r known'
       → FitsAsked lab l (take p l) known (request_in line) r known'
@@ -261,7 +261,7 @@ module _ (lab : LabValue) (is : IsLab lab) (l : List Event) (number : ℕ) where
         (prefix_shorter (take least l) (take p l) l (drop least l, take-append-drop least l) (drop p l, take-append-drop p l)
         (omega (arith, le, few, length-take-le p l few, length-take-le least l (omega (arith, le, few)))))
 
-    -- where as many events have been seen as p, or a view lets the window see so many, the rest may go on from there
+    -- if as many events have been seen as p, or a view lets the window see so many, the rest may go on from there
     arrives : (known : Option Who) (w : WindowValue) (least p : ℕ) (es : List Entry) (ps : List ℕ) → least ≤ p → p ≤ length l → w.seen ≡ take least l
         → (p ≡ least) ⊎ (sees_some lab.roster known ≡ true)
         → ((v : WindowValue) → v.seen ≡ take p l → Rest (standing known v) es ps) → Rest (standing known w) es ps
@@ -312,7 +312,7 @@ module _ (lab : LabValue) (is : IsLab lab) (l : List Event) (number : ℕ) where
           begins = x.begins;
         }
 
-    -- a turn that was said, and what follows it
+    -- a turn that was recorded, and what follows it
     follows : (st : Standing) (new : WindowValue) (known : Option Who) (line : List ℕ) (r : Reply) → Turn lab st line r (standing known new)
         → IsWithinLimit MAX_REQUEST line → new.places ≡ st.window.places ++ places_in r → (q : ℕ) → new.seen ≡ take q l → q ≤ length l
         → (es : List Entry) (ps : List ℕ) → are_whole (all_kept es) ≡ true → are_ended true (all_kept es) ≡ true → Walks es
@@ -434,7 +434,7 @@ none_paused : (b : Bool) → is_paused (stage_after b) ≡ false
 none_paused true = refl
 none_paused false = refl
 
--- the entries of a whole record are such as sessions give
+-- the entries of a whole record are such as sessions make
 given_of : (lab : LabValue) (l : List Event) (known : Option Who) (stage : Stage) (least : ℕ) (es : List KeptEntry) (ps : List ℕ)
     → GoesOn lab l known stage least es ps → are_whole es ≡ true → is_paused stage ≡ false → (gs : List Entry) × (es ≡ all_kept gs)
 given_of lab l known stage least [] ps h whole none = ([], refl)
@@ -461,13 +461,13 @@ begins_after lab l (kept.Unrecorded p ∷ es) ps h whole = absurd (false≢true 
 begins_after lab l (kept.Paused p ∷ es) ps h whole = absurd (false≢true whole)
 begins_after lab l (kept.Resumed p missed ∷ es) ps h whole = absurd (false≢true h.3)
 
--- what a seat can have said that goes on after these events
+-- what a seat can have recorded that goes on after these events
 abbrev Said : LabValue → List Event → List Event → ℕ → List KeptEntry → List ℕ → Type 0
 Said lab l begun number es ps =
     (p : RecordedSeat) × (w : WindowValue) × IsResumedSeat lab begun p w × IsPrefix w.seen l × (w.places ≡ ps) × (p.number ≡ number)
     × (p.kept.whole ≡ true) × (p.kept.bytes ≡ kept_texts number es)
 
--- from there on it is what sessions can have said
+-- from there on it is what sessions can have made
 pub goes_on_so : (lab : LabValue) (l begun : List Event) (number : ℕ) (es : List KeptEntry) (ps : List ℕ) → IsLab lab → is_legal_in lab l ≡ true
     → IsPrefix begun l → GoesOn lab l None stages.Open (length begun) es ps → are_whole es ≡ true → are_ended false es ≡ true → Said lab l begun number es ps
 goes_on_so lab l begun number es ps is legal begins h whole ended =

@@ -1,4 +1,4 @@
--- What the lines of a record asked, and which clause denied each: told by the lines and the bytes of their replies.
+-- What the lines of a record asked, and which clause denied each, found in the lines and the bytes of their replies.
 use Rattle.std.specs.Prelude.{◌≡◌, ℕ, ◌-◌, List, [], ◌∷◌, ◌++◌, codes, length, take, bytes_eq, Option, None, Some, Result, Ok, Err, if◌then◌else◌}
 use Rattle.std.specs.List.{slice_get}
 use Rattle.mml_rules.specs.declared.rule.Kind.{Kind}
@@ -63,7 +63,7 @@ abbrev pub line_of : Result Request LineFault → Line
 line_of (Ok request) = line_of_request request
 line_of (Err fault) = lines.Malformed
 
--- ---- what a reply tells
+-- ---- the clause in a reply
 
 -- a reply's line without its newline
 abbrev pub unended : List ℕ → List ℕ
@@ -76,17 +76,17 @@ digit_first rest = do
   digit ← slice_get bytes 0
   Some (digit - 48)
 
--- the number of a clause, where the member `clause` is the first of the members of a reply
+-- the number of a clause, if the member `clause` is the first of the members of a reply
 unfoldable pub clause_first : List ℕ → Option ℕ
 clause_first members = if is_word (codes "\"clause\"") (split_at_byte 58 members).0 then digit_first (split_at_byte 58 members).1 else None
 
--- the number of a clause, where the member `clause` stands behind the first comma of the members of a reply
+-- the number of a clause, if the member `clause` stands after the first comma of the members of a reply
 unfoldable pub clause_second : List ℕ → Option ℕ
 clause_second members = do
   rest ← (split_at_byte 44 members).1
   clause_first rest
 
--- the number of a clause, where the member `clause` is the first of the members of a reply, or stands behind `at`
+-- the number of a clause, if the member `clause` is the first of the members of a reply, or stands after `at`
 unfoldable pub clause_member : List ℕ → Option ℕ
 clause_member members = if is_word (codes "\"at\"") (split_at_byte 58 members).0 then clause_second members else clause_first members
 
@@ -96,23 +96,23 @@ clause_told text = do
   members ← (split_at_byte 123 text).1
   clause_member members
 
--- the text of the reply that memory was refused
+-- the text of the reply that memory ran out
 abbrev pub memory_text : List ℕ
 memory_text = codes "{\"refuse\":\"memory\"}"
 
--- ---- who is known behind a line
+-- ---- who is known after a line
 
--- who is known behind a line with this greeting: a command that is left to judge changes nothing
+-- who is known after a line with this greeting: a command that is left to judge changes nothing
 abbrev pub known_by : Option Who → Greeting → Option Who
 known_by known (Answered r x) = x
 known_by known (LeftToJudge who c) = known
 
--- who is known behind a line that was read as this request, or as none
+-- who is known after a line that was read as this request, or as none
 abbrev pub known_asked : RosterValue → Option Who → Result Request LineFault → Option Who
 known_asked roster known (Ok request) = known_by known (greeting roster known request)
 known_asked roster known (Err fault) = known
 
--- who is known behind a line with a reply of this text: where memory was refused, the line changed nothing
+-- who is known after a line with a reply of this text: if memory ran out, the line changed nothing
 unfoldable pub known_after : RosterValue → Option Who → List ℕ → List ℕ → Option Who
 known_after roster known line text = if bytes_eq text memory_text then known else known_asked roster known (request_in line)
 
@@ -123,7 +123,7 @@ abbrev pub student_in : Who → Option ℕ
 student_in who.Teacher = None
 student_in (who.Student s) = Some s
 
--- the student who is known; none where nobody is, or the teacher
+-- the student who is known; none if nobody is, or the teacher
 abbrev pub student_of : Option Who → Option ℕ
 student_of None = None
 student_of (Some w) = student_in w
@@ -132,24 +132,24 @@ student_of (Some w) = student_in w
 abbrev pub ask_of : Option Who → List ℕ → List ℕ → Ask
 ask_of known line out = record { who = student_of known; line = line_of (request_in line); denied = clause_told (unended out) }
 
--- what an entry tells that was asked: one thing, if it is a line that was answered
+-- what an entry asks: one thing, if it is a line that was answered
 abbrev pub asks_at : Option Who → Entry → List Ask
 asks_at known (entry.Said p line out) = ask_of known line out ∷ []
 asks_at known _ = []
 
--- who is known behind an entry
+-- who is known after an entry
 abbrev pub known_behind : RosterValue → Option Who → Entry → Option Who
 known_behind roster known (entry.Said p line out) = known_after roster known line (unended out)
 known_behind roster known (entry.Left p) = None
 known_behind roster known (entry.Unrecorded p) = None
 known_behind roster known _ = known
 
--- what entries tell that was asked, in order, from where someone is known, or nobody
+-- what entries ask, in order, from a state in which someone, or nobody, is known
 abbrev pub asks_from : RosterValue → Option Who → List Entry → List Ask
 asks_from roster known [] = []
 asks_from roster known (e ∷ es) = asks_at known e ++ asks_from roster (known_behind roster known e) es
 
--- what the entries of a record tell that was asked
+-- what the entries of a record ask
 abbrev pub asks_in : RosterValue → List Entry → List Ask
 asks_in roster es = asks_from roster None es
 
@@ -160,7 +160,8 @@ abbrev pub clause_in : Reply → Option ℕ
 clause_in (reply.Deny d) = Some (clause_of d)
 clause_in _ = None
 
--- beside each line that was answered stands who was known by the rules, what the line is, and the clause of the reply of the rules
+-- beside each line that was answered stands who was known by the rules, what the line is, and the clause of the reply
+-- of the rules
 abbrev pub AreAskedOf : LabValue → List Event → Option Who → List Entry → List Ask → Type 0
 AreAskedOf lab l known [] asks = asks ≡ []
 AreAskedOf lab l known (entry.Said p line out ∷ es) asks =

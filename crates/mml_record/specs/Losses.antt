@@ -1,4 +1,4 @@
--- Of whom a record may lack lines.
+-- The participants of whom a record may lack lines.
 use Rattle.std.specs.Prelude.{Bool, true, false, ◌||◌, ◌==◌, List, [], ◌∷◌, Option, None, Some}
 use Rattle.mml_lab.specs.declared.who.Who.{Who}
 use Rattle.mml_lab.specs.declared.who.Who.TheVariants as who
@@ -23,7 +23,7 @@ abbrev pub pauses_for : Option Who → Entry → Who → Bool
 pauses_for known (entry.Paused p) who = is_known_as known who
 pauses_for known _ who = false
 
--- who is known behind entries, by the bytes of lines and replies, from where someone is known, or nobody
+-- who is known after entries, by the bytes of lines and replies, if someone, or nobody, is known before them
 abbrev pub known_in : RosterValue → Option Who → List Entry → Option Who
 known_in roster known [] = known
 known_in roster known (e ∷ es) = known_in roster (known_behind roster known e) es

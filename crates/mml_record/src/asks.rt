@@ -22,7 +22,7 @@ use mml_rules::Kind;
 use mml_tally::{Ask, Line, push_ask};
 use std::alloc::Global;
 
-// The kind of a rule that was asked for.
+// Returns the kind of a rule that was asked for.
 fn kind_asked(rule: Asked) -> Kind
     ensures { result ≡ kind_asked rule }
 {
@@ -34,7 +34,8 @@ fn kind_asked(rule: Asked) -> Kind
     }
 }
 
-// What the tally takes a line with this command for: a move, with its node and kind, or something else.
+// Returns what a line with this command asks, as the tally distinguishes lines: a move, with its node and kind, or
+// something else.
 fn line_of_command(command: &Command) -> Line
     ensures { result ≡ line_of_command command.now }
 {
@@ -47,7 +48,7 @@ fn line_of_command(command: &Command) -> Line
     }
 }
 
-// What the tally takes a line with this request for: a move, or something else.
+// Returns what a line with this request asks, as the tally distinguishes lines: a move, or something else.
 fn line_of_request(request: &Request) -> Line
     ensures { result ≡ line_of_request request.now }
 {
@@ -57,8 +58,8 @@ fn line_of_request(request: &Request) -> Line
     }
 }
 
-// The value of the digit that `rest` begins with; of another byte, how far it is above the byte `0`, or 0. None where
-// there is no `rest`, or it is empty.
+// Returns the value of the digit at the front of `rest`. For another byte, returns how far it is above the byte `0`, or
+// 0. Returns `None` if there is no `rest`, or it is empty.
 fn digit_first(rest: Option<&[u8]>) -> Option<u8>
     ensures { result ≡ digit_first (seen rest.entry) }
 {
@@ -67,9 +68,9 @@ fn digit_first(rest: Option<&[u8]>) -> Option<u8>
     Some(digit.saturating_sub(b'0'))
 }
 
-// The clause's number, where `clause` is the first of the members of a reply, its text behind the `{`; `None` where
-// another member is first, or nothing follows the colon. Of the value the first byte alone is read, as by `digit_first`:
-// in a reply it is the number, since clauses have one digit.
+// Returns the clause's number, if `clause` is the first member of a reply. `members` is the reply's text after the `{`.
+// Returns `None` if another member is first, or nothing follows the colon. Only the first byte of the value is read, by
+// `digit_first`: in a reply it is the number, since clauses have one digit.
 #[tactic(auto, unfolding(crate::specs::Asks::clause_first))]
 fn clause_first(members: &[u8]) -> Option<u8>
     ensures { result ≡ clause_first members.now }
@@ -82,8 +83,8 @@ fn clause_first(members: &[u8]) -> Option<u8>
     }
 }
 
-// The number of a clause, where the member `clause` stands behind the first comma of the members of a reply, its text
-// behind the `{`; none where it doesn't, or has no value.
+// Returns the number of a clause, if the member `clause` stands after the first comma of a reply's text after the `{`,
+// or `None` if it doesn't, or has no value.
 #[tactic(auto, unfolding(crate::specs::Asks::clause_second))]
 fn clause_second(members: &[u8]) -> Option<u8>
     ensures { result ≡ clause_second members.now }
@@ -93,8 +94,8 @@ fn clause_second(members: &[u8]) -> Option<u8>
     clause_first(rest)
 }
 
-// The number of a clause, where the member `clause` is the first of the members of a reply, or the second, behind `at`;
-// none where it is neither.
+// Returns the number of a clause, if the member `clause` is the first in a reply's text after the `{`, or the second,
+// after `at`. Returns `None` if it is neither.
 #[tactic(auto, unfolding(crate::specs::Asks::clause_member))]
 fn clause_member(members: &[u8]) -> Option<u8>
     ensures { result ≡ clause_member members.now }
@@ -107,7 +108,7 @@ fn clause_member(members: &[u8]) -> Option<u8>
     }
 }
 
-// The number of the clause that a reply's text names; none where the reply is no denial.
+// Returns the number of the clause in a reply's text, or `None` if the reply is no denial.
 #[tactic(auto, unfolding(crate::specs::Asks::clause_told))]
 fn clause_told(text: &[u8]) -> Option<u8>
     ensures { result ≡ clause_told text.now }
@@ -117,14 +118,14 @@ fn clause_told(text: &[u8]) -> Option<u8>
     clause_member(members)
 }
 
-// Whether `text` is that of the reply that memory was refused.
+// Returns whether `text` is that of the reply that memory ran out.
 fn is_memory(text: &[u8]) -> bool
     ensures { result ≡ bytes_eq text.now memory_text }
 {
     text == b"{\"refuse\":\"memory\"}".as_slice()
 }
 
-// Who is known behind a line with this greeting, where `known` was known before it: a command that is left to judge
+// Returns who is known after a line with this greeting. `known` was known before it: a command that is left to judge
 // changes nothing.
 fn known_by(known: Option<Who>, greeting: Greeting) -> Option<Who>
     ensures { result ≡ known_by known greeting }
@@ -141,8 +142,8 @@ fn known_by(known: Option<Who>, greeting: Greeting) -> Option<Who>
     }
 }
 
-// What the tally takes the line for (a move, something else, or no request), and who is known behind it, where `known`
-// was known before it. An error means that memory was refused.
+// Returns what the line asks, as the tally distinguishes lines (a move, something else, or no request), and who is
+// known after it. `known` was known before it. Returns `Memory` if memory runs out.
 fn line_and_known(
     alloc: Global,
     roster: &Roster,
@@ -154,7 +155,7 @@ fn line_and_known(
     ensures known { IfOk result (λ x. x.1 ≡ known_asked roster.now known (request_in line.now)) }
     ensures part { IfOk result (λ x. IfSome x.1 (IsPrincipal roster.now)) }
 {
-    // By reference: a value with a student inside isn't copied by the toolchain where it is used again.
+    // By reference: a value with a student inside isn't copied by the toolchain if it is used again.
     let known = &known;
     match read_request(alloc, line) {
         Ok(request) => {
@@ -166,7 +167,7 @@ fn line_and_known(
     }
 }
 
-// The student whom `who` names; none for the teacher.
+// Returns the student whom `who` names, or `None` for the teacher.
 fn student_in(who: Who) -> Option<Student>
     ensures { result ≡ student_in who }
 {
@@ -176,7 +177,7 @@ fn student_in(who: Who) -> Option<Student>
     }
 }
 
-// The student who is known; none where nobody is, or the teacher.
+// Returns the student who is known, or `None` if nobody is, or the teacher.
 fn student_of(known: Option<Who>) -> Option<Student>
     ensures { result ≡ student_of known }
 {
@@ -186,9 +187,9 @@ fn student_of(known: Option<Who>) -> Option<Student>
     }
 }
 
-// What a line asked that was answered by this text, with the student who was known before it and the clause that denied
-// it; and who is known behind the line. `known` is who was known before it, and still is where the text says that memory
-// was refused. An error means that memory was refused to this call.
+// Returns what a line asked that was answered by this text, with the student who was known before it and the clause
+// that denied it; and who is known after the line. `known` was known before it, and still is if the text is the refusal
+// for memory. Returns `Memory` if memory runs out in this call.
 #[tactic(auto, unfolding(crate::specs::Asks::known_after))]
 fn ask_and_known(
     alloc: Global,
@@ -202,7 +203,7 @@ fn ask_and_known(
     ensures known { IfOk result (λ x. x.1 ≡ known_after roster.now known line.now text.now) }
     ensures part { IfOk result (λ x. IfSome x.1 (IsPrincipal roster.now)) }
 {
-    // By reference: a value with a student inside isn't copied by the toolchain where it is used again.
+    // By reference: a value with a student inside isn't copied by the toolchain if it is used again.
     let known = &known;
     let denied = clause_told(text);
     let (line, then) = line_and_known(alloc, roster, *known, line)?;
@@ -218,8 +219,9 @@ fn ask_and_known(
     }
 }
 
-// Puts what an entry's line asked behind `asks`, and gives who is known behind the entry. An entry that has no line
-// asks nothing; nobody is known behind a session's end, nor where anything may be missing. An error means that memory was refused to this call.
+// Appends what an entry's line asked to `asks`, and returns who is known after the entry. An entry without a line asks
+// nothing. Nobody is known after a session's end, nor if anything may be missing. Returns `Memory` if memory runs out
+// in this call.
 fn read_ask(
     alloc: Global,
     lab: &Lab,
@@ -245,10 +247,10 @@ fn read_ask(
     }
 }
 
-/// Puts behind `asks` what each line of the seat with this number asked, which student was known then, if one was, and
-/// which clause denied it, if one did. The text is that of a record beside the events of a journal of the lab: `events`
-/// is for the contract alone. Any other text is read up to the first bytes that are no entry. An error means that
-/// memory was refused.
+/// Appends to `asks` what each line of the seat with this number asked, which student was known then, if one was, and
+/// which clause denied it, if one did. The text is that of a record beside the events of a journal of the lab; `events`
+/// is only for the contract. Any other text is read up to the first bytes that are no entry. Returns `Memory` if memory
+/// runs out.
 pub fn read_asks(
     alloc: Global,
     lab: &Lab,
@@ -262,7 +264,7 @@ pub fn read_asks(
         text.now ≡ record_text number es →
         asks.new.items ≡ asks.old.items ++ asks_in lab.now.roster es) }
 {
-    // By what these readers ensure, the lab is lawful, and the number of events is one of 64 bits.
+    // By what these getters ensure, the lab is lawful, and the number of events is one of 64 bits.
     let _nodes = lab.node_count();
     let _count = events.len();
     let mut known = None;

@@ -1,36 +1,37 @@
-//! How much of what is said is recorded.
+//! The limit on how much is recorded.
 
-/// Whether the text of an entry may be put.
+/// Whether the text of an entry may be written.
 #[derive(Clone, Copy, Debug, PartialEq, Eq, Drop)]
 pub enum Taking {
     /// It may.
     Taken,
-    /// It may, beyond the budget: it is the entry of a hello, and recording pauses behind it.
+    /// It may, beyond the budget: it is the entry of a hello, and recording pauses after it.
     Last,
     /// It may not.
     Refused,
 }
 
-/// What limits how much may be recorded of whoever is known in a seat. A session goes on whether or not it is recorded.
+/// A budget of a record: it limits how much is recorded of whoever is known in a seat. A session goes on whether or not
+/// it is recorded.
 pub trait Budget {
-    /// Takes note that a line was answered with this reply: one that grants a hello tells who is known from then on.
+    /// Notes that a line was answered with this reply. One that grants a hello says who is known from then on.
     fn hear(&mut self, reply: &[u8]);
 
-    /// Whether the reply that was heard last grants a hello.
+    /// Returns whether the last reply that was noted grants a hello.
     fn is_greeted(&self) -> bool;
 
-    /// Whether somebody is known, by the replies that were heard.
+    /// Returns whether somebody is known, by the replies that were noted.
     fn is_known(&self) -> bool;
 
-    /// Whether the text of an entry, of this many `bytes`, may be put. If so, it is charged to whoever is known, or to
-    /// those who aren't known. `Last` for a hello alone, and once for each account: so the record tells, of each account
-    /// of which something is refused, that recording paused while it was known.
+    /// Returns whether the text of an entry, of this many `bytes`, may be written. If so, it is charged to whoever is
+    /// known, or to those who aren't known. Returns `Last` only for a hello, and once for each account: so the record
+    /// says, for each account of which something is refused, that recording paused while it was known.
     fn takes_entry(&mut self, bytes: u64) -> Taking;
 
-    /// Whether the text of a session's end, of this many `bytes`, may be put. If so, it is charged to whoever is known,
-    /// or to all together who aren't.
+    /// Returns whether the text of a session's end, of this many `bytes`, may be written. If so, it is charged to
+    /// whoever is known, or to all together who aren't.
     fn takes_end(&mut self, bytes: u64) -> bool;
 
-    /// Takes note that a session has ended, so that nobody is known.
+    /// Notes that a session has ended, so that nobody is known.
     fn forget(&mut self);
 }

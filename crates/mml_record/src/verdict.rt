@@ -1,28 +1,28 @@
-//! What is found of a record.
+//! The verdict on a record.
 use mml_tally::Findings;
 
-/// What a text is found to be.
+/// The verdict on a text.
 #[derive(Clone, Copy, Debug, Drop)]
 pub enum Verdict {
-    /// A record, which comes to these findings.
+    /// It is a record, with this summary.
     Passed(Findings),
-    /// No record, because of this entry.
+    /// It is no record, because of this entry.
     Refused(BadEntry),
 }
 
-/// The first entry that can't be.
+/// The first bad entry of a text.
 #[derive(Clone, Copy, Debug, PartialEq, Eq, Drop)]
 pub struct BadEntry {
-    /// How many bytes stand before it: the most that are a record.
+    /// How many bytes stand before it: the longest front that is a record.
     pub front: u64,
     /// The number of its line, from 1.
     pub line: u64,
-    /// How many events it says had been seen; 0 where no entry can be read.
+    /// How many events it says had been seen, or 0 if no entry can be read.
     pub place: u64,
     pub why: Why,
 }
 
-/// Why an entry can't be.
+/// Why an entry is bad.
 #[derive(Clone, Copy, Debug, PartialEq, Eq, Drop)]
 pub enum Why {
     /// The text breaks off within it.
@@ -35,14 +35,14 @@ pub enum Why {
     PastEnd,
     /// It says that more events had been seen than the entries before it lead to, though nothing was asked or shown.
     GoesAhead,
-    /// Something is said after a bye, or after a mark that lines aren't recorded.
+    /// A line comes after a bye, or after a mark that lines aren't recorded.
     NoEnd,
-    /// Recording resumes at a line that is no hello which is granted.
+    /// Recording resumes at a line that is no granted hello.
     NoHello,
-    /// Recording resumes where it hasn't paused.
+    /// Recording resumes though it hasn't paused.
     NoPause,
-    /// The reply tells of an event that the rules grant there, and that isn't the next of the journal.
+    /// The reply names an event that the rules grant there, but that isn't the next of the journal.
     OtherEvent,
-    /// The rules answer otherwise there, or show something, or the line is longer than a request may be.
+    /// The rules have another reply there, or show something, or the line is longer than a request may be.
     OtherReply,
 }

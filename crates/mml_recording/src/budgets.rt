@@ -6,21 +6,21 @@ use std::alloc::Global;
 use std::sync::Arc;
 use std::sync::atomic::{AtomicBool, AtomicU64, Ordering};
 
-/// How many bytes of entries may be put of each account while a class runs, in the files of all seats, and how many of
-/// all together who aren't known.
+/// How many bytes of entries may be recorded of each account while a class runs, in the files of all seats, and how
+/// many of all together who aren't known.
 pub const BUDGET: u64 = 8 << 20;
 
-/// How many bytes of entries may be put of one connection while nobody is known there.
+/// How many bytes of entries may be recorded of one connection while nobody is known there.
 pub const STRANGER: u64 = 64 << 10;
 
-// How many bytes more there may be of the ends of sessions.
+// How many more bytes there may be of the ends of sessions.
 const ENDS: u64 = 64 << 10;
 
-// How the reply to a hello that is granted begins, up to the name.
+// The beginning of the reply to a hello that is granted, up to the name.
 const GREETED: &[u8] = b"{\"ok\":\"hello\",\"who\":\"";
 
-// How many bytes were put of one account, and whether something of it was refused: then recording has paused, or is
-// about to, in a session in which it is known.
+// How many bytes were recorded of one account, and whether something of it was refused: then recording has paused, or
+// is about to, in a session in which it is known.
 #[derive(Drop)]
 struct Spending {
     name: String,
@@ -28,7 +28,7 @@ struct Spending {
     is_refused: AtomicBool,
 }
 
-/// How many bytes were put of each account, and of those who aren't known.
+/// How many bytes were recorded of each account, and of those who aren't known.
 #[derive(Drop)]
 pub struct Budgets {
     accounts: Vec<Spending>,
@@ -36,8 +36,8 @@ pub struct Budgets {
 }
 
 impl Budgets {
-    /// The budgets of a class of the lab, where nothing was put yet of any account. An error means that memory was
-    /// refused.
+    /// Returns the budgets of a class of the lab, of which nothing was recorded yet. Returns `FileFault` if memory runs
+    /// out.
     pub fn new(alloc: Global, lab: &Lab) -> Result<Budgets, FileFault> {
         let roster = lab.roster();
         let mut accounts = Vec::new(alloc);
@@ -53,15 +53,14 @@ impl Budgets {
         })
     }
 
-    // The index of the account with this name; none where the lab has no such account.
+    // Returns the index of the account with this name, or `None` if the lab has no such account.
     fn index_of(&self, name: &[u8]) -> Option<usize> {
         self.accounts
             .iter()
             .position(|account| account.name.as_bytes() == name)
     }
 
-    // The count of the bytes that were put of the account with this index, or, where it is none, of those who aren't
-    // known.
+    // Returns the count of the bytes of the account with this index, or, for `None`, of those who aren't known.
     fn spent_by(&self, account: Option<usize>) -> &AtomicU64 {
         match account {
             Some(index) => match self.accounts.get(index) {
@@ -73,7 +72,7 @@ impl Budgets {
     }
 }
 
-// An account with this name, of which nothing was put yet. An error means that memory was refused.
+// Returns an account with this name, of which nothing was recorded yet. Returns `FileFault` if memory runs out.
 fn new_account(alloc: Global, name: &str) -> Result<Spending, FileFault> {
     Ok(Spending {
         name: String::from_str(alloc, name)?,
@@ -82,19 +81,19 @@ fn new_account(alloc: Global, name: &str) -> Result<Spending, FileFault> {
     })
 }
 
-/// The budgets as a seat sees them: who is known there is charged, by the replies that it gets.
+/// The budgets as a seat sees them: the replies of the seat say who is known there and charged.
 #[derive(Drop)]
 pub struct SeatBudget {
     budgets: Arc<Budgets, Global>,
     account: Option<usize>,
-    // Whether the reply that was heard last grants a hello.
+    // Whether the last reply that was noted grants a hello.
     is_greeted: bool,
-    // How many bytes of entries were put in the session while nobody was known.
+    // How many bytes of entries were recorded in the session while nobody was known.
     unknown_here: u64,
 }
 
 impl SeatBudget {
-    /// The budget of a seat at which nobody is known yet.
+    /// Returns the budget of a seat at which nobody is known yet.
     pub fn new(budgets: Arc<Budgets, Global>) -> SeatBudget {
         SeatBudget {
             budgets,
@@ -104,8 +103,8 @@ impl SeatBudget {
         }
     }
 
-    // Charges whoever is known, or else all together who aren't, with this many `bytes`, unless more than `most` would
-    // then be put of that account. False where more would, and nothing is charged.
+    // Charges this many `bytes` to whoever is known, or else to all together who aren't, unless that account would then
+    // have more than `most`. Returns `false`, and charges nothing, if it would.
     fn charge(&self, bytes: u64, most: u64) -> bool {
         let spent = self.budgets.spent_by(self.account);
         spent
@@ -116,8 +115,8 @@ impl SeatBudget {
             .is_ok()
     }
 
-    // Whether an entry of this many `bytes` may be put while nobody is known: no more than `STRANGER` bytes are put then
-    // of this connection, and no more than `BUDGET` of all together who aren't known.
+    // Returns whether an entry of this many `bytes` may be written while nobody is known: this connection then has no
+    // more than `STRANGER` bytes, and all together who aren't known no more than `BUDGET`.
     fn takes_unknown(&mut self, bytes: u64) -> bool {
         let here = self.unknown_here.saturating_add(bytes);
         if here > STRANGER || !self.charge(bytes, BUDGET) {
@@ -127,8 +126,8 @@ impl SeatBudget {
         true
     }
 
-    // What becomes of an entry of the account with this index that its budget doesn't take. The entry of a hello is put
-    // all the same, where nothing of the account was refused yet: recording pauses behind it.
+    // Returns what happens to an entry of the account with this index that its budget doesn't take. The entry of a
+    // hello is still written, if nothing of the account was refused yet: recording pauses after it.
     fn refuse(&self, index: usize) -> Taking {
         match self.budgets.accounts.get(index) {
             Some(account) => {
@@ -145,7 +144,7 @@ impl SeatBudget {
 }
 
 impl Budget for SeatBudget {
-    // A reply that grants a hello names whom to charge from then on; another reply changes nothing.
+    // A reply that grants a hello names whom to charge from then on. Another reply changes nothing.
     fn hear(&mut self, reply: &[u8]) {
         let name = name_greeted(reply);
         self.is_greeted = name.is_some();
@@ -154,18 +153,19 @@ impl Budget for SeatBudget {
         }
     }
 
-    // By what `hear` found.
+    // What `hear` found.
     fn is_greeted(&self) -> bool {
         self.is_greeted
     }
 
-    // By whom the last hello named that was granted in the session.
+    // The name in the last hello that was granted in the session.
     fn is_known(&self) -> bool {
         self.account.is_some()
     }
 
-    // An entry may be put, and is charged, where no more than `BUDGET` bytes are put then of whoever is known; or, while
-    // nobody is, no more than `STRANGER` of the connection, and `BUDGET` of all together who aren't known.
+    // An entry may be written, and is charged, if whoever is known then has no more than `BUDGET` bytes. While nobody
+    // is known, the connection may have no more than `STRANGER`, and all together who aren't known no more than
+    // `BUDGET`.
     fn takes_entry(&mut self, bytes: u64) -> Taking {
         match self.account {
             Some(index) => {
@@ -185,12 +185,12 @@ impl Budget for SeatBudget {
         }
     }
 
-    // A session's end may go `ENDS` bytes beyond `BUDGET`, so that it is put still where entries no longer are.
+    // A session's end may go `ENDS` bytes beyond `BUDGET`, so that it is still written if entries no longer are.
     fn takes_end(&mut self, bytes: u64) -> bool {
         self.charge(bytes, BUDGET + ENDS)
     }
 
-    // What is put from then on is charged to those who aren't known.
+    // What is recorded from then on is charged to those who aren't known.
     fn forget(&mut self) {
         self.account = None;
         self.is_greeted = false;
@@ -198,7 +198,7 @@ impl Budget for SeatBudget {
     }
 }
 
-// The name of whoever is known from this reply on, where it grants a hello; none in another reply.
+// Returns the name of whoever is known from this reply on, if it grants a hello, and `None` for another reply.
 fn name_greeted(reply: &[u8]) -> Option<&[u8]> {
     let name = reply.strip_prefix(GREETED)?;
     name.split(|byte| *byte == b'"').next()

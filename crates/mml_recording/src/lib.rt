@@ -1,4 +1,4 @@
-//! The folder in which a class is recorded: a file for each seat, and what they are read with.
+//! The folder in which a class is recorded: a file for each seat, and the files that are needed to read them.
 #![tactic(auto)]
 
 mod budgets;

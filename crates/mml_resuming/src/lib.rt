@@ -1,4 +1,4 @@
-//! A class that goes on from its journal: what the old journal says, and a host that begins there.
+//! A class that goes on from its journal: the audit of the old journal, and a host that begins there.
 #![tactic(auto)]
 
 pub mod laws;

@@ -37,7 +37,7 @@ length-without_neighbour neighbours a b = length-set neighbours a (sets.remove (
 pub length-unpointed : (registers : List Regs) (a b : ℕ) → length (unpointed registers a b) ≡ length registers
 length-unpointed registers a b = grind (arith, length-set)
 
--- a lawful network stays one where a node's new pointer, if it has one, leads to a neighbour
+-- a lawful network stays one if a node's new pointer, if it has one, leads to a neighbour
 pub with_registers-lawful : (n : Network) (i : ℕ) (r : Regs) → IsNetwork n → i < length n.registers
     → ((j : ℕ) → r.p ≡ Some j → sets.contains (neighbours_at n.neighbours i) j ≡ true) → IsNetwork (with_registers n i r)
 with_registers-lawful n i r w l ok = grind (arith, length-set, registers_at-set, eqb-true)

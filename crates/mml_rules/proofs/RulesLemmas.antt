@@ -23,7 +23,7 @@ married-from c i j l a b =
 pub married-null : (c : Configuration) (i : ℕ) → c.p i ≡ None → is_married c i ≡ false
 married-null c i h = false_from_ne_true (is_married c i) (λ m. let r = married-partner c i m in cc)
 
--- a node that points at j is married exactly where j points back
+-- a node that points at j is married exactly if j points back
 pub married-at : (c : Configuration) (i j : ℕ) → IsLawful c → c.p i ≡ Some j → is_married c i ≡ holds (c.p j) i
 married-at c i j l a = grind (arith, married-from, holds-true, false_from_ne_true, married-partner, both_ways, holds-from)
 
@@ -47,7 +47,7 @@ some-null o h = grind arith
 pub null-some : (o : Option ℕ) → is_none o ≡ true → is_some o ≡ false
 null-some o h = grind (arith, false≢true)
 
--- a node that points in vain points at some node
+-- a node whose pointer is useless points at some node
 pub vain-some : (c : Configuration) (i : ℕ) → points_in_vain c i ≡ true → is_some (c.p i) ≡ true
 vain-some c i h = grind (arith, nat_lt, false≢true)
 
@@ -66,7 +66,7 @@ pub greatest-is : (c : Configuration) (i j : ℕ) → greatest_candidate c i ≡
 unfolding greatest_candidate
 greatest-is c i j h = (greatest_below-some c.size j (is_candidate c i) h).1
 
--- where there is no greatest candidate, no node is one
+-- if there is no greatest candidate, no node is one
 pub greatest-none : (c : Configuration) (i j : ℕ) → greatest_candidate c i ≡ None → j < c.size → is_candidate c i j ≡ false
 unfolding greatest_candidate
 greatest-none c i j h l = greatest_below-none c.size j (is_candidate c i) h l

@@ -1,4 +1,4 @@
--- Steps, pairs and where no node is privileged are the same under names that keep the order.
+-- Names that keep the order of the nodes keep steps, pairs and whether a node is privileged.
 use Rattle.std.proofs.Common.{◌≡◌, ◌↔◌, ◌⊎◌, ℕ, ◌<◌, Bool, true, false, eqb, Option, None, Some, is_some, sym, refl, ap, ◌∙◌, subst, inl, inr, arith}
 use Rattle.std.proofs.lemmas.Bool.{eqb-true, eq-eqb, and_parts, both_ways, false_from_ne_true}
 use Rattle.mml_ids.specs.Search.{some_below}
@@ -40,7 +40,7 @@ module _ (f : ℕ → ℕ) (c d : Configuration) (l : IsLawful c) (r : IsRenamed
   pub pair_has_names : (i y : ℕ) → i < c.size → IsPair d (f i) y → (j : ℕ) × (j < c.size) × (f j ≡ y) × IsPair c i j
   pair_has_names i y a h = grind (arith, pointer_from, pointer_named)
 
-  -- ---- where no node is privileged
+  -- ---- whether a node is privileged
 
   privileged_named : (i : ℕ) → i < c.size → is_privileged d (f i) ≡ is_privileged c i
   privileged_named i a = ap is_some (kind_named f c d l r i a)

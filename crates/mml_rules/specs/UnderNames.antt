@@ -17,7 +17,7 @@ AreRenamedMoves f size chosen named = (i : ℕ) → i < size → named (f i) ≡
 abbrev pub IsNoName : (ℕ → ℕ) → ℕ → ℕ → Type 0
 IsNoName f size x = (i : ℕ) → i < size → f i ≢ x
 
--- what names no node of c has no link in d and points at nobody, and its m is false
+-- a number that names no node of c has no link in d and points at no node, and its m is false
 pub record IsEmptyElsewhere (f : ℕ → ℕ) (c d : Configuration) : Type 0 where
   pub links : (x y : ℕ) → IsNoName f c.size x → d.linked x y ≡ false
   pub p : (x : ℕ) → IsNoName f c.size x → d.p x ≡ None

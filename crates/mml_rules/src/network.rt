@@ -8,7 +8,7 @@ use mml_ids::{Memory, NodeSet, Rank};
 use std::alloc::Global;
 use std::marker::Model;
 
-/// The links and the registers, in the order of the ranks.
+/// The links and the registers of a network, listed by rank.
 #[derive(Debug, Drop)]
 pub struct Network {
     neighbours: Vec<NodeSet>,
@@ -30,7 +30,7 @@ impl Model for Network {
 }
 
 impl Network {
-    /// The network in which each node's neighbours are in `neighbours`, and its registers in `registers`, by its rank.
+    /// Returns the network with these rows of neighbours and these registers, both listed by rank.
     pub fn of(neighbours: Vec<NodeSet>, registers: Vec<Regs>) -> Network
         requires { IsNetwork (record { neighbours = neighbours.items; registers = registers.items }) }
         ensures { result ≡ record { neighbours = neighbours.items; registers = registers.items } }
@@ -41,7 +41,7 @@ impl Network {
         }
     }
 
-    /// A copy of the network, with rows of neighbours and registers of its own.
+    /// Returns a copy of the network. Returns `Memory` if memory runs out.
     pub fn try_copy(&self, alloc: Global) -> Result<Network, Memory>
         ensures { IfOk result (λ network. network ≡ self.now) }
     {
@@ -53,7 +53,7 @@ impl Network {
         })
     }
 
-    /// The nodes linked to a node; none where it is past the last one.
+    /// Returns the nodes that are linked to a node. Returns no nodes if the rank is past the last node.
     pub fn neighbours(&self, node: Rank) -> NodeSet
         ensures { result ≡ neighbours_at self.now.neighbours node }
     {
@@ -63,7 +63,7 @@ impl Network {
         }
     }
 
-    /// A node's registers; the node is below the size.
+    /// Returns the registers of a node, whose rank must be below the size.
     pub fn registers(&self, node: Rank) -> Regs
         requires { node < length self.now.registers }
         ensures { result ≡ registers_at self.now.registers node }
@@ -71,7 +71,7 @@ impl Network {
         self.registers[node.index() as usize]
     }
 
-    /// How many nodes there are. Their ranks are the numbers below it.
+    /// Returns the number of nodes. Their ranks are the numbers below it.
     pub fn size(&self) -> u64
         ensures size { result ≡ length self.now.registers }
         ensures network { IsNetwork self.now }
@@ -79,7 +79,7 @@ impl Network {
         self.registers.len() as u64
     }
 
-    /// Writes a node's registers, of which p is null or a neighbour.
+    /// Writes a node's registers, whose p must be null or a neighbour.
     pub fn set_registers(&mut self, node: Rank, registers: Regs)
         requires node { node < length self.old.registers }
         requires linked { (j : ℕ) → registers.p ≡ Some j →
@@ -100,7 +100,7 @@ impl Network {
         link_one_way(&mut self.neighbours, b, a);
     }
 
-    /// Takes the link between two nodes away, if there is one, and makes the pointers over it null.
+    /// Removes the link between two nodes, if there is one, and makes the pointers over it null.
     pub fn cut(&mut self, a: Rank, b: Rank)
         requires a { a < length self.old.registers }
         requires b { b < length self.old.registers }
@@ -113,7 +113,7 @@ impl Network {
     }
 }
 
-/// Puts `b` among the neighbours of `a`.
+/// Adds `b` to the neighbours of `a`.
 fn link_one_way(neighbours: &mut [NodeSet], a: Rank, b: Rank)
     requires { a < length neighbours.old }
     ensures { neighbours.new ≡ with_neighbour neighbours.old a b }
@@ -122,7 +122,7 @@ fn link_one_way(neighbours: &mut [NodeSet], a: Rank, b: Rank)
     neighbours[a.index() as usize] = row;
 }
 
-/// Takes `b` out of the neighbours of `a`.
+/// Removes `b` from the neighbours of `a`.
 fn cut_one_way(neighbours: &mut [NodeSet], a: Rank, b: Rank)
     requires { a < length neighbours.old }
     ensures { neighbours.new ≡ without_neighbour neighbours.old a b }
@@ -131,7 +131,7 @@ fn cut_one_way(neighbours: &mut [NodeSet], a: Rank, b: Rank)
     neighbours[a.index() as usize] = row;
 }
 
-/// Makes the pointer of `a` null where it was `b`, and changes nothing else.
+/// Makes the pointer of `a` null if it was `b`, and changes nothing else.
 fn unpoint(registers: &mut [Regs], a: Rank, b: Rank)
     requires { a < length registers.old }
     ensures { registers.new ≡ unpointed registers.old a b }

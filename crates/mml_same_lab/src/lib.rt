@@ -1,4 +1,4 @@
-//! Whether two labs agree in all that a journal names.
+//! A comparison of two labs in all that a journal names.
 #![tactic(auto)]
 
 mod sameness;

@@ -1,4 +1,4 @@
-//! Whether two labs are the same, part by part.
+//! A comparison of two labs, part by part.
 ghost use Rattle.std.specs.Prelude.{◌≡◌, ◌↔◌, ◌<◌, IsTrue, IfOk, length};
 ghost use Rattle.mml_same_lab.specs.Sameness.{HasSameLinks, HasSameOwners, HasSameNames, IsSameNode, IsSameLab, SpellsSame};
 
@@ -6,8 +6,8 @@ use mml_ids::{IdTable, Memory, Rank};
 use mml_lab::{Lab, LabFault, Roster, Student, Who, read_lab};
 use std::alloc::Global;
 
-/// Whether the bytes spell a lab with the same identifiers, names, links, registers and owners as `lab`; false where
-/// they spell none. An error means that memory was refused.
+/// Returns whether the bytes spell a lab with the same identifiers, names, links, registers and owners as `lab`.
+/// Returns `false` if they spell none, and `Memory` if memory runs out.
 pub fn spells_same_lab(alloc: Global, lab: &Lab, bytes: &[u8]) -> Result<bool, Memory>
     ensures { IfOk result (λ same. IsTrue same ↔ SpellsSame lab.now bytes.now) }
 {
@@ -18,7 +18,7 @@ pub fn spells_same_lab(alloc: Global, lab: &Lab, bytes: &[u8]) -> Result<bool, M
     }
 }
 
-/// Whether the labs have the same identifiers, names, links, registers and owners.
+/// Returns whether the labs have the same identifiers, names, links, registers and owners.
 pub fn is_same_lab(a: &Lab, b: &Lab) -> bool
     ensures { IsTrue result ↔ IsSameLab a.now b.now }
 {
@@ -36,7 +36,7 @@ pub fn is_same_lab(a: &Lab, b: &Lab) -> bool
     true
 }
 
-// Whether both have the same identifiers, in the same order.
+// Returns whether both have the same identifiers, in the same order.
 fn has_same_ids(a: &IdTable, b: &IdTable) -> bool
     ensures { IsTrue result ↔ (a.now ≡ b.now) }
 {
@@ -51,7 +51,7 @@ fn has_same_ids(a: &IdTable, b: &IdTable) -> bool
     true
 }
 
-// Whether both have the same names: the teacher's, and the students' in the same order.
+// Returns whether both have the same names: the teacher's, and the students' in the same order.
 fn has_same_names(a: &Roster, b: &Roster) -> bool
     ensures { IsTrue result ↔ HasSameNames a.now b.now }
 {
@@ -69,7 +69,7 @@ fn has_same_names(a: &Roster, b: &Roster) -> bool
     true
 }
 
-// Whether the node of this rank has the same registers, links and owners in both labs.
+// Returns whether the node of this rank has the same registers, links and owners in both labs.
 fn is_same_node(a: &Lab, b: &Lab, node: Rank) -> bool
     requires here { node < length a.now.ids }
     requires ids { length a.now.ids ≡ length b.now.ids }
@@ -82,7 +82,7 @@ fn is_same_node(a: &Lab, b: &Lab, node: Rank) -> bool
     has_same_links(a, b, node) && has_same_owners(a.roster(), b.roster(), node)
 }
 
-// Whether the node of this rank has the same links in both labs.
+// Returns whether the node of this rank has the same links in both labs.
 fn has_same_links(a: &Lab, b: &Lab, node: Rank) -> bool
     requires here { node < length a.now.ids }
     requires ids { length a.now.ids ≡ length b.now.ids }
@@ -97,7 +97,7 @@ fn has_same_links(a: &Lab, b: &Lab, node: Rank) -> bool
     true
 }
 
-// Whether the node of this rank is owned by the same students in both rosters.
+// Returns whether the node of this rank is owned by the same students in both rosters.
 fn has_same_owners(a: &Roster, b: &Roster, node: Rank) -> bool
     requires { length a.now.students ≡ length b.now.students }
     ensures { IsTrue result ↔ HasSameOwners a.now b.now node }
@@ -110,7 +110,7 @@ fn has_same_owners(a: &Roster, b: &Roster, node: Rank) -> bool
     true
 }
 
-// The student with an index in the file's order, from 0, as one who takes part.
+// Returns the student with an index in the file's order, from 0, as a participant.
 fn student_at(index: u64) -> Who
     requires { index < 256 }
     ensures { result ≡ Who.Student index }

@@ -2,7 +2,7 @@
 use Rattle.std.proofs.Common.{◌++◌, List, [], Option, arith, append_assoc}
 use Rattle.mml_serving.specs.Arriving.{Takes}
 
--- where no connection was taken, those to come are the same
+-- if no connection was taken, those to come are the same
 pub Takes-nil : {C : Type 0} (known : Option (List C)) → Takes known known []
 Takes-nil known = grind arith
 

@@ -1,4 +1,4 @@
--- How houses come to no good end.
+-- How houses fail.
 use Rattle.std.proofs.Common.{◌≡◌, ℕ, List, length, Option, subst}
 use Rattle.std.proofs.KnownBytes.{Appends-nil}
 use Rattle.mml_lab.specs.Labs.{LabValue}
@@ -35,7 +35,7 @@ module _ {R W : Type 0} (lab : LabValue) (remaining : R → Option (List ℕ)) (
   early_so sessions windows serves _ without = absurd without
 
   module _ {S : Type 0} (sink : S → Option (List ℕ)) where
-    -- nothing is written where there is no log
+    -- nothing is written if there is no log
     pub badly_early : (wrote : Option (List ℕ)) (f : ServeFault) → EndsEarly lab remaining contents to_come count f
         → EndsBadly lab sink remaining contents to_come count wrote wrote f
     badly_early wrote fault.Astray early = (early, Appends-nil wrote)
@@ -43,7 +43,7 @@ module _ {R W : Type 0} (lab : LabValue) (remaining : R → Option (List ℕ)) (
     badly_early wrote fault.Write early = absurd early
     badly_early wrote _ early = Appends-nil wrote
 
-    -- where there is one, the last line says why
+    -- if there is one, the last line says why
     pub badly_logged : (sessions : List (EndedSession R W)) (log : Log S) → ServesHouse lab sink remaining contents to_come count sessions log
         → (wrote wrote' : Option (List ℕ)) (f : ServeFault)
         → LacksLastLine log.halted wrote wrote' (done_line (length log.events) log.board.number) f

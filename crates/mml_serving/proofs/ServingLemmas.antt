@@ -20,12 +20,12 @@ each_more P [] [] [] x y z so_far one = (one, tt)
 each_more P (a ∷ us) (b ∷ vs) (c ∷ ws) x y z so_far one = (so_far.0, each_more P us vs ws x y z so_far.1 one)
 each_more P _ _ _ x y z so_far one = absurd so_far
 
--- one thread more was joined, of that connection f tells
+-- one more thread was joined, which f describes by its connection
 pub served_more : {H A B C : Type 0} (P : A → B → C → Type 0) (f : H → A) (hs : List H) (h : H) (ys ys' : List B) (y : B) (zs zs' : List C) (z : C)
     → ys' ≡ ys ++ y ∷ [] → zs' ≡ zs ++ z ∷ [] → Each P (map f hs) ys zs → P (f h) y z → Each P (map f (hs ++ h ∷ [])) ys' zs'
 served_more P f hs h ys ys' y zs zs' z one two so_far it = rw (one, two, map-append f hs (h ∷ [])) (each_more P (map f hs) ys zs (f h) y z so_far it)
 
--- one thread more was started
+-- one more thread was started
 module _ {H R W : Type 0} (f : H → Connection R W) (hs hs' : List H) (h : H) (one : hs' ≡ hs ++ h ∷ []) where
   pub numbered_so : (n : ℕ) (c : Connection R W) → f h ≡ c → c.number ≡ n + length hs → Numbered n (map f hs) → Numbered n (map f hs')
   numbered_so n c it at so_far = grind (arith, map-append f hs (h ∷ []), length-map hs f, numbered_more n (map f hs) c)

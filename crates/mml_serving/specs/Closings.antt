@@ -1,4 +1,4 @@
--- What a server tells at its beginning and at its end.
+-- A server's messages at its beginning and at its end.
 use Rattle.std.specs.Prelude.{◌≡◌, ◌<◌, ℕ, Bool, true, false, List, [], ◌∷◌, length, take, codes, decimal, Option}
 use Rattle.std.specs.List.{concat}
 use Rattle.std.specs.Io.KnownBytes.{Appends}
@@ -12,22 +12,22 @@ use Rattle.mml_serving.specs.declared.serving.ServeFault.TheVariants as fault
 abbrev pub listening_line : ℕ → List ℕ
 listening_line port = concat (codes "listening on port " ∷ decimal port ∷ codes "\n" ∷ [])
 
--- a server's last line: how many events there were, and the number of the configuration to which they led
+-- a server's last line: how many events there were, and the number of the configuration that they led to
 abbrev pub done_line : ℕ → ℕ → List ℕ
 done_line events number = concat (codes "done: " ∷ decimal events ∷ codes " events, configuration " ∷ decimal number ∷ codes "\n" ∷ [])
 
--- what is written is a last line, which tells how many events some legal list of the lab has, and the number of the configuration to which
--- it leads
+-- what is written is a last line: how many events some legal list of the lab has, and the number of the configuration
+-- that it leads to
 abbrev pub Closes : LabValue → Option (List ℕ) → Option (List ℕ) → Type 0
 Closes lab wrote wrote' = (l : List Event) × (is_legal_in lab l ≡ true) × Appends wrote wrote' (done_line (length l) (world_in lab l).number)
 
--- nothing of a text was written, because memory ran out, or a front of it, where the writer failed
+-- nothing of a text was written, because memory ran out, or a front of it, if the writer failed
 abbrev pub IsCutShort : Option (List ℕ) → Option (List ℕ) → List ℕ → ServeFault → Type 0
 IsCutShort wrote wrote' text fault.Memory = Appends wrote wrote' []
 IsCutShort wrote wrote' text fault.Write = (n : ℕ) × (n < length text) × Appends wrote wrote' (take n text)
 IsCutShort wrote wrote' text _ = ⊥
 
--- the last line was cut short; where the journal is halted nothing of it is written
+-- the last line was cut short; if the journal is halted nothing of it is written
 abbrev pub LacksLastLine : Bool → Option (List ℕ) → Option (List ℕ) → List ℕ → ServeFault → Type 0
 LacksLastLine halted wrote wrote' line fault.Halted = (halted ≡ true) × Appends wrote wrote' []
 LacksLastLine halted wrote wrote' line fault.Memory = (halted ≡ false) × IsCutShort wrote wrote' line fault.Memory

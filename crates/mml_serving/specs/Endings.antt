@@ -1,4 +1,4 @@
--- Houses that come to no good end.
+-- Houses that fail.
 use Rattle.std.specs.Prelude.{◌≡◌, ◌≤◌, ℕ, true, false, List, [], length, Option}
 use Rattle.std.specs.Io.KnownBytes.{Appends}
 use Rattle.mml_lab.specs.Labs.{LabValue}
@@ -13,7 +13,7 @@ use Rattle.mml_serving.specs.declared.serving.ServeFault.TheVariants as fault
 use Rattle.mml_serving.specs.Closings.{IsCutShort, done_line}
 use Rattle.mml_serving.specs.Serving.{ServesWindows, ServesHouse}
 
--- the places that the windows were told aren't those of the house's legal list of events, each once
+-- the places that the windows were given aren't those of the house's legal list of events, each once
 pub record WentAstray (lab : LabValue) (windows : List WindowValue) : Type 0 where
   pub events : List Event
   pub legal : is_legal_in lab events ≡ true
@@ -49,7 +49,7 @@ pub record EndsLogged {S R W : Type 0} (lab : LabValue) (sink : S → Option (Li
   pub serves : ServesHouse lab sink remaining contents to_come count sessions log
   pub holds : Holds log
 
--- what a house that comes to no good end tells: nothing is written but the front of its last line, where the writer failed at it
+-- the output of a failed house: nothing is written but the front of its last line, if the writer failed at it
 abbrev pub EndsBadly : {S R W : Type 0} → LabValue → (S → Option (List ℕ)) → (R → Option (List ℕ)) → (W → Option (List ℕ)) → Option (List (R × W)) → ℕ
     → Option (List ℕ) → Option (List ℕ) → ServeFault → Type 0
 EndsBadly lab sink remaining contents to_come count wrote wrote' fault.Memory = Appends wrote wrote' []

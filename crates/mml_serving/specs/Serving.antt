@@ -57,7 +57,7 @@ pub record ServesWindows {R W : Type 0} (lab : LabValue) (remaining : R → Opti
   pub each : ServesAll lab remaining contents to_come count sessions used
 
 -- the connections were served, as `ServesWindows` says, and the house left the log: a legal list of the lab's events,
--- of which each window has seen a beginning, and whose places are those that all windows were told, each once
+-- of which each window has seen a beginning, and whose places are those that all windows were given, each once
 pub record ServesHouse {S R W : Type 0} (lab : LabValue) (sink : S → Option (List ℕ)) (remaining : R → Option (List ℕ)) (contents : W → Option (List ℕ))
     (to_come : Option (List (R × W))) (count : ℕ) (sessions : List (EndedSession R W)) (log : Log S) : Type 0 where
   pub windows : List WindowValue
@@ -69,6 +69,6 @@ abbrev pub is_for_memory : SessionEnd → Bool
 is_for_memory end.Memory = true
 is_for_memory _ = false
 
--- neither did the session end because memory ran out, nor a read or a write of its socket fail for it
+-- neither did the session end because memory ran out, nor a read or a write of its socket fail for that reason
 abbrev pub had_memory : EndedSession Socket Socket → Bool
 had_memory s = not (is_for_memory s.end) && (not s.connection.reader.end.lacked_memory && not s.connection.writer.end.lacked_memory)

@@ -1,4 +1,4 @@
-//! What a server says of itself: where it listens, and at the end what was done.
+//! The messages of a server: that it listens, and at the end what was done.
 ghost use Rattle.std.specs.Prelude.{◌≡◌, false, length, IfErr, OnOk};
 ghost use Rattle.std.specs.Io.KnownBytes.{Appends};
 ghost use Rattle.mml_ids.specs.Pieces.{joined};
@@ -11,8 +11,8 @@ use mml_window::Log;
 use std::alloc::Global;
 use std::io::Write;
 
-/// Writes a server's first line, which names the port on which it listens. The fault is `Memory`, and nothing is
-/// written; or `Write`, where the writer failed.
+/// Writes a server's first line, which names the port on which it listens. Returns `Memory`, and writes nothing, if
+/// memory runs out, or `Write` if the writer fails.
 pub fn write_listening<W: Write>(alloc: Global, port: u16, writer: &mut W) -> Result<(), ServeFault>
     ensures { OnOk result
         (Appends (W.contents writer.old) (W.contents writer.new) (listening_line port)) }
@@ -25,8 +25,8 @@ pub fn write_listening<W: Write>(alloc: Global, port: u16, writer: &mut W) -> Re
     write_pieces(alloc, &pieces, writer)
 }
 
-/// Writes a server's last line, which tells how many events there were and to which configuration they led. The fault
-/// is `Halted` where the journal was, or `Memory`, and nothing is written; or `Write`, where the writer failed.
+/// Writes a server's last line: how many events there were and which configuration they led to. Returns `Halted` if the
+/// journal was halted, or `Memory` if memory runs out, and writes nothing. Returns `Write` if the writer fails.
 pub fn write_last<S, W: Write>(
     alloc: Global,
     log: &Log<S>,
@@ -45,8 +45,8 @@ pub fn write_last<S, W: Write>(
     write_done(alloc, events, log.board.number(), writer)
 }
 
-// Writes the line that ends a server's output: `events` events, which led to configuration `number`. The fault is
-// `Memory`, and nothing is written; or `Write`, where the writer failed.
+// Writes the line that ends a server's output: `events` events, which led to configuration `number`. Returns `Memory`,
+// and writes nothing, if memory runs out, or `Write` if the writer fails.
 fn write_done<W: Write>(
     alloc: Global,
     events: u64,
@@ -68,8 +68,8 @@ fn write_done<W: Write>(
     write_pieces(alloc, &pieces, writer)
 }
 
-// Writes the text of these pieces in one go. The fault is `Memory`, and nothing is written; or `Write`, where the
-// writer failed.
+// Writes the text of these pieces in one go. Returns `Memory`, and writes nothing, if memory runs out, or `Write` if
+// the writer fails.
 fn write_pieces<W: Write>(alloc: Global, pieces: &[Piece], writer: &mut W) -> Result<(), ServeFault>
     ensures told { OnOk result
         (Appends (W.contents writer.old) (W.contents writer.new) (joined pieces.now)) }

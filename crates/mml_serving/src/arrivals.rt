@@ -1,4 +1,4 @@
-//! Where connections come from, and how they are let go.
+//! Sources of connections, and how connections are closed.
 ghost use Rattle.std.specs.Prelude.{◌≡◌, List, [], ◌∷◌, None, Option, Some, MatchResult};
 ghost use Rattle.std.specs.Vec.Iter.{into_iter_items};
 ghost use Rattle.mml_serving.specs.Arriving.{Takes};
@@ -10,38 +10,38 @@ use std::io::{ErrorKind, Read, Write};
 use std::net::TcpListener;
 use std::vec::IntoIter;
 
-/// What gives connections as they come, each as its two ends.
+/// A source of connections as they come, each as its two ends.
 pub trait Arrivals<R: Read + Drop, W: Write + Drop> {
-    // The connections that are still to come, where they are known.
+    // The connections that are still to come, if they are known.
     ghost to_come: { Self → Option (List (R × W)) } = { λ _. None };
 
-    /// The reading and the writing end of the next connection, for which it may wait, or why none was accepted.
+    /// Returns the reading and the writing end of the next connection, for which it may wait, or why none was accepted.
     fn accept_next(&mut self) -> io::Result<(R, W)>
         ensures { MatchResult result
             (λ ends. Takes (to_come self.old) (to_come self.new) (ends ∷ []))
             (λ _. Takes (to_come self.old) (to_come self.new) []) };
 }
 
-/// The reading end of a connection, which can be given back while its value is kept.
+/// The reading end of a connection, whose handle can be closed while its value is kept.
 pub trait LetGo: Read {
-    /// Gives back what it holds of the system. Nothing more is read.
+    /// Closes its handle. Nothing more is read.
     fn let_go(&mut self)
         ensures { Self.remaining self.new ≡ Self.remaining self.old };
 }
 
-/// The writing end of a connection, by which the other side can be told that nothing more comes.
+/// The writing end of a connection, which can signal to the other side that nothing more comes.
 pub trait HangUp: Write {
-    /// Ends the connection, and gives back what it holds of the system. Nothing more is written.
+    /// Ends the connection and closes its handle. Nothing more is written.
     fn hang_up(&mut self)
         ensures { Self.contents self.new ≡ Self.contents self.old };
 }
 
 impl Arrivals<Socket, Socket> for TcpListener {
-    // The two ends of the next connection, for which it waits: handles of one socket, which sends each write at once.
-    // An error where no connection was accepted, or no second handle could be made.
+    // Returns the two ends of the next connection, for which it waits: handles of one socket, which sends each write at
+    // once. Returns an error if no connection was accepted, or no second handle could be made.
     fn accept_next(&mut self) -> io::Result<(Socket, Socket)> {
         let (stream, _) = self.accept()?;
-        // Where the system refuses to send each write at once, replies still go out, only later.
+        // If the system refuses to send each write at once, replies are still sent, only later.
         let _ = stream.set_nodelay(true);
         let writer = Socket::new(stream.try_clone()?);
         Ok((Socket::new(stream), writer))
@@ -52,7 +52,7 @@ impl Arrivals<Socket, Socket> for TcpListener {
 impl<R: Read + Drop, W: Write + Drop> Arrivals<R, W> for IntoIter<(R, W)> {
     ghost to_come = { λ ends. Some (into_iter_items ends) };
 
-    // The two ends of the next connection that has come; the error `NotConnected` behind the last one.
+    // Returns the two ends of the next connection that has come. Returns the error `NotConnected` after the last one.
     fn accept_next(&mut self) -> io::Result<(R, W)>
         ensures { MatchResult result
             (λ ends. Takes (Some (into_iter_items self.old)) (Some (into_iter_items self.new))
@@ -68,18 +68,18 @@ impl<R: Read + Drop, W: Write + Drop> Arrivals<R, W> for IntoIter<(R, W)> {
 
 /// Bytes in memory.
 impl<'a> LetGo for &'a [u8] {
-    // Does nothing: bytes in memory hold nothing of the system.
+    // Does nothing: bytes in memory have no handle.
     fn let_go(&mut self) {}
 }
 
 /// Bytes in memory that are taken from its front.
 impl LetGo for VecDeque<u8> {
-    // Does nothing: bytes in memory hold nothing of the system.
+    // Does nothing: bytes in memory have no handle.
     fn let_go(&mut self) {}
 }
 
 /// Bytes in memory.
 impl HangUp for Vec<u8> {
-    // Does nothing: bytes in memory hold nothing of the system, and there is no other side to tell.
+    // Does nothing: bytes in memory have no handle, and there is no other side.
     fn hang_up(&mut self) {}
 }

@@ -13,21 +13,23 @@ pub struct Connection<R: Drop, W: Drop> {
     pub writer: W,
 }
 
-/// How a session ended, and what is left of its connection.
+/// How a session ended, and the two ends of its connection.
 #[derive(Drop)]
 pub struct EndedSession<R: Drop, W: Drop> {
     pub end: SessionEnd,
     pub connection: Connection<R, W>,
 }
 
-/// Whether none of these sessions ended because memory ran out, and no read or write of their sockets failed for it.
+/// Returns whether none of these sessions ended because memory ran out, and no read or write of their sockets failed
+/// for that reason.
 pub(crate) fn all_had_memory(sessions: &[EndedSession<Socket, Socket>]) -> bool
     ensures { result ≡ list_all had_memory sessions.now }
 {
     sessions.iter().all(|session| had_memory(session))
 }
 
-// Whether a session didn't end because memory ran out, and no read or write of its socket failed for it.
+// Returns whether a session didn't end because memory ran out, and no read or write of its socket failed for that
+// reason.
 fn had_memory(session: &EndedSession<Socket, Socket>) -> bool
     ensures { result ≡ had_memory session.now }
 {

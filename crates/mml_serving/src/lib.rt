@@ -1,5 +1,4 @@
-//! Connections, each served in a thread of its own as it comes, from the opening of a house to its last
-//! line.
+//! Connections, each served in a thread of its own as it comes, from the opening of a house to its last line.
 #![tactic(auto)]
 
 mod announcing;

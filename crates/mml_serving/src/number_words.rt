@@ -1,4 +1,4 @@
-//! The numbers by which a server is asked for: its port, and how many connections it serves.
+//! The numbers on a server's command line: its port, and how many connections it serves.
 ghost use Rattle.std.specs.Prelude.{◌^◌, ◌-◌};
 ghost use Rattle.std.specs.Int.NonZero.{non_zero_u8_get, non_zero_u16_get};
 ghost use Rattle.mml_lab.specs.declared.TheConstants.{MAX_SESSIONS};
@@ -8,8 +8,8 @@ use itoa::Buffer;
 use mml_lab::MAX_SESSIONS;
 use std::num::{NonZeroU8, NonZeroU16};
 
-/// The port that a text names: a number from 1 to 65535 in decimal, without sign or leading zero. None where it names
-/// none.
+/// Returns the port in a text: a number from 1 to 65535 in decimal, without sign or leading zero. Returns `None` if the
+/// text is no such number.
 pub fn read_port(text: &str) -> Option<NonZeroU16>
     ensures { Reads non_zero_u16_get (2 ^ 16 - 1) text.now result }
 {
@@ -17,8 +17,8 @@ pub fn read_port(text: &str) -> Option<NonZeroU16>
     NonZeroU16::new(number as u16)
 }
 
-/// How many connections a text asks for, from 1 to as many as a lab may have sessions: a number in decimal, without
-/// sign or leading zero. None where it asks for none.
+/// Returns the number of connections in a text, from 1 to as many as a lab may have sessions: a number in decimal,
+/// without sign or leading zero. Returns `None` if the text is no such number.
 pub fn read_connections(text: &str) -> Option<NonZeroU8>
     ensures { Reads non_zero_u8_get MAX_SESSIONS text.now result }
 {
@@ -26,7 +26,8 @@ pub fn read_connections(text: &str) -> Option<NonZeroU8>
     NonZeroU8::new(number as u8)
 }
 
-// The number from 1 to `most` that a text spells in decimal, without sign or leading zero; none where it spells none.
+// Returns the number from 1 to `most` that a text spells in decimal, without sign or leading zero, or `None` if it
+// spells none.
 fn number_of(text: &str, most: u64) -> Option<u64>
     ensures { Reads (λ n. n) most text.now result }
 {

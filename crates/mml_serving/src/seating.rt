@@ -20,7 +20,7 @@ use std::thread::{Promise, PromisedHandle, Threads};
 /// Why no more connections were served.
 #[derive(Clone, Copy)]
 pub(crate) enum SeatingFault {
-    /// A growth was refused, or no thread could be made.
+    /// Memory ran out, or no thread could be made.
     Memory,
     /// A connection couldn't be accepted.
     Accept,
@@ -33,8 +33,8 @@ struct Seated<H: House, R: Drop, W: Drop> {
     connection: Connection<R, W>,
 }
 
-/// Serves the next `connections` connections, and gives back their windows, and how their sessions ended, both in
-/// the order in which they came. All threads have ended when it returns, after an error too.
+/// Serves the next `connections` connections. Returns their windows, and how their sessions ended, both in the order in
+/// which they came. All threads have ended when it returns, even after an error.
 pub(crate) fn serve_all<
     Rt: Threads + Wait + Sync,
     S: Sink + Send + Drop,
@@ -88,14 +88,14 @@ pub(crate) fn serve_all<
                     Err(_) => return Err(SeatingFault::Memory),
                 }
             }
-            // Who comes after the last one is turned away at once.
+            // Connections after the last one are closed at once.
             drop(arrivals);
             join_all(rt, alloc, handles)
         },
     )
 }
 
-// A thread's promise that the connection was served to an end, through a window that had seen nothing.
+// A thread's promise that the connection was served to its end, through a window that had seen nothing.
 #[derive(Drop)]
 struct ConnectionPledge<R: Drop, W: Drop>(Snapshot<Connection<R, W>>);
 
@@ -106,7 +106,8 @@ impl<H: House, R: Read + Drop, W: Write + Drop> Promise<(Window<H>, EndedSession
     ghost kept_by = { λ pledge t. IsServed H.lab R.remaining W.contents pledge.0.value t.1 t.0 };
 }
 
-// The next connection, which gets this number, with a window that is taken for it, or why none could be accepted.
+// Returns the next connection, which gets this number, with a window that is taken for it, or why none could be
+// accepted.
 fn next_seat<H: House, R: Read + Drop, W: Write + Drop, A: Arrivals<R, W>>(
     arrivals: &mut A,
     windows: &mut Vec<Window<H>>,
@@ -135,7 +136,7 @@ fn next_seat<H: House, R: Read + Drop, W: Write + Drop, A: Arrivals<R, W>>(
     }
 }
 
-// The reading and the writing end of the next connection, or why none could be accepted.
+// Returns the reading and the writing end of the next connection, or why none could be accepted.
 fn accept<R: Read + Drop, W: Write + Drop, A: Arrivals<R, W>>(
     arrivals: &mut A,
 ) -> Result<(R, W), SeatingFault>
@@ -148,7 +149,7 @@ fn accept<R: Read + Drop, W: Write + Drop, A: Arrivals<R, W>>(
     }
 }
 
-// Why a connection couldn't be accepted, by the kind of the error: memory ran out, or something else.
+// Returns why a connection couldn't be accepted, by the kind of the error: memory ran out, or something else.
 fn accept_fault(kind: ErrorKind) -> SeatingFault
     ensures memory { kind ≡ ErrorKind.OutOfMemory → result ≡ SeatingFault.Memory }
     ensures other { kind ≢ ErrorKind.OutOfMemory → result ≡ SeatingFault.Accept }
@@ -159,9 +160,8 @@ fn accept_fault(kind: ErrorKind) -> SeatingFault
     }
 }
 
-// Serves the connection of a seat, hangs up and lets go of it, so that neither the other side nor the system waits
-// until other connections have ended. Gives the seat's window, and how the session ended with what is left of the
-// connection.
+// Serves the connection of a seat and closes it, so that neither the other side nor the system waits until other
+// connections have ended. Returns the seat's window, and how the session ended with the connection's two ends.
 fn serve_seated<Rt: Wait, S: Sink + Drop, H: House, R: LetGo + Drop, W: HangUp + Drop, G: Gate>(
     rt: &Rt,
     alloc: Global,
@@ -201,8 +201,8 @@ fn serve_seated<Rt: Wait, S: Sink + Drop, H: House, R: LetGo + Drop, W: HangUp +
     (window, EndedSession { end, connection })
 }
 
-// Waits for all threads, and gives back their windows, and their sessions, both in the order of the threads; `Memory`,
-// without waiting, where memory for the two lists is refused.
+// Waits for all threads. Returns their windows and their sessions, both in the order of the threads. Returns `Memory`,
+// without waiting, if memory for the two lists runs out.
 fn join_all<Rt: Threads, H: House, R: Read + Drop, W: Write + Drop>(
     rt: &Rt,
     alloc: Global,

@@ -23,20 +23,20 @@ use std::net::TcpListener;
 use std::sync::Wait;
 use std::thread::Threads;
 
-/// What is left of a house whose sessions have all ended.
+/// The result of a house whose sessions have all ended.
 #[derive(Drop)]
 pub struct ServedHouse<S: Drop, R: Drop, W: Drop> {
     pub log: Log<S>,
-    /// In the order in which the connections came.
+    /// The sessions in the order in which the connections came.
     pub sessions: Vec<EndedSession<R, W>>,
 }
 
-/// Why connections weren't served to a good end.
+/// Why a server failed.
 #[derive(Clone, Copy, Debug, PartialEq, Eq)]
 pub enum ServeFault {
-    /// A growth was refused, or no thread could be made.
+    /// Memory ran out, or no thread could be made.
     Memory,
-    /// There was no reader's slot for a window. It doesn't arise: slots are taken when a house is started.
+    /// There was no reader's slot for a window. This doesn't happen: slots are taken when a house is started.
     Place,
     /// A connection couldn't be accepted.
     Accept,
@@ -49,10 +49,9 @@ pub enum ServeFault {
 }
 
 /// Serves the next `connections` connections of a listener in a house of the lab, and then writes the last line: how
-/// many events there were and to which configuration they led. Those that came before an error of accepting are served
-/// to their ends all the same. Where memory ran out in a session or a socket, the fault is `Memory`, though the last
-/// line was written. What the connections are answered is what `serve_arrivals` says; but what a socket gives and takes
-/// no contract knows.
+/// many events there were and which configuration they led to. Those that came before an error of accepting are still
+/// served to their ends. If memory ran out in a session or a socket, the fault is `Memory`, though the last line was
+/// written. `serve_arrivals` says what the connections are answered; but no contract knows the bytes of a socket.
 pub fn serve_on<Rt: Threads + Wait + Sync, S: Sink + Send + Drop, G: Gate + Sync, W: Write>(
     rt: &Rt,
     alloc: Global,
@@ -77,11 +76,10 @@ pub fn serve_on<Rt: Threads + Wait + Sync, S: Sink + Send + Drop, G: Gate + Sync
     }
 }
 
-/// Serves the first `connections` connections that arrive, each as it comes, in a thread of its own and
-/// through a window of its own, from the opening of a house to its end, and then writes the last line.
-/// Without a fault there is one legal list of events, of which each reply shows a beginning; the places that the
-/// replies name are those of its events, each once; and the last line tells how many they are and to which
-/// configuration they led.
+/// Serves the first `connections` connections that arrive, each as it comes, in a thread of its own and through a
+/// window of its own, from the opening of a house to its end, and then writes the last line. Without a fault there is
+/// one legal list of events, of which each reply shows a beginning. The places that the replies name are those of its
+/// events, each once, and the last line says how many they are and which configuration they led to.
 pub fn serve_arrivals<
     Rt: Threads + Wait + Sync,
     S: Sink + Send + Drop,
@@ -134,7 +132,7 @@ pub fn serve_arrivals<
     }
 }
 
-// Serves the next `connections` connections in the house that H names, and ends it: what is left of it, or why there is
+// Serves the next `connections` connections in the house that H names, and ends it. Returns its result, or why there is
 // no log.
 fn serve_in_house<
     H: House + Send + Sync,
@@ -180,7 +178,8 @@ fn serve_in_house<
     }
 }
 
-/// Ends a house that came to no good end, for this fault, which alone is told: what `finish` gives is let go.
+/// Ends a failed house and returns this fault, which is the only one that is reported: the result of `finish` is
+/// dropped.
 pub fn end_for<Rt: Wait, S: Sink + Drop, H: House, T, F>(
     fault: F,
     rt: &Rt,
@@ -193,8 +192,8 @@ pub fn end_for<Rt: Wait, S: Sink + Drop, H: House, T, F>(
     Err(fault)
 }
 
-// Ends a house with all its windows: those through which connections were served, and the unused behind them. Gives its
-// log, or `Memory`, or `Astray` where the windows' places aren't those of the events, each once.
+// Ends a house with all its windows: those through which connections were served, and the unused ones after them.
+// Returns its log, or `Memory`, or `Astray` if the windows' places aren't those of the events, each once.
 fn end_house<Rt: Wait, S: Sink + Drop, H: House>(
     rt: &Rt,
     alloc: Global,

@@ -7,23 +7,23 @@ use std::net::{Shutdown, TcpStream};
 use std::sync::atomic::{AtomicBool, Ordering};
 use std::time::Duration;
 
-// The most turns of `linger`, in each of which what still comes is waited for, and taken.
+// The most turns of `linger`, in each of which it waits for bytes that still come, and reads them.
 const TURNS: u32 = 64;
 
 // The most milliseconds of a turn of `linger`, so that all together are less than a second.
 const TURN: u64 = 15;
 
-// The most bytes that a turn of `linger` takes, so that all together take 64 kB at most.
+// The most bytes that a turn of `linger` reads, so that all together read at most 64 kB.
 const TURN_SIZE: usize = 1024;
 
-/// A handle of a connected socket, until it is given back. Then each read and each write fails.
+/// A handle of a connected socket, until it is closed. Then each read and each write fails.
 #[derive(Drop)]
 pub struct Socket {
     pub(crate) end: Retrying<Handle>,
 }
 
 impl Socket {
-    /// An end of a connection over this handle.
+    /// Returns an end of a connection over this handle.
     pub fn new(stream: TcpStream) -> Socket {
         Socket {
             end: Retrying::new(Handle(Some(stream))),
@@ -32,34 +32,34 @@ impl Socket {
 }
 
 impl Read for Socket {
-    // Reads from the socket, again where a signal interrupts it; `NotConnected` once the handle was given back.
+    // Reads from the socket, and retries if a signal interrupts it. Returns `NotConnected` once the handle was closed.
     fn read(&mut self, buf: &mut [u8]) -> io::Result<usize> {
         self.end.read(buf)
     }
 }
 
 impl Write for Socket {
-    // Writes to the socket, again where a signal interrupts it; `NotConnected` once the handle was given back.
+    // Writes to the socket, and retries if a signal interrupts it. Returns `NotConnected` once the handle was closed.
     fn write(&mut self, buf: &[u8]) -> io::Result<usize> {
         self.end.write(buf)
     }
 
-    // Does nothing: no bytes are held back here.
+    // Does nothing: no bytes are buffered here.
     fn flush(&mut self) -> io::Result<()> {
         Ok(())
     }
 }
 
 impl LetGo for Socket {
-    // Gives the handle back; each later read fails.
+    // Closes the handle. Each later read fails.
     fn let_go(&mut self) {
         self.end.inner.0 = None;
     }
 }
 
 impl HangUp for Socket {
-    // Says that nothing more comes, and gives the handle back once the other side has ended too, or after the last
-    // turn of `linger`, which nobody hurries here.
+    // Shuts down the writing side, and closes the handle once the other side has ended too, or after the last turn of
+    // `linger`, which isn't hurried here.
     fn hang_up(&mut self) {
         if let Some(stream) = self.end.inner.0.take() {
             linger(stream, &AtomicBool::new(false));
@@ -67,14 +67,13 @@ impl HangUp for Socket {
     }
 }
 
-/// Says that nothing more comes, and takes what the other side still sends, in at most 64 turns of 15 milliseconds and
-/// 1024 bytes, since a socket that is closed over bytes which nobody took throws away what it has still to send. Then
-/// the handle is given back. No further turn begins where the other side has ended or is gone, or once `is_hurried` is
-/// set.
+/// Shuts down the writing side, and reads what the other side still sends, in at most 64 turns of 15 milliseconds and
+/// 1024 bytes: a socket that is closed with unread bytes discards what it has still to send. Then closes the handle. No
+/// further turn begins if the other side has ended or is gone, or once `is_hurried` is set.
 pub fn linger(stream: TcpStream, is_hurried: &AtomicBool) {
     let mut stream = stream;
     let turn = Some(Duration::from_millis(TURN));
-    // Both are refused where the other side is gone.
+    // Both fail if the other side is gone.
     if stream.shutdown(Shutdown::Write).is_err() || stream.set_read_timeout(turn).is_err() {
         return;
     }
@@ -95,17 +94,18 @@ pub fn linger(stream: TcpStream, is_hurried: &AtomicBool) {
     }
 }
 
-// Whether, after a read that failed so, the next turn may find more: the turn's time is over, or a signal came.
+// Returns whether the next turn may find more after a read that failed this way: the turn's time is over, or a signal
+// came.
 fn is_passing(kind: ErrorKind) -> bool {
     matches!(kind, ErrorKind::WouldBlock | ErrorKind::Interrupted)
 }
 
-// The handle of a `Socket`; none once it was given back.
+// The handle of a `Socket`, or none once it was closed.
 #[derive(Drop)]
 pub(crate) struct Handle(Option<TcpStream>);
 
 impl Read for Handle {
-    // One read of the socket; `NotConnected` once the handle was given back.
+    // Reads the socket once. Returns `NotConnected` once the handle was closed.
     fn read(&mut self, buf: &mut [u8]) -> io::Result<usize> {
         match &mut self.0 {
             Some(stream) => stream.read(buf),
@@ -115,7 +115,7 @@ impl Read for Handle {
 }
 
 impl Write for Handle {
-    // One write to the socket; `NotConnected` once the handle was given back.
+    // Writes to the socket once. Returns `NotConnected` once the handle was closed.
     fn write(&mut self, buf: &[u8]) -> io::Result<usize> {
         match &mut self.0 {
             Some(stream) => stream.write(buf),
@@ -123,7 +123,7 @@ impl Write for Handle {
         }
     }
 
-    // Does nothing: no bytes are held back here.
+    // Does nothing: no bytes are buffered here.
     fn flush(&mut self) -> io::Result<()> {
         Ok(())
     }

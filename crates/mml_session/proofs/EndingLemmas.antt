@@ -35,7 +35,7 @@ pub record LastLine (lab : LabValue) (old : WindowValue) (st : Standing) (before
   pub written : bytes_written talk ≡ bytes_written first ++ line_written last
   pub entries : entries_of talk ≡ entries_of first ++ line_entries last
 
--- the lines so far make a talk, which leads to where the session stands, and what isn't out of its replies is held
+-- the lines so far make a talk, which leads to the session's state, and what isn't written of its replies is held
 pub record AnsweredSoFar (number : ℕ) (lab : LabValue) (old : WindowValue) (st : Standing) (before : Option Who) (input left : Option (List ℕ))
     (held : List ℕ) (wrote wrote' : Option (List ℕ)) (given given' : Option Kept) : Type 0 where
   pub talk : Talk lab (nobody_known old)
@@ -61,7 +61,7 @@ nothing_yet number lab old before input wrote given unread held none out = recor
 module _ {number : ℕ} {lab : LabValue} {old : WindowValue} {st : Standing} {before : Option Who} {input a wrote c : Option (List ℕ)}
     {x y : Option Kept} {held : List ℕ} (after : Standing) (left d : Option (List ℕ)) (z : Option Kept) (unread held' : List ℕ)
     (so : AnsweredSoFar number lab old st before input a held wrote c x y) where
-  -- from where the talk ends
+  -- from the end of the talk
   from_end : (came : Next) → ServesNext came number lab st after a unread left held held' c d y z
       → ServesNext came number lab so.talk.end after a unread left held held' c d y z
   from_end came = subst (λ (t : Standing). ServesNext came number lab t after a unread left held held' c d y z) (sym so.stands)
@@ -70,7 +70,7 @@ module _ {number : ℕ} {lab : LabValue} {old : WindowValue} {st : Standing} {be
   knew : so.talk.end.known ≡ st.known
   knew = ap (λ (t : Standing). t.known) so.stands
 
-  -- with the next line's reply, what isn't out is held
+  -- with the next line's reply, what isn't written is held
   held_with : (t : LineTurn lab so.talk.end after) → HoldsBack wrote c (bytes_written so.talk ++ line_written t) (held ++ line_written t)
   held_with t = back_more wrote c (bytes_written so.talk) held (line_written t) so.appended
 
@@ -101,7 +101,7 @@ module _ {number : ℕ} {lab : LabValue} {old : WindowValue} {st : Standing} {be
     appended = back_out wrote c e (bytes_written so.talk) held so.appended (out_alike c d e held held' alike still out);
   }
 
-  -- and a line more, and so much is out of all replies' lines
+  -- and a line more, and so much is written of all replies' lines
   abbrev last_so : (sent : List ℕ → List ℕ) {e : Option (List ℕ)} (t : LineTurn lab so.talk.end after) → Consumes a (prepend_known unread left) (line_read t)
       → Appends wrote d (sent (bytes_written so.talk ++ line_written t)) → held' ≡ [] → Appends d e held'
       → LastAnswered sent lab old after.window input (prepend_known unread left) wrote e
@@ -129,7 +129,7 @@ module _ {number : ℕ} {lab : LabValue} {old : WindowValue} {st : Standing} {be
       let es = left_at after.window in
       records_trans number x y o (entries_of so.talk) (line_entries t ++ es) so.recorded (records_trans number y z o (line_entries t) es more fin)
 
-  -- what was held went out
+  -- what was held was written
   told_so : (end : SessionEnd) (e : Option (List ℕ)) (o : Option Kept) → ServesNext (next.Ended end) number lab st after a unread left held held' c d y z
       → Appends d e held' → Records number z o (left_at after.window) → EndedRecorded end st.known number lab old after.window input left wrote e x o
   told_so ends.End e o serves out fin = ((unread, all_so serves.0 serves.1 serves.4 serves.6 out, serves.2, serves.3), knew, all_given o serves.7 fin)

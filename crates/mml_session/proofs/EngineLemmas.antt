@@ -1,4 +1,4 @@
--- What a session's window says is what an engine says.
+-- A session's window replies as an engine does.
 use Rattle.std.proofs.Common.{◌≡◌, ◌⊎◌, ℕ, List, [], Option, Some, None, Result, Ok, Err, refl, ap, ◌∙◌, inl, inr}
 use Rattle.mml_lab.specs.declared.who.Who.{Who}
 use Rattle.mml_lab.specs.Labs.{LabValue}
@@ -27,7 +27,7 @@ use Rattle.mml_session.specs.Ends.{IsView}
 use Rattle.mml_session.specs.Engines.{OverWindow}
 use Rattle.mml_session.specs.Turns.{Told, Plainly, Refuses, MayRefuse, Settles, Asked, Turn, entered, standing}
 
--- ---- what the window tells is told of the events that it has seen
+-- ---- the window's reply is about the events that it has seen
 
 entered_so : (l : List Event) (x : Option Event) → entered l x ≡ engine.entered l x
 entered_so l None = refl

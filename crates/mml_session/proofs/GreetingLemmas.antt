@@ -1,4 +1,4 @@
--- What a greeting tells of its reply.
+-- The reply to a greeting.
 use Rattle.std.proofs.Common.{◌≡◌, true, [], refl, Option, Some, None}
 use Rattle.mml_lab.specs.declared.who.Who.{Who}
 use Rattle.mml_lab.specs.Rosters.{RosterValue, principal}

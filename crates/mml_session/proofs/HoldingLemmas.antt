@@ -1,4 +1,4 @@
--- Bytes that go out together, over several steps.
+-- Bytes that are written together, over several steps.
 use Rattle.std.proofs.Common.{◌≡◌, ◌≢◌, inl, inr, ℕ, ◌+◌, List, [], ◌++◌, length, take, sym, ◌∙◌, ap, append_assoc, append-nil, length-append, arith, subst, Option}
 use Rattle.std.proofs.Math.Seq.{take-append-add}
 use Rattle.std.proofs.KnownBytes.{Appends-nil, Appends-trans}
@@ -9,11 +9,11 @@ use Rattle.mml_session.specs.Holding.{IsHeldOrOut, HoldsBack, BreaksOff}
 pub none_back : (a : Option (List ℕ)) (held : List ℕ) → held ≡ [] → HoldsBack a a [] held
 none_back a held none = ([], sym none, Appends-nil a)
 
--- bytes more are held
+-- more bytes are held
 pub back_more : (a b : Option (List ℕ)) (bytes held more : List ℕ) → HoldsBack a b bytes held → HoldsBack a b (bytes ++ more) (held ++ more)
 back_more a b bytes held more h = (h.0, ap (λ l. l ++ more) h.1 ∙ append_assoc h.0 held more, h.2)
 
--- what was held goes out
+-- what was held is written
 pub back_out : (a b c : Option (List ℕ)) (bytes held : List ℕ) → HoldsBack a b bytes held → Appends b c held → Appends a c bytes
 back_out a b c bytes held h k = subst (λ (t : List ℕ). Appends a c t) (sym h.1) (Appends-trans a b c h.0 held h.2 k)
 
@@ -41,7 +41,7 @@ off_some a b bytes h none = omega (arith, h.1, ap length none)
 pub back_some : (a b c : Option (List ℕ)) (bytes held : List ℕ) → HoldsBack a b bytes held → BreaksOff b c held → bytes ≢ []
 back_some a b c bytes held h k none = omega (arith, k.1, ap length none, ap length h.1, length-append h.0 held)
 
--- what is held alike goes out alike
+-- bytes that are held alike are written alike
 pub out_alike : (b c d : Option (List ℕ)) (held held' : List ℕ) → held' ≡ held → c ≡ b → Appends c d held' → Appends b d held
 out_alike b c d held held' same still h = subst (λ (t : Option (List ℕ)). Appends t d held) still (subst (λ (t : List ℕ). Appends c d t) same h)
 

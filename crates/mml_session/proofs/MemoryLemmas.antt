@@ -1,4 +1,4 @@
--- Where the line of a reply that isn't short can't be written, out of memory is told instead.
+-- If the line of a reply that isn't short can't be written, the refusal `memory` comes instead.
 use Rattle.std.proofs.Common.{◌≡◌, ◌⊎◌, ℕ, true, false, true≢false, List, [], ◌++◌, refl, sym, ap, ◌∙◌, subst, inl, inr, append-nil, Result, Ok, Err}
 use Rattle.mml_lab.specs.declared.who.Who.{Who}
 use Rattle.mml_lab.specs.Labs.{LabValue}

@@ -1,4 +1,4 @@
--- What a window had seen begins what it has seen after a session.
+-- The events that a window had seen are the first that it has seen after a session.
 use Rattle.std.proofs.Common.{◌≡◌, ℕ, List, sym, subst, Option}
 use mathlib.Core.List.{IsPrefix}
 use Rattle.mml_lab.specs.Labs.{LabValue}

@@ -1,4 +1,4 @@
--- What a talk leaves in its window, and which lines it answers.
+-- The window that a talk leaves, and the lines that it answers.
 use Rattle.std.proofs.Common.{◌≡◌, ◌⊎◌, ℕ, List, [], ◌∷◌, ◌++◌, flat_map, sym, ◌∙◌, ap, append_assoc, append-nil, subst, inl, inr, Option}
 use Rattle.std.proofs.Common.{Some, None, Result, Ok, Err, All}
 use Rattle.std.specs.List.{AllByRecursion}
@@ -98,6 +98,6 @@ all_unbroken limit (l ∷ ls) each = All-cons IsUnbroken l ls each.0.0 (all_unbr
 pub first_lines : (lab : LabValue) (st : Standing) (t : Talk lab st) (rest : List ℕ) → lines_of (bytes_read t ++ rest) ≡ t.lines ++ lines_of rest
 first_lines lab st t rest = lines_first t.lines rest (all_unbroken MAX_REQUEST t.lines t.each)
 
--- where no newline follows, they are its own alone
+-- if no newline follows, they are its own alone
 pub only_lines : (lab : LabValue) (st : Standing) (t : Talk lab st) (rest : List ℕ) → IsUnbroken rest → lines_of (bytes_read t ++ rest) ≡ t.lines
 only_lines lab st t rest unbroken = all_lines t.lines rest (all_unbroken MAX_REQUEST t.lines t.each) unbroken

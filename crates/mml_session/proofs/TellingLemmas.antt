@@ -1,4 +1,4 @@
--- What the window's answer to a command says of the reply.
+-- The reply to a command, by the window's answer.
 use Rattle.std.proofs.Common.{◌≡◌, ◌⊎◌, ℕ, List, [], ◌++◌, refl, sym, ap, ◌∙◌, subst, inl, inr, append-nil, Option}
 use Rattle.mml_lab.specs.declared.who.Who.{Who}
 use Rattle.mml_lab.specs.Labs.{LabValue}
@@ -24,7 +24,7 @@ use Rattle.mml_window.specs.Windows.{WindowValue, HasSeen, window_with}
 use Rattle.mml_window.proofs.ListLemmas.{world-one_more}
 use Rattle.mml_session.specs.Turns.{Told, Plainly, Refuses}
 
--- the reply to what the window granted tells it
+-- the reply to what the window granted names it
 pub granted_told : (lab : LabValue) (old new : WindowValue) (who : Who) (c : Command) (place number : ℕ) (done : Done)
     → Answers lab old who c (Granted place number done) new → Told lab old who c (reply_of_done number place done) new
 granted_told lab old new who c place number done answers =
@@ -54,7 +54,7 @@ has_seen l ps new is = (ap (λ (w : WindowValue). w.seen) is, ap (λ (w : Window
 seen_so : (l : List Event) (ps : List ℕ) (new : WindowValue) {why : Option Refusal} → new ≡ window_with l ps why → HasSeen l (ps ++ []) new
 seen_so l ps new is = (ap (λ (w : WindowValue). w.seen) is, ap (λ (w : WindowValue). w.places) is ∙ sym (append-nil ps))
 
--- the reply to what the window denied tells it
+-- the reply to what the window denied is that denial
 pub denied_told : (lab : LabValue) (old new : WindowValue) (who : Who) (c : Command) (d : Denial)
     → Answers lab old who c (Denied d) new → Told lab old who c (replies.Deny d) new
 denied_told lab old new who c d answers = record {
@@ -67,7 +67,7 @@ denied_told lab old new who c d answers = record {
   ));
 }
 
--- an act that is refused is told as the ruling itself, or as the refusal instead
+-- an act that is refused is answered by the ruling itself, or by the refusal instead
 refused_says : (lab : LabValue) (l : List Event) (ps : List ℕ) (who : Who) (c : Command) (why : Refusal) (new : WindowValue)
     → Says lab l ps who c (Refused why) new
     → Plainly lab l ps (ruling_at lab (world_in lab l) who c) (replies.Refuse (refusal_for why)) new
@@ -81,7 +81,7 @@ refused_says lab l ps who c Memory new h =
     let kept = ap (λ (w : WindowValue). w.refused) h.1 in
     inr (subst (λ (ruled : Ruling). Refuses l ps ruled (replies.Refuse refused.Memory) new) (sym h.0.2) (refused.Memory, refl, kept, has_seen l ps new h.1))
 
--- the reply to what the window refused tells it
+-- the reply to what the window refused is that refusal
 pub refused_told : (lab : LabValue) (old new : WindowValue) (who : Who) (c : Command) (why : Refusal)
     → Answers lab old who c (Refused why) new → Told lab old who c (replies.Refuse (refusal_for why)) new
 refused_told lab old new who c why answers = record {

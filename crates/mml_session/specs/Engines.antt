@@ -1,4 +1,4 @@
--- What comes of a command asked through a window.
+-- A window as an engine: its reply to a command.
 use Rattle.mml_lab.specs.declared.who.Who.{Who}
 use Rattle.mml_lab.specs.Labs.{LabValue}
 use Rattle.mml_policy.specs.declared.command.Command.{Command}

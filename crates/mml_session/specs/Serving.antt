@@ -1,4 +1,4 @@
--- What comes of the next line of a session.
+-- The result of the next line of a session.
 use Rattle.std.specs.Prelude.{◌≡◌, ◌≢◌, ℕ, ◌<◌, Bool, false, true, List, [], ◌++◌, length, take, Option, Result, Ok, Err, ⊤}
 use Rattle.std.specs.Io.KnownBytes.{Appends, Consumes, IsAtEnd, prepend_known}
 use Rattle.mml_lab.specs.Labs.{LabValue}
@@ -22,21 +22,21 @@ use Rattle.mml_session.specs.Ends.{IsView}
 use Rattle.mml_session.specs.Holding.{IsHeldOrOut, BreaksOff}
 use Rattle.mml_session.specs.Records.{Kept, Records, entry_for, line_entries}
 
--- what was held and the line of a reply behind it are all held or all out; with a bye's they are out; where a write failed, a front is out,
--- and nothing is held
+-- what was held and the line of a reply after it are all held or all written; with a bye's they are written; if a write
+-- failed, a front is written, and nothing is held
 abbrev pub SendsReply : Sent → Reply → List ℕ → List ℕ → List ℕ → Option (List ℕ) → Option (List ℕ) → Type 0
 SendsReply sent.Told r whole unsent unsent' wrote wrote' = (is_bye r ≡ false) × IsHeldOrOut wrote wrote' (unsent ++ whole) unsent'
 SendsReply sent.Bye r whole unsent unsent' wrote wrote' = (is_bye r ≡ true) × (unsent' ≡ []) × Appends wrote wrote' (unsent ++ whole)
 SendsReply (sent.Unwritten n) r whole unsent unsent' wrote wrote' =
     (n < length (unsent ++ whole)) × (unsent' ≡ []) × Appends wrote wrote' (take n (unsent ++ whole))
 
--- what came of a reply, by what came of its bytes, and by whether it is a bye's
+-- the result of a reply, by what happened to its bytes, and by whether it is a bye's
 abbrev pub sent_of : Result ⊤ WriteFault → Bool → Sent
 sent_of (Ok done) false = sent.Told
 sent_of (Ok done) true = sent.Bye
 sent_of (Err fault) last = sent.Unwritten fault.written
 
--- the line of a reply, or of out of memory instead of one that isn't short, was sent and is recorded
+-- the line of a reply, or of the refusal `memory` instead of one that isn't short, was sent and is recorded
 abbrev pub Tells : Sent → ℕ → LabValue → ℕ → List ℕ → Reply → List ℕ → List ℕ → Option (List ℕ) → Option (List ℕ) → Option Kept → Option Kept → Type 0
 Tells said number lab seen line r unsent unsent' wrote wrote' given given' =
     (told : Reply) × TellsFor r told × SendsReply said told (reply_line lab.ids lab.roster told) unsent unsent' wrote wrote'
@@ -51,17 +51,16 @@ ServesLine (Ok said) number lab st after line unsent unsent' wrote wrote' given 
 ServesLine (Err closed) number lab st after line unsent unsent' wrote wrote' given given' =
     (after ≡ st) × IsView st line × (unsent' ≡ unsent) × (wrote' ≡ wrote) × Records number given given' []
 
--- a session goes on where its reply is out or held and isn't that to a bye, and else has ended: by the bye, the write that failed, or the
--- window that shows nothing any more
+-- a session goes on if its reply is written or held and isn't that to a bye, and else has ended: by the bye, the write
+-- that failed, or the window that shows nothing any more
 abbrev pub next_after : Result Sent Closed → Next
 next_after (Ok sent.Told) = next.Served
 next_after (Ok sent.Bye) = next.Ended end.Bye
 next_after (Ok (sent.Unwritten n)) = next.Ended end.WriteFault
 next_after (Err closed) = next.Ended end.Closed
 
--- what the outcome of the next line says of where the session stands, of the bytes to come, of which those held are
--- first, of the replies that aren't out and of the bytes written. Where replies aren't out at an end, nothing was read
--- since they were held
+-- the outcome of the next line: the session's state, the bytes to come, of which those held are first, the replies that
+-- aren't written and the bytes that are. If replies aren't written at an end, nothing was read since they were held
 abbrev pub ServesNext : Next → ℕ → LabValue → Standing → Standing → Option (List ℕ) → List ℕ → Option (List ℕ) → List ℕ → List ℕ → Option (List ℕ)
     → Option (List ℕ) → Option Kept → Option Kept → Type 0
 ServesNext next.Served number lab st after input held left unsent unsent' wrote wrote' given given' =

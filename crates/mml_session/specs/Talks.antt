@@ -13,7 +13,7 @@ use Rattle.mml_session.specs.Turns.{Standing, standing, Turn, is_bye}
 abbrev pub nobody_known : WindowValue → Standing
 nobody_known w = standing None w
 
--- lines, the reply to each, none of which is bye, and where they lead
+-- lines, the reply to each, none of which is bye, and the state that they lead to
 abbrev pub Talk : LabValue → Standing → Type 0
 Talk lab st = Exchange Turn (λ lab. IsWithinLimit MAX_REQUEST) (λ r. is_bye r ≡ false) lab st
 

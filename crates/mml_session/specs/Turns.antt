@@ -1,4 +1,4 @@
--- What one line does in a session, and what many do.
+-- The turns of lines in a session, one and many.
 use Rattle.std.specs.Prelude.{◌≡◌, ◌⊎◌, ℕ, Bool, true, false, List, [], ◌∷◌, ◌++◌, Option, None, Some, Result, Ok, Err}
 use mathlib.Core.List.{IsPrefix}
 use Rattle.mml_lab.specs.declared.who.Who.{Who}
@@ -27,12 +27,12 @@ use Rattle.mml_board.specs.Lists.{is_legal_in, world_in}
 use Rattle.mml_window.specs.Rulings.{ruling_at}
 use Rattle.mml_window.specs.Windows.{WindowValue, HasSeen}
 
--- where a session stands: who is known on its connection, if anyone is, and what its window has seen and was granted
+-- the state of a session: who is known on its connection, if anyone is, and what its window has seen and was granted
 pub record Standing : Type 0 where
   pub known : Option Who
   pub window : WindowValue
 
--- the standing in which this one, or nobody, is known, and the window is this
+-- the state in which this one, or nobody, is known, and the window is this
 abbrev pub standing : Option Who → WindowValue → Standing
 standing known window = record { known = known; window = window }
 
@@ -41,11 +41,11 @@ abbrev pub entered : List Event → Option Event → List Event
 entered l None = l
 entered l (Some e) = l ++ e ∷ []
 
--- the places that a reply names: one, if it tells a grant
+-- the places that a reply names: one, if it is the reply to a grant
 abbrev pub places_in : Reply → List ℕ
 places_in r = as_list (place_in r)
 
--- which refusals may be told instead of a ruling: `memory` instead of a look or a report, which have lists; `memory` or
+-- which refusals may come instead of a ruling: `memory` instead of a look or a report, which have lists; `memory` or
 -- `journal` instead of a grant, whichever cause the window keeps; none instead of any other ruling
 abbrev pub MayRefuse : Ruling → Refused → Option Refusal → Type 0
 MayRefuse (Looked l) refused.Memory kept = Unit {0}
@@ -62,7 +62,7 @@ Plainly lab l ps ruled r new = (r ≡ reply_of (after_ruling (world_in lab l) ru
 abbrev pub Refuses : List Event → List ℕ → Ruling → Reply → WindowValue → Type 0
 Refuses l ps ruled r new = (why : Refused) × (r ≡ reply.Refuse why) × MayRefuse ruled why new.refused × HasSeen l ps new
 
--- the window's reply to a command: it is given at a legal list that begins with all that the window had seen
+-- the window's reply to a command: it is judged at a legal list that begins with all events that the window had seen
 pub record Told (lab : LabValue) (old : WindowValue) (who : Who) (c : Command) (r : Reply) (new : WindowValue) : Type 0 where
   pub list : List Event
   pub later : IsPrefix old.seen list
@@ -70,25 +70,25 @@ pub record Told (lab : LabValue) (old : WindowValue) (who : Who) (c : Command) (
   pub says : Plainly lab list old.places (ruling_at lab (world_in lab list) who c) r new
       ⊎ Refuses list old.places (ruling_at lab (world_in lab list) who c) r new
 
--- what comes of a request: its greeting has the reply, and the window stays, or the window replies to its command
+-- the result of a request: its greeting has the reply, and the window stays, or the window replies to its command
 abbrev pub Settles : LabValue → Standing → Greeting → Reply → Standing → Type 0
 Settles lab st (Answered r x) r' next = (r' ≡ r) × (next ≡ standing x st.window)
 Settles lab st (LeftToJudge who c) r' next = (next.known ≡ st.known) × Told lab st.window who c r' next.window
 
--- what comes of what a line asks
+-- the result of what a line asks
 abbrev pub Asked : LabValue → Standing → Result Request LineFault → Reply → Standing → Type 0
 Asked lab st (Err fault) r next = (r ≡ reply.Refuse (refusal_of fault)) × (next ≡ st)
 Asked lab st (Ok request) r next = Settles lab st (greeting lab.roster st.known request) r next
 
--- a growth was refused while the line was read, and nothing else happens
+-- memory ran out while the line was read, and nothing else happens
 abbrev pub Unread : Standing → Reply → Standing → Type 0
 Unread st r next = (r ≡ reply.Refuse refused.Memory) × (next ≡ st)
 
--- the turn of a line: what comes of what it asks, or of memory that was refused while it was read
+-- the turn of a line: the result of what it asks, or of memory that ran out while it was read
 abbrev pub Turn : LabValue → Standing → List ℕ → Reply → Standing → Type 0
 Turn lab st line r next = Asked lab st (request_in line) r next ⊎ Unread st r next
 
--- one turn after another, from a standing to the end
+-- one turn after another, from a state to the end
 abbrev pub Run : LabValue → Standing → List (List ℕ) → List Reply → Standing → Type 0
 Run lab st lines rs end = Runs (Turn lab) st lines rs end
 

@@ -1,4 +1,4 @@
-//! The answer to a line: its reply, who is known afterwards, and what the window has seen then.
+//! Answering a line: its reply, who is known afterwards, and what the window has seen then.
 ghost use Rattle.std.specs.Prelude.{◌≡◌, false, IfErr, IfSome, OnOk};
 ghost use Rattle.mml_lab.specs.Rosters.{IsPrincipal};
 ghost use Rattle.mml_policy.specs.declared.command.Command.TheVariants as command;
@@ -18,8 +18,8 @@ use std::alloc::Global;
 use std::sync::Wait;
 
 /// Answers a line of a connection on which `known` has greeted, if anybody has, and sets `known` to who is known
-/// afterwards. Puts the reply into `reply`, since a reply is large to return. Returns `Closed`, and puts no reply, if
-/// one who is known asks for a view of a window that shows nothing any more.
+/// afterwards. Puts the reply into `reply`, since a reply is large to return. Returns `Closed`, and puts no reply, if a
+/// known participant asks for a view of a window that shows nothing any more.
 pub(crate) fn answer_into<Rt: Wait, S: Sink + Drop, H: House>(
     setting: &Setting<'_, Rt, S, H>,
     window: &mut Window<H>,
@@ -134,8 +134,8 @@ fn show<H: House>(
     }
 }
 
-// Puts the reply to one who asks what a node shows to those who may see it. `Closed`, and no reply, where the window
-// shows nothing any more. What `Window::see` gives takes no memory, so that none can be refused.
+// Puts the reply to a see: what a node shows to those who may see it. Returns `Closed`, and puts no reply, if the
+// window shows nothing any more. `Window::see` allocates nothing, so it can't run out of memory.
 fn see<H: House>(
     window: &mut Window<H>,
     who: Who,
@@ -156,8 +156,8 @@ fn see<H: House>(
     Ok(())
 }
 
-// Puts the reply to one who asks what a node shows to its owners and the teacher. `Closed`, and no reply, where the
-// window shows nothing any more.
+// Puts the reply to a look: what a node shows to its owners and the teacher. Returns `Closed`, and puts no reply, if
+// the window shows nothing any more.
 fn look<H: House>(
     alloc: Global,
     window: &mut Window<H>,
@@ -179,8 +179,8 @@ fn look<H: House>(
     Ok(())
 }
 
-// Puts the reply to one who asks for the report on the configuration. `Closed`, and no reply, where the window shows
-// nothing any more.
+// Puts the reply to a request for the report on the configuration. Returns `Closed`, and puts no reply, if the window
+// shows nothing any more.
 fn report<H: House>(
     alloc: Global,
     window: &mut Window<H>,

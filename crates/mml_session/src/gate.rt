@@ -1,15 +1,15 @@
-/// Where a session may be held.
+/// A point at which a session may be held.
 #[derive(Clone, Copy, Debug, PartialEq, Eq)]
 pub enum Point {
     /// A line was read and isn't judged yet.
     Line,
-    /// The reply of a line has gone out.
+    /// The reply to a line is written.
     Told,
 }
 
-/// What may hold a session at its points, for as long as it likes: no lock is held there.
+/// An object that may hold a session at its points, for as long as it likes: no lock is held there.
 pub trait Gate {
-    /// Returns when the session of this connection, which stands at `point`, may go on.
+    /// Returns when the session of this connection may go on from `point`.
     fn pass(&self, connection: u8, point: Point);
 }
 

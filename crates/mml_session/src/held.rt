@@ -1,4 +1,4 @@
-//! Replies that go out together.
+//! The output buffer of a session's replies.
 ghost use Rattle.std.specs.Prelude.{◌≡◌, ◌<◌, ◌++◌, [], length, take, IfOk, IfErr, OnOk, IsTrue, if◌then◌else◌};
 ghost use Rattle.std.specs.Io.KnownBytes.{Appends};
 ghost use Rattle.mml_session.specs.Holding.{IsHeldOrOut};
@@ -9,19 +9,19 @@ use mml_lines::{WriteFault, put_all, put_both};
 use std::alloc::Global;
 use std::io::Write;
 
-// The most bytes that stay held from one reply to the next: where there are more, all are written.
+// The most bytes that stay held from one reply to the next: if there are more, all are written.
 const HELD_BYTES: usize = 8192;
 
-// Lines of replies that aren't written yet, so that one write takes many.
+// A buffer of replies' lines, so that one write takes many.
 #[derive(Drop)]
 pub(crate) struct Held {
     pub(crate) bytes: Vec<u8>,
-    // For how many replies, held or written, the session has yet to stand at its gate.
+    // How many replies, held or written, still have to pass the session's gate.
     pub(crate) replies: u32,
 }
 
 impl Held {
-    // Holds nothing yet, with all the memory that it ever needs; `Memory` where that was refused.
+    // Returns an empty buffer, with all the memory that it ever needs. Returns `Memory` if memory runs out.
     pub(crate) fn new(alloc: Global) -> Result<Held, Memory>
         ensures { IfOk result (λ held. held.bytes.items ≡ []) }
     {
@@ -31,9 +31,8 @@ impl Held {
         })
     }
 
-    // Holds a line behind the others; but where there is no room for it, or `at_once` says so, all are written, and
-    // nothing is held then. A fault has how many bytes went out of what was held and of the line, and nothing is held
-    // after it either.
+    // Appends a line. If there is no room for it, or `at_once` is set, writes all and empties the buffer. If a write
+    // fails, returns how many bytes of the held lines and of this one were written, and empties the buffer too.
     pub(crate) fn put<W: Write>(
         &mut self,
         line: &[u8],
@@ -60,8 +59,8 @@ impl Held {
         came
     }
 
-    // Where `at_once` says so, or more than `HELD_BYTES` are held, writes all that is held, and nothing is held then. A
-    // fault has how many bytes went out, and nothing is held after it either.
+    // Writes all held lines and empties the buffer if `at_once` is set, or more than `HELD_BYTES` are held. If a write
+    // fails, returns how many bytes were written, and empties the buffer too.
     pub(crate) fn let_out_when_due<W: Write>(
         &mut self,
         at_once: bool,
@@ -84,7 +83,7 @@ impl Held {
         Ok(())
     }
 
-    // Writes all that is held. Nothing is held then, also where the write failed; the fault has how many bytes are out.
+    // Writes all held lines and empties the buffer, even if a write fails: then returns how many bytes were written.
     pub(crate) fn let_out<W: Write>(&mut self, writer: &mut W) -> Result<(), WriteFault>
         ensures none { self.new.bytes.items ≡ [] }
         ensures ok { OnOk result (Appends (W.contents writer.old) (W.contents writer.new)
@@ -100,7 +99,7 @@ impl Held {
         came
     }
 
-    // Holds a line behind the others, if there is room, and tells whether there was.
+    // Appends a line if there is room, and returns whether there was.
     fn hold(&mut self, line: &[u8]) -> bool
         ensures { self.new.bytes.items
             ≡ (if result then self.old.bytes.items ++ line.now else self.old.bytes.items) }

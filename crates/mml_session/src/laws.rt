@@ -1,4 +1,4 @@
-//! Laws of turns and sessions. Each is the clause of a function that does nothing.
+//! Laws of turns and sessions. Each is the contract of a function that does nothing.
 ghost use Rattle.std.specs.Prelude.{◌≡◌, ◌++◌, ℕ, List, flat_map, length};
 ghost use mathlib.Core.List.{IsPrefix};
 ghost use Rattle.mml_lab.specs.Labs.{LabValue};
@@ -15,7 +15,7 @@ pub fn places_are_those_told()
         t.end.window.places ≡ st.window.places ++ flat_map places_in t.replies }
 {}
 
-/// What a window had seen begins what it has seen afterwards.
+/// The events that a window had seen are the first of those that it has seen afterwards.
 pub fn seen_goes_on()
     ensures turn { (lab : LabValue) (st after : Standing) (t : LineTurn lab st after) →
         IsPrefix st.window.seen after.window.seen }
@@ -29,7 +29,7 @@ pub fn one_reply_each()
         length t.replies ≡ length t.lines }
 {}
 
-/// The lines of a talk are the first of the input, and all where no line comes after them.
+/// The lines of a talk are the first of the input, and all if no line comes after them.
 pub fn lines_of_a_talk()
     ensures first { (lab : LabValue) (st : Standing) (t : Talk lab st) (rest : List ℕ) →
         lines_of (bytes_read t ++ rest) ≡ t.lines ++ lines_of rest }

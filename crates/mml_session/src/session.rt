@@ -42,20 +42,20 @@ pub enum SessionEnd {
     TooLong,
     /// The window shows nothing any more.
     Closed,
-    /// A growth was refused before anything was read.
+    /// Memory ran out before anything was read.
     Memory,
 }
 
-/// How a session ended, and who was known then: before its last line, where that was a bye or its reply wasn't written.
+/// How a session ended, and who was known then: before its last line, if that was a bye or its reply wasn't written.
 #[derive(Clone, Copy, Debug, PartialEq, Eq)]
 pub struct Ending {
     pub end: SessionEnd,
     pub who: Option<Who>,
 }
 
-/// Answers the lines of a reader one by one through a window, and tells how the session ended. Replies go out together,
-/// so that one write takes many: all are out before the reader is read again. A granted event stands though its reply
-/// couldn't be written. `gate` may hold the session, which it knows by the number `connection`.
+/// Answers the lines of a reader one by one through a window, and returns how the session ended. Replies are buffered,
+/// so that one write takes many: all are written before the reader is read again. A granted event stands even if its
+/// reply can't be written. `gate` may hold the session, which it knows by the number `connection`.
 pub fn serve_one<Rt: Wait, S: Sink + Drop, H: House, R: Read, W: Write, G: Gate>(
     rt: &Rt,
     alloc: Global,
@@ -80,9 +80,9 @@ pub fn serve_one<Rt: Wait, S: Sink + Drop, H: House, R: Read, W: Write, G: Gate>
     serve_observed(&setting, window, reader, writer, connection, &mut observer).end
 }
 
-/// Answers the lines of a reader one by one, as `serve_one` does. An observer hears of each line that came, of each
-/// reply before it goes out and once it is out, and at last of the session's end, unless the session had no memory to
-/// begin. Returns how the session ended, and who was known then.
+/// Answers the lines of a reader one by one, as `serve_one` does. Calls an observer for each line that came, for each
+/// reply before and after it is written, and at last for the session's end, unless the session had no memory to begin.
+/// Returns how the session ended, and who was known then.
 pub fn serve_observed<Rt: Wait, S: Sink + Drop, H: House, R: Read, W: Write, O: Observer>(
     setting: &Setting<'_, Rt, S, H>,
     window: &mut Window<H>,
@@ -121,8 +121,8 @@ pub fn serve_observed<Rt: Wait, S: Sink + Drop, H: House, R: Read, W: Write, O: 
     }
 }
 
-// What a session holds: who is known on its connection, the lines that come, room for reading one and
-// for its reply, and the replies that aren't out.
+// The state of a session: who is known on its connection, the lines that come, room for reading one and for its reply,
+// and the replies that aren't written.
 #[derive(Drop)]
 struct Session {
     connection: u8,
@@ -134,8 +134,8 @@ struct Session {
 }
 
 impl Session {
-    // A session in which nobody is known and no reply is held, with the memory that its lines and short replies take;
-    // `Memory` where that was refused.
+    // Returns a session in which nobody is known and no reply is held, with the memory for its lines and short replies.
+    // Returns `Memory` if memory runs out.
     fn new(alloc: Global, connection: u8) -> Result<Session, Memory>
         ensures number { IfOk result (λ session. session.connection ≡ connection) }
         ensures nobody { IfOk result (λ session. session.known ≡ None) }
@@ -154,7 +154,7 @@ impl Session {
     }
 }
 
-// What came of the next line.
+// The result of the next line.
 #[derive(Clone, Copy)]
 enum Next {
     // It was answered, and the session goes on.
@@ -163,8 +163,7 @@ enum Next {
     Ended(SessionEnd),
 }
 
-// Answers the next line, for which the reader is read only where no reply is held, and tells whether the session
-// goes on or how it ended.
+// Answers the next line. Reads only if no reply is held. Returns whether the session goes on or how it ended.
 fn serve_next<Rt: Wait, S: Sink + Drop, H: House, R: Read, W: Write, O: Observer>(
     setting: &Setting<'_, Rt, S, H>,
     session: &mut Session,
@@ -190,7 +189,7 @@ fn serve_next<Rt: Wait, S: Sink + Drop, H: House, R: Read, W: Write, O: Observer
     ensures limit { session.new.lines.limit ≡ MAX_REQUEST }
     ensures room { REPLY_ROOM ≤ vec_capacity session.new.reply }
     ensures principal { IfSome session.new.known (IsPrincipal H.lab.roster) }
-    // Each line brings the end nearer, since there is a most of reads.
+    // Each line brings the end nearer, since the number of reads is limited.
     ensures progress { result ≡ Next.Served →
         bytes_ahead session.new.lines < bytes_ahead session.old.lines }
     ensures serves { ServesNext result session.old.connection H.lab (standing session.old.known window.old)
@@ -213,8 +212,8 @@ fn serve_next<Rt: Wait, S: Sink + Drop, H: House, R: Read, W: Write, O: Observer
     }
 }
 
-// Counts the reply of a line, if it is out or held, and tells the observer what is out. Returns whether the session goes
-// on or how it ended.
+// Counts the reply of a line, if it is written or held, and notes in the observer what is written. Returns whether the
+// session goes on or how it ended.
 fn go_on<O: Observer>(
     said: Result<Sent, Closed>,
     held: &mut Held,
@@ -242,7 +241,7 @@ fn go_on<O: Observer>(
     }
 }
 
-// Counts a reply that is out or held, and tells the observer of all that are counted if no reply is held any longer.
+// Counts a reply that is written or held. If no reply is held any longer, notes all that are counted in the observer.
 fn count_told<O: Observer>(held: &mut Held, observer: &mut O, connection: u8)
     ensures held { held.new.bytes.items ≡ held.old.bytes.items }
     ensures kept { O.kept observer.new ≡ O.kept observer.old }
@@ -251,7 +250,8 @@ fn count_told<O: Observer>(held: &mut Held, observer: &mut O, connection: u8)
     pass_told(held, observer, connection);
 }
 
-// Tells the observer how many replies were counted since the last time, if no reply is held any longer: those are out.
+// Notes in the observer how many replies were counted since the last time, if no reply is held any longer: those are
+// written.
 fn pass_told<O: Observer>(held: &mut Held, observer: &mut O, connection: u8)
     ensures held { held.new.bytes.items ≡ held.old.bytes.items }
     ensures kept { O.kept observer.new ≡ O.kept observer.old }
@@ -262,8 +262,8 @@ fn pass_told<O: Observer>(held: &mut Held, observer: &mut O, connection: u8)
     }
 }
 
-// Lets out what is held at the end of a session, tells the observer of the replies that went out, and returns `ending`.
-// If the write fails, the session ends by that, and its ending has `before`: who was known before the line that was
+// Writes what is held at the end of a session, notes the written replies in the observer, and returns `ending`. If the
+// write fails, that is how the session ends, and its ending has `before`: who was known before the line that was
 // answered last.
 fn let_out<W: Write, O: Observer>(
     session: &mut Session,
@@ -288,19 +288,19 @@ fn let_out<W: Write, O: Observer>(
     }
 }
 
-// What came of a reply.
+// The result of a reply.
 #[derive(Clone, Copy)]
 enum Sent {
-    // Its line is out, or held.
+    // Its line is written, or held.
     Told,
-    // Its line is out, and it is the reply to a bye.
+    // Its line is written, and it is the reply to a bye.
     Bye,
-    // A write failed after so many bytes of what was held and of its line.
+    // A write failed after this many bytes of what was held and of its line.
     Unwritten(usize),
 }
 
-// Answers the line that was read last; its reply goes out or is held, and what came of it is told. `Closed` where the
-// line asks for a view of a window that shows nothing any more, and so has no reply.
+// Answers the line that was read last, and writes or holds its reply. Returns the result. Returns `Closed` if the line
+// asks for a view of a window that shows nothing any more, and so has no reply.
 fn serve_line<Rt: Wait, S: Sink + Drop, H: House, W: Write, O: Observer>(
     setting: &Setting<'_, Rt, S, H>,
     session: &mut Session,
@@ -361,12 +361,12 @@ struct Judged<'a> {
     // How many events the window had seen afterwards.
     seen: u64,
     line: &'a [u8],
-    // Whether the reader has to be read for the next line, so that all replies must be out.
+    // Whether the reader has to be read for the next line, so that all replies must be written.
     is_next_unknown: bool,
 }
 
-// Tells the observer of a line and its reply, and lets the reply go out or holds it: a short one is put behind what is
-// held, any other, or `memory` in its place, into `out` first. Returns what came of the reply.
+// Calls the observer with a line and its reply, and writes the reply or holds it. A short one is appended to the
+// buffer, and any other, or `memory` in its place, is put into `out` first. Returns the result of the reply.
 fn tell<H: House, W: Write, O: Observer>(
     alloc: Global,
     window: &Window<H>,
@@ -397,8 +397,8 @@ fn tell<H: House, W: Write, O: Observer>(
     send(&told, out, held, judged.is_next_unknown, writer)
 }
 
-// Lets the line of a reply go out behind what is held, or holds the line where there is room, and neither `at_once`
-// says that all must be out nor the reply is a bye's. Tells what came of the reply.
+// Writes the line of a reply after the held ones if `at_once` is set, after a `bye`, or if there is no room for it, and
+// else holds it. Returns the result of the reply.
 fn send<W: Write>(
     reply: &Reply,
     line: &[u8],
@@ -415,8 +415,8 @@ fn send<W: Write>(
     sent_of(held.put(line, at_once || is_last, writer), is_last)
 }
 
-// Lets what is held go out, of which the line of a reply is the last, or holds all on where it isn't too much, and
-// neither `at_once` says that all must be out nor the reply is a bye's. Tells what came of the reply.
+// Flushes the held replies, of which this is the last, if `at_once` is set, after a `bye`, or when the buffer is full.
+// Returns the result of the reply.
 fn send_held<W: Write>(reply: &Reply, held: &mut Held, at_once: bool, writer: &mut W) -> Sent
     ensures sends { SendsReply result reply.now held.old.bytes.items
         [] held.new.bytes.items
@@ -427,8 +427,8 @@ fn send_held<W: Write>(reply: &Reply, held: &mut Held, at_once: bool, writer: &m
     sent_of(held.let_out_when_due(at_once || is_last, writer), is_last)
 }
 
-// What came of a reply: `came` says what came of its line and of what was held before it, and `is_last` whether the
-// reply is a bye's.
+// Returns the result of a reply: `came` is the result of its line and of what was held before it, and `is_last` says
+// whether the reply is a bye's.
 fn sent_of(came: Result<(), WriteFault>, is_last: bool) -> Sent
     ensures { result ≡ sent_of came is_last }
 {
@@ -438,7 +438,7 @@ fn sent_of(came: Result<(), WriteFault>, is_last: bool) -> Sent
     }
 }
 
-/// Whether a reply is that to a bye, which is the last of its session.
+/// Returns whether a reply is that to a bye, which is the last of its session.
 pub fn is_bye(reply: &Reply) -> bool
     ensures { result ≡ is_bye reply.now }
 {

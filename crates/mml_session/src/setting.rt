@@ -2,7 +2,7 @@ use mml_journal::Sink;
 use mml_window::{Desk, House};
 use std::alloc::Global;
 
-/// What all sessions of a house are held with: the runtime, memory, and the desk where acts are asked.
+/// What all sessions of a house share: the runtime, memory, and the desk that acts are asked of.
 #[derive(Drop)]
 pub struct Setting<'a, Rt, S: Sink, H: House> {
     pub rt: &'a Rt,

@@ -49,7 +49,7 @@ rises_append R (x ∷ xs) ys hx hy between =
 rises_one : {X : Type 0} (R : X → X → Type 0) (b : Bool) (x : X) → Rises R (listed_if b x)
 rises_one R b x = grind (arith, nat_tests)
 
--- where what is listed for a number has it as its key, and a lower key comes first
+-- if each item listed for a number has the number as its key, lower keys come first
 module _ {X : Type 0} (R : X → X → Type 0) (key : X → ℕ) (f : ℕ → List X) (keyed : (i : ℕ) → All (λ x. key x ≡ i) (f i))
     (lower : (x y : X) → key x < key y → R x y) (each : (i : ℕ) → Rises R (f i)) where
   rises_below : (n : ℕ) → Rises R (each_below n f)

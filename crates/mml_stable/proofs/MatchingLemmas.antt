@@ -1,4 +1,4 @@
--- Where no node is privileged, the pairs are a maximal matching.
+-- If no node is privileged, the pairs are a maximal matching.
 use Rattle.std.proofs.Common.{◌≡◌, ℕ, zero, suc, ◌<◌, ◌≤◌, ◌+◌, Bool, true, false, not, ◌&&◌, ◌||◌, ◌⊎◌, ◌↔◌, inl, inr, Option, None, Some, is_some, sym, refl, ap, ◌∙◌, subst, arith, nat_lt}
 use Rattle.std.specs.Option.{option_map_or}
 use Rattle.std.proofs.lemmas.Bool.{and_from, or_parts, not-true, not-false, false_from_ne_true, both_ways, lt-ltb, ltb-false, cases_order, Decides.nat_tests}
@@ -44,7 +44,7 @@ quiet-vain c i j l q p free =
     let apart : i ≡ j → ⊥ = λ e. both_ways (c.linked i i) (l.no_loop i) (subst (λ x. c.linked i x ≡ true) (sym e) (l.to_linked i j p)) in
     (parts.0, omega arith)
 
--- to whom a marriage is offered, is not quiet
+-- a node to which a marriage is offered isn't quiet
 pub quiet-alone : (c : Configuration) (i j : ℕ) → IsLawful c → c.p i ≡ Some j → c.p j ≡ None → IsQuiet c j → ⊥
 quiet-alone c i j l p n q =
     let e : Kind.Marriage ≡ Kind.Seduction = q.only (Rule.Marriage i)
@@ -52,7 +52,7 @@ quiet-alone c i j l p n q =
     (and_from _ _ (null-none (c.p j) n)
     (and_from _ _ (l.symmetric i j (l.to_linked i j p)) (holds-from (c.p i) j p)))) in cc
 
--- where no node is privileged, a free node points nowhere
+-- if no node is privileged, a free node points nowhere
 pub free-null : (c : Configuration) → IsLawful c → IsStable c → (n i : ℕ) → c.size ≤ i + n → i < c.size → is_married c i ≡ false → c.p i ≡ None
 free-null c l s zero i room in_c free = absurd (omega arith)
 free-null c l s (suc n) i room in_c free = go (free-null c l s n) (c.p i) refl
@@ -79,7 +79,7 @@ may_seduce c a b l linked lt quiet pa pb mb =
     some-best None e f = absurd (both_ways (is_candidate c a b) (greatest-none c a b e (l.in_range a b linked).1) f)
     some-best (Some x) e f = refl
 
--- the lower of two linked nodes that both point nowhere is privileged, where m is false at the higher one
+-- the lower of two linked nodes that both point nowhere is privileged, if m is false at the higher one
 pub no_open_link : (c : Configuration) (a b : ℕ) → IsLawful c → c.linked a b ≡ true → a < b → is_privileged c a ≡ false → c.p a ≡ None → c.p b ≡ None
     → c.m b ≡ false → ⊥
 no_open_link c a b l linked lt idle pa pb mb =
@@ -88,7 +88,7 @@ no_open_link c a b l linked lt idle pa pb mb =
 pub paired : (c : Configuration) (i : ℕ) → is_married c i ≡ true → (j : ℕ) × IsPair c i j
 paired c i h = let r = married-partner c i h in (r.0, (r.1, r.2))
 
--- where no node is privileged, the matching is maximal
+-- if no node is privileged, the matching is maximal
 pub maximal : (c : Configuration) → IsLawful c → IsStable c → IsMaximal c
 maximal c l s a b linked = go (is_married c a) (is_married c b) refl refl
   where
@@ -112,7 +112,7 @@ maximal c l s a b linked = go (is_married c a) (is_married c b) refl refl
           ]
         ]
 
--- what the report tells of it
+-- what the report says of it
 pub stable-means : (c : Configuration) → (is_stable c ≡ true) ↔ IsStable c
 stable-means c = (to, from)
   where
@@ -125,6 +125,6 @@ stable-means c = (to, from)
     from s = ap not (false_from_ne_true (some_below c.size (is_privileged c)) (λ e.
         let r = some_below-find c.size (is_privileged c) e in both_ways (is_privileged c r.0) (s r.0 r.1) r.2))
 
--- where no node is privileged, m is true exactly at the married nodes
+-- if no node is privileged, m is true exactly at the married nodes
 pub stable-m : (c : Configuration) (i : ℕ) → IsLawful c → IsStable c → i < c.size → (c.m i ≡ true) ↔ IsMarried c i
 stable-m c i l s i_in = grind (arith, nat_tests, idle-settled, married-means)

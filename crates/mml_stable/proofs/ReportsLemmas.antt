@@ -26,7 +26,7 @@ links_of_ends c a ends same = grind (arith, nat_tests, filter_agree, listed_belo
 pub both_ends : (c : Configuration) (a b : ℕ) → IsLawful c → is_open c a b ≡ true → (a < c.size) × (b < c.size)
 both_ends c a b lawful open_b = lawful.in_range a b (and_parts (c.linked a b) _ open_b).0
 
--- no node is listed with its rule where there is none
+-- no node is listed with its rule if there is none
 pub none_listed : (n : ℕ) (kind : ℕ → Option Kind) → eqb (length (each_below n (λ i. privileged_at i (kind i)))) 0 ≡ not (some_below n (λ i. is_some (kind i)))
 none_listed zero kind = refl
 none_listed (suc n) kind = grind (arith, nat_tests, append-nil, ne_eqb, length-append, (none_listed n kind))
@@ -45,7 +45,7 @@ pub one_past : (c : Configuration) (a : ℕ) (rest left : FinSet nat_cmp) → Is
 one_past c a rest left from e b =
     ap (λ s. sets.contains s b) e ∙ has_remove rest a b ∙ ap (λ t. not (eqb b a) && t) (from b) ∙ past a b (ltb b c.size && is_free c b)
 
--- the rest has the node itself where that is free
+-- the rest has the node itself if that is free
 pub has_self : (c : Configuration) (a : ℕ) (rest : FinSet nat_cmp) → a < c.size → IsFreeFrom c a rest → sets.contains rest a ≡ is_free c a
 has_self c a rest l from = from a ∙ (rw (le-ltb a a (omega arith), lt-ltb a c.size l) refl)
 

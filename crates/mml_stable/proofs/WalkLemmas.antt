@@ -7,7 +7,7 @@ use Rattle.mml_rules.proofs.{RulesLemmas.none-null, EnabledKindLemmas.guard-kind
 use Rattle.mml_stable.specs.Walk.{climb, top, unless_seduction, walk, certificate, LeadsTo, LeadsTo.privileged, LeadsTo.null, LeadsTo.onward}
 use Rattle.mml_stable.proofs.MatchingLemmas.{IsQuiet, idle-quiet, idle-settled, quiet-settled, quiet-vain, quiet-alone, may_seduce}
 
--- where the climb from i is at its end: at i, or where an idle node points
+-- the climb from i is at its end: at i, or at the node that an idle node points at
 pub record EndsAt (c : Configuration) (i x : ℕ) : Type 0 where
   pub in_range : x < c.size
   pub leads : LeadsTo c i x
@@ -41,7 +41,7 @@ climb-ends c l (suc n) i room i_in free = go (climb-ends c l n) (is_privileged c
               from = elim r.from [ inl s ↦ inr (i, subst (λ x. c.p i ≡ Some x) (sym s) p) | inr y ↦ inr y ];
             }
 
--- the walk from a node that isn't married, or has m false, ends at that node or where another points
+-- the walk from a node that isn't married, or has m false, ends at that node or at one that another points at
 pub top-ends : (c : Configuration) → IsLawful c → (i : ℕ) → i < c.size → (is_married c i ≡ false) ⊎ (c.m i ≡ false) → EndsAt c i (top c i)
 unfolding top
 top-ends c l i i_in free = climb-ends c l c.size i (omega arith) i_in free
@@ -64,7 +64,7 @@ idle_is_quiet c x l h = record { only = λ r g. only_seduction x (kind_of r) (ap
 idle_is_null : (c : Configuration) (i x : ℕ) → IsLawful c → LeadsTo c i x → unless_seduction x (enabled_kind c x) ≡ None → c.p x ≡ None
 idle_is_null c i x l leads h = grind (arith, nat_tests, leads-null, kind-guard, guard-null, only_seduction)
 
--- where the walk from a free node is idle, it has not left the node
+-- if the walk from a free node is idle, it has not left the node
 pub idle-stays : (c : Configuration) (i : ℕ) → IsLawful c → i < c.size → is_married c i ≡ false → walk c i ≡ None → IsQuiet c i × (c.p i ≡ None)
 idle-stays c i l i_in free h = grind (arith, nat_tests, top-ends, idle_is_quiet, idle_is_null, quiet-alone)
 
@@ -112,11 +112,11 @@ pub climb_null : (c : Configuration) (n i : ℕ) → is_privileged c i ≡ false
 climb_null c zero i h p = refl
 climb_null c (suc n) i h p = rw (h, p) (climb_null c n i h p)
 
--- a climb goes on from a node that isn't privileged to the one where it points
+-- a climb goes on from a node that isn't privileged to the one that it points at
 pub climb_onward : (c : Configuration) (n m i j : ℕ) → m ≡ n + 1 → is_privileged c i ≡ false → c.p i ≡ Some j → climb c m i ≡ climb c n j
 climb_onward c n m i j e h p = ap (λ k. climb c k i) (e ∙ add-one n) ∙ rw (h, p) refl
 
--- where a climb stays at a node, and comes to where the walk ends, the walk ends at that node
+-- if a climb stays at a node and reaches the end of the walk, the walk ends at that node
 pub top_is : (c : Configuration) (i n x : ℕ) → climb c n x ≡ climb c c.size i → climb c n x ≡ x → x ≡ top c i
 unfolding top
 top_is c i n x e stays = sym stays ∙ e

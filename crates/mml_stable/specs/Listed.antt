@@ -1,4 +1,4 @@
--- What stands in the lists of a report, as facts.
+-- The items of a report's lists, as facts.
 use Rattle.std.specs.Prelude.{◌≡◌, ℕ, ◌<◌, ◌⊎◌, true, List, [], ◌∷◌, All, Contains}
 use Rattle.mml_rules.specs.declared.rule.Kind.{Kind}
 use Rattle.mml_rules.specs.declared.rule.Rule.{Rule}

@@ -1,4 +1,4 @@
--- What a report tells of a world.
+-- The report on a world.
 use Rattle.std.specs.Prelude.{ℕ, ◌<◌, All, zero, suc, Bool, true, false, not, ◌&&◌, nat_lt, Option, None, Some, List, [], ◌∷◌, ◌++◌}
 use Rattle.mml_ids.specs.Search.{some_below}
 use Rattle.mml_rules.specs.declared.rule.Kind.{Kind}
@@ -9,17 +9,17 @@ use Rattle.mml_stable.specs.declared.open_link.OpenLink.{OpenLink}
 use Rattle.mml_stable.specs.declared.stability_report.Report.{Report}
 use Rattle.mml_stable.specs.Walk.{certificate}
 
--- what is listed for 0, for 1, and so on below n
+-- the lists of 0, of 1, and so on below n, one after another
 abbrev pub each_below : {A : Type 0} → ℕ → (ℕ → List A) → List A
 each_below zero list = []
 each_below (suc n) list = each_below n list ++ list n
 
--- one thing, where the test holds, or none
+-- one thing, if the test holds, or none
 abbrev pub listed_if : {A : Type 0} → Bool → A → List A
 listed_if true x = x ∷ []
 listed_if false x = []
 
--- i and the node at which i points, where that node points back at i and is the greater of the two
+-- i and the node at which i points, if that node points back at i and is the greater of the two
 abbrev pub pair_at : Configuration → ℕ → Option ℕ → List (ℕ × ℕ)
 pair_at c i None = []
 pair_at c i (Some j) = listed_if (nat_lt i j && holds (c.p j) i) (i, j)
@@ -65,7 +65,7 @@ open_links c = each_below c.size (open_links_at c)
 abbrev pub is_stable : Configuration → Bool
 is_stable c = not (some_below c.size (is_privileged c))
 
--- what is told of a world
+-- the report on a world
 abbrev pub report_of : World → Report
 report_of w = record {
   at = w.number;

@@ -4,17 +4,17 @@ use Rattle.mml_rules.specs.declared.rule.Kind.{Kind}
 use Rattle.mml_rules.specs.Configuration.{Configuration}
 use Rattle.mml_rules.specs.Rules.{enabled_kind, is_privileged}
 
--- the first of i, p(i), p(p(i)), .. that is privileged or points at no node; where none comes within n steps, the node
+-- the first of i, p(i), p(p(i)), .. that is privileged or points at no node; if none comes within n steps, the node
 -- after n steps
 abbrev pub climb : Configuration → ℕ → ℕ → ℕ
 climb c zero i = i
 climb c (suc n) i = if is_privileged c i then i else climb c n (unwrap_or (c.p i) i)
 
--- where the walk from i along the pointers ends, after as many steps as there are nodes at the most
+-- the node at which the walk from i along the pointers ends, after at most as many steps as there are nodes
 unfoldable pub top : Configuration → ℕ → ℕ
 top c i = climb c c.size i
 
--- the node with the rule enabled there; none where no rule is enabled, or a seduction
+-- the node with the rule enabled there; none if no rule is enabled, or a seduction
 abbrev pub unless_seduction : ℕ → Option Kind → Option (ℕ × Kind)
 unless_seduction i None = None
 unless_seduction i (Some Kind.Update) = Some (i, Kind.Update)
@@ -22,12 +22,12 @@ unless_seduction i (Some Kind.Marriage) = Some (i, Kind.Marriage)
 unless_seduction i (Some Kind.Seduction) = None
 unless_seduction i (Some Kind.Abandonment) = Some (i, Kind.Abandonment)
 
--- the node where the walk from i ends, with the rule enabled there; none where no rule is enabled there, or a seduction
+-- the node at which the walk from i ends, with the rule enabled there; none if no rule is enabled there, or a seduction
 abbrev pub walk : Configuration → ℕ → Option (ℕ × Kind)
 walk c i = unless_seduction (top c i) (enabled_kind c (top c i))
 
--- for a link between a and a greater b, both of them free: what the walk from a finds; where it finds nothing, what the
--- walk from b finds; and where neither finds anything, a with a seduction
+-- for a link between a and a greater b, both of them free: the node that the walk from a finds; if it finds none, the
+-- one that the walk from b finds; and if neither finds any, a with a seduction
 unfoldable pub certificate : Configuration → ℕ → ℕ → ℕ × Kind
 certificate c a b = unwrap_or (walk c a) (unwrap_or (walk c b) (a, Kind.Seduction))
 

@@ -1,4 +1,4 @@
-//! The rule that is enabled at each node, found once for all that a report tells.
+//! The rule that is enabled at each node, found once for the whole report.
 ghost use Rattle.std.specs.Prelude.{◌≡◌, ◌<◌, ◌≤◌, length};
 ghost use Rattle.mml_rules.specs.Rules.{enabled_kind};
 ghost use Rattle.mml_board.specs.World.{configuration};
@@ -8,7 +8,7 @@ use mml_board::Board;
 use mml_ids::{MAX_NODES, Rank};
 use mml_rules::{Kind, Scene};
 
-/// How many nodes there may be, as the length of a list.
+/// The most nodes that there may be, as the length of a list.
 pub(crate) const PLACES: usize = MAX_NODES as usize;
 
 /// Writes into `kinds`, by rank, the rule that is enabled at each node, or `None`.
@@ -22,7 +22,7 @@ pub(crate) fn find_kinds(board: &Board, kinds: &mut [Option<Kind>])
     }
 }
 
-/// The rule that is enabled at a node, if one is, as `kinds` has it.
+/// Returns the rule that is enabled at a node, if one is, from `kinds`.
 #[inline(always)]
 pub(crate) fn kind_at(board: &Board, kinds: &[Option<Kind>], node: Rank) -> Option<Kind>
     requires node { node < length board.now.network.registers }

@@ -1,4 +1,4 @@
-//! Laws of stable configurations and of the report. Each is the clause of a function that does nothing.
+//! Laws of stable configurations and of the report. Each is the contract of a function that does nothing.
 ghost use Rattle.std.specs.Prelude.{◌≡◌, ◌↔◌, ◌⊎◌, ℕ, ◌<◌, true, false, Some, Contains};
 ghost use Rattle.mml_rules.specs.declared.rule.Kind.{Kind};
 ghost use Rattle.mml_rules.specs.Configuration.{Configuration, IsLawful};
@@ -12,7 +12,7 @@ ghost use Rattle.mml_stable.specs.Reports.{NamesNodes, pairs, free_nodes, privil
 ghost use Rattle.mml_stable.specs.Listed.{IsPairInOrder, IsFreeNode, IsPrivilegedBy, IsOpenLink, Rises, IsLinkBefore, IsMaximalMatching};
 ghost use Rattle.mml_stable.specs.Walk.{top, certificate, LeadsTo};
 
-/// A report says `stable` exactly where no node is privileged; there the pairs are a maximal matching, and m is true
+/// A report says `stable` exactly if no node is privileged. Then the pairs are a maximal matching, and m is true
 /// exactly at the married nodes.
 pub fn stable_is_maximal()
     ensures told { (c : Configuration) → (is_stable c ≡ true) ↔ IsStable c }
@@ -22,8 +22,7 @@ pub fn stable_is_maximal()
         (c.m i ≡ true) ↔ IsMarried c i }
 {}
 
-/// From a node that is free or has m false the pointers rise, up to one that is privileged or points at
-/// no node.
+/// From a node that is free or has m false the pointers rise, up to a node that is privileged or points at no node.
 pub fn walk_rises()
     ensures rises { (c : Configuration) (i j : ℕ) → IsLawful c → is_privileged c i ≡ false →
         (is_married c i ≡ false) ⊎ (c.m i ≡ false) → c.p i ≡ Some j →
@@ -53,7 +52,7 @@ pub fn lists_are_exact()
 {}
 
 /// Each list of a report rises: free and privileged nodes by their ranks, pairs by their first nodes, open links by
-/// their first ends and then by their second. So nothing stands twice in a list.
+/// their first ends and then by their second. So nothing is listed twice.
 #[tactic(auto, using(crate::proofs::ListedLemmas::pairs_rise, crate::proofs::ListedLemmas::free_rise, crate::proofs::ListedLemmas::privileged_rise, crate::proofs::ListedLemmas::open_rise))]
 pub fn lists_rise()
     ensures pairs { (c : Configuration) → Rises (λ p q. p.0 < q.0) (pairs c) }
@@ -62,7 +61,7 @@ pub fn lists_rise()
     ensures open_links { (c : Configuration) → Rises IsLinkBefore (open_links c) }
 {}
 
-/// Where a report says `stable`, the pairs that it lists are a maximal matching.
+/// If a report says `stable`, the pairs that it lists are a maximal matching.
 pub fn stable_reports_list_a_maximal_matching()
     ensures { (w : World) → IsWorld w → (report_of w).stable ≡ true →
         IsMaximalMatching (configuration w) (report_of w).pairs }

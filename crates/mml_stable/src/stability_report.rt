@@ -2,7 +2,7 @@ use crate::open_link::OpenLink;
 use mml_ids::{Items, Rank};
 use mml_rules::Kind;
 
-/// What is told of a configuration. Each list is in rising order.
+/// The report on a configuration. Each list is in rising order.
 #[derive(Debug, Drop)]
 pub struct Report {
     /// The number of the configuration.

@@ -28,7 +28,7 @@ will w q es i = is_chosen w i && is_fate_applied (fate_of i q es)
 abbrev pub pending : World → ℕ → List Event → ℕ
 pending w q es = count_below (size w) (will w q es)
 
--- where nothing is chosen none is
+-- if nothing is chosen, none is
 pub nothing_pending : (w : World) (n q : ℕ) (es : List Event) → ((i : ℕ) → is_chosen w i ≡ false) → count_below n (will w q es) ≡ 0
 nothing_pending w n q es none = count_none n (will w q es) (λ i lt. ap (λ b. b && is_fate_applied (fate_of i q es)) (none i))
 
@@ -72,7 +72,7 @@ unchosen n i = ap is_some (none_at n i)
 never : (w : World) (n : ℕ) → count_below n (λ i. is_chosen w i && false) ≡ 0
 never w n = count_none n (λ i. is_chosen w i && false) (λ i l. and_right (is_chosen w i) false refl)
 
--- nor is one left where the choices are new
+-- nor is one left if the choices are new
 none_left : (w : World) (e : Event) (q : ℕ) (es : List Event) → (after w e).chosen ≡ replicate (size w) None → pending (after w e) q es ≡ 0
 none_left w e q es new = grind (arith, nat_tests, nothing_pending, unchosen)
 

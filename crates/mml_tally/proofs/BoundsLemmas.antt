@@ -4,7 +4,7 @@ use Rattle.mml_convergence.specs.Rounds.{rounds_for}
 use Rattle.mml_bounds.specs.Courtships.{most_courtships}
 use Rattle.mml_bounds.proofs.NumbersLemmas.{courtships_even, courtships_odd}
 
--- twice the half, and one more where the number is odd
+-- twice the half, and one more if the number is odd
 halved : (n : ℕ) → (n ≡ 2 * (n / 2)) ⊎ (n ≡ 2 * (n / 2) + 1)
 halved n = grind arith
 

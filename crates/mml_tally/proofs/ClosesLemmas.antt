@@ -18,7 +18,7 @@ use Rattle.mml_tally.proofs.CountsLemmas.{one, count_split, count_one}
 
 -- ---- a move is applied by the close that comes next, or by none
 
--- the place of that close, or behind the last event
+-- the place of that close, or after the last event
 abbrev pub next_close : ℕ → List Event → ℕ
 next_close q [] = q
 next_close q (event.Close ∷ es) = q
@@ -29,11 +29,11 @@ next_after q [] = omega arith
 next_after q (event.Close ∷ es) = omega arith
 next_after q (_ ∷ es) = let rest = next_after (q + 1) es in omega (arith, rest)
 
--- what is told of the close of a move that is chosen before event q, where the close before it has place `last`
+-- the close of a move that is chosen before event q, if the close before it has place `last`
 pub record IsNext (last q : ℕ) (es : List Event) (close : ℕ) : Type 0 where
   pub which : (close ≡ last) ⊎ ((close ≡ next_close q es) × (next_close q es < q + length es))
 
--- the same, told one event earlier
+-- the same, one event earlier
 next_earlier : (last q : ℕ) (e : Event) (es : List Event) (close : ℕ) → next_close q (e ∷ es) ≡ next_close (q + 1) es → IsNext last (q + 1) es close
     → IsNext last q (e ∷ es) close
 next_earlier last q e es close same h = grind (arith, nat_tests)

@@ -1,4 +1,4 @@
--- A move is applied by a close exactly where what comes between leaves it.
+-- A move is applied by a close exactly if what comes between leaves it.
 use Rattle.std.proofs.Common.{◌≡◌, ◌↔◌, ℕ, ◌+◌, Bool, true, false, not, cond, ◌&&◌, eqb, List, [], ◌∷◌, ◌++◌, Some, None, unwrap_or}
 use Rattle.std.proofs.Common.{refl, ap, ◌∙◌, sym, arith, length}
 use Rattle.std.specs.List.{list_all}

@@ -1,4 +1,4 @@
--- Who asked in a legal list is a student of the lab, so all their marks together are the list's.
+-- Each asker in a legal list is a student of the lab, so all their marks together are the list's.
 use Rattle.std.proofs.Common.{◌≡◌, ℕ, ◌+◌, true, List, [], ◌∷◌, None, ◌∙◌, arith, length}
 use Rattle.std.specs.Prelude.{count_by}
 use Rattle.std.proofs.lemmas.Bool.{and_parts}

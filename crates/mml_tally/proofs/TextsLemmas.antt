@@ -13,7 +13,7 @@ use Rattle.mml_tally.specs.Texts.{student_line, students_text}
 use Rattle.mml_tally.specs.RecordTexts.{denied_line, denied_text}
 use Rattle.std.proofs.lemmas.Bool.Decides.{nat_tests}
 
--- the line of a student whose name and marks were told
+-- the line of a student whose name and marks are known
 line_of : (r r' : RosterValue) (s s' : ℕ) (name : List ℕ) (marks : Marks) (es : List Event) → r ≡ r' → s ≡ s' → name ≡ name_of r (who.Student s)
     → marks ≡ marks_of r es s → student_line name marks ≡ student_line (name_of r' (who.Student s')) (marks_of r' es s')
 line_of r r' s s' name marks es er es' en em =

@@ -1,4 +1,4 @@
--- What was asked and denied, told as facts.
+-- The lines that were asked and denied, as facts.
 use Rattle.std.specs.Prelude.{ℕ, ◌+◌, ◌<◌, ◌≡◌, ◌==◌, ◌||◌, Bool, true, List, [], ◌∷◌, Option, None, Some, is_some, is_none, option_map}
 use Rattle.std.specs.List.{filter}
 use Rattle.mml_tally.specs.declared.ask.Ask.{Ask}

@@ -1,4 +1,4 @@
--- What a student's lines asked, whatever came of them, and which clauses denied them.
+-- The requests of a student's lines, whatever the replies were, and the clauses that denied them.
 use Rattle.std.specs.Prelude.{ℕ, ◌==◌, ◌&&◌, Bool, true, false, List, Option, None, Some, count_by}
 use Rattle.std.specs.List.{filter}
 use Rattle.mml_rules.specs.declared.rule.Kind.{Kind}

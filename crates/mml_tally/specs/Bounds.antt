@@ -1,4 +1,4 @@
--- The most that a run takes from a world on, where no fault, link or cut comes.
+-- The most that a run takes from a world on, if no fault, link or cut comes.
 use Rattle.std.specs.Prelude.{ℕ}
 use Rattle.mml_lab.specs.Labs.{link_count}
 use Rattle.mml_board.specs.World.{World, size}

@@ -1,4 +1,4 @@
--- Of whom all is recorded.
+-- The participants whose lines are all recorded.
 use Rattle.std.specs.Prelude.{◌<◌, ℕ, Bool, ◌&&◌, not, List, [], ◌++◌, length, codes, if◌then◌else◌}
 use Rattle.std.specs.FinSet as set
 use Rattle.mml_ids.specs.declared.TheConstants.{MAX_NODES}
@@ -19,18 +19,19 @@ abbrev pub lacks : Findings → Who → Bool
 lacks f who.Teacher = f.lacks_teacher
 lacks f (who.Student s) = set.contains f.lacking s
 
--- all lines of this one are recorded: nothing says that anything may be missing, nor that recording paused while this one was known
+-- all lines of this one are recorded: no entry says that anything may be missing, or that recording paused while this
+-- one was known
 abbrev pub has_all_of : Findings → Who → Bool
 has_all_of f who = not f.is_cut && not (lacks f who)
 
--- the name of one of whom all is recorded, with a space before it
+-- the name of one whose lines are all recorded, with a space before it
 abbrev pub whole_name : RosterValue → Findings → Who → List ℕ
 whole_name r f who = if has_all_of f who then codes " " ++ name_of r who else []
 
--- the names of those of the first n students of whom all is recorded, in the lab's order
+-- the names of those of the first n students whose lines are all recorded, in the lab's order
 abbrev pub whole_names : RosterValue → Findings → ℕ → List ℕ
 whole_names r f n = each_below n (λ s. whole_name r f (who.Student s))
 
--- the line of those of whom all is recorded: the teacher first, and then students in the lab's order
+-- the line of those whose lines are all recorded: the teacher first, and then students in the lab's order
 abbrev pub recorded_line : LabValue → Findings → List ℕ
 recorded_line lab f = codes "whole" ++ (whole_name lab.roster f who.Teacher ++ (whole_names lab.roster f (length lab.roster.students) ++ codes "\n"))

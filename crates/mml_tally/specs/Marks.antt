@@ -1,4 +1,4 @@
--- What a list of events tells of a student.
+-- The marks of a student, by a list of events.
 use Rattle.std.specs.Prelude.{ℕ, ◌+◌, ◌-◌, ◌==◌, Bool, true, false, List, length, Option, option_map, count_by}
 use Rattle.std.specs.List.{filter, list_any, slice_get}
 use Rattle.mml_ids.specs.Search.{count_below}
@@ -77,7 +77,7 @@ last_place ms = option_map (λ m. m.place) (slice_get ms (length ms - 1))
 abbrev pub count_shared : RosterValue → List Move → ℕ
 count_shared r ms = count_by (λ m. is_shared r m.node) ms
 
--- what n events tell of a student whose moves are `own`
+-- the marks of a student whose moves are `own`, from n events
 abbrev pub marks_from : RosterValue → ℕ → List Move → Marks
 marks_from r n own = record {
   granted = by_rule own;
@@ -88,6 +88,6 @@ marks_from r n own = record {
   shared = count_shared r (applied own);
 }
 
--- what events tell of a student
+-- the marks of a student, from a list of events
 abbrev pub marks_of : RosterValue → List Event → ℕ → Marks
 marks_of r es s = marks_from r (length es) (moves_by s (moves es))

@@ -1,4 +1,4 @@
--- The tally, told as facts.
+-- The tally, stated as facts.
 use Rattle.std.specs.Prelude.{◌≡◌, ℕ, ◌+◌, ◌==◌, Bool, true, false, not, List, ◌∷◌, ◌++◌, length}
 use Rattle.std.specs.List.{list_all}
 use Rattle.mml_board.specs.declared.event.Event.{Event}

@@ -1,4 +1,4 @@
--- What is told of a run's record, between the nodes and the end of the tally.
+-- The lines of a run's record, between the nodes and the end of the tally.
 use Rattle.std.specs.Prelude.{ℕ, Bool, true, false, List, [], ◌∷◌, ◌++◌, length, codes, slice_index, if◌then◌else◌}
 use Rattle.mml_lab.specs.declared.who.Who.TheVariants as who
 use Rattle.mml_lab.specs.Labs.{LabValue}
@@ -36,8 +36,7 @@ asked_line lab asks i =
 abbrev pub asked_text : LabValue → List Ask → ℕ → List ℕ
 asked_text lab asks n = each_below n (λ i. if is_shared lab.roster i then asked_line lab asks i else [])
 
--- the word for a record that leaves nothing out of what was said, or for one that was cut short, with a space and a
--- newline
+-- the word for a record that leaves nothing out, or for one that was cut short, with a space and a newline
 abbrev pub whole_text : Bool → List ℕ
 whole_text true = codes " whole\n"
 whole_text false = codes " cut\n"
@@ -46,7 +45,7 @@ whole_text false = codes " cut\n"
 abbrev pub record_line : Findings → List ℕ
 record_line f = codes "record" ++ (numbers_text (f.sessions ∷ f.lines ∷ []) ++ whole_text f.whole)
 
--- what was denied and asked, and what the record comes to
+-- what was denied and asked, and the record's summary
 abbrev pub record_text : LabValue → Findings → List Ask → List ℕ
 record_text lab f asks = denied_text lab asks (length lab.roster.students) ++ (asked_text lab asks (length lab.ids) ++ record_line f)
 
@@ -55,6 +54,6 @@ abbrev pub recorded_run_text : LabValue → World → List Event → Findings �
 recorded_run_text lab w es f asks =
     students_text lab es (length lab.roster.students) ++ (nodes_text lab es (length lab.ids) ++ (record_text lab f asks ++ ends_text w es))
 
--- the tally of a run with a record: these lines, and that of those of whom all is recorded
+-- the tally of a run with a record: these lines, and that of those whose lines are all recorded
 abbrev pub recorded_text : LabValue → World → List Event → Findings → List Ask → List ℕ
 recorded_text lab w es f asks = recorded_run_text lab w es f asks ++ recorded_line lab f

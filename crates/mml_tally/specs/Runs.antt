@@ -1,4 +1,4 @@
--- What a list of events tells of its run.
+-- The counts of a run, by its list of events.
 use Rattle.std.specs.Prelude.{ℕ, ◌+◌, Bool, true, false, not, nat_lt, if◌then◌else◌, List, [], ◌∷◌, drop, count_by}
 use Rattle.mml_board.specs.declared.event.Event.{Event}
 use Rattle.mml_board.specs.declared.event.Event.TheVariants as event
@@ -44,7 +44,7 @@ is_fate_after k _ = false
 abbrev pub is_applied_after : ℕ → Move → Bool
 is_applied_after k m = is_fate_after k m.fate
 
--- what events tell of their run, where the last fault, link or cut has the place `since`, 0 where there is none
+-- the counts of a run, if its last fault, link or cut has the place `since`, 0 if there is none
 abbrev pub run_since : ℕ → List Event → Run
 run_since since es = record {
   closes = count_by is_close es;
@@ -56,6 +56,6 @@ run_since since es = record {
   closes_since = count_by is_close (drop since es);
 }
 
--- what events tell of their run
+-- the counts of a run
 abbrev pub run_of : List Event → Run
 run_of es = run_since (last_change 0 1 es) es

@@ -1,4 +1,4 @@
--- What is told of a run, in lines of words with one space between.
+-- The tally of a run, in lines of words with one space between.
 use Rattle.std.specs.Prelude.{ℕ, ◌==◌, Bool, true, false, List, [], ◌∷◌, ◌++◌, length, codes, decimal, slice_index, Option, None, Some, if◌then◌else◌}
 use Rattle.mml_lab.specs.declared.who.Who.TheVariants as who
 use Rattle.mml_lab.specs.Labs.{LabValue}
@@ -22,7 +22,7 @@ abbrev pub numbers_text : List ℕ → List ℕ
 numbers_text [] = []
 numbers_text (n ∷ ns) = codes " " ++ (decimal n ++ numbers_text ns)
 
--- a place, or - where there is none
+-- a place, or - if there is none
 abbrev pub place_text : Option ℕ → List ℕ
 place_text None = codes " -"
 place_text (Some p) = numbers_text (p ∷ [])

@@ -19,7 +19,7 @@ pub struct Ask {
     pub denied: Option<u8>,
 }
 
-/// What a line is, as far as lines are told apart here.
+/// What a line asks, as far as the tally distinguishes lines.
 #[derive(Clone, Copy, Debug, PartialEq, Eq)]
 pub enum Line {
     /// No request.
@@ -40,16 +40,16 @@ pub struct Denials {
     pub malformed: u64,
 }
 
-/// Puts a copy of an ask behind those in `asks`.
+/// Appends a copy of an ask to `asks`. Returns `Memory` if memory runs out.
 pub fn push_ask(asks: &mut Vec<Ask>, ask: &Ask) -> Result<(), Memory>
     ensures { OnOk result (asks.new.items ≡ asks.old.items ++ (ask.now ∷ [])) }
 {
-    // Not by `push`, for which the toolchain has no proof here.
+    // `push` isn't used, since the toolchain has no proof of it here.
     asks.extend_from_slice(slice::from_ref(ask))?;
     Ok(())
 }
 
-/// The lines that came while the student was known, in order.
+/// Returns the lines that came while the student was known, in order.
 fn asks_by(alloc: Global, asks: &[Ask], student: Student) -> Result<Vec<Ask>, Memory>
     ensures { IfOk result (λ own. own.items ≡ asks_by student asks.now) }
 {
@@ -60,14 +60,15 @@ fn asks_by(alloc: Global, asks: &[Ask], student: Student) -> Result<Vec<Ask>, Me
     Ok(own.collect(alloc)?)
 }
 
-/// Whether `who`, the student who was known when a line came, is this student; `false` where no student was known.
+/// Returns whether `who`, the student who was known when a line came, is this student. Returns `false` if no student
+/// was known.
 fn is_student(student: Student, who: Option<Student>) -> bool
     ensures { result ≡ is_student student who }
 {
     who == Some(student)
 }
 
-/// How many of a student's lines each clause denied, and how many were no request.
+/// Returns how many of a student's lines each clause denied, and how many were no request.
 pub fn denials_of(alloc: Global, asks: &[Ask], student: Student) -> Result<Denials, Memory>
     ensures { IfOk result (λ denied. denied ≡ denials_of asks.now student) }
 {
@@ -75,7 +76,7 @@ pub fn denials_of(alloc: Global, asks: &[Ask], student: Student) -> Result<Denia
     Ok(denials_in(&own))
 }
 
-/// How many moves of each rule a student asked for at the node with this identifier.
+/// Returns how many moves of each rule a student asked for at the node with this identifier.
 pub fn moves_asked_by(
     alloc: Global,
     asks: &[Ask],
@@ -88,7 +89,7 @@ pub fn moves_asked_by(
     Ok(moves_asked(node, &own))
 }
 
-/// How many of a student's lines, `own`, each clause denied, and how many were no request.
+/// Returns how many of a student's lines, `own`, each clause denied, and how many were no request.
 fn denials_in(own: &[Ask]) -> Denials
     ensures { result ≡ denials_in own.now }
 {
@@ -101,7 +102,7 @@ fn denials_in(own: &[Ask]) -> Denials
     }
 }
 
-/// How many of the lines the clause with this number denied.
+/// Returns how many of the lines the clause with this number denied.
 fn count_clause(own: &[Ask], clause: u8) -> u64
     ensures { result ≡ count_by (λ a. is_clause clause a.denied) own.now }
 {
@@ -110,21 +111,22 @@ fn count_clause(own: &[Ask], clause: u8) -> u64
         .count() as u64
 }
 
-/// Whether `denied`, the number of the clause that denied a line, is that of this clause; `false` where none denied it.
+/// Returns whether `denied`, the number of the clause that denied a line, is that of this clause. Returns `false` if
+/// none denied it.
 fn is_clause(clause: u8, denied: Option<u8>) -> bool
     ensures { result ≡ is_clause clause denied }
 {
     denied == Some(clause)
 }
 
-/// How many of the lines were no request.
+/// Returns how many of the lines were no request.
 fn count_malformed(own: &[Ask]) -> u64
     ensures { result ≡ count_by (λ a. is_malformed a.line) own.now }
 {
     own.iter().filter(|ask| is_malformed(ask.line)).count() as u64
 }
 
-/// Whether the line is no request.
+/// Returns whether the line is no request.
 fn is_malformed(line: Line) -> bool
     ensures { result ≡ is_malformed line }
 {
@@ -134,7 +136,7 @@ fn is_malformed(line: Line) -> bool
     }
 }
 
-/// How many of a student's lines asked for a move of each rule at the node with this identifier.
+/// Returns how many of a student's lines asked for a move of each rule at the node with this identifier.
 fn moves_asked(node: u64, own: &[Ask]) -> ByRule
     ensures { result ≡ moves_asked node own.now }
 {
@@ -146,7 +148,7 @@ fn moves_asked(node: u64, own: &[Ask]) -> ByRule
     }
 }
 
-/// How many of the lines asked for a move of this rule at the node with this identifier.
+/// Returns how many of the lines asked for a move of this rule at the node with this identifier.
 fn count_moves(node: u64, kind: Kind, own: &[Ask]) -> u64
     ensures { result ≡ count_by (λ a. is_move node kind a.line) own.now }
 {
@@ -155,7 +157,7 @@ fn count_moves(node: u64, kind: Kind, own: &[Ask]) -> u64
         .count() as u64
 }
 
-/// Whether the line asks for a move of this rule at the node with this identifier.
+/// Returns whether the line asks for a move of this rule at the node with this identifier.
 fn is_move(node: u64, kind: Kind, line: Line) -> bool
     ensures { result ≡ is_move node kind line }
 {

@@ -4,7 +4,7 @@ ghost use Rattle.mml_tally.specs.Moves.{ended_by, fate_of};
 use mml_board::Event;
 use mml_ids::Rank;
 
-/// What becomes of a granted move.
+/// What happens to a granted move.
 #[derive(Clone, Copy, Debug, PartialEq, Eq)]
 pub enum Fate {
     /// The close at this place applies it.
@@ -17,7 +17,7 @@ pub enum Fate {
     Chosen,
 }
 
-/// What the event at a place makes of the move that is chosen at a node; `None` where the move stays chosen.
+/// Returns what the event at a place does to the move that is chosen at a node, or `None` if the move stays chosen.
 pub fn ended_by(node: Rank, place: u64, event: &Event) -> Option<Fate>
     ensures { result ≡ ended_by node place event.now }
 {
@@ -35,8 +35,8 @@ pub fn ended_by(node: Rank, place: u64, event: &Event) -> Option<Fate>
     }
 }
 
-/// What becomes of the move that is chosen at a node: `later` are the events after the move's grant, of which the first
-/// has the place `place`. `Chosen` where no event ends the move.
+/// Returns what happens to the move that is chosen at a node. `later` has the events after the move's grant, of which
+/// the first has the place `place`. Returns `Chosen` if no event ends the move.
 pub fn fate_of(node: Rank, place: u64, later: &[Event]) -> Fate
     requires { place + length later.now < 2 ^ 64 }
     ensures { result ≡ fate_of node place later.now }

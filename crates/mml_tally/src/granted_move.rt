@@ -8,19 +8,19 @@ use mml_lab::Student;
 use mml_rules::{Kind, kind_of};
 use std::alloc::Global;
 
-/// A move that was granted, and what became of it.
+/// A move that was granted, and what happened to it.
 #[derive(Clone, Copy, Debug)]
 pub struct Move {
     /// The place of its grant.
     pub place: u64,
-    /// Who asked for it.
+    /// The student who asked for it.
     pub who: Student,
     pub node: Rank,
     pub kind: Kind,
     pub fate: Fate,
 }
 
-/// The moves that a list of events grants, in order, each with what became of it.
+/// Returns the moves that a list of events grants, in order, each with what happened to it.
 pub fn moves_of(alloc: Global, events: &[Event]) -> Result<Vec<Move>, Memory>
     ensures { IfOk result (λ all. all.items ≡ moves events.now) }
 {

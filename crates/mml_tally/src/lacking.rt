@@ -1,4 +1,4 @@
-//! Of whom all is recorded.
+//! The participants whose lines are all recorded.
 ghost use Rattle.std.specs.Prelude.{◌≡◌, ◌++◌, length, OnOk};
 ghost use Rattle.mml_lab.specs.Rosters.{IsPrincipal};
 ghost use Rattle.mml_tally.specs.Lacking.{IsCounted, lacks, has_all_of, whole_name, whole_names, recorded_line};
@@ -8,7 +8,7 @@ use mml_ids::{Memory, Piece, Rank, put};
 use mml_lab::{Lab, Roster, Student, Who};
 
 impl Findings {
-    /// Whether lines may be missing because recording paused while `who` was known.
+    /// Returns whether lines may be missing because recording paused while `who` was known.
     pub fn lacks(&self, who: Who) -> bool
         requires { IsCounted who }
         ensures { result ≡ lacks self.now who }
@@ -19,8 +19,8 @@ impl Findings {
         }
     }
 
-    /// Whether all lines of `who` are recorded: nothing says that anything may be missing, nor that recording paused
-    /// while `who` was known.
+    /// Returns whether all lines of `who` are recorded: no entry says that anything may be missing, or that recording
+    /// paused while `who` was known.
     pub fn has_all_of(&self, who: Who) -> bool
         requires { IsCounted who }
         ensures { result ≡ has_all_of self.now who }
@@ -29,8 +29,8 @@ impl Findings {
     }
 }
 
-/// Puts at the end of a text the line of those of whom all is recorded: `whole`, and each name, first the teacher's and
-/// then those of students in the lab's order.
+/// Appends the line of those whose lines are all recorded: `whole`, and each name, first the teacher's and then those
+/// of students in the lab's order.
 pub fn put_recorded(out: &mut Vec<u8>, lab: &Lab, findings: &Findings) -> Result<(), Memory>
     ensures { OnOk result
         (out.new.items ≡ out.old.items ++ recorded_line lab.now findings.now) }
@@ -41,7 +41,7 @@ pub fn put_recorded(out: &mut Vec<u8>, lab: &Lab, findings: &Findings) -> Result
     put(out, &[Piece::Text("\n")])
 }
 
-/// Puts the names of the students of whom all is recorded, in the lab's order, each with a space before it.
+/// Appends the names of the students whose lines are all recorded, in the lab's order, each with a space before it.
 fn put_students(out: &mut Vec<u8>, lab: &Lab, findings: &Findings) -> Result<(), Memory>
     ensures { OnOk result (out.new.items ≡ out.old.items
         ++ whole_names lab.now.roster findings.now (length lab.now.roster.students)) }
@@ -54,7 +54,7 @@ fn put_students(out: &mut Vec<u8>, lab: &Lab, findings: &Findings) -> Result<(),
     Ok(())
 }
 
-/// Puts the name of `who`, with a space before it, if all of whom is recorded.
+/// Appends the name of `who`, with a space before it, if all lines of `who` are recorded.
 fn put_if_whole(
     out: &mut Vec<u8>,
     roster: &Roster,
@@ -65,7 +65,7 @@ fn put_if_whole(
     ensures { OnOk result
         (out.new.items ≡ out.old.items ++ whole_name roster.now findings.now who) }
 {
-    // By what this reader ensures, there are at most as many students as a set has ranks.
+    // By what this getter ensures, there are at most as many students as a set has ranks.
     let _count = roster.student_count();
     let who = &who;
     if findings.has_all_of(*who) {

@@ -1,4 +1,4 @@
-//! Laws of the tally. Each is the clause of a function that does nothing.
+//! Laws of the tally. Each is the contract of a function that does nothing.
 ghost use Rattle.std.specs.Prelude.{◌≡◌, ◌↔◌, ◌+◌, ℕ, true, List, length, map, count_by};
 ghost use Rattle.mml_lab.specs.Labs.{LabValue, IsLab};
 ghost use Rattle.mml_lab.specs.Rosters.{RosterValue};
@@ -16,15 +16,15 @@ ghost use Rattle.mml_tally.specs.Asks.{denials_of, moves_asked_by, is_malformed}
 ghost use Rattle.mml_tally.specs.AskMeaning.{asks_of_others, is_denied, total_denied, AreAsksOf, asked_under};
 ghost use Rattle.mml_tally.specs.Meaning.{IsNextClose, total, is_released, is_dropped, is_left, asked_as};
 
-/// A grant at i is applied by the close at place p exactly where no release of i, close, fault, link or cut
-/// comes between. The events are those after the grant, and the first of them has place q.
+/// A grant at i is applied by the close at place p exactly if no release of i, close, fault, link or cut comes between.
+/// The events are those after the grant, and the first of them has place q.
 pub fn moves_are_applied_by_the_next_close()
     ensures { (i q p : ℕ) (es : List Event) →
         (fate_of i q es ≡ Fate.Applied p) ↔ IsNextClose i q p es }
 {}
 
 /// The applied moves of all students together are as many as the closes of a legal list of a lab's events apply, and so
-/// are the moves that are told of the run.
+/// are the moves in the line of the run.
 pub fn students_apply_all_moves()
     ensures students { (lab : LabValue) (es : List Event) → IsLab lab →
         is_legal_list lab.roster (opening_of lab.network) es ≡ true →
@@ -35,8 +35,8 @@ pub fn students_apply_all_moves()
         (run_of es).moves ≡ applied_over (opening_of lab.network) es }
 {}
 
-/// A run goes on to as many configurations as it has closes, faults, links and cuts: by so many the number of the
-/// configuration grows.
+/// A run leads through as many configurations as it has closes, faults, links and cuts: the number of the configuration
+/// grows by this many.
 pub fn changes_of_a_run_are_its_configurations()
     ensures { (w : World) (es : List Event) → (world_of w es).number ≡ w.number
         + ((run_of es).closes + (run_of es).faults + (run_of es).links + (run_of es).cuts) }
@@ -52,20 +52,20 @@ pub fn granted_moves_have_one_fate()
 {}
 
 /// A student to whom no close is counted has no applied move: so a lone close that applied one isn't missed, not even
-/// where it is the last event.
+/// if it is the last event.
 pub fn who_has_no_close_has_no_applied_move()
     ensures { (r : RosterValue) (es : List Event) (s : ℕ) →
         (marks_of r es s).closes ≡ 0 → total (marks_of r es s).applied ≡ 0 }
 {}
 
-/// A student's marks don't change where the other students have other names, or where several of them become one.
+/// A student's marks don't change if the other students have other names, or several of them become one.
 pub fn marks_depend_on_no_other_name()
     ensures { (r : RosterValue) (es : List Event) (s : ℕ) (f : ℕ → ℕ) →
         ((t : ℕ) → (f t ≡ s) ↔ (t ≡ s)) → marks_of r (map (asked_as f) es) s ≡ marks_of r es s }
 {}
 
-/// Each line that was denied, and each that was no request, is told of one student, or came while the teacher
-/// was known, or nobody.
+/// Each line that was denied, and each that was no request, is counted for one student, or came while the teacher was
+/// known, or nobody.
 pub fn denials_are_of_one_student()
     ensures denied { (n : ℕ) (asks : List Ask) → AreAsksOf n asks →
         sum_below n (λ s. total_denied (denials_of asks s)) + count_by is_denied (asks_of_others asks)

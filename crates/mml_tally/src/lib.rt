@@ -1,5 +1,5 @@
-//! What a run's events tell of each student, of the run, and of each node that several own: a move is
-//! followed through the list alone. And how much may follow from the world that they led to.
+//! The tally of a run's events: for each student, for the run, and for each node that several own. Each move is
+//! followed through the list of events alone. The tally also says how much may follow from the world after them.
 #![tactic(auto)]
 
 mod ask;

@@ -12,7 +12,7 @@ use mml_lab::{Roster, Student};
 use mml_rules::Kind;
 use std::alloc::Global;
 
-/// How many moves there are of each rule.
+/// The number of moves of each rule.
 #[derive(Clone, Copy, Debug, PartialEq, Eq)]
 pub struct ByRule {
     pub update: u64,
@@ -21,14 +21,14 @@ pub struct ByRule {
     pub abandonment: u64,
 }
 
-/// What a run tells of a student.
+/// The marks of a student in a run.
 #[derive(Clone, Copy, Debug, PartialEq, Eq)]
 pub struct Marks {
     /// The moves that were granted.
     pub granted: ByRule,
     /// The granted moves that a close applied.
     pub applied: ByRule,
-    /// How many closes applied a move of the student's.
+    /// The number of closes that applied a move of the student's.
     pub closes: u64,
     /// The place of the first grant, if there is one.
     pub first: Option<u64>,
@@ -38,7 +38,7 @@ pub struct Marks {
     pub shared: u64,
 }
 
-/// What a run tells of a student; `all` are the moves that the run's events grant.
+/// Returns the marks of a student. `all` has the moves that the run's events grant.
 pub fn marks_of(
     alloc: Global,
     roster: &Roster,
@@ -60,7 +60,7 @@ pub fn marks_of(
     })
 }
 
-/// The moves of a student, in order.
+/// Returns the moves of a student, in order.
 pub fn moves_by(alloc: Global, all: &[Move], student: Student) -> Result<Vec<Move>, Memory>
     ensures { IfOk result (λ own. own.items ≡ moves_by student all.now) }
 {
@@ -68,7 +68,7 @@ pub fn moves_by(alloc: Global, all: &[Move], student: Student) -> Result<Vec<Mov
     Ok(own.collect(alloc)?)
 }
 
-/// The moves at a node, in order.
+/// Returns the moves at a node, in order.
 pub fn moves_at(alloc: Global, all: &[Move], node: Rank) -> Result<Vec<Move>, Memory>
     ensures { IfOk result (λ there. there.items ≡ moves_at node all.now) }
 {
@@ -76,7 +76,7 @@ pub fn moves_at(alloc: Global, all: &[Move], node: Rank) -> Result<Vec<Move>, Me
     Ok(there.collect(alloc)?)
 }
 
-/// The moves that a close applied, in order.
+/// Returns the moves that a close applied, in order.
 fn applied(alloc: Global, all: &[Move]) -> Result<Vec<Move>, Memory>
     ensures { IfOk result (λ some. some.items ≡ applied all.now) }
 {
@@ -84,7 +84,7 @@ fn applied(alloc: Global, all: &[Move]) -> Result<Vec<Move>, Memory>
     Ok(some.collect(alloc)?)
 }
 
-/// Whether a close applied the move.
+/// Returns whether a close applied the move.
 pub fn is_applied(granted: &Move) -> bool
     ensures { result ≡ is_applied granted.now }
 {
@@ -94,7 +94,7 @@ pub fn is_applied(granted: &Move) -> bool
     }
 }
 
-/// How many moves there are of each rule.
+/// Returns the number of moves of each rule.
 pub fn by_rule(all: &[Move]) -> ByRule
     ensures { result ≡ by_rule all.now }
 {
@@ -106,7 +106,7 @@ pub fn by_rule(all: &[Move]) -> ByRule
     }
 }
 
-/// How many of the moves are of this rule.
+/// Returns how many of the moves are of this rule.
 fn count_kind(all: &[Move], kind: Kind) -> u64
     ensures { result ≡ count_by (λ m. is_kind kind m.kind) all.now }
 {
@@ -115,15 +115,15 @@ fn count_kind(all: &[Move], kind: Kind) -> u64
         .count() as u64
 }
 
-/// Whether two kinds of rules are the same.
+/// Returns whether two kinds of rules are the same.
 pub(crate) fn is_kind(asked: Kind, kind: Kind) -> bool
     ensures { result ≡ is_kind asked kind }
 {
     asked == kind
 }
 
-/// How many closes applied one of a student's moves. The moves come in the order of the closes that applied them, so
-/// a close that differs from the one before is a new one.
+/// Returns how many closes applied one of a student's moves. The moves come in the order of the closes that applied
+/// them, so a close that differs from the one before is a new one.
 fn count_applying_closes(own: &[Move]) -> u64
     ensures { result ≡ count_new 0 own.now }
 {
@@ -139,7 +139,7 @@ fn count_applying_closes(own: &[Move]) -> u64
     closes
 }
 
-/// The place of the close that applied a move; where none did, `last`, that of the last close so far.
+/// Returns the place of the close that applied a move. If none did, returns `last`, that of the last close so far.
 fn close_of(last: u64, fate: Fate) -> u64
     ensures { result ≡ close_of last fate }
 {
@@ -149,7 +149,7 @@ fn close_of(last: u64, fate: Fate) -> u64
     }
 }
 
-/// The place of the grant of the first move; `None` where there are no moves.
+/// Returns the place of the grant of the first move, or `None` if there are no moves.
 fn first_place(all: &[Move]) -> Option<u64>
     ensures { result ≡ first_place all.now }
 {
@@ -157,7 +157,7 @@ fn first_place(all: &[Move]) -> Option<u64>
     Some(first.place)
 }
 
-/// The place of the grant of the last move; `None` where there are no moves.
+/// Returns the place of the grant of the last move, or `None` if there are no moves.
 fn last_place(all: &[Move]) -> Option<u64>
     ensures { result ≡ last_place all.now }
 {
@@ -165,7 +165,7 @@ fn last_place(all: &[Move]) -> Option<u64>
     Some(last.place)
 }
 
-/// How many of the moves are at nodes that several own.
+/// Returns how many of the moves are at nodes that several own.
 fn count_shared(roster: &Roster, all: &[Move]) -> u64
     ensures { result ≡ count_shared roster.now all.now }
 {

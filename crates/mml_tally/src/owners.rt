@@ -7,7 +7,7 @@ use mml_ids::{Memory, Rank};
 use mml_lab::{Roster, Student, Who};
 use std::alloc::Global;
 
-/// The students who own a node, in the lab's order.
+/// Returns the students who own a node, in the lab's order.
 pub fn owners_of(alloc: Global, roster: &Roster, node: Rank) -> Result<Vec<Student>, Memory>
     ensures exact { IfOk result (λ owners. owners.items ≡ owners_in_order roster.now node) }
     ensures members { IfOk result
@@ -23,7 +23,7 @@ pub fn owners_of(alloc: Global, roster: &Roster, node: Rank) -> Result<Vec<Stude
     Ok(owners)
 }
 
-/// Whether more than one student owns a node.
+/// Returns whether more than one student owns a node.
 pub fn is_shared(roster: &Roster, node: Rank) -> bool
     ensures { result ≡ is_shared roster.now node }
 {

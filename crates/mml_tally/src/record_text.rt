@@ -11,16 +11,16 @@ use mml_ids::{Memory, NodeSet, Piece, Rank, put};
 use mml_lab::{Lab, Roster, Student, Who};
 use std::alloc::Global;
 
-/// What a record comes to.
+/// The summary of a record.
 #[derive(Clone, Copy, Debug, Drop)]
 pub struct Findings {
-    /// How many sessions ended.
+    /// The number of sessions that ended.
     pub sessions: u64,
-    /// How many lines were answered.
+    /// The number of lines that were answered.
     pub lines: u64,
     /// Whether no entry says that something was left out.
     pub whole: bool,
-    /// Whether an entry says that anything may be missing, of everybody.
+    /// Whether an entry says that lines of anybody may be missing.
     pub is_cut: bool,
     /// Whether recording paused while the teacher was known, so that lines of the teacher's may be missing.
     pub lacks_teacher: bool,
@@ -29,9 +29,9 @@ pub struct Findings {
     pub lacking: NodeSet,
 }
 
-/// Puts at the end of a text the tally of a run that was recorded: the lines that any run has, before the last two of
-/// them those of the record, and at the end the line of those of whom all is recorded. The board is the world after the
-/// events; the asks are what the record's lines asked.
+/// Appends the tally of a run that was recorded: the lines that any run has, before the last two of them those of the
+/// record, and at the end the line of those whose lines are all recorded. The board is the world after the events. The
+/// asks are what the record's lines asked.
 pub fn put_recorded_tally(
     out: &mut Vec<u8>,
     alloc: Global,
@@ -48,7 +48,7 @@ pub fn put_recorded_tally(
     put_recorded(out, lab, findings)
 }
 
-/// Puts the lines that any run has, and before the last two of them those of the record.
+/// Appends the lines that any run has, and before the last two of them those of the record.
 fn put_recorded_run(
     out: &mut Vec<u8>,
     alloc: Global,
@@ -67,7 +67,7 @@ fn put_recorded_run(
     put_ends(out, board, events, &all)
 }
 
-/// Puts the lines of a record: what was denied, what was asked for at nodes that several own, and what it comes to.
+/// Appends the lines of a record: what was denied, what was asked for at nodes that several own, and the summary.
 fn put_record(
     out: &mut Vec<u8>,
     alloc: Global,
@@ -83,8 +83,8 @@ fn put_record(
     put_findings(out, findings)
 }
 
-/// Puts a line for each student, in the lab's order: how many of the student's lines each clause denied, and how many
-/// were no request.
+/// Appends a line for each student, in the lab's order: how many of the student's lines each clause denied, and how
+/// many were no request.
 fn put_denied(out: &mut Vec<u8>, alloc: Global, lab: &Lab, asks: &[Ask]) -> Result<(), Memory>
     ensures { OnOk result (out.new.items
         ≡ out.old.items ++ denied_text lab.now asks.now (length lab.now.roster.students)) }
@@ -98,7 +98,7 @@ fn put_denied(out: &mut Vec<u8>, alloc: Global, lab: &Lab, asks: &[Ask]) -> Resu
     Ok(())
 }
 
-/// Puts the line of one student: how many lines each clause denied, and how many were no request.
+/// Appends the line of one student: how many lines each clause denied, and how many were no request.
 fn put_denials(out: &mut Vec<u8>, name: &str, denied: &Denials) -> Result<(), Memory>
     ensures { OnOk result (out.new.items ≡ out.old.items ++ denied_line name.now denied.now) }
 {
@@ -114,7 +114,7 @@ fn put_denials(out: &mut Vec<u8>, name: &str, denied: &Denials) -> Result<(), Me
     put(out, &[Piece::Text("\n")])
 }
 
-/// Puts a line for each node that several own: the moves that each owner asked for there.
+/// Appends a line for each node that several own: the moves that each owner asked for there.
 fn put_asked(out: &mut Vec<u8>, alloc: Global, lab: &Lab, asks: &[Ask]) -> Result<(), Memory>
     ensures { OnOk result (out.new.items
         ≡ out.old.items ++ asked_text lab.now asks.now (length lab.now.ids)) }
@@ -128,7 +128,7 @@ fn put_asked(out: &mut Vec<u8>, alloc: Global, lab: &Lab, asks: &[Ask]) -> Resul
     Ok(())
 }
 
-/// Puts the line of one node: the moves that each owner asked for there.
+/// Appends the line of one node: the moves that each owner asked for there.
 fn put_asked_at(
     out: &mut Vec<u8>,
     alloc: Global,
@@ -147,7 +147,7 @@ fn put_asked_at(
     put(out, &[Piece::Text("\n")])
 }
 
-/// Puts the owners of a node, each with the moves that they asked for there.
+/// Appends the owners of a node, each with the moves that they asked for there.
 fn put_askers(
     out: &mut Vec<u8>,
     alloc: Global,
@@ -168,7 +168,8 @@ fn put_askers(
     Ok(())
 }
 
-/// Puts the line of what a record comes to: sessions that ended, lines that were answered, and whether it is whole.
+/// Appends the line with the summary of a record: sessions that ended, lines that were answered, and whether it is
+/// whole.
 fn put_findings(out: &mut Vec<u8>, findings: &Findings) -> Result<(), Memory>
     ensures { OnOk result (out.new.items ≡ out.old.items ++ record_line findings.now) }
 {
@@ -177,7 +178,7 @@ fn put_findings(out: &mut Vec<u8>, findings: &Findings) -> Result<(), Memory>
     put(out, &[Piece::Text(whole_text(findings.whole))])
 }
 
-/// The word for a record that leaves nothing out, or for one that was cut short, with its space and newline.
+/// Returns the word for a record that leaves nothing out, or for one that was cut short, with its space and newline.
 fn whole_text(is_whole: bool) -> &'static str
     ensures { result.now ≡ whole_text is_whole }
 {

@@ -9,7 +9,7 @@ use crate::granted_move::Move;
 use crate::marks::is_applied;
 use mml_board::Event;
 
-/// What a run tells of itself.
+/// The counts of a run.
 #[derive(Clone, Copy, Debug, PartialEq, Eq)]
 pub struct Run {
     pub closes: u64,
@@ -24,7 +24,7 @@ pub struct Run {
     pub closes_since: u64,
 }
 
-/// What a list of events tells of its run; `granted` are the moves that the list grants.
+/// Returns the counts of a run. `granted` has the moves that its events grant.
 pub fn run_of(events: &[Event], granted: &[Move]) -> Run
     requires { granted.now ≡ moves events.now }
     ensures { result ≡ run_of events.now }
@@ -42,7 +42,7 @@ pub fn run_of(events: &[Event], granted: &[Move]) -> Run
     }
 }
 
-/// How many closes there are among the events.
+/// Returns how many closes there are among the events.
 fn count_closes(events: &[Event]) -> u64
     ensures { result ≡ count_by is_close events.now }
 {
@@ -52,7 +52,7 @@ fn count_closes(events: &[Event]) -> u64
         .count() as u64
 }
 
-/// How many faults there are among the events.
+/// Returns how many faults there are among the events.
 fn count_faults(events: &[Event]) -> u64
     ensures { result ≡ count_by is_fault events.now }
 {
@@ -62,7 +62,7 @@ fn count_faults(events: &[Event]) -> u64
         .count() as u64
 }
 
-/// How many links are made among the events.
+/// Returns how many links are made among the events.
 fn count_links(events: &[Event]) -> u64
     ensures { result ≡ count_by is_link events.now }
 {
@@ -72,7 +72,7 @@ fn count_links(events: &[Event]) -> u64
         .count() as u64
 }
 
-/// How many cuts there are among the events.
+/// Returns how many cuts there are among the events.
 fn count_cuts(events: &[Event]) -> u64
     ensures { result ≡ count_by is_cut events.now }
 {
@@ -82,7 +82,7 @@ fn count_cuts(events: &[Event]) -> u64
         .count() as u64
 }
 
-/// Whether the event is a fault, a link or a cut.
+/// Returns whether the event is a fault, a link or a cut.
 fn is_change(event: &Event) -> bool
     ensures { result ≡ is_change event.now }
 {
@@ -92,7 +92,7 @@ fn is_change(event: &Event) -> bool
     )
 }
 
-/// The place of the last fault, link or cut, or 0 where there is none.
+/// Returns the place of the last fault, link or cut, or 0 if there is none.
 fn last_change(events: &[Event]) -> usize
     ensures exact { result ≡ last_change 0 1 events.now }
     ensures within { result ≤ length events.now }
@@ -106,14 +106,14 @@ fn last_change(events: &[Event]) -> usize
     last
 }
 
-/// How many of the moves a close applied.
+/// Returns how many of the moves a close applied.
 fn count_applied(moves: &[Move]) -> u64
     ensures { result ≡ count_by is_applied moves.now }
 {
     moves.iter().filter(|granted| is_applied(granted)).count() as u64
 }
 
-/// Whether a close after this place applied the move.
+/// Returns whether a close after this place applied the move.
 fn is_applied_after(granted: &Move, since: u64) -> bool
     ensures { result ≡ is_applied_after since granted.now }
 {
@@ -123,7 +123,7 @@ fn is_applied_after(granted: &Move, since: u64) -> bool
     }
 }
 
-/// How many of the moves a close after this place applied.
+/// Returns how many of the moves a close after this place applied.
 fn count_applied_after(moves: &[Move], since: u64) -> u64
     ensures { result ≡ count_by (is_applied_after since) moves.now }
 {

@@ -15,8 +15,8 @@ use mml_ids::{Memory, Piece, Rank, put};
 use mml_lab::{Lab, Roster, Student, Who};
 use std::alloc::Global;
 
-/// Puts the tally of a run at the end of a text: the lines of the students, of the nodes that several own, of the most
-/// that may follow, and of the run. `board` is the world to which the events led.
+/// Appends the tally of a run: the lines of the students, of the nodes that several own, of the most that may follow,
+/// and of the run. `board` is the world that the events led to.
 pub fn put_tally(
     out: &mut Vec<u8>,
     alloc: Global,
@@ -32,7 +32,8 @@ pub fn put_tally(
     put_ends(out, board, events, &all)
 }
 
-/// Puts the lines of the students, and of the nodes that several own; `all` are the moves that the run's events grant.
+/// Appends the lines of the students, and of the nodes that several own. `all` has the moves that the run's events
+/// grant.
 pub(crate) fn put_granted(
     out: &mut Vec<u8>,
     alloc: Global,
@@ -47,7 +48,7 @@ pub(crate) fn put_granted(
     put_nodes(out, alloc, lab, all)
 }
 
-/// Puts the last two lines of a tally: the most that may follow, and the run.
+/// Appends the last two lines of a tally: the most that may follow, and the run.
 pub(crate) fn put_ends(
     out: &mut Vec<u8>,
     board: &Board,
@@ -61,7 +62,8 @@ pub(crate) fn put_ends(
     put_run(out, board, &run_of(events, all))
 }
 
-/// Puts a line for each student, in the lab's order: name and marks. `all` are the moves that the run's events grant.
+/// Appends a line for each student, in the lab's order: name and marks. `all` has the moves that the run's events
+/// grant.
 fn put_students(out: &mut Vec<u8>, alloc: Global, lab: &Lab, all: &[Move]) -> Result<(), Memory>
     ensures { OnOk result ((es : List Event) → all.now ≡ moves es →
         out.new.items ≡ out.old.items ++ students_text lab.now es (length lab.now.roster.students)) }
@@ -75,7 +77,7 @@ fn put_students(out: &mut Vec<u8>, alloc: Global, lab: &Lab, all: &[Move]) -> Re
     Ok(())
 }
 
-/// Puts the line of one student, by name and marks.
+/// Appends the line of one student, by name and marks.
 fn put_student(out: &mut Vec<u8>, name: &str, marks: &Marks) -> Result<(), Memory>
     ensures { OnOk result (out.new.items ≡ out.old.items ++ student_line name.now marks.now) }
 {
@@ -84,8 +86,8 @@ fn put_student(out: &mut Vec<u8>, name: &str, marks: &Marks) -> Result<(), Memor
     put(out, &[Piece::Text("\n")])
 }
 
-/// Puts what a run tells of a student, as numbers: granted and applied moves by rule, closes that applied one, the
-/// places of the first and the last grant, and applied moves at nodes that others own too.
+/// Appends a student's marks as numbers: granted and applied moves by rule, closes that applied one, the places of the
+/// first and the last grant, and applied moves at nodes that others own too.
 fn put_marks(out: &mut Vec<u8>, marks: &Marks) -> Result<(), Memory>
     ensures { OnOk result (out.new.items ≡ out.old.items ++ marks_text marks.now) }
 {
@@ -97,7 +99,7 @@ fn put_marks(out: &mut Vec<u8>, marks: &Marks) -> Result<(), Memory>
     put_numbers(out, &[marks.shared])
 }
 
-/// Puts how many moves there are of each rule, in the order of the rules.
+/// Appends how many moves there are of each rule, in the order of the rules.
 fn put_rules(out: &mut Vec<u8>, counts: &ByRule) -> Result<(), Memory>
     ensures { OnOk result (out.new.items ≡ out.old.items ++ rules_text counts.now) }
 {
@@ -110,7 +112,7 @@ fn put_rules(out: &mut Vec<u8>, counts: &ByRule) -> Result<(), Memory>
     put_numbers(out, &numbers)
 }
 
-/// Puts a place, or - where there is none.
+/// Appends a place, or `-` if there is none.
 fn put_place(out: &mut Vec<u8>, place: Option<u64>) -> Result<(), Memory>
     ensures { OnOk result (out.new.items ≡ out.old.items ++ place_text place) }
 {
@@ -120,7 +122,7 @@ fn put_place(out: &mut Vec<u8>, place: Option<u64>) -> Result<(), Memory>
     }
 }
 
-/// Puts each number, with a space before it.
+/// Appends each number, with a space before it.
 pub(crate) fn put_numbers(out: &mut Vec<u8>, numbers: &[u64]) -> Result<(), Memory>
     ensures { OnOk result (out.new.items ≡ out.old.items ++ numbers_text numbers.now) }
 {
@@ -130,7 +132,7 @@ pub(crate) fn put_numbers(out: &mut Vec<u8>, numbers: &[u64]) -> Result<(), Memo
     Ok(())
 }
 
-/// Puts a line for each node that several own: the moves that each owner was granted there.
+/// Appends a line for each node that several own: the moves that each owner was granted there.
 fn put_nodes(out: &mut Vec<u8>, alloc: Global, lab: &Lab, all: &[Move]) -> Result<(), Memory>
     ensures { OnOk result ((es : List Event) → all.now ≡ moves es →
         out.new.items ≡ out.old.items ++ nodes_text lab.now es (length lab.now.ids)) }
@@ -144,7 +146,7 @@ fn put_nodes(out: &mut Vec<u8>, alloc: Global, lab: &Lab, all: &[Move]) -> Resul
     Ok(())
 }
 
-/// Puts the line of one node: the moves that each owner was granted there.
+/// Appends the line of one node: the moves that each owner was granted there.
 fn put_node(
     out: &mut Vec<u8>,
     alloc: Global,
@@ -163,7 +165,8 @@ fn put_node(
     put(out, &[Piece::Text("\n")])
 }
 
-/// Puts the owners of a node, each with the moves that the owner was granted there; `there` are all moves at the node.
+/// Appends the owners of a node, each with the moves that the owner was granted there. `there` has all moves at the
+/// node.
 fn put_owners(
     out: &mut Vec<u8>,
     alloc: Global,
@@ -183,7 +186,7 @@ fn put_owners(
     Ok(())
 }
 
-/// Puts the name of an owner, with how many moves there are of each rule.
+/// Appends the name of an owner, with the number of moves of each rule.
 pub(crate) fn put_owner(out: &mut Vec<u8>, name: &str, counts: &ByRule) -> Result<(), Memory>
     ensures { OnOk result (out.new.items ≡ out.old.items ++ owner_text name.now counts.now) }
 {
@@ -191,7 +194,7 @@ pub(crate) fn put_owner(out: &mut Vec<u8>, name: &str, counts: &ByRule) -> Resul
     put_rules(out, counts)
 }
 
-/// Puts the line of the most moves, rounds and events that may follow.
+/// Appends the line of the most moves, rounds and events that may follow.
 fn put_bounds(out: &mut Vec<u8>, bounds: &Bounds) -> Result<(), Memory>
     ensures { OnOk result (out.new.items ≡ out.old.items ++ bounds_line bounds.now) }
 {
@@ -200,7 +203,7 @@ fn put_bounds(out: &mut Vec<u8>, bounds: &Bounds) -> Result<(), Memory>
     put(out, &[Piece::Text("\n")])
 }
 
-/// Puts the line of the run: events, configuration, whether it is stable, and its counts.
+/// Appends the line of the run: events, configuration, whether it is stable, and its counts.
 fn put_run(out: &mut Vec<u8>, board: &Board, run: &Run) -> Result<(), Memory>
     ensures { OnOk result (out.new.items ≡ out.old.items ++ run_line board.now run.now) }
 {
@@ -220,7 +223,7 @@ fn put_run(out: &mut Vec<u8>, board: &Board, run: &Run) -> Result<(), Memory>
     put(out, &[Piece::Text("\n")])
 }
 
-/// The word for a configuration without privileged nodes, or for one with some, with a space before it.
+/// Returns the word for a configuration without privileged nodes, or for one with some, with a space before it.
 fn stable_text(board: &Board) -> &'static str
     ensures { result.now ≡ stable_text (privileged_count (configuration board.now) == 0) }
 {

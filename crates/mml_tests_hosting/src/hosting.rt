@@ -61,7 +61,8 @@ const AGAIN: Talk = (
 
 const TALKS: &[Talk] = &[ANA, BEN, NOBODY, FALLEN, ELSEWHERE, AGAIN, AGAIN, TESS];
 
-/// What of these talks is said at the desk where `is_desk`, else at the port: each once the one before it has ended.
+/// Returns what of these talks is said at the desk where `is_desk`, else at the port: each once the one before it has
+/// ended.
 fn texts_of<'a>(
     alloc: Global,
     talks: &[Talk],
@@ -83,8 +84,8 @@ fn texts_of<'a>(
     Texts::of(alloc, &said, count)
 }
 
-/// Hosts these talks over a cycle of six nodes: what is left of the house, or the host's fault; a failure where the
-/// test itself goes wrong.
+/// Hosts these talks over a cycle of six nodes: what is left of the house, or the host's fault; a failure if the test
+/// itself goes wrong.
 fn host<R: Threads + Wait + Sync>(
     rt: &R,
     alloc: Global,
@@ -118,7 +119,7 @@ fn host_in_memory<R: Threads + Wait + Sync>(
     )
 }
 
-/// Whether each of these talks was sent just the replies that stand in it.
+/// Returns whether each of these talks was sent just the replies that stand in it.
 fn are_answered(left: &Left, talks: &[Talk]) -> bool {
     let mut number = 0u64;
     for (_, _, replies) in talks {
@@ -130,8 +131,8 @@ fn are_answered(left: &Left, talks: &[Talk]) -> bool {
     true
 }
 
-/// Whether the talks of `TALKS` are answered as they say, whether the journal is a move and its close, and whether the
-/// last line tells both; an error where the house ends by a fault.
+/// Returns whether the talks of `TALKS` are answered as they say, whether the journal is a move and its close, and
+/// whether the last line has both. Returns an error if the house ends by a fault.
 fn told_of_talks<R: Threads + Wait + Sync>(rt: &R, alloc: Global) -> Result<[bool; 3], Fail> {
     let mut out = Vec::new(alloc);
     match host(rt, alloc, TALKS, &mut out)? {
@@ -144,23 +145,23 @@ fn told_of_talks<R: Threads + Wait + Sync>(rt: &R, alloc: Global) -> Result<[boo
     }
 }
 
-/// Fails where a talk of `TALKS` is answered otherwise, or the journal or the last line is another.
+/// Fails if a talk of `TALKS` is answered otherwise, or the journal or the last line is another.
 #[test]
 fn sessions_come_one_after_another(rt: HostRuntime) -> Result<(), Fail> {
     assert_eq!(rt; told_of_talks(&rt, rt.alloc())?, [true; 3]);
     Ok(())
 }
 
-/// Whether a house whose teacher says bye at the port alone ends with the fault that nobody dismissed it, and without a
-/// last line.
+/// Returns whether a house whose teacher says bye at the port alone ends with the fault that nobody dismissed it, and
+/// without a last line.
 fn is_undismissed<R: Threads + Wait + Sync>(rt: &R, alloc: Global) -> Result<bool, Fail> {
     let mut out = Vec::new(alloc);
     let left = host(rt, alloc, &[NOBODY, ELSEWHERE], &mut out)?;
     Ok(matches!(left, Err(HostFault::Undismissed)) && out.is_empty())
 }
 
-/// Fails where a house ends otherwise than undismissed, or with a last line, though the teacher said bye at the
-/// students' port alone.
+/// Fails if a house ends otherwise than undismissed, or with a last line, though the teacher said bye at the students'
+/// port alone.
 #[test]
 fn a_bye_at_the_port_ends_no_house(rt: HostRuntime) -> Result<(), Fail> {
     assert!(rt; is_undismissed(&rt, rt.alloc())?);

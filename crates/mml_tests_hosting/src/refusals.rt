@@ -1,4 +1,4 @@
-//! Each request for memory refused in turn: the answer is the plain one or tells it, and nothing is lost.
+//! Each request for memory refused in turn: the answer is the plain one or says so, and nothing is lost.
 mod asking;
 mod halting;
 mod library;

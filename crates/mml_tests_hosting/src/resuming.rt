@@ -40,10 +40,10 @@ const TESS: &str = lines!(hello("tess", "chalk"), close, close, bye);
 
 const TESS_IS_TOLD: &str = lines!(welcome("tess"), closed, empty, left);
 
-/// What is told before all else.
+/// What is printed before all else.
 const FIRST: &str = "listening\n";
 
-/// What the class that goes on from `OLD` tells, `FIRST` and then two lines by hand.
+/// What the class that goes on from `OLD` prints, `FIRST` and then two lines by hand.
 const TOLD: &str = "listening
 resumed at place 1, configuration 0, 1 chosen
 done: 2 events, configuration 1
@@ -58,7 +58,7 @@ const LONG: &str = "1 0 grant ana 1 seduction
 struct Shelf(Global);
 
 impl Store<MemorySink> for Shelf {
-    // A new sink that has taken these bytes; `None` where memory runs out.
+    // Returns a new sink that has taken these bytes. Returns `None` if memory runs out.
     fn shorten_to(self, whole: &[u8]) -> Option<MemorySink>
         ensures holds { IfSome result (λ sink. sink.bytes ≡ whole.now) }
         ensures countable { IfSome result (λ sink. sink.failures < 2 ^ 64 - 1) }
@@ -75,7 +75,7 @@ impl Store<MemorySink> for Shelf {
 }
 
 /// Goes on from an old journal over a cycle of six nodes with this limit of events, where ana comes and, once she has
-/// gone, the teacher: what is left of the class, or why it didn't go on; a failure where the test itself goes wrong.
+/// gone, the teacher: what is left of the class, or why it didn't go on; a failure if the test itself goes wrong.
 fn resume<R: Threads + Wait + Sync>(
     rt: &R,
     alloc: Global,
@@ -131,7 +131,8 @@ fn resume_in<R: Threads + Wait + Sync>(
     )
 }
 
-/// Why a class over this journal and limit of events didn't go on, `None` where it did; and whether nothing was told.
+/// Returns why a class over this journal and limit of events didn't go on, `None` if it did; and whether nothing was
+/// printed.
 fn fault_of_class<R: Threads + Wait + Sync>(
     rt: &R,
     alloc: Global,
@@ -143,8 +144,8 @@ fn fault_of_class<R: Threads + Wait + Sync>(
     Ok((fault, out.is_empty()))
 }
 
-/// Of a class that goes on from `OLD`: whether ana and whether tess is told what she should be, whether the journal is
-/// ana's move and a close, and whether the class itself tells `TOLD`; an error where it doesn't go on.
+/// Of a class that goes on from `OLD`: whether ana and whether tess is answered as she should be, whether the journal
+/// is ana's move and a close, and whether the class itself prints `TOLD`; an error if it doesn't go on.
 fn told_of_a_class<R: Threads + Wait + Sync>(rt: &R, alloc: Global) -> Result<[bool; 4], Fail> {
     let mut out = Vec::new(alloc);
     match resume(rt, alloc, 100, OLD, &mut out)? {
@@ -159,15 +160,15 @@ fn told_of_a_class<R: Threads + Wait + Sync>(rt: &R, alloc: Global) -> Result<[b
     }
 }
 
-/// Fails where a class doesn't go on from a journal with a torn line, ana or tess is told otherwise there, or its
-/// journal or what it tells is another.
+/// Fails if a class doesn't go on from a journal with a torn line, ana or tess is answered otherwise there, or its
+/// journal or its result is another.
 #[test]
 fn a_class_goes_on_where_its_journal_stopped(rt: HostRuntime) -> Result<(), Fail> {
     assert_eq!(rt; told_of_a_class(&rt, rt.alloc())?, [true; 4]);
     Ok(())
 }
 
-/// Whether a class over this journal and limit of events doesn't go on for this reason, and nothing is told.
+/// Returns whether a class over this journal and limit of events doesn't go on for this reason, and nothing is printed.
 fn is_refused<R: Threads + Wait + Sync>(
     rt: &R,
     alloc: Global,
@@ -178,8 +179,8 @@ fn is_refused<R: Threads + Wait + Sync>(
     Ok(fault_of_class(rt, alloc, events, old)? == (Some(ResumeFault::Refused(wanted)), true))
 }
 
-/// Whether, each for its reason, a journal is refused with an illegal event, one with more events than the limit, and
-/// one whose last line is torn and longer than a line may be.
+/// Returns whether, each for its reason, a journal is refused with an illegal event, one with more events than the
+/// limit, and one whose last line is torn and longer than a line may be.
 fn are_refused<R: Threads + Wait + Sync>(rt: &R, alloc: Global) -> Result<[bool; 3], Fail> {
     let illegal = AuditFault::Illegal(1, Denial::Empty);
     let is_empty = is_refused(rt, alloc, 100, "1 0 close\n", illegal)?;
@@ -188,8 +189,8 @@ fn are_refused<R: Threads + Wait + Sync>(rt: &R, alloc: Global) -> Result<[bool;
     Ok([is_empty, is_long, is_torn])
 }
 
-/// Fails where a class goes on from a journal with an illegal event, too many events, or a torn line that is too long
-/// for one, or is refused for another reason, or something is told.
+/// Fails if a class goes on from a journal with an illegal event, too many events, or a torn line that is too long for
+/// one, or is refused for another reason, or something is printed.
 #[test]
 fn what_is_no_journal_is_refused(rt: HostRuntime) -> Result<(), Fail> {
     assert_eq!(rt; are_refused(&rt, rt.alloc())?, [true; 3]);

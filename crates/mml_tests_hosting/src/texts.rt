@@ -1,4 +1,4 @@
-//! Connections in memory, which tell who is to come.
+//! Connections in memory, which say who is to come.
 ghost use Rattle.std.specs.Prelude.{Some};
 ghost use Rattle.std.specs.Vec.Iter.{into_iter_items};
 ghost use Rattle.mml_hosting.specs.Bringing.{Brings};
@@ -23,7 +23,7 @@ use std::vec::IntoIter;
 pub struct Count(AtomicU64);
 
 impl Count {
-    /// A count at 0: the bell wasn't rung yet.
+    /// Returns a count at 0: the bell wasn't rung yet.
     pub fn new() -> Count {
         Count(AtomicU64::new(0))
     }
@@ -109,8 +109,8 @@ impl<'a> Texts<'a> {
     }
 }
 
-/// The two ends of a connection that sends a text: the bytes to read, and a writer that has its number and keeps what
-/// it is sent.
+/// Returns the two ends of a connection that sends a text: the bytes to read, and a writer that has its number and
+/// keeps what it is sent.
 fn ends_of(alloc: Global, timed: &Timed<'_>) -> Result<TextEnds, AllocError> {
     let mut bytes = VecDeque::new(alloc);
     for byte in timed.text.as_bytes() {
@@ -126,8 +126,8 @@ fn ends_of(alloc: Global, timed: &Timed<'_>) -> Result<TextEnds, AllocError> {
 impl<'a> Accept<VecDeque<u8>, NumberedWriter, Nothing> for Texts<'a> {
     ghost to_come = { λ t. Some (into_iter_items t.coming) };
 
-    // Gives the next connection, once as many sessions have ended as it wants or after many looks; where none is left,
-    // tells that no more are to be served.
+    // Returns the next connection, once as many sessions have ended as it wants or after many looks; if none is left,
+    // returns that no more are to be served.
     fn accept_next(&mut self) -> Accepted<VecDeque<u8>, NumberedWriter, Nothing>
         ensures { Brings (Some (into_iter_items self.old.coming))
             (Some (into_iter_items self.new.coming)) result }
@@ -142,7 +142,7 @@ impl<'a> Accept<VecDeque<u8>, NumberedWriter, Nothing> for Texts<'a> {
     }
 }
 
-/// A lab of six nodes in a cycle, with `events` events and three sessions at most.
+/// Returns a lab of six nodes in a cycle, with `events` events and three sessions at most.
 pub fn cycle_of_six(alloc: Global, events: u64) -> Result<Lab, Fail> {
     let text = cycle(alloc, 6, events, 3)?;
     Ok(read_lab(alloc, text.as_bytes())?)
@@ -151,7 +151,7 @@ pub fn cycle_of_six(alloc: Global, events: u64) -> Result<Lab, Fail> {
 /// What is left of a house over connections in memory, with a journal in memory and no record.
 pub type Left = Hosted<MemorySink, ServedSession<VecDeque<u8>, NumberedWriter>, NoRecorder>;
 
-/// What the connection with this number was sent, if it was served.
+/// Returns what the connection with this number was sent, if it was served.
 pub fn sent_to(left: &Left, number: u64) -> Option<&[u8]> {
     for record in left.at_desk.iter().chain(left.others.iter()) {
         for session in record.sessions.iter() {

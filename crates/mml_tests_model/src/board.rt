@@ -1,5 +1,5 @@
-//! A board and its copy at the beginning of a run and after each event, also after ones that may not happen;
-//! and a look and a line, which take memory. An error is want of memory.
+//! A board and its copy at the beginning of a run and after each event, also after ones that may not happen; and a look
+//! and a line, which take memory. An error means that memory ran out.
 ghost use Rattle.std.specs.Prelude.{◌<◌, length};
 
 use mml_board::{Board, Event};
@@ -20,7 +20,7 @@ const HIGHER_POINTS: &str = lab!(
     [(5, "ana", "p = 3\n"), (3, "ana", "")]
 );
 
-/// The first student's move by a rule, of the node with the rank `index`; `None` past the last rank.
+/// Returns the first student's move by a rule, of the node with the rank `index`; `None` past the last rank.
 fn grant(index: u64, rule: Rule) -> Option<Event> {
     let node = Rank::new(index)?;
     Some(Event::Grant {
@@ -40,7 +40,7 @@ fn push_node(text: &mut String, board: &Board, node: Rank) -> Result<(), AllocEr
     write!(text, "; {p:?} {} {kind:?}", regs.m)
 }
 
-/// Adds to a text whether no move is chosen for a node, and for each node `-` where the two are linked, else `.`.
+/// Adds to a text whether no move is chosen for a node, and for each node `-` if the two are linked, else `.`.
 fn push_links(text: &mut String, board: &Board, node: Rank) -> Result<(), AllocError>
     requires { node < length board.now.network.registers }
 {
@@ -57,8 +57,8 @@ fn push_links(text: &mut String, board: &Board, node: Rank) -> Result<(), AllocE
     Ok(())
 }
 
-/// A board as text: the configuration's number, how many events were granted, how many nodes are privileged and how
-/// many moves are chosen, and then each node; by `with_links` also whether no move is chosen for it, and its links.
+/// Returns a board as text: the configuration's number, how many events were granted, how many nodes are privileged and
+/// how many moves are chosen, and then each node; by `with_links` also whether no move is chosen for it, and its links.
 fn board_text(alloc: Global, board: &Board, with_links: bool) -> Result<String, AllocError> {
     let (number, place) = (board.number(), board.place());
     let (privileged, chosen) = (board.privileged_count(), board.chosen_set().len());
@@ -72,29 +72,29 @@ fn board_text(alloc: Global, board: &Board, with_links: bool) -> Result<String, 
     Ok(text)
 }
 
-// What `board_text` gives, with links, at the beginning of a run over `HIGHER_POINTS`, by hand: Marriage is enabled at
-// node 3, and Abandonment at node 5, which points at a lower node that doesn't point back.
+// The result of `board_text`, with links, at the beginning of a run over `HIGHER_POINTS`, by hand: Marriage is enabled
+// at node 3, and Abandonment at node 5, which points at a lower node that doesn't point back.
 const OPENING: &str =
     "0 0 2 0; None false Some(Marriage) true .-; Some(0) false Some(Abandonment) true -.";
 
-/// Whether a board is told as `OPENING`.
+/// Returns whether a board is shown as `OPENING`.
 fn is_opening(alloc: Global, board: &Board) -> Result<bool, Fail> {
     let told = board_text(alloc, board, true)?;
     Ok(told.as_str() == OPENING)
 }
 
-/// Whether a board's copy is told as `OPENING`.
+/// Returns whether a board's copy is shown as `OPENING`.
 fn is_copy_opening(alloc: Global, board: &Board) -> Result<bool, Fail> {
     let copy = board.try_copy(alloc)?;
     is_opening(alloc, &copy)
 }
 
-/// Whether a board is told as `OPENING`, and its copy too.
+/// Returns whether a board is shown as `OPENING`, and its copy too.
 fn are_both_opening(alloc: Global, board: &Board) -> Result<bool, Fail> {
     Ok(is_opening(alloc, board)? && is_copy_opening(alloc, board)?)
 }
 
-/// What a look at the first node shows, as text; `no node` where the board has none.
+/// Returns what a look at the first node shows, as text; `no node` if the board has none.
 fn look_at_the_first(alloc: Global, board: &Board) -> Result<String, Fail> {
     let node = Rank::at(0);
     if node.index() >= board.size() {
@@ -104,7 +104,8 @@ fn look_at_the_first(alloc: Global, board: &Board) -> Result<String, Fail> {
     Ok(shown(alloc, &look)?)
 }
 
-/// A look as text: its configuration's number, the node's p, its chosen and its enabled rule, and the nodes near it.
+/// Returns a look as text: its configuration's number, the node's p, its chosen and its enabled rule, and the nodes
+/// near it.
 fn shown(alloc: Global, look: &Look) -> Result<String, AllocError> {
     let (p, chosen, enabled) = (look.regs.p, look.chosen, look.enabled);
     let mut text = format!(in alloc; "{} {p:?} {chosen:?} {enabled:?}", look.at)?;
@@ -121,7 +122,7 @@ fn push_near(text: &mut String, near: &[(Rank, Regs)]) -> Result<(), AllocError>
     Ok(())
 }
 
-/// The journal's line of an abandonment by the second node as the first event; `what stood there` where that isn't
+/// Returns the journal's line of an abandonment by the second node as the first event; `what stood there` if that isn't
 /// legal on the board, other events came first, or lab and board aren't of one size.
 fn first_event_line(alloc: Global, lab: &Lab, board: &Board) -> Result<Vec<u8>, Fail> {
     let mut line = Vec::from_slice(alloc, b"what stood there")?;
@@ -136,8 +137,8 @@ fn first_event_line(alloc: Global, lab: &Lab, board: &Board) -> Result<Vec<u8>, 
     Ok(line)
 }
 
-/// Whether a lab's board and its copy are told as `OPENING`; and whether a look at the first node and the line of the
-/// first event are as they stand here.
+/// Returns whether a lab's board and its copy are shown as `OPENING`; and whether a look at the first node and the line
+/// of the first event are as they stand here.
 fn are_told_at_first(alloc: Global, lab: &Lab) -> Result<(bool, bool), Fail> {
     let board = boxed_board(alloc, lab)?;
     let are_opening = are_both_opening(alloc, &board)?;
@@ -148,32 +149,32 @@ fn are_told_at_first(alloc: Global, lab: &Lab) -> Result<(bool, bool), Fail> {
     Ok((are_opening, is_shown && is_line))
 }
 
-/// Over `HIGHER_POINTS`: whether a board and its copy are told as `OPENING`, and whether a look at the first node and
+/// Over `HIGHER_POINTS`: whether a board and its copy are shown as `OPENING`, and whether a look at the first node and
 /// the line of the first event are as they should be.
 fn are_told_where_higher_points(alloc: Global) -> Result<(bool, bool), Fail> {
     let lab = boxed_lab(alloc, HIGHER_POINTS)?;
     are_told_at_first(alloc, &lab)
 }
 
-/// Fails where a new board, its copy, a look or the first line of a journal isn't what follows from `HIGHER_POINTS`.
+/// Fails if a new board, its copy, a look or the first line of a journal isn't what follows from `HIGHER_POINTS`.
 #[test]
 fn opening_board(rt: HostRuntime) -> Result<(), Fail> {
     assert_eq!(rt; are_told_where_higher_points(rt.alloc())?, (true, true));
     Ok(())
 }
 
-/// An event, if there is one, and what is told after it.
+/// An event, if there is one, and the result after it.
 type Part = (Option<Event>, &'static str);
 
-/// Two moves that are chosen and then applied by one close, and two events that may not happen and so change nothing:
-/// each event, with the board's text after it.
+/// Returns two moves that are chosen and then applied by one close, and two events that may not happen and so change
+/// nothing: each event, with the board's text after it.
 fn story_of_moves() -> [Part; 5] {
     [
         (
             grant(0, Rule::Seduction),
             "0 1 2 1; None false Some(Seduction); None false Some(Seduction); None false None",
         ),
-        // Not where a move is chosen already.
+        // Not if a move is chosen already.
         (
             grant(0, Rule::Seduction),
             "0 1 2 1; None false Some(Seduction); None false Some(Seduction); None false None",
@@ -223,7 +224,7 @@ fn story_of_changes() -> [Part; 5] {
             Some(Event::Link { a, b: c }),
             "4 7 2 0; Some(1) false None; None false Some(Marriage); None true Some(Update)",
         ),
-        // Not where there is no link.
+        // Not if there is no link.
         (
             Some(Event::Cut { a: b, b: c }),
             "4 7 2 0; Some(1) false None; None false Some(Marriage); None true Some(Update)",
@@ -231,8 +232,9 @@ fn story_of_changes() -> [Part; 5] {
     ]
 }
 
-/// Whether a board is told as a story says after each of its events, which happen to it where they may; a part without
-/// an event just has the board told. All events happen, also after a difference, since another story may go on there.
+/// Returns whether a board is shown as a story says after each of its events, which happen to it if they may; a part
+/// without an event just shows the board. All events happen, also after a difference, since another story may go on
+/// there.
 fn is_story_told(alloc: Global, board: &mut Board, story: &[Part]) -> Result<bool, AllocError> {
     let mut is_told = true;
     for (event, expected) in story {
@@ -247,30 +249,30 @@ fn is_story_told(alloc: Global, board: &mut Board, story: &[Part]) -> Result<boo
     Ok(is_told)
 }
 
-/// Whether a board is told as `story_of_moves` says after each event of that, and whether then as `story_of_changes`
-/// says.
+/// Returns whether a board is shown as `story_of_moves` says after each event of that, and whether then as
+/// `story_of_changes` says.
 fn are_stories_told(alloc: Global, board: &mut Board) -> Result<(bool, bool), Fail> {
     let moved = is_story_told(alloc, board, &story_of_moves())?;
     let changed = is_story_told(alloc, board, &story_of_changes())?;
     Ok((moved, changed))
 }
 
-/// Whether a lab's board is told as `story_of_moves` says after each event of that, and whether then as
+/// Returns whether a lab's board is shown as `story_of_moves` says after each event of that, and whether then as
 /// `story_of_changes` says.
 fn are_stories_of_lab_told(alloc: Global, lab: &Lab) -> Result<(bool, bool), Fail> {
     let mut board = boxed_board(alloc, lab)?;
     are_stories_told(alloc, &mut board)
 }
 
-/// Whether the board of the path of three is told as `story_of_moves` says, and whether then as `story_of_changes`
-/// says.
+/// Returns whether the board of the path of three is shown as `story_of_moves` says, and whether then as
+/// `story_of_changes` says.
 fn are_stories_of_path_told(alloc: Global) -> Result<(bool, bool), Fail> {
     let lab = boxed_lab(alloc, PATH_OF_THREE)?;
     are_stories_of_lab_told(alloc, &lab)
 }
 
-/// Fails where a board isn't as `story_of_moves` and `story_of_changes`, by hand, say after an event, or is changed by
-/// an event that may not happen.
+/// Fails if a board isn't as `story_of_moves` and `story_of_changes`, by hand, say after an event, or is changed by an
+/// event that may not happen.
 #[test]
 fn events_in_a_row_of_three(rt: HostRuntime) -> Result<(), Fail> {
     assert_eq!(rt; are_stories_of_path_told(rt.alloc())?, (true, true));

@@ -1,16 +1,16 @@
-//! Identifiers, ranks, and pieces of text. An error is want of memory, or says why a table can't be made.
+//! Identifiers, ranks, and pieces of text. An error means that memory ran out, or says why a table can't be made.
 use mml_ids::{
     IdFault, IdTable, Items, MAX_NODES, Memory, NodeId, Piece, Rank, Word, make_room, put,
 };
 use std::alloc::{AllocError, Global};
 use std::test::Fail;
 
-/// The rank of an identifier; `None` where it doesn't stand in the table.
+/// Returns the rank of an identifier, or `None` if it doesn't stand in the table.
 fn index_of(table: &IdTable, id: u64) -> Option<u64> {
     Some(table.rank_of(id)?.index())
 }
 
-/// Whether the identifier stands in the table, and its rank gives it back.
+/// Returns whether the identifier stands in the table, and its rank gives it back.
 fn comes_back(table: &IdTable, id: u64) -> bool {
     match table.rank_of(id) {
         Some(node) => table.id_of(node) == id,
@@ -18,7 +18,7 @@ fn comes_back(table: &IdTable, id: u64) -> bool {
     }
 }
 
-// An identifier, and its rank in the table of 9, 1, 7 and 4; `None` where it doesn't stand there.
+// An identifier, and its rank in the table of 9, 1, 7 and 4; `None` if it doesn't stand there.
 const RANKS: [(u64, Option<u64>); 6] = [
     (1, Some(0)),
     (4, Some(1)),
@@ -28,8 +28,8 @@ const RANKS: [(u64, Option<u64>); 6] = [
     (0, None),
 ];
 
-/// The first identifier of `RANKS` that has another rank in the table, or whose rank doesn't give it back; `None` where
-/// each is as `RANKS` says.
+/// Returns the first identifier of `RANKS` that has another rank in the table, or whose rank doesn't give it back, or
+/// `None` if each is as `RANKS` says.
 fn first_other_rank(table: &IdTable) -> Option<u64> {
     for (id, index) in RANKS {
         if (index_of(table, id), comes_back(table, id)) != (index, index.is_some()) {
@@ -39,18 +39,19 @@ fn first_other_rank(table: &IdTable) -> Option<u64> {
     None
 }
 
-/// How many identifiers the table of 9, 1, 7 and 4 has, and the first one that isn't in it as `RANKS` says, if any.
+/// Returns how many identifiers the table of 9, 1, 7 and 4 has, and the first one that isn't in it as `RANKS` says, if
+/// any.
 fn told_of_ranks(alloc: Global) -> Result<(u64, Option<u64>), IdFault> {
     let table = IdTable::new(alloc, &[9, 1, 7, 4])?;
     Ok((table.len(), first_other_rank(&table)))
 }
 
-/// The number itself where `NodeId` takes it for an identifier, else `None`.
+/// Returns the number itself if `NodeId` takes it for an identifier, and else `None`.
 fn identifier(id: u64) -> Option<u64> {
     Some(NodeId::new(id)?.get())
 }
 
-/// The number itself where `Rank` takes it for a rank, else `None`.
+/// Returns the number itself if `Rank` takes it for a rank, and else `None`.
 fn rank(index: u64) -> Option<u64> {
     Some(Rank::new(index)?.index())
 }
@@ -66,8 +67,8 @@ const RANGES: [(u64, bool, bool); 7] = [
     (65536, false, false),
 ];
 
-/// The first number of `RANGES` that is taken for an identifier or a rank and isn't one, or isn't taken and is; `None`
-/// where there is none.
+/// Returns the first number of `RANGES` that is taken for an identifier or a rank and isn't one, or isn't taken and is,
+/// or `None` if there is none.
 fn first_other_range() -> Option<u64> {
     for (number, is_identifier, is_rank) in RANGES {
         let wanted = (is_identifier.then_some(number), is_rank.then_some(number));
@@ -78,8 +79,8 @@ fn first_other_range() -> Option<u64> {
     None
 }
 
-/// Fails where an identifier of a table of four has a wrong rank, a number is wrongly taken (or not) for an identifier
-/// or a rank, or `MAX_NODES` isn't 256.
+/// Fails if an identifier of a table of four has a wrong rank, a number is wrongly taken (or not) for an identifier or
+/// a rank, or `MAX_NODES` isn't 256.
 #[test]
 fn identifiers_have_ranks(rt: HostRuntime) {
     assert_eq!(rt;
@@ -88,20 +89,20 @@ fn identifiers_have_ranks(rt: HostRuntime) {
     );
 }
 
-/// Whether a list is kept as it was given.
+/// Returns whether a list is kept as it was given.
 fn keeps_a_list(alloc: Global) -> Result<bool, AllocError> {
     let items = Items::of(vec![in alloc; 3u8, 1, 2]?);
     Ok(items.as_slice() == [3u8, 1, 2].as_slice() && items.into_vec().len() == 3)
 }
 
-/// Whether a word is kept as it was given.
+/// Returns whether a word is kept as it was given.
 fn keeps_a_word(alloc: Global) -> Result<bool, AllocError> {
     let word = Word::of(String::from_str(alloc, "ana")?);
     Ok(word.as_str() == "ana")
 }
 
-/// Whether pieces, the last of them an identifier that should be 65535, are put as their text, and whether `make_room`
-/// then makes room for 100 bytes behind it.
+/// Returns whether pieces, the last of them an identifier that should be 65535, are put as their text, and whether
+/// `make_room` then makes room for 100 bytes after it.
 fn are_put(alloc: Global, id: NodeId) -> Result<bool, Memory> {
     let mut out = Vec::new(alloc);
     let text = [
@@ -115,14 +116,15 @@ fn are_put(alloc: Global, id: NodeId) -> Result<bool, Memory> {
     Ok(out.capacity() >= 129 && out.as_slice() == b"at 18446744073709551615,65535".as_slice())
 }
 
-/// Whether a list and a word are kept as they were given, and whether pieces are put with the greatest identifier.
+/// Returns whether a list and a word are kept as they were given, and whether pieces are put with the greatest
+/// identifier.
 fn told_of_texts(alloc: Global) -> Result<(bool, bool), Fail> {
     let id = NodeId::new(65535).ok_or("the greatest identifier")?;
     let are_kept = keeps_a_list(alloc)? && keeps_a_word(alloc)?;
     Ok((are_kept, are_put(alloc, id)?))
 }
 
-/// Fails where a list, a word or the text of pieces isn't what was put in, or room lacks behind that text.
+/// Fails if a list, a word or the text of pieces isn't what was put in, or room lacks after that text.
 #[test]
 fn lists_words_and_pieces(rt: HostRuntime) -> Result<(), Fail> {
     assert_eq!(rt; told_of_texts(rt.alloc())?, (true, true));

@@ -1,5 +1,5 @@
 //! Lines of a journal that are read and written: of events that need not be legal, and ones that say no event. An error
-//! is want of memory.
+//! means that memory ran out.
 mod replaced;
 
 use mml_board::Event;
@@ -11,7 +11,7 @@ use mml_rules::{Regs, Rule};
 use std::alloc::Global;
 use std::test::Fail;
 
-/// The move of a node by a rule, by the student with the index `who`, who need not own the node.
+/// Returns the move of a node by a rule, by the student with the index `who`, who need not own the node.
 fn grant(who: u16, node: Rank, rule: Rule) -> Event {
     Event::Grant {
         who: Student::new(who),
@@ -20,7 +20,7 @@ fn grant(who: u16, node: Rank, rule: Rule) -> Event {
     }
 }
 
-/// The error that says why a line is no event of this lab; `None` where it is one.
+/// Returns the error that says why a line is no event of this lab, or `None` if it is one.
 fn journal_error_of(lab: &Lab, line: &[u8]) -> Option<JournalFault> {
     match read_event(line, lab.ids(), lab.roster()) {
         Ok(_) => None,
@@ -60,7 +60,7 @@ const UNKNOWNS: &str = "1 0 release 0
 1 0 fault 1 9 true
 1 0 cut 1 4";
 
-/// Whether each of the lines is no event of this lab, for the error `fault`.
+/// Returns whether each of the lines is no event of this lab, for the error `fault`.
 fn have_fault(lab: &Lab, lines: &str, fault: JournalFault) -> bool {
     for line in lines.split('\n') {
         if journal_error_of(lab, line.as_bytes()) != Some(fault) {
@@ -81,7 +81,7 @@ const OTHERS: [&[u8]; 6] = [
     b"1 0 grant ana 3 update",
 ];
 
-/// The events that the lines of `OTHERS` say, in their order.
+/// Returns the events that the lines of `OTHERS` say, in their order.
 fn other_events() -> [Event; 6] {
     let (first, second, third) = (Rank::at(0), Rank::at(1), Rank::at(2));
     [
@@ -103,7 +103,7 @@ fn other_events() -> [Event; 6] {
     ]
 }
 
-/// The event that a line says, and whether the line is that event's text; `None` where it says none.
+/// Returns the event that a line says, and whether the line is that event's text, or `None` if it says none.
 fn read_and_written(
     alloc: Global,
     lab: &Lab,
@@ -116,12 +116,12 @@ fn read_and_written(
     Ok(Some((found, text.as_slice() == line)))
 }
 
-/// Whether a line says just this event, and is its text.
+/// Returns whether a line says just this event, and is its text.
 fn is_line_of(alloc: Global, lab: &Lab, line: &[u8], event: &Event) -> Result<bool, Memory> {
     Ok(read_and_written(alloc, lab, line)? == Some((*event, true)))
 }
 
-/// Whether each line of `OTHERS` says its event of `other_events`, and is that one's text.
+/// Returns whether each line of `OTHERS` says its event of `other_events`, and is that one's text.
 fn are_read_and_written(alloc: Global, lab: &Lab) -> Result<bool, Fail> {
     for (line, event) in OTHERS.iter().zip(other_events().iter()) {
         if !is_line_of(alloc, lab, line, event)? {
@@ -131,15 +131,15 @@ fn are_read_and_written(alloc: Global, lab: &Lab) -> Result<bool, Fail> {
     Ok(true)
 }
 
-/// Whether each line of `SHAPES` has the error `Shape`, whether each of `UNKNOWNS` has `Unknown`, and whether each of
-/// `OTHERS` is read and written as its event.
+/// Returns whether each line of `SHAPES` has the error `Shape`, whether each of `UNKNOWNS` has `Unknown`, and whether
+/// each of `OTHERS` is read and written as its event.
 fn are_rows_read(alloc: Global, lab: &Lab) -> Result<(bool, bool, bool), Fail> {
     let shapes = have_fault(lab, SHAPES, JournalFault::Shape);
     let unknowns = have_fault(lab, UNKNOWNS, JournalFault::Unknown);
     Ok((shapes, unknowns, are_read_and_written(alloc, lab)?))
 }
 
-/// Over the path of three: what `are_rows_read` tells, and whether the lines of `TEN_LINES`, each with each of its
+/// Over the path of three: the result of `are_rows_read`, and whether the lines of `TEN_LINES`, each with each of its
 /// bytes replaced, are read as `replaced::REPLACED` marks.
 fn are_lines_read(alloc: Global) -> Result<((bool, bool, bool), bool), Fail> {
     let lab = boxed_lab(alloc, PATH_OF_THREE)?;
@@ -149,8 +149,8 @@ fn are_lines_read(alloc: Global) -> Result<((bool, bool, bool), bool), Fail> {
     ))
 }
 
-/// Fails where a line of no event is read as one or has another error, or an event's line isn't read or written as it
-/// stands. What is wanted is by hand, but for replaced bytes, where it is by the plain model.
+/// Fails if a line of no event is read as one or has another error, or an event's line isn't read or written as it
+/// stands. What is wanted is by hand, except for replaced bytes: there it is by the plain model.
 #[test]
 fn lines_are_read_and_written(rt: HostRuntime) -> Result<(), Fail> {
     assert_eq!(rt; are_lines_read(rt.alloc())?, ((true, true, true), true));

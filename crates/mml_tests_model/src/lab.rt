@@ -1,4 +1,4 @@
-//! What a document is read as, through the readers of a lab. An error is want of memory, or that of a lab file.
+//! What a document is read as, through the readers of a lab. An error means that memory ran out, or that of a lab file.
 ghost use Rattle.std.specs.Prelude.{◌<◌, length};
 
 use mml_fakes::labs::boxed_lab;
@@ -8,8 +8,8 @@ use mml_rules::Network;
 use std::alloc::{AllocError, Global};
 use std::test::Fail;
 
-/// How a node stands to another: `-` where the two are linked, `>` where they are and the node points at the other,
-/// `!` where it points there without a link, `.` where neither.
+/// Returns how a node stands to another: `-` if the two are linked, `>` if they are and the node points at the other,
+/// `!` if it points there without a link, `.` if neither.
 fn mark(lab: &Lab, node: Rank, other: Rank) -> &'static str
     requires { node < length lab.now.ids }
 {
@@ -34,7 +34,7 @@ fn push_owners(text: &mut String, lab: &Lab, node: Rank) -> Result<(), AllocErro
     Ok(())
 }
 
-/// Adds to a text the `mark` that tells how a node stands to each node, in the order of ranks.
+/// Adds to a text the `mark` that says how a node stands to each node, in the order of ranks.
 fn push_marks(text: &mut String, lab: &Lab, node: Rank) -> Result<(), AllocError>
     requires { node < length lab.now.ids }
 {
@@ -56,7 +56,7 @@ fn push_node(text: &mut String, lab: &Lab, node: Rank) -> Result<(), AllocError>
     push_marks(text, lab, node)
 }
 
-/// A lab as text: on a line its events, connections, nodes, links and students, and then a line for each node.
+/// Returns a lab as text: on a line its events, connections, nodes, links and students, and then a line for each node.
 fn shown(alloc: Global, lab: &Lab) -> Result<String, AllocError> {
     let mut text = String::new(alloc);
     for count in [
@@ -93,7 +93,7 @@ node = [
 ]
 "#;
 
-// What `shown` gives for the lab of `DOCUMENT`, by hand.
+// The result of `shown` for the lab of `DOCUMENT`, by hand.
 const SHOWN: &str =
     "100 4 4 3 3 \n1 false ben .---\n4 false bencyd -...\n7 false ben -...\n65535 true ana >...";
 
@@ -108,7 +108,7 @@ const INDEXES: [(&str, Option<u16>); 7] = [
     ("", None),
 ];
 
-/// The first name of `INDEXES` whose student in a roster has another index than there; `None` where none has.
+/// Returns the first name of `INDEXES` whose student in a roster has another index than there, or `None` if none has.
 fn first_other_index(roster: &Roster) -> Option<&'static str> {
     for (name, index) in INDEXES {
         if roster.student_named(name).map(Student::index) != index {
@@ -118,7 +118,8 @@ fn first_other_index(roster: &Roster) -> Option<&'static str> {
     None
 }
 
-/// Whether a network has the links and registers of another at a node; `false` too where one of them lacks the node.
+/// Returns whether a network has the links and registers of another at a node, and `false` too if one of them lacks the
+/// node.
 fn is_same_at(network: &Network, other: &Network, node: Rank) -> bool {
     if node.index() >= network.size() || node.index() >= other.size() {
         return false;
@@ -128,7 +129,7 @@ fn is_same_at(network: &Network, other: &Network, node: Rank) -> bool {
     is_linked_so && network.registers(node) == other.registers(node)
 }
 
-/// Whether a copy of a network has its nodes, links and registers.
+/// Returns whether a copy of a network has its nodes, links and registers.
 fn is_copied(alloc: Global, network: &Network) -> Result<bool, Memory> {
     let copy = network.try_copy(alloc)?;
     for index in 0..network.size() {
@@ -139,8 +140,8 @@ fn is_copied(alloc: Global, network: &Network) -> Result<bool, Memory> {
     Ok(copy.size() == network.size())
 }
 
-/// A lab as text, whether its network is copied as it is, and the first name with another index than in `INDEXES`, if
-/// any.
+/// Returns a lab as text, whether its network is copied as it is, and the first name with another index than in
+/// `INDEXES`, if any.
 fn shown_of_lab(alloc: Global, lab: &Lab) -> Result<(String, bool, Option<&'static str>), Fail> {
     let text = shown(alloc, lab)?;
     Ok((
@@ -150,8 +151,8 @@ fn shown_of_lab(alloc: Global, lab: &Lab) -> Result<(String, bool, Option<&'stat
     ))
 }
 
-/// Whether the lab of a document is the text `wanted`, whether its network is copied as it is, and the first name with
-/// another index than in `INDEXES`, if any.
+/// Returns whether the lab of a document is the text `wanted`, whether its network is copied as it is, and the first
+/// name with another index than in `INDEXES`, if any.
 fn is_document_shown(
     alloc: Global,
     document: &str,
@@ -162,7 +163,7 @@ fn is_document_shown(
     Ok((text.as_str() == wanted, is_copied, other))
 }
 
-/// Fails where a number, link, register, owner or name of `DOCUMENT` is read as another, or its network isn't copied.
+/// Fails if a number, link, register, owner or name of `DOCUMENT` is read as another, or its network isn't copied.
 #[test]
 fn a_document_is_read(rt: HostRuntime) -> Result<(), Fail> {
     assert_eq!(rt;

@@ -1,4 +1,5 @@
-//! What comes of a command where the limit of events is reached, or the journal is halted. An error is want of memory.
+//! What comes of a command if the limit of events is reached, or the journal is halted. An error means that memory ran
+//! out.
 use mml_board::Board;
 use mml_fakes::labs::{PATH_OF_THREE, boxed_board, boxed_lab};
 use mml_ids::{Memory, Rank};
@@ -8,7 +9,7 @@ use mml_rules::Scene;
 use std::alloc::Global;
 use std::test::Fail;
 
-/// The name of what is ruled.
+/// Returns the name of what is ruled.
 fn ruling_name(ruling: &Ruling) -> &'static str {
     match ruling {
         Ruling::Denied(_) => "denied",
@@ -24,7 +25,7 @@ fn ruling_name(ruling: &Ruling) -> &'static str {
 /// How many events may happen, whether the journal is halted, and a command.
 type Case = (u64, bool, Command);
 
-/// The name of what is ruled on a case of `who`; `another size` where board and lab aren't of one size.
+/// Returns the name of what is ruled on a case of `who`; `another size` where board and lab aren't of one size.
 fn ruled(
     alloc: Global,
     lab: &Lab,
@@ -42,7 +43,7 @@ fn ruled(
     Ok(ruling_name(&ruling))
 }
 
-/// The names of what is ruled on ana's command in each case, in a row; `nobody` for each where the lab has no ana.
+/// Returns the names of what is ruled on ana's command in each case, in a row; `nobody` for each if the lab has no ana.
 fn rulings(alloc: Global, lab: &Lab, board: &Board, cases: &[Case]) -> Result<String, Fail> {
     let mut text = String::new(alloc);
     for case in cases {
@@ -55,19 +56,19 @@ fn rulings(alloc: Global, lab: &Lab, board: &Board, cases: &[Case]) -> Result<St
     Ok(text)
 }
 
-/// The names of what is ruled on ana's command in each case, at the beginning of a lab's run.
+/// Returns the names of what is ruled on ana's command in each case, at the beginning of a lab's run.
 fn first_rulings(alloc: Global, lab: &Lab, cases: &[Case]) -> Result<String, Fail> {
     let board = boxed_board(alloc, lab)?;
     rulings(alloc, lab, &board, cases)
 }
 
-/// The names of what is ruled on ana's command in each case, at the beginning of a run over the path of three.
+/// Returns the names of what is ruled on ana's command in each case, at the beginning of a run over the path of three.
 fn rulings_over_the_path(alloc: Global, cases: &[Case]) -> Result<String, Fail> {
     let lab = boxed_lab(alloc, PATH_OF_THREE)?;
     first_rulings(alloc, &lab, cases)
 }
 
-/// The command of a move by Seduction, of the node with this identifier, in configuration 0.
+/// Returns the command of a move by Seduction, of the node with this identifier, in configuration 0.
 fn seduction(node: u64) -> Command {
     Command::Move {
         node,
@@ -76,8 +77,8 @@ fn seduction(node: u64) -> Command {
     }
 }
 
-/// Fails where a legal move isn't granted, or isn't told `journal` once the journal is halted, or `full` where the
-/// limit is reached too; or where what is denied, a see or a look is told one of these in a halted journal.
+/// Fails if a legal move isn't granted, or isn't reported `journal` once the journal is halted, or `full` if the limit
+/// is reached too; or if what is denied, a see or a look is answered by one of these in a halted journal.
 #[test]
 fn a_halted_journal_comes_after_the_limit(rt: HostRuntime) -> Result<(), Fail> {
     let told = rulings_over_the_path(

@@ -1,4 +1,4 @@
-//! The text of a report. An error is want of memory, or that of a lab file.
+//! The text of a report. An error means that memory ran out, or that of a lab file.
 use mml_board::Board;
 use mml_fakes::labs::{boxed_board, boxed_lab};
 use mml_ids::Rank;
@@ -7,7 +7,7 @@ use mml_stable::{OpenLink, Report, report};
 use std::alloc::{AllocError, Global};
 use std::test::Fail;
 
-/// A report as text: its configuration's number, whether it is stable, and its four lists, by ranks.
+/// Returns a report as text: its configuration's number, whether it is stable, and its four lists, by ranks.
 fn report_text(alloc: Global, report: &Report) -> Result<String, Fail> {
     let mut text = format!(in alloc; "{} {};", report.at, report.stable)?;
     push_lists(&mut text, report)?;
@@ -25,7 +25,7 @@ fn push_lists(text: &mut String, report: &Report) -> Result<(), AllocError> {
     Ok(())
 }
 
-/// Adds a report's pairs to a text, each as its two ranks with `=` between, and `;` behind them.
+/// Adds a report's pairs to a text, each as its two ranks with `=` between, and `;` after them.
 fn push_pairs(text: &mut String, pairs: &[(Rank, Rank)]) -> Result<(), AllocError> {
     for (lower, greater) in pairs {
         write!(text, " {}={}", lower.index(), greater.index())?;
@@ -33,7 +33,7 @@ fn push_pairs(text: &mut String, pairs: &[(Rank, Rank)]) -> Result<(), AllocErro
     text.push_str(";")
 }
 
-/// Adds the ranks of a report's nodes in no pair to a text, and `;` behind them.
+/// Adds the ranks of a report's nodes in no pair to a text, and `;` after them.
 fn push_free(text: &mut String, nodes: &[Rank]) -> Result<(), AllocError> {
     for node in nodes {
         write!(text, " {}", node.index())?;
@@ -41,7 +41,7 @@ fn push_free(text: &mut String, nodes: &[Rank]) -> Result<(), AllocError> {
     text.push_str(";")
 }
 
-/// Adds the ranks of a report's privileged nodes to a text, each with its enabled rule, and `;` behind them.
+/// Adds the ranks of a report's privileged nodes to a text, each with its enabled rule, and `;` after them.
 fn push_privileged(text: &mut String, nodes: &[(Rank, Kind)]) -> Result<(), AllocError> {
     for (node, kind) in nodes {
         write!(text, " {} {kind:?}", node.index())?;
@@ -73,24 +73,24 @@ node = [
 ]
 "#;
 
-// What `report_text` gives at the beginning of a run over `DOCUMENT`, by hand.
+// The result of `report_text` at the beginning of a run over `DOCUMENT`, by hand.
 const TOLD: &str = "0 false; 0=1 2=3; 4 5; 3 Update 5 Marriage; 4-5 5 Marriage";
 
-/// The report of a board, as text.
+/// Returns the report of a board, as text.
 fn board_report_text(alloc: Global, board: &Board) -> Result<String, Fail> {
     let report = report(alloc, board)?;
     report_text(alloc, &report)
 }
 
-/// The report of the board at the beginning of a run over a document's lab, as text.
+/// Returns the report of the board at the beginning of a run over a document's lab, as text.
 fn lab_report_text(alloc: Global, document: &str) -> Result<String, Fail> {
     let lab = boxed_lab(alloc, document)?;
     let board = boxed_board(alloc, &lab)?;
     board_report_text(alloc, &board)
 }
 
-/// Fails where the report at the beginning over `DOCUMENT` has another number, is stable, or has other pairs, free
-/// nodes, privileged nodes or open links than `TOLD` says.
+/// Fails if the report at the beginning over `DOCUMENT` has another number, is stable, or has other pairs, free nodes,
+/// privileged nodes or open links than `TOLD` says.
 #[test]
 fn report_of_two_pairs_and_an_open_link(rt: HostRuntime) -> Result<(), Fail> {
     assert_eq!(rt; lab_report_text(rt.alloc(), DOCUMENT)?.as_str(), TOLD);

@@ -1,7 +1,7 @@
 //! Sets of ranks, beside plain lists.
 use mml_ids::{MAX_NODES, NodeSet, Rank};
 
-/// Whether `ranks` are what is taken out of a set, one by one and in their order, and nothing is left then.
+/// Returns whether `ranks` are what is taken out of a set, one by one and in their order, and nothing is left then.
 fn gives_in_order(set: NodeSet, ranks: &[u64]) -> bool {
     let mut left = set;
     for index in ranks {
@@ -12,13 +12,13 @@ fn gives_in_order(set: NodeSet, ranks: &[u64]) -> bool {
     least_taken(&mut left).is_none()
 }
 
-/// Takes the least rank out of a set, and answers it; `None` where the set is empty.
+/// Takes the least rank out of a set, and returns it, or `None` if the set is empty.
 fn least_taken(left: &mut NodeSet) -> Option<u64> {
     Some(left.take_least()?.index())
 }
 
-/// Whether a set has just `ranks`, given from the least to the greatest: by membership, length, least, greatest, and
-/// the order in which they are taken out.
+/// Returns whether a set has just `ranks`, given from the least to the greatest: by membership, length, least,
+/// greatest, and the order in which they are taken out.
 fn has_only(set: NodeSet, ranks: &[u64]) -> bool {
     ranks.iter().all(|index| has(set, *index))
         && set.len() == ranks.len() as u64
@@ -27,8 +27,8 @@ fn has_only(set: NodeSet, ranks: &[u64]) -> bool {
         && gives_in_order(set, ranks)
 }
 
-/// The index of the first of seven sets that has other ranks than stand beside it, `None` where none has; and how many
-/// ranks are above 63.
+/// Returns the index of the first of seven sets that has other ranks than stand beside it, `None` if none has; and how
+/// many ranks are above 63.
 fn told_of_sets() -> (Option<usize>, u64) {
     let none = NodeSet::empty();
     let some = none
@@ -51,13 +51,14 @@ fn told_of_sets() -> (Option<usize>, u64) {
     (other, above.len())
 }
 
-/// Whether a rank is in the set drawn by a seed, which has many ranks of some words (of 64 ranks) and few of others.
+/// Returns whether a rank is in the set drawn by a seed, which has many ranks of some words (of 64 ranks) and few of
+/// others.
 fn is_drawn(seed: u64, index: u64) -> bool {
     let spread = seed.wrapping_add(index.wrapping_mul(37));
     spread % 16 < 1 + (index / 64).wrapping_mul(seed) % 16
 }
 
-/// The set drawn by a seed.
+/// Returns the set drawn by a seed.
 fn drawn_set(seed: u64) -> NodeSet {
     let mut set = NodeSet::empty();
     for index in 0..MAX_NODES {
@@ -68,7 +69,7 @@ fn drawn_set(seed: u64) -> NodeSet {
     set
 }
 
-/// Whether a set has the rank with this index; `false` too where there is no such rank.
+/// Returns whether a set has the rank with this index, and `false` too if there is no such rank.
 fn has(set: NodeSet, index: u64) -> bool {
     match Rank::new(index) {
         Some(rank) => set.has(rank),
@@ -76,19 +77,19 @@ fn has(set: NodeSet, index: u64) -> bool {
     }
 }
 
-/// The least rank of a set, if it has one.
+/// Returns the least rank of a set, if it has one.
 fn least_of(set: NodeSet) -> Option<u64> {
     let mut left = set;
     least_taken(&mut left)
 }
 
-/// The greatest rank of a set, if it has one.
+/// Returns the greatest rank of a set, if it has one.
 fn greatest_of(set: NodeSet) -> Option<u64> {
     Some(set.greatest()?.index())
 }
 
-/// Whether a set has just the ranks whose indices are true in a list of all ranks, by membership, length, least and
-/// greatest.
+/// Returns whether a set has just the ranks whose indices are true in a list of all ranks, by membership, length, least
+/// and greatest.
 fn is_list(set: NodeSet, list: &[bool]) -> bool {
     let (mut count, mut least, mut greatest) = (0u64, None, None);
     for (index, there) in list.iter().enumerate() {
@@ -104,8 +105,8 @@ fn is_list(set: NodeSet, list: &[bool]) -> bool {
     (set.len(), least_of(set), greatest_of(set)) == (count, least, greatest)
 }
 
-/// Whether the set drawn by seed `a`, what it shares with that of `b`, what it has alone, and the ranks above `rank`
-/// are as in plain lists.
+/// Returns whether the set drawn by seed `a`, what it shares with that of `b`, what it has alone, and the ranks above
+/// `rank` are as in plain lists.
 fn sets_are_lists(a: u64, b: u64, rank: Rank) -> bool {
     let mut first = [false; 256];
     let mut both = [false; 256];
@@ -137,7 +138,7 @@ const SEEDS: [(u64, u64, u64); 8] = [
     (15, 4, 255),
 ];
 
-/// The first row of `SEEDS` whose sets aren't as plain lists say; `None` where all are.
+/// Returns the first row of `SEEDS` whose sets aren't as plain lists say, or `None` if all are.
 fn first_unlike_lists() -> Option<(u64, u64, u64)> {
     for (a, b, index) in SEEDS {
         let agree = match Rank::new(index) {
@@ -151,8 +152,8 @@ fn first_unlike_lists() -> Option<(u64, u64, u64)> {
     None
 }
 
-/// Fails where a set has other ranks, another length, or another least or greatest rank than a list: for each of seven
-/// sets one by hand, in whose order it also gives its ranks; for drawn sets plain lists, by `is_drawn`. Fails too where
+/// Fails if a set has other ranks, another length, or another least or greatest rank than a list: for each of seven
+/// sets one by hand, in whose order it also gives its ranks; for drawn sets plain lists, by `is_drawn`. Fails too if
 /// not 192 ranks are above 63.
 #[test]
 fn sets_of_ranks(rt: HostRuntime) {

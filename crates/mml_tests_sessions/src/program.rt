@@ -1,4 +1,4 @@
-//! The program's library: its calls where there is memory, and what no program shows.
+//! The program's library: its calls if there is memory, and what no program shows.
 mod answering;
 mod faults;
 mod files;

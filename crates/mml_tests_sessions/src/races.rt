@@ -42,20 +42,21 @@ fn arrivals_of<'a>(alloc: Global, scripts: &[&'a str]) -> Result<IntoIter<Ends<'
     Ok(coming.into_iter())
 }
 
-/// The document of the path of three with sixteen sessions, as many as there may be, and with node 2 of ben and ana.
+/// Returns the document of the path of three with sixteen sessions, as many as there may be, and with node 2 of ben and
+/// ana.
 fn document_of_sixteen(alloc: Global) -> Result<String, AllocError> {
     let file = PATH_OF_THREE.replacen(alloc, "sessions = 4", "sessions = 16", 1)?;
     file.replacen(alloc, "owner = \"ben\"", "owners = [\"ben\", \"ana\"]", 1)
 }
 
-/// The lab of the path of three with sixteen sessions, as many as there may be, and with node 2 of ben and ana.
+/// Returns the lab of the path of three with sixteen sessions, as many as there may be, and with node 2 of ben and ana.
 fn lab_of_sixteen(alloc: Global) -> Result<Lab, Fail> {
     let file = document_of_sixteen(alloc)?;
     Ok(read_lab(alloc, file.as_bytes())?)
 }
 
-/// What comes of the first `connections` of these scripts over the path of three and a sink, with as many sessions
-/// as there may be: the house or why there is none; a failure where the test itself goes wrong. The server's last
+/// Returns what comes of the first `connections` of these scripts over the path of three and a sink, with as many
+/// sessions as there may be: the house or why there is none; a failure if the test itself goes wrong. The server's last
 /// line goes to `out`.
 fn serve<'a, S: Sink + Send + Drop, R: Threads + Wait + Sync, G: Gate + Sync>(
     rt: &R,
@@ -77,7 +78,7 @@ fn serve<'a, S: Sink + Send + Drop, R: Threads + Wait + Sync, G: Gate + Sync>(
     Ok(serve_arrivals(rt, alloc, lab, arrivals, connections, sink, gate, out))
 }
 
-/// Whether the connections have the numbers from 1 on in their order, and were sent just these replies.
+/// Returns whether the connections have the numbers from 1 on in their order, and were sent just these replies.
 fn are_answered<S: Drop>(house: &ServedHouse<S, Bytewise<'_>, Vec<u8>>, replies: &[&str]) -> bool {
     let mut number = 0u8;
     for session in house.sessions.iter() {
@@ -95,7 +96,7 @@ fn are_answered<S: Drop>(house: &ServedHouse<S, Bytewise<'_>, Vec<u8>>, replies:
 /// What comes of sessions: what each is answered, the journal, and the last line.
 type Outcome = (&'static [&'static str], &'static str, &'static str);
 
-/// Scripts, where they are held and how many steps each takes, and what may come of them.
+/// Scripts, how they are held and how many steps each takes, and the results that they may have.
 type Race = (
     &'static [&'static str],
     Holds<'static>,
@@ -103,8 +104,8 @@ type Race = (
     &'static [Outcome],
 );
 
-/// Whether the outcome `wanted` came of the sessions of a house: its journal, the replies to each, and the server's
-/// last line, which is `out`.
+/// Returns whether the outcome `wanted` came of the sessions of a house: its journal, the replies to each, and the
+/// server's last line, which is `out`.
 fn is_outcome(
     house: &ServedHouse<MemorySink, Bytewise<'_>, Vec<u8>>,
     out: &[u8],
@@ -116,7 +117,7 @@ fn is_outcome(
         && are_answered(house, replies)
 }
 
-/// Whether one of these outcomes came of the sessions of a house.
+/// Returns whether one of these outcomes came of the sessions of a house.
 fn is_some_outcome(
     house: &ServedHouse<MemorySink, Bytewise<'_>, Vec<u8>>,
     out: &[u8],
@@ -130,8 +131,8 @@ fn is_some_outcome(
     false
 }
 
-/// Whether one of a race's outcomes comes of it, and each session was held where the race says, and passed as many
-/// steps; false where the sessions couldn't be served to their end.
+/// Returns whether one of a race's outcomes comes of it, and each session was held as the race says, and passed as many
+/// steps. Returns `false` if the sessions couldn't be served to their end.
 fn is_run<R: Threads + Wait + Sync>(rt: &R, alloc: Global, race: &Race) -> Result<bool, Fail> {
     let (scripts, holds, steps, outcomes) = race;
     let connections = u8::try_from(scripts.len()).map_err(|_| "too many scripts")?;
@@ -147,10 +148,10 @@ fn is_run<R: Threads + Wait + Sync>(rt: &R, alloc: Global, race: &Race) -> Resul
 // `scripts::ANA_MOVES`, and a bye.
 const ANA_MOVES: &str = lines!(hello("ana", "a-key"), seduction(1), bye);
 
-// What is answered to `ANA_MOVES` where the move is the first event.
+// What is answered to `ANA_MOVES` if the move is the first event.
 const ANA_GRANTED: &str = lines!(welcome("ana"), granted(1, 1), left);
 
-// What is answered to a move of ana's between a greeting and a bye where a move of the node is chosen already.
+// What is answered to a move of ana's between a greeting and a bye if a move of the node is chosen already.
 const ANA_DENIED: &str = lines!(welcome("ana"), chosen, left);
 
 const ONE_MOVED: &str = "done: 1 events, configuration 0\n";
@@ -269,8 +270,8 @@ const RACES: &[Race] = &[
     ),
 ];
 
-/// The index of the first of `RACES` of which none of its outcomes comes, or whose sessions aren't held as it says, if
-/// there is one.
+/// Returns the index of the first of `RACES` of which none of its outcomes comes, or whose sessions aren't held as it
+/// says, if there is one.
 fn first_other<R: Threads + Wait + Sync>(rt: &R, alloc: Global) -> Result<Option<usize>, Fail> {
     for (number, race) in RACES.iter().enumerate() {
         if !is_run(rt, alloc, race)? {
@@ -280,16 +281,16 @@ fn first_other<R: Threads + Wait + Sync>(rt: &R, alloc: Global) -> Result<Option
     Ok(None)
 }
 
-/// Fails where sessions that are held at their steps are answered, written to the journal or ended as by no order of
-/// their lines that their holds allow, or one gave up waiting.
+/// Fails if sessions that are held at their steps are answered, written to the journal or ended as by no order of their
+/// lines that their holds allow, or one gave up waiting.
 #[test]
 fn held_sessions_are_answered_one_by_one(rt: HostRuntime) -> Result<(), Fail> {
     assert_eq!(rt; first_other(&rt, rt.alloc())?, None);
     Ok(())
 }
 
-/// Whether of three connections, where two are wanted, the first two alone are served, answered as they should be, and
-/// left in their order.
+/// Returns whether of three connections, if two are wanted, the first two alone are served, answered as they should be,
+/// and left in their order.
 fn are_two_left<R: Threads + Wait + Sync>(rt: &R, alloc: Global) -> Result<bool, Fail> {
     let mut out = Vec::new(alloc);
     let sink = MemorySink::new(alloc, None);
@@ -301,8 +302,8 @@ fn are_two_left<R: Threads + Wait + Sync>(rt: &R, alloc: Global) -> Result<bool,
     }
 }
 
-/// Whether a server to which one connection comes, where two are wanted, ends with the error of an accept, and writes
-/// no last line.
+/// Returns whether a server to which one connection comes, if two are wanted, ends with the error of an accept, and
+/// writes no last line.
 fn is_lack_told<R: Threads + Wait + Sync>(rt: &R, alloc: Global) -> Result<bool, Fail> {
     let mut out = Vec::new(alloc);
     let sink = MemorySink::new(alloc, None);
@@ -310,13 +311,13 @@ fn is_lack_told<R: Threads + Wait + Sync>(rt: &R, alloc: Global) -> Result<bool,
     Ok(matches!(one, Err(ServeFault::Accept)) && out.is_empty())
 }
 
-/// Whether connections are left in their order, and whether too few of them are an error.
+/// Returns whether connections are left in their order, and whether too few of them are an error.
 fn told_of_arrivals<R: Threads + Wait + Sync>(rt: &R, alloc: Global) -> Result<(bool, bool), Fail> {
     Ok((are_two_left(rt, alloc)?, is_lack_told(rt, alloc)?))
 }
 
-/// Fails where the third of three connections is served where two are wanted, the first two are left in another
-/// order, or one that comes where two are wanted is no error.
+/// Fails if the third of three connections is served if two are wanted, the first two are left in another order, or one
+/// that comes if two are wanted is no error.
 #[test]
 fn connections_are_left_in_the_order_in_which_they_came(rt: HostRuntime) -> Result<(), Fail> {
     assert_eq!(rt; told_of_arrivals(&rt, rt.alloc())?, (true, true));

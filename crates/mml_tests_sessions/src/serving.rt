@@ -50,8 +50,8 @@ fn client<R: Net<Listener = TcpListener, Stream = TcpStream>>(
     Ok(stream)
 }
 
-/// Serves two connections of a listener over the path of three, and tells whether that went well and the server
-/// wrote just `last`.
+/// Serves two connections of a listener over the path of three, and returns whether that went well and the server wrote
+/// just `last`.
 fn is_served<R: Threads + Wait + Sync>(
     rt: &R,
     alloc: Global,
@@ -72,7 +72,7 @@ fn is_served<R: Threads + Wait + Sync>(
     Ok(ended == Ok(()) && out.as_slice() == last.as_bytes())
 }
 
-/// Whether a client was sent just these replies before its connection ended.
+/// Returns whether a client was sent just these replies before its connection ended.
 fn is_answered(alloc: Global, stream: TcpStream, replies: &str) -> io::Result<bool> {
     let found = io::read_to_string(alloc, &stream)?;
     Ok(found.as_str() == replies)
@@ -97,8 +97,8 @@ fn told_of_two<
     Ok((is_served, is_granted, is_closed))
 }
 
-/// Fails where two clients aren't served or answered as they should be, as where the gate, which holds all but
-/// connection 1, is told other numbers: then the close comes first, and is answered otherwise.
+/// Fails if two clients aren't served or answered as they should be, as if the gate, which holds all but connection 1,
+/// gets other numbers: then the close comes first, and is answered otherwise.
 #[test]
 fn connections_are_numbered_as_they_come(rt: HostRuntime) -> Result<(), Fail> {
     assert_eq!(rt; told_of_two(&rt)?, (true, true, true));

@@ -48,8 +48,8 @@ impl<'a> Visit<MemorySink> for Session<'a> {
     }
 }
 
-/// What came of a session over the path of three, and whether its house ended well, with a move and its close where the
-/// close applied that, else with no event; an error where there were fewer than two windows.
+/// Returns what came of a session over the path of three, and whether its house ended well, with a move and its close
+/// if the close applied that, else with no event. Returns an error if there were fewer than two windows.
 fn serve<'a, R: Wait>(
     rt: &R,
     alloc: Global,
@@ -67,7 +67,7 @@ fn serve<'a, R: Wait>(
     }
 }
 
-/// The end of a house that has a move and its close where `is_closed`, and else has no event.
+/// Returns the end of a house that has a move and its close where `is_closed`, and else has no event.
 fn ending_after(is_closed: bool) -> Ending {
     Ending::Log {
         events: if is_closed { 2 } else { 0 },
@@ -76,7 +76,7 @@ fn ending_after(is_closed: bool) -> Ending {
     }
 }
 
-/// The line of a bye with `spaces` spaces behind it, and then the bytes of `end`.
+/// Returns the line of a bye with `spaces` spaces after it, and then the bytes of `end`.
 fn bye(alloc: Global, spaces: usize, end: &str) -> Result<Vec<u8>, AllocError> {
     let mut line = line!(bye).as_bytes().to_vec(alloc)?;
     for _ in 0..spaces {
@@ -88,8 +88,8 @@ fn bye(alloc: Global, spaces: usize, end: &str) -> Result<Vec<u8>, AllocError> {
 
 const LEFT: &str = lines!(left);
 
-/// How many spaces are behind a bye, and what ends its line and follows, all of which is read byte by
-/// byte; how the session ends, what it writes, how many reads it makes, and how many bytes it leaves.
+/// How many spaces are after a bye, and what ends its line and follows, all of which is read byte by byte; how the
+/// session ends, what it writes, how many reads it makes, and how many bytes it leaves.
 type Row = (usize, &'static str, SessionEnd, &'static str, usize, usize);
 
 const BYES: &[Row] = &[
@@ -100,7 +100,7 @@ const BYES: &[Row] = &[
     (0, "\n{\"do\":\"bye\"}\n", SessionEnd::Bye, LEFT, 13, 13),
 ];
 
-/// Whether a session over the line of a row ends, writes and reads as the row says, and its house ends well.
+/// Returns whether a session over the line of a row ends, writes and reads as the row says, and its house ends well.
 fn ends_as_in<R: Wait>(rt: &R, alloc: Global, row: &Row) -> Result<bool, Fail> {
     let (spaces, after, end, written, reads, rest) = row;
     let line = bye(alloc, *spaces, after)?;
@@ -114,7 +114,8 @@ fn ends_as_in<R: Wait>(rt: &R, alloc: Global, row: &Row) -> Result<bool, Fail> {
     )
 }
 
-/// The index of the first row of `BYES` whose session ends, writes or reads otherwise than it says, if there is one.
+/// Returns the index of the first row of `BYES` whose session ends, writes or reads otherwise than it says, if there is
+/// one.
 fn first_row_told_otherwise<R: Wait>(rt: &R, alloc: Global) -> Result<Option<usize>, Fail> {
     for (number, row) in BYES.iter().enumerate() {
         if !ends_as_in(rt, alloc, row)? {
@@ -131,15 +132,15 @@ fn lines_have_limits_and_nothing_is_read_after_a_bye(rt: HostRuntime) -> Result<
     Ok(())
 }
 
-/// A reader that gives `ANA_MOVES`, at most `step` bytes in a read.
+/// Returns a reader that gives `ANA_MOVES`, at most `step` bytes in a read.
 fn ana_moving(step: usize) -> FakeReader<'static> {
     let mut reader = FakeReader::failing_after(usize::MAX, ANA_MOVES.as_bytes());
     reader.step = step;
     reader
 }
 
-/// Whether a session whose writer fails after `good` bytes ends by that, or at its reader's end where they are all, has
-/// written just these, and its move stands even where its reply isn't out, so that the close applies it.
+/// Returns whether a session whose writer fails after `good` bytes ends by that, or at its reader's end if they are
+/// all, has written just these, and its move stands even if its reply isn't out, so that the close applies it.
 fn tells_a_write<R: Wait>(rt: &R, alloc: Global, good: usize) -> Result<bool, Fail> {
     let reader = ana_moving(usize::MAX);
     let mut writer = FakeWriter::failing_after(good, alloc);
@@ -159,7 +160,8 @@ fn tells_a_write<R: Wait>(rt: &R, alloc: Global, good: usize) -> Result<bool, Fa
     )
 }
 
-/// The first number of good writes, of a byte each, after which a session ends or writes otherwise, if there is one.
+/// Returns the first number of good writes, of a byte each, after which a session ends or writes otherwise, if there is
+/// one.
 fn first_untold_write<R: Wait>(rt: &R, alloc: Global) -> Result<Option<usize>, Fail> {
     for good in 0..=ANA_GRANTED.len() {
         if !tells_a_write(rt, alloc, good)? {
@@ -169,16 +171,16 @@ fn first_untold_write<R: Wait>(rt: &R, alloc: Global) -> Result<Option<usize>, F
     Ok(None)
 }
 
-/// Fails where a session whose writer fails after some byte of the replies, or after all, ends or writes otherwise, or
-/// its move doesn't stand.
+/// Fails if a session whose writer fails after some byte of the replies, or after all, ends or writes otherwise, or its
+/// move doesn't stand.
 #[test]
 fn failed_writes_are_told(rt: HostRuntime) -> Result<(), Fail> {
     assert_eq!(rt; first_untold_write(&rt, rt.alloc())?, None);
     Ok(())
 }
 
-/// What is answered to the whole lines among the first `good` bytes of `ANA_MOVES`, whose first line, the greeting, has
-/// 42 bytes with its newline.
+/// Returns what is answered to the whole lines among the first `good` bytes of `ANA_MOVES`, whose first line, the
+/// greeting, has 42 bytes with its newline.
 fn replies_after(good: usize) -> &'static str {
     if good == ANA_MOVES.len() {
         ANA_GRANTED
@@ -189,8 +191,8 @@ fn replies_after(good: usize) -> &'static str {
     }
 }
 
-/// Whether a session whose reader fails after `good` bytes ends by that, exactly the whole lines among these are
-/// answered, and the close applies the move exactly where its line is among them.
+/// Returns whether a session whose reader fails after `good` bytes ends by that, exactly the whole lines among these
+/// are answered, and the close applies the move exactly if its line is among them.
 fn tells_a_read<R: Wait>(rt: &R, alloc: Global, good: usize) -> Result<bool, Fail> {
     let reader = FakeReader::failing_after(good, ANA_MOVES.as_bytes());
     let (served, is_ended) = serve(rt, alloc, reader, FakeWriter::patient(alloc))?;
@@ -202,7 +204,8 @@ fn tells_a_read<R: Wait>(rt: &R, alloc: Global, good: usize) -> Result<bool, Fai
     )
 }
 
-/// The first number of good reads, of a byte each, after which a session ends or writes otherwise, if there is one.
+/// Returns the first number of good reads, of a byte each, after which a session ends or writes otherwise, if there is
+/// one.
 fn first_untold_read<R: Wait>(rt: &R, alloc: Global) -> Result<Option<usize>, Fail> {
     for good in 0..=ANA_MOVES.len() {
         if !tells_a_read(rt, alloc, good)? {
@@ -212,16 +215,16 @@ fn first_untold_read<R: Wait>(rt: &R, alloc: Global) -> Result<Option<usize>, Fa
     Ok(None)
 }
 
-/// Fails where a session whose reader fails after some byte of the lines ends or writes otherwise, or its move doesn't
-/// stand exactly where its whole line was read.
+/// Fails if a session whose reader fails after some byte of the lines ends or writes otherwise, or its move doesn't
+/// stand exactly if its whole line was read.
 #[test]
 fn failed_reads_are_told(rt: HostRuntime) -> Result<(), Fail> {
     assert_eq!(rt; first_untold_read(&rt, rt.alloc())?, None);
     Ok(())
 }
 
-/// How many writes the replies to `ANA_MOVES` take where the reader gives at most `step` bytes in a read; `None` where
-/// they are other replies, or the house doesn't end well.
+/// Returns how many writes the replies to `ANA_MOVES` take if the reader gives at most `step` bytes in a read, or
+/// `None` if they are other replies, or the house doesn't end well.
 fn writes_at<R: Wait>(rt: &R, alloc: Global, step: usize) -> Result<Option<usize>, Fail> {
     let reader = ana_moving(step);
     let (served, is_ended) = serve(rt, alloc, reader, FakeWriter::patient(alloc))?;
@@ -229,14 +232,14 @@ fn writes_at<R: Wait>(rt: &R, alloc: Global, step: usize) -> Result<Option<usize
     Ok(is_well.then_some(usize::MAX - served.writer.good))
 }
 
-/// Fails where the replies to two lines of one read take more than one write, or are other ones.
+/// Fails if the replies to two lines of one read take more than one write, or are other ones.
 #[test]
 fn replies_to_lines_that_came_together_are_one_write(rt: HostRuntime) -> Result<(), Fail> {
     assert_eq!(rt; writes_at(&rt, rt.alloc(), usize::MAX)?, Some(1));
     Ok(())
 }
 
-/// Fails where the replies to two lines that came byte by byte don't take a write each, or are other ones.
+/// Fails if the replies to two lines that came byte by byte don't take a write each, or are other ones.
 #[test]
 fn a_line_that_came_alone_is_answered_before_the_next_read(rt: HostRuntime) -> Result<(), Fail> {
     assert_eq!(rt; writes_at(&rt, rt.alloc(), 1)?, Some(2));

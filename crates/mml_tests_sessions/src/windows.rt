@@ -18,15 +18,15 @@ use std::alloc::Global;
 use std::sync::Wait;
 use std::test::Fail;
 
-/// Whether a move of node 1, asked for through the second window, and then the teacher's close, through the first, are
-/// granted, at places 1 and 2.
+/// Returns whether a move of node 1, asked for through the second window, and then the teacher's close, through the
+/// first, are granted, at places 1 and 2.
 fn plays<H: House, R: Wait>(seats: &mut Pair<'_, MemorySink, H, R>) -> bool {
     let granted = seats.two.ask(student(0), &seduction(1, 0));
     let closed = seats.one.ask(Who::Teacher, &Command::Close);
     is_first_move(&granted) && is_first_close(&closed)
 }
 
-/// Whether an answer grants the move of node 1 as the first event.
+/// Returns whether an answer grants the move of node 1 as the first event.
 fn is_first_move(answer: &Answer) -> bool {
     match answer {
         Answer::Granted {
@@ -38,8 +38,8 @@ fn is_first_move(answer: &Answer) -> bool {
     }
 }
 
-/// Whether each view through the teacher's window, of which the look is a student's, is of configuration 1, in which
-/// node 1 points at node 2 and none of the three nodes is in a pair.
+/// Returns whether each view through the teacher's window, of which the look is a student's, is of configuration 1, in
+/// which node 1 points at node 2 and none of the three nodes is in a pair.
 fn sees_the_close<H: House, R: Wait>(teacher: &mut Seat<'_, MemorySink, H, R>) -> bool {
     let number = teacher.window.number() == Ok(1);
     let see = match teacher.window.see(Who::Teacher, 1) {
@@ -57,8 +57,8 @@ fn sees_the_close<H: House, R: Wait>(teacher: &mut Seat<'_, MemorySink, H, R>) -
     number && see && look && report
 }
 
-/// Whether the window through which a move was asked for shows the configuration that a close through another window
-/// has made, and denies the same move as stale then.
+/// Returns whether the window through which a move was asked for shows the configuration that a close through another
+/// window has made, and denies the same move as stale then.
 fn meets_the_close<H: House, R: Wait>(ana: &mut Seat<'_, MemorySink, H, R>) -> bool {
     let number = ana.window.number() == Ok(1);
     let answer = ana.ask(student(0), &seduction(1, 0));
@@ -80,7 +80,7 @@ impl Visit<MemorySink> for MoveAndClose {
     }
 }
 
-/// Whether there are four windows, and each of them shows the configuration with this number.
+/// Returns whether there are four windows, and each of them shows the configuration with this number.
 fn are_at<H: House>(windows: &mut [Window<H>], number: u64) -> bool {
     let mut count = 0usize;
     for window in windows.iter_mut() {
@@ -92,7 +92,7 @@ fn are_at<H: House>(windows: &mut [Window<H>], number: u64) -> bool {
     count == 4
 }
 
-/// What is told of a house in which a move and a close were played through two of its windows.
+/// The result of a house in which a move and a close were played through two of its windows.
 #[derive(Clone, Copy, Debug, PartialEq, Eq)]
 struct Told {
     /// Whether the visit went well.
@@ -104,8 +104,8 @@ struct Told {
     has_journal: bool,
 }
 
-/// Starts a house, plays a move and a close in it, and ends it with all its windows where `with_all`, else with all
-/// but ana's, the last; what is told of that. The error is want of memory.
+/// Starts a house, plays a move and a close in it, and ends it with all its windows if `with_all`, and else with all
+/// but ana's, the last; the result of that. Returns `Memory` if memory runs out.
 fn in_house<H: House, R: Wait>(
     rt: &R,
     alloc: Global,
@@ -130,14 +130,14 @@ fn in_house<H: House, R: Wait>(
     })
 }
 
-/// What is told of a house over the path of three that ends with all its windows where `with_all`, else with all but
-/// ana's, through which a move was asked for.
+/// Returns the result of a house over the path of three that ends with all its windows if `with_all`, and else with all
+/// but ana's, through which a move was asked for.
 fn ended_with<R: Wait>(rt: &R, alloc: Global, with_all: bool) -> Result<Told, Fail> {
     let blank = open_path(rt, alloc, None)?;
     Ok(in_house::<Brand, _>(rt, alloc, blank, with_all)?)
 }
 
-/// What is told of a house where all went well, with this end, and with the journal of a move and its close or not.
+/// Returns the result of a house if all went well, with this end, and with the journal of a move and its close or not.
 fn good(ending: Ending, has_journal: bool) -> Told {
     Told {
         is_visited: true,
@@ -147,7 +147,7 @@ fn good(ending: Ending, has_journal: bool) -> Told {
     }
 }
 
-/// Fails where a house that ends with all its windows has no log, or one that lacks the window of a grant has one.
+/// Fails if a house that ends with all its windows has no log, or one that lacks the window of a grant has one.
 #[test]
 fn a_house_ends_with_all_its_windows(rt: HostRuntime) -> Result<(), Fail> {
     let all = ended_with(&rt, rt.alloc(), true)?;
@@ -162,7 +162,7 @@ fn a_house_ends_with_all_its_windows(rt: HostRuntime) -> Result<(), Fail> {
     Ok(())
 }
 
-/// Whether each view of a window tells that it is closed.
+/// Returns whether each view of a window says that it is closed.
 fn is_closed<H: House>(alloc: Global, window: &mut Window<H>) -> bool {
     let see = window.see(Who::Teacher, 1);
     let look = window.look(alloc, Who::Teacher, 1);
@@ -173,8 +173,8 @@ fn is_closed<H: House>(alloc: Global, window: &mut Window<H>) -> bool {
         && matches!(report, Err(SightFault::Closed))
 }
 
-/// Whether a window that asked and viewed nothing is closed once its house has ended without it (`None` where there was
-/// no window), and how the house ended.
+/// Returns whether a window that asked and viewed nothing is closed once its house has ended without it (`None` if
+/// there was no window), and how the house ended.
 fn is_closed_after<H: House, R: Wait>(
     rt: &R,
     alloc: Global,
@@ -189,8 +189,8 @@ fn is_closed_after<H: House, R: Wait>(
     Ok((is_closed, ending))
 }
 
-/// Fails where a window still shows something once its house has ended without it, or the house doesn't end with an
-/// empty log.
+/// Fails if a window still shows something once its house has ended without it, or the house doesn't end with an empty
+/// log.
 #[test]
 fn a_window_that_outlives_its_house_is_closed(rt: HostRuntime) -> Result<(), Fail> {
     let blank = open_path(&rt, rt.alloc(), None)?;
@@ -204,8 +204,8 @@ fn a_window_that_outlives_its_house_is_closed(rt: HostRuntime) -> Result<(), Fai
     Ok(())
 }
 
-/// Whether a book whose sink fails at its second line grants the first move, refuses the second for the journal, still
-/// denies a move of the node that is chosen, and has one event then.
+/// Returns whether a book whose sink fails at its second line grants the first move, refuses the second for the
+/// journal, still denies a move of the node that is chosen, and has one event then.
 fn refuses_the_second<H: House, R: Wait>(
     rt: &R,
     alloc: Global,
@@ -220,8 +220,8 @@ fn refuses_the_second<H: House, R: Wait>(
         && book.events().len() == 1
 }
 
-/// Whether a house's book, whose sink fails at its second line, grants the first move alone, and how the house ends,
-/// whose windows keep no place. The error is want of memory.
+/// Returns whether a house's book, whose sink fails at its second line, grants the first move alone, and how the house
+/// ends, whose windows keep no place. Returns `Memory` if memory runs out.
 fn decides_alone<H: House, R: Wait>(
     rt: &R,
     alloc: Global,
@@ -235,8 +235,7 @@ fn decides_alone<H: House, R: Wait>(
     Ok((holds, ending_of(&book.finish_from(rt, windows, 0))))
 }
 
-/// Fails where a book without its lock decides otherwise, or a house ends well though no window keeps its event's
-/// place.
+/// Fails if a book without its lock decides otherwise, or a house ends well though no window keeps its event's place.
 #[test]
 fn a_book_decides_alone(rt: HostRuntime) -> Result<(), Fail> {
     let blank = open_path(&rt, rt.alloc(), Some(2))?;

@@ -1,4 +1,4 @@
-//! Requests and replies as lines. An error (`Fail`) is want of memory.
+//! Requests and replies as lines. An error (`Fail`) is running out of memory.
 mod replies;
 
 use mml_codec::{LineFault, Request, read_request, read_request_with, write_request};
@@ -7,7 +7,7 @@ use mml_plain::{Fields, LineScratch, read_fields};
 use std::alloc::{AllocError, Global};
 use std::test::Fail;
 
-/// The text that `write_request` writes for the request that was read, or the name of the error instead.
+/// Returns the text that `write_request` writes for the request that was read, or the name of the error instead.
 fn text_or_fault(alloc: Global, read: Result<Request, LineFault>) -> Result<String, Fail> {
     match read {
         Ok(request) => written(alloc, &request),
@@ -15,7 +15,7 @@ fn text_or_fault(alloc: Global, read: Result<Request, LineFault>) -> Result<Stri
     }
 }
 
-/// The text that `write_request` writes for a request instead of another text.
+/// Returns the text that `write_request` writes for a request instead of another text.
 fn written(alloc: Global, request: &Request) -> Result<String, Fail> {
     let mut out = b"before".to_vec(alloc)?;
     write_request(alloc, request, &mut out)?;
@@ -73,8 +73,8 @@ const LINES: &[(&[u8], &str)] = &[
     (b"[1]", "Malformed"),
 ];
 
-/// Whether a line is read as `wanted`, a request's text or an error's name, both with memory of its own and with kept
-/// memory.
+/// Returns whether a line is read as `wanted`, a request's text or an error's name, both with memory of its own and
+/// with kept memory.
 fn is_read_as(
     alloc: Global,
     scratch: &mut LineScratch,
@@ -86,7 +86,7 @@ fn is_read_as(
     Ok(own.as_str() == wanted && kept.as_str() == wanted)
 }
 
-/// The first row of `LINES` whose line is read as something else than the row says; `None` where none is.
+/// Returns the first row of `LINES` whose line is read as something else than the row says, or `None` if none is.
 fn first_line_read_otherwise(
     alloc: Global,
     scratch: &mut LineScratch,
@@ -115,7 +115,8 @@ const HELLOS: &[Hello] = &[
     (("\"", r#"\""#, 983), ("k", "k", 2001), 4000),
 ];
 
-/// Whether the greeting with a name and a key is written as `text`, and what is read from `text` is written so again.
+/// Returns whether the greeting with a name and a key is written as `text`, and what is read from `text` is written so
+/// again.
 fn is_hello_written_as(
     alloc: Global,
     scratch: &mut LineScratch,
@@ -128,7 +129,7 @@ fn is_hello_written_as(
     Ok(written.as_str() == text && is_read_as(alloc, scratch, text.as_bytes(), text)?)
 }
 
-/// The text that the greeting with the name and the key of a row is to have.
+/// Returns the text that the greeting with the name and the key of a row is to have.
 fn hello_text(alloc: Global, row: &Hello) -> Result<String, AllocError> {
     let ((_, name, names), (_, key, keys), _) = row;
     let name = name.repeat(alloc, *names)?;
@@ -136,7 +137,7 @@ fn hello_text(alloc: Global, row: &Hello) -> Result<String, AllocError> {
     format!(in alloc; "{{\"do\":\"hello\",\"key\":\"{key}\",\"name\":\"{name}\"}}")
 }
 
-/// Whether the greeting of a row is written and read as its text, which is as long as the row says.
+/// Returns whether the greeting of a row is written and read as its text, which is as long as the row says.
 fn is_hello_told(alloc: Global, scratch: &mut LineScratch, row: &Hello) -> Result<bool, Fail> {
     let text = hello_text(alloc, row)?;
     let ((name, _, names), (key, _, keys), length) = row;
@@ -145,7 +146,8 @@ fn is_hello_told(alloc: Global, scratch: &mut LineScratch, row: &Hello) -> Resul
     Ok(text.len() == *length && is_hello_written_as(alloc, scratch, name, key, text.as_str())?)
 }
 
-/// The first row of `HELLOS` whose greeting is written or read otherwise than the row says; `None` where none is.
+/// Returns the first row of `HELLOS` whose greeting is written or read otherwise than the row says, or `None` if none
+/// is.
 fn first_hello_told_otherwise(
     alloc: Global,
     scratch: &mut LineScratch,
@@ -158,7 +160,7 @@ fn first_hello_told_otherwise(
     Ok(None)
 }
 
-/// The number under `node` in a line; `None` where the line isn't read as an object, or has no such number.
+/// Returns the number under `node` in a line, or `None` if the line isn't read as an object, or has no such number.
 fn named_node(scratch: &mut LineScratch, line: &[u8]) -> Result<Option<u64>, Fail> {
     let mut fields = Fields::empty();
     if read_fields(line, scratch, &mut fields)? {
@@ -167,11 +169,11 @@ fn named_node(scratch: &mut LineScratch, line: &[u8]) -> Result<Option<u64>, Fai
     Ok(None)
 }
 
-/// The first row of `LINES` and the first of `HELLOS` that are told otherwise, and the nodes that three lines name.
+/// The first row of `LINES` and the first of `HELLOS` that have another result, and the nodes that three lines name.
 type Told = (Option<usize>, Option<usize>, [Option<u64>; 3]);
 
-/// The first rows of `LINES` and `HELLOS` that are told otherwise, and the nodes of a plain line, of one with nested
-/// arrays and objects, and of one with a number too great to be read, all with the same kept memory.
+/// Returns the first rows of `LINES` and `HELLOS` that have another result, and the nodes of a plain line, of one with
+/// nested arrays and objects, and of one with a number too great to be read, all with the same kept memory.
 fn told_with(alloc: Global, scratch: &mut LineScratch) -> Result<Told, Fail> {
     let line = first_line_read_otherwise(alloc, scratch)?;
     let hello = first_hello_told_otherwise(alloc, scratch)?;
@@ -181,8 +183,8 @@ fn told_with(alloc: Global, scratch: &mut LineScratch) -> Result<Told, Fail> {
     Ok((line, hello, [plain, nested, great]))
 }
 
-// Fails where a row of `LINES` or `HELLOS` is read or written otherwise, a node isn't found in a plain or a nested
-// line, or is found in one with a number that can't be read.
+// Fails if a row of `LINES` or `HELLOS` is read or written otherwise, a node isn't found in a plain or a nested line,
+// or is found in one with a number that can't be read.
 #[test]
 fn requests_are_read_and_written(rt: HostRuntime) -> Result<(), Fail> {
     let mut scratch = LineScratch::new(rt.alloc(), 4096)?;

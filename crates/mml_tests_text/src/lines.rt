@@ -1,4 +1,4 @@
-//! Lines of readers. An error is want of memory.
+//! Lines of readers. An error means that memory ran out.
 mod whole;
 
 use mml_fakes::{FakeReader, Parts};
@@ -9,11 +9,11 @@ use std::test::Fail;
 
 const TEXT: &[u8] = b"ab\n\ncd\ne";
 
-/// What is told of `TEXT`.
+/// The result of `TEXT`.
 const TOLD: &str = "Line ab\nLine \nLine cd\nEnd \n";
 
-/// The answers of `next` over a reader up to the first one that isn't `Line`, each with its bytes, as a text; at most
-/// ten answers.
+/// Returns the answers of `next` over a reader up to the first one that isn't `Line`, each with its bytes, as a text;
+/// at most ten answers.
 fn steps_text<R: Read>(
     lines: &mut Lines,
     alloc: Global,
@@ -30,7 +30,7 @@ fn steps_text<R: Read>(
     Ok(text)
 }
 
-/// The answers of fresh lines over a reader up to the end, as a text, which has `and another end` behind it where a
+/// Returns the answers of fresh lines over a reader up to the end, as a text, which has `and another end` after it if a
 /// later call doesn't repeat the last answer, or reads.
 fn steps_to_the_end<R: Read>(alloc: Global, limit: usize, reader: &mut R) -> Result<String, Fail> {
     let mut lines = Lines::new(alloc, limit.min(MAX_LIMIT))?;
@@ -41,7 +41,7 @@ fn steps_to_the_end<R: Read>(alloc: Global, limit: usize, reader: &mut R) -> Res
     Ok(text)
 }
 
-/// Whether two more calls of `next`, with another reader, repeat the last answer of `text` and read nothing.
+/// Returns whether two more calls of `next`, with another reader, repeat the last answer of `text` and read nothing.
 fn is_repeated(lines: &mut Lines, alloc: Global, text: &str) -> Result<bool, AllocError> {
     let mut late = b"late\n".as_slice();
     let again = steps_text(lines, alloc, &mut late)?;
@@ -62,7 +62,7 @@ const LENGTHS: &[Length] = &[
     (MAX_LIMIT, 65_537, "\n", false, "TooLong \n"),
 ];
 
-/// A text of `len` digits.
+/// Returns a text of `len` digits.
 fn digits(alloc: Global, len: usize) -> Result<String, AllocError> {
     let mut text = String::new(alloc);
     for index in 0..len {
@@ -71,7 +71,7 @@ fn digits(alloc: Global, len: usize) -> Result<String, AllocError> {
     Ok(text)
 }
 
-/// Whether an input of a line and what ends it, under this limit, gives the answers in `wanted`.
+/// Returns whether an input of a line and what ends it, under this limit, gives the answers in `wanted`.
 fn are_steps(
     alloc: Global,
     limit: usize,
@@ -83,7 +83,7 @@ fn are_steps(
     Ok(steps_to_the_end(alloc, limit, &mut text.as_bytes())?.as_str() == wanted)
 }
 
-/// The answers that are wanted, as a text: the line, where it comes as one, and the last answer.
+/// Returns the answers that are wanted, as a text: the line, if it comes as one, and the last answer.
 fn wanted(alloc: Global, line: &str, is_line: bool, last: &str) -> Result<String, AllocError> {
     if is_line {
         format!(in alloc; "Line {line}\n{last}")
@@ -92,7 +92,7 @@ fn wanted(alloc: Global, line: &str, is_line: bool, last: &str) -> Result<String
     }
 }
 
-/// Whether as many digits as a row says, with its end and limit, give the answers that the row says.
+/// Returns whether as many digits as a row says, with its end and limit, give the answers that the row says.
 fn is_length_told(alloc: Global, row: &Length) -> Result<bool, Fail> {
     let (limit, len, end, is_line, last) = row;
     let line = digits(alloc, *len)?;
@@ -100,7 +100,7 @@ fn is_length_told(alloc: Global, row: &Length) -> Result<bool, Fail> {
     are_steps(alloc, *limit, line.as_str(), end, wanted.as_str())
 }
 
-/// The first row of `LENGTHS` whose digits give other answers than the row says; `None` where none does.
+/// Returns the first row of `LENGTHS` whose digits give other answers than the row says, or `None` if none does.
 fn first_length_told_otherwise(alloc: Global) -> Result<Option<usize>, Fail> {
     for (number, row) in LENGTHS.iter().enumerate() {
         if !is_length_told(alloc, row)? {
@@ -110,15 +110,15 @@ fn first_length_told_otherwise(alloc: Global) -> Result<Option<usize>, Fail> {
     Ok(None)
 }
 
-// Fails where a line at its limit isn't given, a longer one isn't told as too long, or one without its end is given.
+// Fails if a line at its limit isn't given, a longer one isn't reported as too long, or one without its end is given.
 #[test]
 fn a_line_is_as_long_as_the_limit(rt: HostRuntime) -> Result<(), Fail> {
     assert_eq!(rt; first_length_told_otherwise(rt.alloc())?, None);
     Ok(())
 }
 
-/// Whether `TEXT`, split at `cut`, is told as `TOLD` says: the first part comes in one read, the second in reads of at
-/// most `step` bytes.
+/// Returns whether `TEXT`, split at `cut`, is shown as `TOLD` says: the first part comes in one read, the second in
+/// reads of at most `step` bytes.
 fn is_told_in_parts(alloc: Global, cut: usize, step: usize) -> Result<bool, Fail> {
     let (first, second) = TEXT.split_at(cut.min(TEXT.len()));
     let mut reader = Parts {
@@ -129,8 +129,8 @@ fn is_told_in_parts(alloc: Global, cut: usize, step: usize) -> Result<bool, Fail
     Ok(steps_to_the_end(alloc, 2, &mut reader)?.as_str() == TOLD)
 }
 
-/// The first offset where a cut of `TEXT`, of which the second part is read by at most `step` bytes, changes what is
-/// told; `None` where none does.
+/// Returns the first offset at which a cut of `TEXT`, of which the second part is read by at most `step` bytes, changes
+/// the result, or `None` if there is none.
 fn first_cut_that_changes(alloc: Global, step: usize) -> Result<Option<usize>, Fail> {
     for cut in 0..=TEXT.len() {
         if !is_told_in_parts(alloc, cut, step)? {
@@ -140,7 +140,7 @@ fn first_cut_that_changes(alloc: Global, step: usize) -> Result<Option<usize>, F
     Ok(None)
 }
 
-/// How many bytes a read gives at most, how many reads are good, what is told, and how many reads there are.
+/// How many bytes a read gives at most, how many reads are good, the result, and how many reads there are.
 type Reads = (usize, usize, &'static str, usize);
 
 const READS: &[Reads] = &[
@@ -158,7 +158,7 @@ const READS: &[Reads] = &[
     (100, 1, "Line ab\nLine \nLine cd\nReadFault \n", 2),
 ];
 
-/// Whether `TEXT` from a reader that fails as a row says gives the answers that the row says, in as many reads.
+/// Returns whether `TEXT` from a reader that fails as a row says gives the answers that the row says, in as many reads.
 fn are_reads_told(alloc: Global, row: &Reads) -> Result<bool, Fail> {
     let (step, good, wanted, reads) = row;
     let mut reader = FakeReader::failing_after(*good, TEXT);
@@ -167,7 +167,8 @@ fn are_reads_told(alloc: Global, row: &Reads) -> Result<bool, Fail> {
     Ok(told.as_str() == *wanted && reader.reads == *reads)
 }
 
-/// The first row of `READS` whose reader gives other answers or other reads than the row says; `None` where none does.
+/// Returns the first row of `READS` whose reader gives other answers or other reads than the row says, or `None` if
+/// none does.
 fn first_reads_told_otherwise(alloc: Global) -> Result<Option<usize>, Fail> {
     for (number, row) in READS.iter().enumerate() {
         if !are_reads_told(alloc, row)? {
@@ -177,23 +178,23 @@ fn first_reads_told_otherwise(alloc: Global) -> Result<Option<usize>, Fail> {
     Ok(None)
 }
 
-/// The first cut of `TEXT` that changes what is told in reads of one byte, the first one in greater reads, and the
-/// first row of `READS` that is told otherwise: `None` each where there is none.
+/// Returns the first cut of `TEXT` that changes the result in reads of one byte, the first one in greater reads, and
+/// the first row of `READS` that is answered otherwise: `None` each if there is none.
 fn first_told_otherwise(alloc: Global) -> Result<[Option<usize>; 3], Fail> {
     let by_bytes = first_cut_that_changes(alloc, 1)?;
     let at_once = first_cut_that_changes(alloc, 100)?;
     Ok([by_bytes, at_once, first_reads_told_otherwise(alloc)?])
 }
 
-// Fails where a cut of the input changes the lines, a failed read isn't the last answer, or there are other reads.
+// Fails if a cut of the input changes the lines, a failed read isn't the last answer, or there are other reads.
 #[test]
 fn cuts_change_nothing_and_a_failed_read_ends_the_lines(rt: HostRuntime) -> Result<(), Fail> {
     assert_eq!(rt; first_told_otherwise(rt.alloc())?, [None; 3]);
     Ok(())
 }
 
-/// How many lines come before the first answer that isn't `Line`, and then that answer; `u32::MAX` and `Line` where so
-/// many come.
+/// Returns how many lines come before the first answer that isn't `Line`, and then that answer; `u32::MAX` and `Line`
+/// if so many come.
 fn count_lines(lines: &mut Lines, reader: &mut FakeReader) -> (u32, Step) {
     for count in 0..u32::MAX {
         match lines.next(reader) {
@@ -204,14 +205,15 @@ fn count_lines(lines: &mut Lines, reader: &mut FakeReader) -> (u32, Step) {
     (u32::MAX, Step::Line)
 }
 
-/// How many empty lines come of one newline more than there may be reads, a byte a read, what answer ends them, and how
-/// many bytes are left unread.
+/// Returns how many empty lines come of one newline more than there may be reads, a byte a read, what answer ends them,
+/// and how many bytes are left unread.
 fn lines_of_many_newlines(alloc: Global) -> Result<(u32, Step, usize), Fail> {
     let breaks = vec![in alloc; b'\n'; MAX_READS as usize + 1]?;
     counted_in(alloc, breaks.as_slice())
 }
 
-/// How many lines come of the bytes, read one by one, what answer ends them, and how many bytes are left unread.
+/// Returns how many lines come of the bytes, read one by one, what answer ends them, and how many bytes are left
+/// unread.
 fn counted_in(alloc: Global, breaks: &[u8]) -> Result<(u32, Step, usize), Fail> {
     let mut reader = FakeReader::failing_after(usize::MAX, breaks);
     let mut lines = Lines::new(alloc, 4096)?;
@@ -242,8 +244,8 @@ fn line_by_bytes(alloc: Global, text: &[u8]) -> Result<(bool, usize), Fail> {
 /// whole, and how many reads there were.
 type Counts = ((u32, Step, usize), (bool, usize));
 
-/// What `lines_of_many_newlines` tells of one empty line more than there may be reads, and `longest_line_by_bytes` of
-/// one long line.
+/// Returns the result of `lines_of_many_newlines` of one empty line more than there may be reads, and
+/// `longest_line_by_bytes` of one long line.
 fn counts(alloc: Global) -> Result<Counts, Fail> {
     Ok((
         lines_of_many_newlines(alloc)?,
@@ -251,8 +253,8 @@ fn counts(alloc: Global) -> Result<Counts, Fail> {
     ))
 }
 
-// Fails where of lines that take a read each more or fewer come than there may be reads, or where a long line doesn't
-// come whole by a read for each byte, and one more that finds the end.
+// Fails if, of lines that take a read each more or fewer come than there may be reads, or if a long line doesn't come
+// whole by a read for each byte, and one more that finds the end.
 #[test]
 fn reads_are_counted_over_all_lines(rt: HostRuntime) -> Result<(), Fail> {
     // One read for each byte, and one that finds the end.

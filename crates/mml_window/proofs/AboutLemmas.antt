@@ -1,4 +1,4 @@
--- What windows tell names nodes of the lab.
+-- What windows return names nodes of the lab.
 use Rattle.std.proofs.Common.{◌≡◌, ℕ, true, false, None, List, length, Result, Ok, Err, sym, subst}
 use Rattle.std.specs.Result.{IfOk}
 use Rattle.mml_lab.specs.declared.who.Who.{Who}

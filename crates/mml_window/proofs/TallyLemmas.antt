@@ -40,7 +40,7 @@ climbs_drop low ps high zero c = c
 climbs_drop low [] high (suc n) c = c
 climbs_drop low (q ∷ ps) high (suc n) c = climbs_drop low ps high n (climbs_lower q low ps high (omega (arith, c.0)) c.1)
 
--- where the first of places that climb isn't this one, a smaller one comes before it
+-- if the first of places that climb isn't this one, a smaller one comes before it
 pub stuck_before : (place q : ℕ) (qs : List ℕ) (high : ℕ) → (q ≡ place → ⊥) → Climbs 0 (q ∷ qs) high → IsStuck place (q ∷ qs)
 stuck_before place q qs high differ c some =
     let e : times place (q ∷ qs) ≡ times place qs = times_skip place q qs (λ is. differ (sym is)) in
@@ -54,7 +54,7 @@ stuck_before place q qs high differ c some =
 pub next_at : (ps : List ℕ) (n q : ℕ) → n < length ps → q ≡ get_or ps n q → drop n ps ≡ q ∷ drop (n + 1) ps
 next_at ps n q lt is = drop_more ps n q lt ∙ ap (λ x. x ∷ drop (n + 1) ps) (sym is)
 
--- where a window's next place isn't this one, a smaller one comes before it, if this one is left
+-- if a window's next place isn't this one, a smaller one comes before it, if this one is left
 pub stuck_at : (place : ℕ) (ps : List ℕ) (high n q : ℕ) → Climbs 0 ps high → n < length ps → q ≡ get_or ps n q → (q ≡ place → ⊥) → IsStuck place (drop n ps)
 stuck_at place ps high n q c lt is differ =
     let next = next_at ps n q lt is in
@@ -66,11 +66,11 @@ some_behind [] n lt = absurd (omega arith)
 some_behind (p ∷ ps) zero lt = let h : times p (p ∷ ps) ≡ suc (times p ps) = times_hit p p ps refl in (p, omega (arith, h))
 some_behind (p ∷ ps) (suc n) lt = some_behind ps n (omega arith)
 
--- a cursor is past the places exactly where none of them is left
+-- a cursor is past the places exactly if none of them is left
 pub at_end : (b : Bool) (ps : List ℕ) (n : ℕ) → leb (length ps) n ≡ b → MatchBool b (drop n ps ≡ []) ((p : ℕ) × (0 < times p (drop n ps)))
 at_end x0 ps n is = grind (arith, nat_tests, drop_all, leb-true, some_behind, leb-false)
 
--- where two parts of what is left have a smaller place beside this one, so do they together
+-- if two parts of what is left have a smaller place beside this one, so do they together
 pub stuck_append : (place : ℕ) (xs ys : List ℕ) → IsStuck place xs → IsStuck place ys → IsStuck place (xs ++ ys)
 stuck_append place xs ys f h some = ⊎_elim
     (λ (l : 0 < times place xs). let t = f l in (t.0, t.1, t.2, omega (arith, t.3, times_append t.0 xs ys)))
@@ -85,12 +85,12 @@ left_suc (v ∷ ws) [] i w lw lc = absurd (omega arith)
 left_suc (v ∷ ws) (c ∷ cs) zero w lw lc = append-nil (drop c v.places)
 left_suc (v ∷ ws) (c ∷ cs) (suc i) w lw lc = grind (arith, nat_tests, append-nil, drop, append_assoc, left_of, take, get_or, left_suc ws cs i w (omega arith) (omega arith))
 
--- what is left of one window more, from its cursor on, comes behind what is left of the others
+-- what is left of one window more, from its cursor on, comes after what is left of the others
 left_more : (ws : List WindowValue) (cs : List ℕ) (i : ℕ) (w : WindowValue) → i < length ws → i < length cs
     → left_of (take (i + 1) ws) (take (i + 1) cs) ≡ left_of (take i ws) (take i cs) ++ drop (get_or cs i 0) (get_or ws i w).places
 left_more ws cs i w lw lc = ap (λ k. left_of (take k ws) (take k cs)) (add-one i) ∙ left_suc ws cs i w lw lc
 
--- cursors behind the last window play no part
+-- cursors after the last window play no part
 pub left_all : (ws : List WindowValue) (cs : List ℕ) (n : ℕ) → n ≡ length ws → left_of (take n ws) (take n cs) ≡ left_of ws cs
 left_all [] cs zero is = refl
 left_all [] cs (suc n) is = absurd (omega (arith, is))
@@ -124,7 +124,7 @@ pub record Stands (ws : List WindowValue) (cs : List ℕ) (i : ℕ) (w : WindowV
   pub cursor : i < length cs
 
 module _ (ws : List WindowValue) (cs : List ℕ) (i : ℕ) (w : WindowValue) (at : Stands ws cs i w) where
-  -- what is left of this window comes behind what is left of those before it
+  -- what is left of this window comes after what is left of those before it
   pub window_more : left_of (take (i + 1) ws) (take (i + 1) cs) ≡ left_of (take i ws) (take i cs) ++ drop (get_or cs i 0) w.places
   window_more = grind (arith, nat_tests, left_more, left_of, take, drop, get_or)
 

@@ -1,15 +1,16 @@
--- What absorbing an event does to a copy of what is published.
+-- The effect of absorbing an event on a copy of the published data.
 use Rattle.std.specs.Prelude.{ℕ, ◌&&◌, nat_lt, if◌then◌else◌, List, [], ◌∷◌, ◌++◌, length}
 use Rattle.mml_board.specs.declared.event.Event.{Event}
 use Rattle.mml_board.specs.World.{World}
 use Rattle.mml_board.specs.Events.{can_absorb, after}
 use Rattle.mml_window.specs.declared.published.Common.{Common}
 
--- what two copies of what is published have in common: a board, the most events that it may come to, and those that made it
+-- what both copies of the published data have in common: a board, the most events that it may come to, and those that
+-- made it
 abbrev pub common : World → ℕ → List Event → Common
 common board limit events = record { board = board; limit = limit; events = events }
 
--- the copy after the event, which stands behind the others; the copy as it was where there is no room or the event may
--- not happen
+-- the copy after the event, which stands after the others; the copy as it was if there is no room or the event may not
+-- happen
 abbrev pub absorbs : Common → Event → Common
 absorbs s e = if (nat_lt (length s.events) s.limit && can_absorb s.board e) then common (after s.board e) s.limit (s.events ++ e ∷ []) else s

@@ -1,4 +1,4 @@
--- What an answer to an act says.
+-- The answer to an act.
 use Rattle.std.specs.Prelude.{◌≡◌, ◌⊎◌, ℕ, ◌+◌, true, false, List, [], ◌∷◌, ◌++◌, length, Option, Some}
 use mathlib.Core.List.{IsPrefix}
 use Rattle.mml_lab.specs.declared.who.Who.{Who}
@@ -17,20 +17,20 @@ use Rattle.mml_window.specs.Rulings.{ruling_at}
 use Rattle.mml_window.specs.Windows.{WindowValue, window, window_with}
 use Rattle.mml_window.specs.Books.{BookValue, IsBook, Grows, HaltsBook}
 
--- the act would be granted, as some event, in the world that the list leaves
+-- the act would be granted, as some event, in the world after the list
 abbrev pub Grants : LabValue → List Event → Who → Command → Type 0
 Grants lab l who command = (e : Event) × (done : Done) × (ruling_at lab (world_in lab l) who command ≡ ruling.Granted e done)
 
--- in the world that the list leaves the act is granted as this event, which does this and has the next place; the number is that of the
--- configuration after it
+-- in the world after the list the act is granted as this event, with this effect and the next place; the number is that
+-- of the configuration after it
 pub record Takes (lab : LabValue) (l : List Event) (who : Who) (command : Command) (e : Event) (place number : ℕ) (done : Done) : Type 0 where
   pub ruled : ruling_at lab (world_in lab l) who command ≡ ruling.Granted e done
   pub next : place ≡ length l + 1
   pub placed : place ≡ (world_in lab (l ++ e ∷ [])).place
   pub numbered : number ≡ (world_in lab (l ++ e ∷ [])).number
 
--- what deciding does to the book, by the answer: a denial, no room and no memory leave it as it was; it halts where the journal fails, if
--- it wasn't halted already; a grant adds the event
+-- the effect of deciding on the book, by the answer: a denial, no room and no memory leave it as it was; it halts if
+-- the journal fails, if it wasn't halted already; a grant adds the event
 abbrev pub Decides : {S : Type 0} → LabValue → (S → ℕ) → BookValue S → Who → Command → Answer → BookValue S → Type 0
 Decides lab failures old who command (Denied d) new = (ruling_at lab (world_in lab old.events) who command ≡ ruling.Denied d) × (new ≡ old)
 Decides lab failures old who command (Refused Full) new =
@@ -41,8 +41,8 @@ Decides lab failures old who command (Refused Memory) new = Grants lab old.event
 Decides lab failures old who command (Granted place number done) new =
     (e : Event) × Takes lab old.events who command e place number done × Grows failures old new e
 
--- what letting a legal event happen does to the book, where there is room and the journal isn't halted: without memory it is as it was,
--- it halts where the journal fails, and else it has the event
+-- the effect of a legal event on the book, if there is room and the journal isn't halted: without memory it is as it
+-- was, it halts if the journal fails, and else it has the event
 abbrev pub Lets : {S : Type 0} → LabValue → (S → ℕ) → BookValue S → Event → Done → Answer → BookValue S → Type 0
 Lets lab failures old e done (Denied d) new = ⊥
 Lets lab failures old e done (Refused Full) new = ⊥
@@ -61,17 +61,17 @@ Says lab l places who command (Refused Memory) new = Grants lab l who command ×
 Says lab l places who command (Granted place number done) new =
     (e : Event) × Takes lab l who command e place number done × (new ≡ window (l ++ e ∷ []) (places ++ place ∷ []))
 
--- the answer is given at a legal list that begins with all that the window had seen
+-- the answer is decided at a legal list that begins with all events that the window had seen
 abbrev pub Answers : LabValue → WindowValue → Who → Command → Answer → WindowValue → Type 0
 Answers lab old who command answer new = (l : List Event) × IsPrefix old.seen l × (is_legal_in lab l ≡ true) × Says lab l old.places who command answer new
 
--- the answer is given at a legal list that begins with all that the window had seen, and leaves this world
+-- the answer is decided at a legal list that begins with all events that the window had seen, and leaves this world
 abbrev pub AnswersAt : LabValue → World → WindowValue → Who → Command → Answer → WindowValue → Type 0
 AnswersAt lab w old who command answer new =
     (l : List Event) × IsPrefix old.seen l × (is_legal_in lab l ≡ true) × (world_in lab l ≡ w) × Says lab l old.places who command answer new
 
--- A book of the lab decides the act, and the list at which the answer is given leaves the world of that very book: no event that it has
--- was left out. What the window has then seen leaves the world of the book as it is afterwards
+-- A book of the lab decides the act, and the list at which the answer is decided leaves the world of that very book: no
+-- event that it has was left out. What the window has then seen leaves the world of the book as it is afterwards
 pub record AnswersAtPresent {S : Type 0} (lab : LabValue) (contents : S → Option (List ℕ)) (failures : S → ℕ) (old : WindowValue) (who : Who)
     (command : Command) (answer : Answer) (new : WindowValue) : Type 0 where
   pub before : BookValue S

@@ -1,4 +1,4 @@
--- What is ruled in a world of a lab.
+-- The rulings in a world of a lab.
 use Rattle.std.specs.Prelude.{Bool, false}
 use Rattle.mml_lab.specs.declared.who.Who.{Who}
 use Rattle.mml_lab.specs.Labs.{LabValue}
@@ -7,10 +7,10 @@ use Rattle.mml_policy.specs.declared.command.Command.{Command}
 use Rattle.mml_policy.specs.declared.ruling.Ruling.{Ruling}
 use Rattle.mml_policy.specs.Rulings.{ruling}
 
--- what comes of a command in a world of the lab, by whether the journal is halted
+-- the ruling on a command in a world of the lab, by whether the journal is halted
 abbrev pub ruling_while : LabValue → Bool → World → Who → Command → Ruling
 ruling_while lab is_halted w who command = ruling lab.ids lab.roster lab.events is_halted w who command
 
--- what comes of a command in a world of the lab while the journal isn't halted
+-- the ruling on a command in a world of the lab while the journal isn't halted
 abbrev pub ruling_at : LabValue → World → Who → Command → Ruling
 ruling_at lab w who command = ruling_while lab false w who command

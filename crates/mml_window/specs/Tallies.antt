@@ -1,4 +1,4 @@
--- The places that windows were told, counted.
+-- The places that windows were given, counted.
 use Rattle.std.specs.Prelude.{◌≡◌, ℕ, suc, ◌==◌, ◌&&◌, nat_lt, nat_le, if◌then◌else◌, List, [], ◌∷◌, ◌++◌}
 use Rattle.mml_window.specs.Windows.{WindowValue}
 

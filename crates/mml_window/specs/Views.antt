@@ -1,4 +1,4 @@
--- What a view says.
+-- What a view returns.
 use Rattle.std.specs.Prelude.{◌≡◌, ℕ, Result, Ok, Err}
 use Rattle.mml_lab.specs.declared.who.Who.{Who}
 use Rattle.mml_lab.specs.Labs.{LabValue}
@@ -17,14 +17,15 @@ abbrev pub TellsNumber : LabValue → WindowValue → Result ℕ Closed → Wind
 TellsNumber lab old (Ok n) new = (n ≡ (world_in lab new.seen).number) × SeesOn lab old new
 TellsNumber lab old (Err closed) new = new ≡ old
 
--- what is ruled is shown, or it is denied; out of memory says that it would be shown
+-- what is ruled is shown, or it is denied; the refusal `memory` means that it would be shown
 abbrev pub Shows : {A : Type 0} → (A → Ruling) → Ruling → Result A SightFault → Type 0
 Shows shown r (Ok x) = r ≡ shown x
 Shows shown r (Err (fault.Denied d)) = r ≡ Denied d
 Shows {A} shown r (Err fault.Memory) = (x : A) × (r ≡ shown x)
 Shows shown r (Err fault.Closed) = ⊥
 
--- a view is answered as is ruled in the world of the list that the window has then seen; a closed window has seen nothing more
+-- a view is answered as is ruled in the world of the list that the window has then seen; a closed window has seen
+-- nothing more
 abbrev pub AnswersView : {A : Type 0} → (A → Ruling) → LabValue → WindowValue → Who → Command → Result A SightFault → WindowValue → Type 0
 AnswersView shown lab old who command (Ok x) new = Shows shown (ruling_at lab (world_in lab new.seen) who command) (Ok x) × SeesOn lab old new
 AnswersView shown lab old who command (Err (fault.Denied d)) new = (ruling_at lab (world_in lab new.seen) who command ≡ Denied d) × SeesOn lab old new

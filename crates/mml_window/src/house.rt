@@ -25,11 +25,11 @@ impl House for Brand {
     ghost lab = { no_lab };
 }
 
-/// A reader's slot at what a house publishes.
+/// A reader's slot of the published data.
 pub(crate) type Slot<H> = Reader<Published, View, Publishing<H>>;
 
 /// A reader that has entered, with what it reads.
 pub(crate) type Entered<H> = Reading<Published, View, Publishing<H>>;
 
-/// What publishes for a house.
+/// The publisher of a house.
 pub(crate) type Press<H> = Writer<Published, Event, View, Publishing<H>>;

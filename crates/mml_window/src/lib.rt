@@ -1,4 +1,4 @@
-//! One list of events behind a lock, and windows that see what is published without it.
+//! One list of events under a lock, and windows that see what is published without taking the lock.
 #![tactic(auto)]
 
 mod answer;

@@ -1,4 +1,4 @@
-//! How a reader looks at what is published.
+//! How a reader looks at the published data.
 ghost use Rattle.std.specs.Prelude.{◌≡◌, true, length, IfSome, IfNone};
 ghost use Rattle.std.specs.Fn.{FnReturnsAt};
 ghost use Rattle.left_right.specs.Sides.{view};
@@ -12,7 +12,7 @@ use crate::seeing::Seeing;
 use std::marker::Model;
 use std::sync::Wait;
 
-/// A reader of what a house publishes: its slot there, with how many events it has seen.
+/// A reader of what a house publishes: its slot, and how many events it has seen.
 #[derive(Drop)]
 pub(crate) struct Reader<H: House> {
     slot: Slot<H>,
@@ -32,7 +32,7 @@ impl<H: House> Model for Reader<H> {
 }
 
 impl<H: House> Reader<H> {
-    /// How many events it has seen.
+    /// Returns how many events it has seen.
     pub(crate) fn count(&self) -> u64
         ensures { result ≡ length self.now.seen }
     {
@@ -40,7 +40,7 @@ impl<H: House> Reader<H> {
     }
 }
 
-/// Makes a reader that has seen nothing, where there is none yet and a slot is free.
+/// Makes a reader that has seen nothing, if there is none yet and a slot is free.
 pub(crate) fn take_slot<H: House>(press: &Press<H>, reader: &mut Option<Reader<H>>)
     ensures { view_by reader.new ≡ view_by reader.old }
 {
@@ -51,8 +51,8 @@ pub(crate) fn take_slot<H: House>(press: &Press<H>, reader: &mut Option<Reader<H
     }
 }
 
-/// Lets the reader enter what is published: it is taken out, with what it reads, until it leaves. `None` where there is
-/// no reader, or where the writer is gone; then the reader stays.
+/// Makes the reader enter what is published: it is taken out, with what it reads, until it leaves. Returns `None` if
+/// there is no reader, or if the writer is gone; then the reader stays.
 pub(crate) fn enter<H: House>(reader: &mut Option<Reader<H>>) -> Option<Entered<H>>
     ensures saw { IfSome result (λ reading.
         Saw H.lab (view_by reader.old) reading.part.value (view reading.place)) }
@@ -70,8 +70,7 @@ pub(crate) fn enter<H: House>(reader: &mut Option<Reader<H>>) -> Option<Entered<
     }
 }
 
-/// Lets a reader leave what it has entered, and gives the reader back: it has seen all events of that, and has their
-/// count.
+/// Makes a reader leave what it has entered. Returns the reader: it has seen all events of that, and has their count.
 pub(crate) fn leave<H: House>(reading: Entered<H>) -> Reader<H>
     requires { view reading.place ≡ viewer reading.part.value.events.items }
     ensures { result ≡ view reading.place }
@@ -83,9 +82,9 @@ pub(crate) fn leave<H: House>(reading: Entered<H>) -> Reader<H>
     }
 }
 
-/// Lets a reader look until `is_sought` says that it sees what is sought; where there is no reader, one is made first,
-/// as soon as a slot is free. While `press` is lent nothing is published, so where what is sought is what `press`
-/// shows, the first look finds it.
+/// Looks again and again with a reader until `is_sought` says that it sees what is sought. If there is no reader, makes
+/// one first, as soon as a slot is free. While `press` is borrowed nothing is published, so if what is sought is what
+/// `press` shows, the first look finds it.
 pub(crate) fn look_for<H: House, R: Wait, F: Fn(&Published) -> bool>(
     rt: &R,
     press: &Press<H>,

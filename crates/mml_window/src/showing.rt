@@ -1,4 +1,4 @@
-//! What a board shows of what a view asks.
+//! The views of a board.
 ghost use Rattle.std.specs.Prelude.{◌≡◌, ◌≢◌, length, IfOk, IfErr};
 ghost use Rattle.mml_policy.specs.declared.command.Command.TheVariants as command;
 ghost use Rattle.mml_policy.specs.declared.ruling.Ruling.TheVariants as rulings;
@@ -14,7 +14,7 @@ use mml_policy::{Course, Look, See, look_of, may_look, may_report, may_see, see_
 use mml_stable::{Report, report};
 use std::alloc::Global;
 
-/// What the clauses of a command are looked up in: the board, and the lab's nodes and roster.
+/// Returns the data in which the clauses of a command are checked: the board, and the lab's nodes and roster.
 fn course_in<'a>(board: &'a Board, lab: &'a Lab) -> Course<'a>
     ensures board { result.board.now ≡ board.now }
     ensures ids { result.ids.now ≡ lab.now.ids }
@@ -27,7 +27,8 @@ fn course_in<'a>(board: &'a Board, lab: &'a Lab) -> Course<'a>
     }
 }
 
-/// What a node shows to those who may see it; `Denied` with the clause that keeps it from `who`. It takes no memory.
+/// Returns what a node shows to those who may see it, or `Denied` with the clause that hides it from `who`. Allocates
+/// nothing.
 pub(crate) fn see_at(board: &Board, lab: &Lab, who: Who, node: u64) -> Result<See, SightFault>
     requires { length lab.now.ids ≡ length board.now.network.registers }
     ensures shows { Shows rulings.Seen (ruling_at lab.now board.now who (command.See node)) result }
@@ -40,7 +41,7 @@ pub(crate) fn see_at(board: &Board, lab: &Lab, who: Who, node: u64) -> Result<Se
     }
 }
 
-/// What a node shows to its owners and the teacher; to others `Denied`; `Memory` where memory was refused.
+/// Returns what a node shows to its owners and the teacher, or `Denied` to others. Returns `Memory` if memory runs out.
 pub(crate) fn look_at(
     alloc: Global,
     board: &Board,
@@ -61,7 +62,8 @@ pub(crate) fn look_at(
     }
 }
 
-/// The report on the board's configuration, for the teacher; to others `Denied`; `Memory` where it was refused.
+/// Returns the report on the board's configuration to the teacher, or `Denied` to others. Returns `Memory` if memory
+/// runs out.
 pub(crate) fn report_at(
     alloc: Global,
     board: &Board,

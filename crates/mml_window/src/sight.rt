@@ -1,6 +1,6 @@
 use mml_policy::Denial;
 
-/// The writer is gone, or the window has no reader's slot.
+/// The error of a window whose writer is gone or that has no reader's slot.
 #[derive(Clone, Copy, Debug, PartialEq, Eq)]
 pub struct Closed;
 
@@ -9,7 +9,7 @@ pub struct Closed;
 pub enum SightFault {
     /// A clause doesn't hold.
     Denied(Denial),
-    /// Memory was refused. What is asked would be shown.
+    /// Memory ran out. What is asked would be shown.
     Memory,
     /// The writer is gone, or the window has no reader's slot.
     Closed,

@@ -1,4 +1,4 @@
-//! Whether the places of windows are those behind a first one, each once.
+//! Whether the places of windows are those after a first one, each once.
 ghost use Rattle.std.specs.Prelude.{◌≡◌, ℕ, ◌+◌, ◌<◌, ◌≤◌, [], ◌∷◌, length, MatchBool};
 ghost use Rattle.mml_lab.specs.declared.TheConstants.{MAX_SESSIONS};
 ghost use Rattle.mml_window.specs.Tallies.{times, told_of, IsEachOnceFrom};
@@ -11,7 +11,7 @@ use crate::window::Window;
 /// sessions.
 type Cursors = [usize; 16];
 
-/// How many places the windows have in all.
+/// Returns how many places the windows have in all.
 pub(crate) fn count_places<H: House>(windows: &[Window<H>]) -> u64
     requires few { length windows.now ≤ MAX_SESSIONS }
     ensures { result ≡ length (told_of windows.now) }
@@ -23,8 +23,8 @@ pub(crate) fn count_places<H: House>(windows: &[Window<H>]) -> u64
     count
 }
 
-/// Whether the windows' places are those above `first` and up to `most`, each once; `false` where `first` is above
-/// `most`. The places of each window climb, so one pass with a cursor for each tells it.
+/// Returns whether the windows' places are those above `first` and up to `most`, each once, and `false` if `first` is
+/// above `most`. The places of each window climb, so one pass with a cursor for each is enough.
 pub(crate) fn is_each_once<H: House>(windows: &[Window<H>], first: u64, most: u64) -> bool
     requires few { length windows.now ≤ MAX_SESSIONS }
     ensures { MatchBool result (IsEachOnceFrom first most (told_of windows.now))
@@ -42,7 +42,7 @@ pub(crate) fn is_each_once<H: House>(windows: &[Window<H>], first: u64, most: u6
     are_counted_off(windows, &cursors)
 }
 
-/// Moves on the cursor of the first window whose next place is `place`; `false` where that is no window's next.
+/// Advances the cursor of the first window whose next place is `place`. Returns `false` if that is no window's next.
 fn count_off<H: House>(windows: &[Window<H>], cursors: &mut Cursors, place: u64) -> bool
     requires few { length windows.now ≤ MAX_SESSIONS }
     ensures { MatchBool result ((p : ℕ) → times p (left_of windows.now cursors.old)
@@ -58,7 +58,7 @@ fn count_off<H: House>(windows: &[Window<H>], cursors: &mut Cursors, place: u64)
     false
 }
 
-/// Whether each window's cursor is past all its places.
+/// Returns whether each window's cursor is past all its places.
 fn are_counted_off<H: House>(windows: &[Window<H>], cursors: &Cursors) -> bool
     requires few { length windows.now ≤ MAX_SESSIONS }
     ensures { MatchBool result (left_of windows.now cursors.now ≡ [])

@@ -30,11 +30,11 @@ use std::marker::{Model, PhantomData};
 use std::sync::{Arc, Wait};
 
 /// A reader of what a house publishes, with the places that its asker was granted. No public call of a window takes the
-/// runtime, so none of its public calls can wait for the lock.
+/// runtime, so none can wait for the lock.
 #[derive(Drop)]
 pub struct Window<H: House> {
-    // None while a call of this crate is at work, and where there was no reader's slot at the start:
-    // then nothing was seen.
+    // None while a call of this crate is at work, and if there was no reader's slot at the start: then nothing was
+    // seen.
     reader: Option<Reader<H>>,
     lab: Arc<Lab>,
     places: Vec<u64>,
@@ -59,7 +59,8 @@ impl<H: House> Model for Window<H> {
 }
 
 impl<H: House> Window<H> {
-    /// A window that has seen nothing and has no reader yet; `places` has room for the places that it may be granted.
+    /// Returns a window that has seen nothing and has no reader yet. `places` has room for the places that it may be
+    /// granted.
     pub(crate) fn new(lab: Arc<Lab>, places: Vec<u64>) -> Window<H>
         requires lawful { IsLab H.lab }
         requires lab { arc_value lab ≡ H.lab }
@@ -76,14 +77,14 @@ impl<H: House> Window<H> {
         }
     }
 
-    /// Takes a reader's slot at what is published, where it has none yet and one is free.
+    /// Takes a reader's slot at what is published, if it has none yet and one is free.
     pub(crate) fn take_slot(&mut self, press: &Press<H>)
         ensures { self.new ≡ self.old }
     {
         take_slot(press, &mut self.reader);
     }
 
-    /// How many events it has seen.
+    /// Returns how many events it has seen.
     pub fn seen_count(&self) -> u64
         ensures { result ≡ length self.now.seen }
     {
@@ -93,15 +94,15 @@ impl<H: House> Window<H> {
         }
     }
 
-    /// Why the window's last act was refused; none where it was granted or denied, and before any act.
+    /// Returns why the window's last act was refused, or `None` if it was granted or denied, or before any act.
     pub fn refused(&self) -> Option<Refusal>
         ensures { result ≡ self.now.refused }
     {
         self.refused
     }
 
-    /// Keeps what an answer says: why the act was refused, if it was; and, where it was granted, the event's place,
-    /// once the window sees the list that ends in that event.
+    /// Keeps what an answer says: why the act was refused, if it was, or the event's place, if it was granted, once the
+    /// window sees the list that ends in that event.
     #[tactic(auto, using(crate::proofs::ClimbingLemmas::climbs_count))]
     pub(crate) fn keep<R: Wait>(&mut self, rt: &R, press: &Press<H>, answer: &Answer)
         requires { IsNextPlace H.lab self.old.seen press.now.desk.shown.value.events.items answer.now }
@@ -125,7 +126,7 @@ impl<H: House> Window<H> {
         }
     }
 
-    /// The nodes' identifiers.
+    /// Returns the nodes' identifiers.
     pub fn ids(&self) -> &IdTable
         ensures ids { result.now ≡ H.lab.ids }
         ensures window { IsWindow H.lab self.now }
@@ -133,7 +134,7 @@ impl<H: House> Window<H> {
         self.lab.ids()
     }
 
-    /// Who takes part, and who owns which node.
+    /// Returns the roster: who takes part, and who owns which node.
     pub fn roster(&self) -> &Roster
         ensures roster { result.now ≡ H.lab.roster }
         ensures window { IsWindow H.lab self.now }
@@ -141,7 +142,8 @@ impl<H: House> Window<H> {
         self.lab.roster()
     }
 
-    /// The number of the published configuration; `Closed` where the writer is gone, or there is no reader's slot.
+    /// Returns the number of the published configuration. Returns `Closed` if the writer is gone, or there is no
+    /// reader's slot.
     #[tactic(auto, using(crate::proofs::ClimbingLemmas::climbs_on))]
     pub fn number(&mut self) -> Result<u64, Closed>
         ensures { TellsNumber H.lab self.old result self.new }
@@ -154,8 +156,8 @@ impl<H: House> Window<H> {
         Ok(number)
     }
 
-    /// What a node shows to those who may see it, and to others the clause that denies it. It takes no memory. `Closed`
-    /// where the writer is gone, or there is no reader's slot.
+    /// Returns what a node shows to those who may see it, or `Denied` with the clause that hides it. Allocates nothing.
+    /// Returns `Closed` if the writer is gone, or there is no reader's slot.
     #[tactic(auto, using(crate::proofs::ClimbingLemmas::climbs_on))]
     pub fn see(&mut self, who: Who, node: u64) -> Result<See, SightFault>
         ensures tells { AnswersView rulings.Seen H.lab self.old who (command.See node) result self.new }
@@ -170,8 +172,8 @@ impl<H: House> Window<H> {
         see
     }
 
-    /// What a node shows to its owners and the teacher, and to others the clause that denies it; `Memory` where memory
-    /// was refused, and `Closed` where the writer is gone, or there is no reader's slot.
+    /// Returns what a node shows to its owners and the teacher, or `Denied` to others. Returns `Memory` if memory runs
+    /// out, and `Closed` if the writer is gone, or there is no reader's slot.
     #[tactic(auto, using(crate::proofs::ClimbingLemmas::climbs_on))]
     pub fn look(&mut self, alloc: Global, who: Who, node: u64) -> Result<Look, SightFault>
         ensures tells { AnswersView rulings.Looked H.lab self.old who (command.Look node) result
@@ -186,8 +188,8 @@ impl<H: House> Window<H> {
         look
     }
 
-    /// The report on the published configuration, for the teacher, and for others the clause that denies it; `Memory`
-    /// where memory was refused, and `Closed` where the writer is gone, or there is no reader's slot.
+    /// Returns the report on the published configuration to the teacher, or `Denied` to others. Returns `Memory` if
+    /// memory runs out, and `Closed` if the writer is gone, or there is no reader's slot.
     #[tactic(auto, using(crate::proofs::ClimbingLemmas::climbs_on))]
     pub fn report(&mut self, alloc: Global, who: Who) -> Result<Report, SightFault>
         ensures tells { AnswersView (λ r. rulings.Reported) H.lab self.old who command.Report result
@@ -228,7 +230,7 @@ impl<H: House> Window<H> {
         });
     }
 
-    /// How many places it was granted.
+    /// Returns how many places it was granted.
     pub(crate) fn place_count(&self) -> u64
         ensures count { result ≡ length self.now.places }
         ensures few { result ≤ MAX_EVENTS }
@@ -236,8 +238,8 @@ impl<H: House> Window<H> {
         self.places.len() as u64
     }
 
-    /// Whether the window's place at the cursor, before which all are counted off, is `place`; `false` too where there
-    /// is none at the cursor.
+    /// Returns whether the window's place at the cursor, before which all are counted off, is `place`. Returns `false`
+    /// if there is none at the cursor.
     pub(crate) fn is_next(&self, cursor: usize, place: u64) -> bool
         ensures next { IsTrue result → (drop cursor self.now.places
             ≡ place ∷ drop (cursor + 1) self.now.places) × (cursor < MAX_EVENTS) }
@@ -249,7 +251,7 @@ impl<H: House> Window<H> {
         }
     }
 
-    /// Whether the cursor is past all its places.
+    /// Returns whether the cursor is past all its places.
     pub(crate) fn is_counted_off(&self, cursor: usize) -> bool
         ensures { MatchBool result (drop cursor self.now.places ≡ [])
             ((p : ℕ) × (0 < times p (drop cursor self.now.places))) }

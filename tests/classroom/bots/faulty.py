@@ -36,7 +36,7 @@ def ask(me: Client, look: Look) -> bool:
 
 
 def entered() -> Client:
-    """Returns a connection that was let in; where all seats are taken it comes again."""
+    """Returns a connection that was let in; if all seats are taken it comes again."""
     while True:
         try:
             return Client.of(SLIP)
@@ -68,7 +68,7 @@ def never_updates(me: Client, look: Look) -> None:
 
 
 def marries_anyone(me: Client, look: Look) -> None:
-    """Where it may do anything it asks for a marriage with its first neighbour."""
+    """If it may do anything it asks for a marriage with its first neighbour."""
     if look.rule and not look.chosen:
         me.move(look, "marriage", look.near[0].node)
 
@@ -100,7 +100,7 @@ def floods(me: Client, look: Look) -> None:
 
 
 def ignores_faults() -> None:
-    """It believes itself done where each of its nodes was granted the move by which it says that it is married."""
+    """It believes itself done if each of its nodes was granted the move by which it says that it is married."""
     left = set(SLIP.nodes)
     with Client.of(SLIP) as me:
         while left:
@@ -129,7 +129,7 @@ def hangs() -> None:
 
 
 def sulks() -> None:
-    """It waits for ever where its connection is closed."""
+    """It waits for ever if its connection is closed."""
     try:
         loop(right)
     except Closed:
@@ -154,13 +154,13 @@ def never_ends_a_line() -> None:
 
 
 def forks() -> None:
-    """It leaves a program behind, in a session of its own, and ends."""
+    """It leaves a program running, in a session of its own, and ends."""
     subprocess.Popen(["sleep", SLEEP], start_new_session=True)
     os._exit(0)
 
 
 def leaves() -> None:
-    """It leaves a program behind, and goes on as it should."""
+    """It leaves a program running, and goes on as it should."""
     subprocess.Popen(["sleep", SLEEP], start_new_session=True)
     loop(right)
 
@@ -187,7 +187,7 @@ def pretends() -> None:
 
 
 def swaps_output() -> None:
-    """It puts a pipe that nobody fills where its output was kept once, and ends."""
+    """It puts a pipe that nobody fills in the place of its kept output, and ends."""
     output = Path(os.environ["HOME"]) / "output.txt"
     output.unlink(missing_ok=True)
     os.mkfifo(output)
@@ -203,7 +203,7 @@ def halts() -> None:
 
 
 def kills() -> None:
-    """It kills whoever started it, and leaves programs behind that don't have its environment."""
+    """It kills whoever started it, and leaves programs running that don't have its environment."""
     for _ in range(3):
         subprocess.Popen(["/bin/sleep", SLEEP], start_new_session=True, env={"HOME": "/"})
     keeper = os.getppid()
@@ -281,7 +281,7 @@ def shares_memory() -> None:
 
 
 def links() -> None:
-    """It puts a link where its output was kept once, and ends."""
+    """It puts a link in the place of its kept output, and ends."""
     output = OWN.parent / "output.txt"
     output.unlink(missing_ok=True)
     output.symlink_to(GIVEN[0])
@@ -305,7 +305,7 @@ def digs() -> None:
 
 
 def tries(what: Callable[[], object]) -> str:
-    """Whether something can be done."""
+    """Returns whether something can be done."""
     try:
         return str(bool(what()))
     except OSError:

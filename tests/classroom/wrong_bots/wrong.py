@@ -1,5 +1,5 @@
 #!/usr/bin/env python3
-"""Bots with one mistake each: wrong.py NAME SLIP, where `right` is the one without a mistake."""
+"""Bots with one mistake each: wrong.py NAME SLIP, if `right` is the one without a mistake."""
 from __future__ import annotations
 
 import re

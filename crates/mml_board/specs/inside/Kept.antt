@@ -1,4 +1,4 @@
--- How a board keeps its world.
+-- How a board stores its world.
 use Rattle.std.specs.Prelude.{◌≡◌, ℕ, is_some, Option, List}
 use Rattle.std.specs.FinSet as set
 use Rattle.std.specs.FinSet.{FinSet}

@@ -7,12 +7,12 @@ use Rattle.mml_rules.specs.declared.regs.Regs.{Regs}
 use Rattle.mml_rules.specs.Configuration.{holds}
 use Rattle.mml_rules.specs.Network.{neighbours_at, registers_at, with_neighbour, without_neighbour}
 
--- the rows with the node among those that point at p; the same rows where p is null
+-- the rows with the node among those that point at p; the same rows if p is null
 abbrev pub with_suitor : List (FinSet nat_cmp) → Option ℕ → ℕ → List (FinSet nat_cmp)
 with_suitor suitors None node = suitors
 with_suitor suitors (Some i) node = with_neighbour suitors i node
 
--- the rows with the node not among those that point at p; the same rows where p is null
+-- the rows with the node not among those that point at p; the same rows if p is null
 abbrev pub without_suitor : List (FinSet nat_cmp) → Option ℕ → ℕ → List (FinSet nat_cmp)
 without_suitor suitors None node = suitors
 without_suitor suitors (Some i) node = without_neighbour suitors i node

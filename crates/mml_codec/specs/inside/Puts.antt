@@ -20,11 +20,11 @@ unfoldable pub deny_parts : Denial → List ℕ
 deny_parts d = number_front (current_number d) ++ concat (codes "\"clause\":" ∷ decimal (clause_of d) ∷ codes ",\"deny\":\"" ∷ denials.denial_name d
     ∷ codes "\",\"text\":\"" ∷ text_of d ∷ codes "\"}" ∷ [])
 
--- what a look says before the nodes that are linked to the one that is looked at
+-- the part of a look before its neighbour list
 abbrev pub look_head : Look → List (List ℕ)
 look_head l = codes "{\"at\":" ∷ decimal l.at ∷ codes ",\"chosen\":" ∷ kind_or_null l.chosen ∷ codes ",\"m\":" ∷ truth_text l.regs.m ∷ codes ",\"near\":[" ∷ []
 
--- what a look says after the nodes that are linked to the one that is looked at
+-- the part of a look after its neighbour list
 abbrev pub look_tail : List ℕ → Look → List (List ℕ)
 look_tail ids l = codes "],\"node\":" ∷ node_text ids l.node ∷ codes ",\"ok\":\"look\",\"p\":" ∷ pointer_text ids l.regs.p
     ∷ codes ",\"rule\":" ∷ kind_or_null l.enabled ∷ codes "}" ∷ []
@@ -33,6 +33,6 @@ look_tail ids l = codes "],\"node\":" ∷ node_text ids l.node ∷ codes ",\"ok\
 unfoldable pub joined_text : List (List ℕ) → List ℕ
 joined_text texts = concat texts
 
--- the text of a look, as it is put: its head, the nodes that are linked, its tail
+-- the text of a look, as it is put: its head, its neighbour list, its tail
 unfoldable pub look_parts : List ℕ → Look → List ℕ
 look_parts ids l = concat (joined_text (look_head l) ∷ separated (map (near_text ids) l.near) ∷ joined_text (look_tail ids l) ∷ [])

@@ -1,4 +1,4 @@
--- How a set of ranks is kept in words of 64 bits.
+-- How a set of ranks is stored in words of 64 bits.
 use Rattle.std.specs.Prelude.{ℕ, zero, suc, Bool, ◌≡◌, ◌<◌, ◌+◌, ◌*◌, ◌/◌, ◌%◌, ◌^◌, ◌==◌, if◌then◌else◌, List, map, length, slice_index}
 use Rattle.std.specs.Int.{bit_at}
 use Rattle.std.specs.List.{range_with_len}
@@ -15,16 +15,16 @@ bit_in words k = bit_at (slice_index words (k / 64)) (k % 64) == 1
 unfoldable pub set_of : ℕ → List ℕ → FinSet nat_cmp
 set_of n words = those_below n (bit_in words)
 
--- the number below 2 ^ n whose bits are ones at exactly the indices that the test is true of
+-- the number below 2 ^ n whose bit at an index is one exactly if the index passes the test
 abbrev pub ones_at : ℕ → (ℕ → Bool) → ℕ
 ones_at zero test = 0
 ones_at (suc n) test = (if test n then 1 else 0) * 2 ^ n + ones_at n test
 
--- the word at an index, of those that keep a set
+-- the word at an index, of those that store a set
 abbrev pub word_of : FinSet nat_cmp → ℕ → ℕ
 word_of s w = ones_at 64 (λ k. set.contains s (64 * w + k))
 
--- the n words that keep a set
+-- the n words that store a set
 unfoldable pub words_of : ℕ → FinSet nat_cmp → List ℕ
 words_of n s = map (word_of s) (range_with_len 0 n)
 

@@ -1,4 +1,4 @@
--- Which ranks the words keep. It stands here, since the contract of a set's type cites `words_back`.
+-- Which ranks the words store. It stands here, since the contract of a set's type cites `words_back`.
 use Rattle.std.proofs.Common.{◌≡◌, ℕ, zero, suc, ◌<◌, ◌≤◌, ◌+◌, ◌≢◌, Bool, true, false, not, cond, ◌&&◌, ◌||◌, eqb, ltb, List, length, get_or, set, sym, refl}
 use Rattle.std.proofs.Common.{ap, ◌∙◌, subst, arith, inl, inr, get_or-set_same, get_or-set_other, length-set}
 use Rattle.std.proofs.lemmas.Bool.{cases_order, cases_eq, eq-eqb, ne_eqb, eqb-true, eqb-false, lt-ltb, le-ltb}

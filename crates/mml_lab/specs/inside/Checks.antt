@@ -1,4 +1,4 @@
--- What the checks know of a file: links are looked up by rank, and the lab is made of what was found.
+-- The checks of a file: links are looked up by rank, and the lab is made of what was found.
 use Rattle.std.specs.Prelude.{ℕ, ℤ, Bool, false, not, ◌&&◌, List, map, Option, is_some}
 use Rattle.std.specs.Option.{option_map_or}
 use Rattle.std.specs.FinSet as set

@@ -1,4 +1,4 @@
--- What a lab stands for.
+-- The lab that contracts see.
 use Rattle.mml_lab.specs.declared.lab.Lab.TheInside.{Inside}
 use Rattle.mml_lab.specs.Labs.{LabValue, IsLab}
 

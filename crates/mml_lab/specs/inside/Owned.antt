@@ -13,7 +13,7 @@ row_at rows s = slice_index_or rows s set.empty
 abbrev pub is_owner : List (List ℕ) → ℕ → ℕ → Bool
 is_owner owners s i = list_any (λ o. o == s) (slice_index_or owners i [])
 
--- a row for each student, and one more; rank i is in the row of s exactly where s owns i
+-- a row for each student, and one more; rank i is in the row of s exactly if s owns i
 pub record AreOwned (students : ℕ) (owners : List (List ℕ)) (rows : List (FinSet nat_cmp)) : Type 0 where
   pub count : length rows ≡ students + 1
   pub each : (s i : ℕ) → set.contains (row_at rows s) i ≡ is_owner owners s i

@@ -1,4 +1,4 @@
--- What the values that were read stand for.
+-- The values that were read, as contracts see them.
 use Rattle.std.specs.Prelude.{map, String, string_bytes}
 use Rattle.std.specs.declared.alloc.Global.{Global}
 use Rattle.mml_lab.specs.declared.raw_lab.Account.{Account as KeptAccount}
@@ -18,7 +18,7 @@ entry_account e = record { name = string_bytes e.0; key = string_bytes e.1 }
 abbrev pub node_view : RawNode → NodeSpec
 node_view n = record { id = n.id; owners = map string_bytes n.owners.items; both = n.both; p = n.p; m = n.m }
 
--- what a file spells, with bytes for its texts
+-- the contents of a file, with bytes for its texts
 abbrev pub raw_view : RawLab → RawSpec
 raw_view r = record {
   events = r.bounds.events;

@@ -1,4 +1,4 @@
--- What a roster stands for.
+-- The roster that contracts see.
 use Rattle.std.specs.Prelude.{map, length}
 use Rattle.mml_lab.specs.declared.roster.Roster.TheInside.{Inside}
 use Rattle.mml_lab.specs.inside.Raw.{account_view, entry_account}

@@ -1,4 +1,4 @@
-//! How runs end. Each law is the clause of a function that does nothing.
+//! How runs end. Each law is the contract of a function that does nothing.
 ghost use Rattle.std.specs.Prelude.{◌≡◌, ◌+◌, ◌*◌, ◌<◌, ◌≤◌, ℕ, true, false, List, ◌++◌, length, Option, Ok};
 ghost use Rattle.std.specs.List.{list_all};
 ghost use Rattle.mml_rules.specs.Matching.{IsStable};
@@ -16,9 +16,8 @@ ghost use Rattle.mml_window.specs.Logs.{IsLogFrom};
 ghost use Rattle.mml_window.specs.Windows.{WindowValue};
 ghost use Rattle.mml_laws.specs.Ends.{GrantsNoStep};
 
-/// A house that is neither full nor halted, and in which no move of a student and no close would be granted
-/// any longer, has ended where no node is privileged, and the pairs that its report lists are a
-/// maximal matching.
+/// A house that is neither full nor halted, and in which no move of a student and no close would be granted any longer,
+/// has ended with no node privileged, and the pairs that its report lists are a maximal matching.
 pub fn a_house_that_is_over_is_stable<S>()
     ensures { (bytes : List ℕ) (lab : LabValue) (first : ℕ)
         (contents : S → Option (List ℕ)) (windows : List WindowValue) (log : Log S) →
@@ -29,8 +28,8 @@ pub fn a_house_that_is_over_is_stable<S>()
         × IsMaximalMatching (configuration log.board) (report_of log.board).pairs }
 {}
 
-/// Where no fault, link or cut comes after some place of a journal, at most two moves for each link that there is
-/// at that place, and three for each node, are applied after it, and at most as many closes come.
+/// If no fault, link or cut comes after some place of a journal, at most two moves for each link that there is at that
+/// place, and three for each node, are applied after it, and at most as many closes come.
 pub fn few_moves_follow_the_last_fault()
     ensures moves { (lab : LabValue) (es fs : List Event) (bytes : List ℕ) → IsLab lab →
         IsJournalOf lab (es ++ fs) bytes → list_all is_of_step fs ≡ true →

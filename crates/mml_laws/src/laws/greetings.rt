@@ -1,4 +1,4 @@
-//! Who a connection is known as. Each law is the clause of a function that does nothing.
+//! The participant that a connection is known as. Each law is the contract of a function that does nothing.
 ghost use Rattle.std.specs.Prelude.{◌≡◌, ◌⊎◌, ℕ, List, Some, None, Ok};
 ghost use Rattle.mml_lab.specs.declared.who.Who.{Who};
 ghost use Rattle.mml_lab.specs.Labs.{LabValue};
@@ -17,9 +17,9 @@ ghost use Rattle.mml_hall.specs.Turns as hall;
 ghost use Rattle.mml_session.specs.Turns as session;
 ghost use Rattle.mml_laws.specs.Greeted.{IsTold, IsDenied};
 
-/// On a connection that is known, a hello is denied as `greeted`, whatever its name and key, and the
-/// connection stays known as it was; its commands are judged as those of the one who is known. On a connection
-/// that isn't, a command is denied as `not-greeted`, and a hello with the name and key of nobody as `unknown`.
+/// On a connection that is known, a hello is denied as `greeted`, whatever its name and key, and the connection stays
+/// known as it was. Its commands are judged as those of the known participant. On a connection that isn't known, a
+/// command is denied as `not-greeted`, and a hello with the name and key of nobody as `unknown`.
 pub fn a_connection_is_known_as_one()
     ensures again { (r : RosterValue) (x : Who) (name key : List ℕ) →
         greeting r (Some x) (requests.Hello name key)
@@ -33,9 +33,9 @@ pub fn a_connection_is_known_as_one()
         greeting r None (requests.Hello name key) ≡ Answered (reply.Deny denial.Unknown) None }
 {}
 
-/// In a hall a hello on a connection that is known is denied as `greeted`, and a command on one that isn't as
-/// `not-greeted`, or refused as `memory`; neither changes anything. In a plain turn a command on a connection
-/// that is known is ruled on as that of the one who is known.
+/// In a hall, a hello on a connection that is known is denied as `greeted`, and a command on one that isn't as
+/// `not-greeted`, or refused as `memory`. Neither changes anything. In a plain turn, a command on a connection that is
+/// known is ruled on as that of the known participant.
 pub fn a_hall_answers_by_who_is_known()
     ensures again { (lab : LabValue) (st : hall.State) (k : ℕ) (line : List ℕ) (out : hall.Outcome)
         (x : Who) (name key : List ℕ) → hall.known_on st k ≡ Some x →
@@ -51,9 +51,9 @@ pub fn a_hall_answers_by_who_is_known()
         IsTold st (reply.Deny denial.NotGreeted) out }
 {}
 
-/// In a session a hello of one who is known is denied as `greeted`, and a command of one who isn't as
-/// `not-greeted`, or refused as `memory`; neither changes anything. A command of one who is known is answered as
-/// that one's, who stays known, or refused as `memory`.
+/// In a session, a hello on a connection that is known is denied as `greeted`, and a command on one that isn't as
+/// `not-greeted`, or refused as `memory`. Neither changes anything. A command on a connection that is known is answered
+/// as that of its participant, who stays known, or refused as `memory`.
 pub fn a_session_answers_by_who_is_known()
     ensures again { (lab : LabValue) (st next : session.Standing) (line : List ℕ) (r : Reply)
         (x : Who) (name key : List ℕ) → st.known ≡ Some x →

@@ -1,4 +1,4 @@
-//! What a journal says. Each law is the clause of a function that does nothing.
+//! What a journal says. Each law is the contract of a function that does nothing.
 ghost use Rattle.std.specs.Prelude.{◌≡◌, ℕ, List};
 ghost use Rattle.mml_lab.specs.Labs.{LabValue, IsLab};
 ghost use Rattle.mml_board.specs.declared.event.Event.{Event};

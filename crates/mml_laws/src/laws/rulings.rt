@@ -1,4 +1,4 @@
-//! What comes of a command, by its verdict. Each law is the clause of a function that does nothing.
+//! The ruling on a command, by its verdict. Each law is the contract of a function that does nothing.
 ghost use Rattle.std.specs.Prelude.{◌≡◌, ◌↔◌, ◌<◌, ◌≤◌, ℕ, Bool, true, false, List};
 ghost use Rattle.mml_lab.specs.declared.who.Who.{Who};
 ghost use Rattle.mml_lab.specs.Rosters.{RosterValue};
@@ -14,10 +14,10 @@ ghost use Rattle.mml_policy.specs.Rulings.{ruling};
 ghost use Rattle.mml_policy.specs.Verdicts.{verdict};
 ghost use Rattle.mml_laws.specs.Ruled.{IsGrantable, IsShown};
 
-/// What comes of a command is what the verdict says of it. It is denied exactly where the verdict denies it,
-/// for the same cause, and something is shown exactly where the verdict says so. What the verdict grants
-/// is `full` exactly where the place has reached the limit, `journal` exactly where there is room and the
-/// journal is halted, and else happens, with what it does in that world.
+/// The ruling on a command follows its verdict. It is denied exactly if the verdict denies it, for the same cause, and
+/// something is shown exactly if the verdict says so. What the verdict grants is `full` exactly if the place has
+/// reached the limit, `journal` exactly if there is room and the journal is halted, and else happens, with its effect
+/// in that world.
 pub fn the_ruling_is_the_verdicts()
     ensures denied { (ids : List ℕ) (r : RosterValue) (limit : ℕ) (is_halted : Bool) (w : World)
         (x : Who) (c : Command) (d : Denial) →

@@ -1,4 +1,4 @@
-//! The words of the protocol. Each law is the clause of a function that does nothing.
+//! The words of the protocol. Each law is the contract of a function that does nothing.
 ghost use Rattle.std.specs.Prelude.{◌≡◌, ◌↔◌, ◌∷◌, [], ℕ, false, List, Some, codes};
 ghost use Rattle.std.specs.List.{list_any, AllByRecursion};
 ghost use Rattle.serde_json.specs.Data.{Data};
@@ -15,7 +15,7 @@ ghost use Rattle.mml_codec.specs.ReplyValues.{AreWritableCounts};
 ghost use Rattle.mml_codec.specs.Requests.{request};
 ghost use Rattle.mml_laws.specs.Words.{IsDenial, asked_fields, found_fields, tells_registers, is_view};
 
-/// Each denial is told with the number of its clause, the name and the text that stand beside it in this list.
+/// Each denial has the number of its clause, the name and the text that stand beside it in this list.
 pub fn denials_have_these_words()
     ensures { (at : ℕ) → AllByRecursion IsDenial (
         (denial.NotGreeted, 0, codes "not-greeted", codes "say hello first")
@@ -37,20 +37,20 @@ pub fn denials_have_these_words()
         ∷ []) }
 {}
 
-/// A JSON value spells a request exactly where it has the words and keys that `asked_fields` lists for the request.
+/// A JSON value spells a request exactly if it has the words and keys that `asked_fields` lists for the request.
 pub fn requests_have_these_words()
     ensures { (d : Data) (r : Request) → (request d ≡ Some r) ↔ HasEach d (asked_fields r) }
 {}
 
-/// Who reads a reply's text as JSON finds under each key what `found_fields` says of that reply: all but lists.
+/// A reader of a reply's text as JSON finds under each key what `found_fields` says of that reply: all but lists.
 pub fn replies_are_read_by_these_words()
     ensures { (ids : List ℕ) (roster : RosterValue) (r : Reply) (d : Data) → IsTable ids →
         IsRoster roster → IsAbout ids roster r → AreWritableCounts roster r →
         read (written.text ids roster r) ≡ Some d → HasEach d (found_fields ids roster r) }
 {}
 
-/// Only a see, a look and a report have a key that tells registers, or what is computed of registers, which are the
-/// facts that `tells_registers` says.
+/// Only a see, a look and a report have a key with registers, or with what is computed of registers. These are the
+/// facts that `tells_registers` names.
 pub fn only_views_tell_registers()
     ensures { (roster : RosterValue) (r : Reply) → is_view r ≡ false →
         list_any (λ f. tells_registers f.1) (written.fields_of roster r) ≡ false }

@@ -23,8 +23,8 @@ lines_view a = record {
 abbrev pub IsReadNoFurther : ℕ → List ℕ → Type 0
 IsReadNoFurther limit unread = IsWithinLimit limit (take (length unread - READ_SIZE) unread)
 
--- the offsets are within what is held; what is known of the unread bytes is true; there is room for the bytes of one
--- more read, also before they are held; the reads are no more than there may be; and there is no line after the end
+-- the offsets are within the held bytes; what is known of the unread bytes is true; there is room for the bytes of one
+-- more read; there were at most as many reads as there may be; and there is no line after the end
 pub record IsLinesInside (a : Inside) : Type 0 where
   pub line : a.line_start ≤ a.line_end
   pub line_held : a.line_end ≤ vec_len a.held

@@ -19,8 +19,8 @@ total (n ∷ ns) = n + total ns
 abbrev pub outgoing_view : Inside → List (List ℕ)
 outgoing_view a = parted a.lengths.items a.bytes.items
 
--- the lengths are those of the lines, and there is room for as many bytes and lines as may be held, and for the
--- rest of one line more
+-- the lengths are those of the lines, and there is room for as many bytes and lines as may be held, and for the rest of
+-- one more line
 pub record IsOutgoingInside (a : Inside) : Type 0 where
   pub whole : total a.lengths.items ≡ length a.bytes.items
   pub few_bytes : vec_len a.bytes ≤ OUTGOING_BYTES

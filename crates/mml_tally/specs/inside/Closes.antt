@@ -4,7 +4,7 @@ use Rattle.mml_tally.specs.declared.fate.Fate.{Fate}
 use Rattle.mml_tally.specs.declared.fate.Fate.TheVariants as fate
 use Rattle.mml_tally.specs.declared.granted_move.Move.{Move}
 
--- the place of the close that applied a move; where none did, `last`
+-- the place of the close that applied a move; if none did, `last`
 abbrev pub close_of : ℕ → Fate → ℕ
 close_of last (fate.Applied p) = p
 close_of last fate.Released = last

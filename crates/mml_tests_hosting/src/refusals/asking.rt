@@ -10,8 +10,8 @@ use std::alloc::Global;
 use std::sync::Wait;
 use std::test::Fail;
 
-/// Whether an answer grants an act, with this place: `false` where it tells want of memory, and a request for memory
-/// was refused (not `was_none`); `None` where it is anything else.
+/// Returns whether an answer grants an act, with this place: `false` if it says that memory ran out, and a request for
+/// memory ran out (not `was_none`), or `None` if it is anything else.
 fn granted_or_refused(answer: &Answer, place: u64, was_none: bool) -> Option<bool> {
     match answer {
         Answer::Granted { place: granted, .. } => (*granted == place).then_some(true),
@@ -21,7 +21,7 @@ fn granted_or_refused(answer: &Answer, place: u64, was_none: bool) -> Option<boo
 }
 
 /// Asks for the act with this place, whose nth request for memory is refused, if there is one: whether it was granted,
-/// or else refused for that; `None` where it was answered otherwise, or refused with a new number of the configuration.
+/// or else refused for that, or `None` if it was answered otherwise, or refused with a new number of the configuration.
 fn asked<H: House, R: Wait>(
     seat: &mut Seat<'_, NullSink, H, R>,
     place: u64,
@@ -37,7 +37,7 @@ fn asked<H: House, R: Wait>(
 }
 
 /// Asks for the act with this place until it is granted, with one request for memory after another refused: how often
-/// the act was refused; `None` where something else came of it.
+/// the act was refused, or `None` if something else came of it.
 fn refusals_of<H: House, R: Wait>(
     seat: &mut Seat<'_, NullSink, H, R>,
     place: u64,
@@ -58,7 +58,7 @@ struct Acts {
 }
 
 impl Visit<NullSink> for Acts {
-    /// How often all acts were refused, each until it was granted; `None` where something else came of one.
+    /// How often all acts were refused, each until it was granted, or `None` if something else came of one.
     type Told = Option<usize>;
 
     // Asks for all acts through the first seat, and adds up how often each was refused.
@@ -72,8 +72,8 @@ impl Visit<NullSink> for Acts {
     }
 }
 
-/// How often the ten acts were refused over the path of three, each until it was granted; `None` where something else
-/// came of one, or the house didn't end with all of them.
+/// Returns how often the ten acts were refused over the path of three, each until it was granted, or `None` if
+/// something else came of one, or the house didn't end with all of them.
 fn told_of_acts<R: Wait>(rt: &R, alloc: Global, is_there: bool) -> Result<Option<usize>, Fail> {
     let (refused, end) = visit_path(rt, alloc, NullSink::new(), Acts { is_there })?;
     let wanted = Ending::Log {
@@ -92,11 +92,11 @@ struct FirstThenSecond {
 }
 
 impl Visit<NullSink> for FirstThenSecond {
-    /// Whether the first was granted, or else refused; `None` where it was answered otherwise, or the second wasn't
+    /// Whether the first was granted, or else refused, or `None` if it was answered otherwise, or the second wasn't
     /// granted with the next place.
     type Told = Option<bool>;
 
-    // Asks for both acts through the first seat: the second gets place 2 where the first was granted, else place 1.
+    // Asks for both acts through the first seat: the second gets place 2 if the first was granted, else place 1.
     fn visit<H: House, R: Wait>(self, seats: &mut Pair<'_, NullSink, H, R>) -> Option<bool> {
         let seat = &mut seats.one;
         let was_granted = asked(seat, 1, self.nth, self.is_there)?;
@@ -106,8 +106,8 @@ impl Visit<NullSink> for FirstThenSecond {
     }
 }
 
-/// Whether the first act, whose nth request for memory is refused, if there is one, was granted, in a house that ends
-/// with just the granted ones of that act and the second; `None` where something else came of them.
+/// Returns whether the first act, whose nth request for memory is refused, if there is one, was granted, in a house
+/// that ends with just the granted ones of that act and the second, or `None` if something else came of them.
 fn was_first_granted<R: Wait>(
     rt: &R,
     alloc: Global,
@@ -131,8 +131,8 @@ fn was_first_granted<R: Wait>(
     Ok((ending_of(&end) == wanted).then_some(was_granted))
 }
 
-/// How often the first act was refused before it was granted, each time in a house of its own; `None` where something
-/// else came of it or of the second act.
+/// Returns how often the first act was refused before it was granted, each time in a house of its own, or `None` if
+/// something else came of it or of the second act.
 fn refusals_of_first<R: Wait>(
     rt: &R,
     alloc: Global,
@@ -148,7 +148,7 @@ fn refusals_of_first<R: Wait>(
     Ok(None)
 }
 
-/// Fails where an act with a request refused is neither granted nor refused for memory, or leaves a trace; or where no
+/// Fails if an act with a request refused is neither granted nor refused for memory, or leaves a trace; or if no
 /// request is refused though the library is there.
 #[test]
 fn refusals_of_an_act_lose_nothing(rt: HostRuntime) -> Result<(), Fail> {

@@ -1,5 +1,5 @@
-//! A grant over a sink in memory, with each of its requests for memory refused in turn: the sink's own want
-//! of memory halts, each other one leaves the hall as it was.
+//! A grant over a sink in memory, with each of its requests for memory refused in turn: the sink's own running out of
+//! memory halts, each other one leaves the hall as it was.
 use super::MOST;
 use super::library::{is_there, refuse, was_none_refused};
 use mml_codec::{JOURNAL_LINE, MEMORY_LINE, write_reply};
@@ -12,8 +12,8 @@ use mml_lab::read_lab;
 use std::alloc::Global;
 use std::test::Fail;
 
-/// The reply line to a request of connection 1, for which the nth request for memory is refused (0 for none), and
-/// whether none was refused; `None` where the lab has no such connection, or the line can't be written.
+/// Returns the reply line to a request of connection 1, for which the nth request for memory is refused (0 for none),
+/// and whether none was refused, or `None` if the lab has no such connection, or the line can't be written.
 fn answer_with_refusal(
     alloc: Global,
     hall: &mut Hall<MemorySink>,
@@ -49,8 +49,8 @@ enum Grant {
     Halted,
 }
 
-/// What became of the first grant, by its reply; `None` where that is another one, or the hall's events, its journal or
-/// whether it halted aren't as they should be then.
+/// Returns what became of the first grant, by its reply, or `None` if that is another one, or the hall's events, its
+/// journal or whether it halted aren't as they should be then.
 fn grant_of(hall: &Hall<MemorySink>, reply: &[u8]) -> Option<Grant> {
     let (found, events) = if reply == GRANTED.as_bytes() {
         (Grant::Made, 1)
@@ -68,7 +68,8 @@ fn grant_of(hall: &Hall<MemorySink>, reply: &[u8]) -> Option<Grant> {
     is_so.then_some(found)
 }
 
-/// Whether a move that is asked for once more, with no request for memory refused, gets the line of a halted journal.
+/// Returns whether a move that is asked for once more, with no request for memory refused, gets the line of a halted
+/// journal.
 fn stays_halted(alloc: Global, hall: &mut Hall<MemorySink>, is_there: bool) -> bool {
     match answer_with_refusal(alloc, hall, MOVE, 0, is_there) {
         Some((reply, _)) => reply.as_slice() == JOURNAL_LINE.as_bytes(),
@@ -77,7 +78,7 @@ fn stays_halted(alloc: Global, hall: &mut Hall<MemorySink>, is_there: bool) -> b
 }
 
 /// Greets ana and has her move node 1, for which the nth request for memory is refused, if there is one: what became of
-/// the grant, and whether none was refused; `None` where the reply or the hall is otherwise, or a halt doesn't last.
+/// the grant, and whether none was refused, or `None` if the reply or the hall is otherwise, or a halt doesn't last.
 fn grant_in(
     alloc: Global,
     hall: &mut Hall<MemorySink>,
@@ -91,8 +92,8 @@ fn grant_in(
     is_so.then_some((found, was_none))
 }
 
-/// What became, in a hall of its own, of a grant for which the nth request for memory is refused, if there is one, and
-/// whether none was refused; `None` where the reply or the hall isn't as it should be.
+/// Returns what became, in a hall of its own, of a grant for which the nth request for memory is refused, if there is
+/// one, and whether none was refused, or `None` if the reply or the hall isn't as it should be.
 fn grant_in_new_hall(
     alloc: Global,
     nth: usize,
@@ -103,8 +104,8 @@ fn grant_in_new_hall(
     Ok(grant_in(alloc, &mut hall, nth, is_there))
 }
 
-/// How often a grant was refused, and how often it halted the hall, until it was made; `None` where something else came
-/// of it.
+/// Returns how often a grant was refused, and how often it halted the hall, until it was made, or `None` if something
+/// else came of it.
 fn told_of_grants(alloc: Global, is_there: bool) -> Result<Option<(usize, usize)>, Fail> {
     let (mut refused, mut halted) = (0usize, 0usize);
     for nth in 1..MOST {
@@ -119,8 +120,7 @@ fn told_of_grants(alloc: Global, is_there: bool) -> Result<Option<(usize, usize)
 }
 
 /// With the library there, fails where, of a grant's requests for memory, not exactly one, the sink's, halts the hall
-/// when it is refused, another one changes the hall, or there is no other; without it, where the grant isn't made at
-/// once.
+/// when it is refused, another one changes the hall, or there is no other; without it, if the grant isn't made at once.
 #[test]
 fn refusals_of_a_sink_halt(rt: HostRuntime) -> Result<(), Fail> {
     let is_there = is_there(rt.alloc());

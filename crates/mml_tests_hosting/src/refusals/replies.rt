@@ -15,7 +15,7 @@ teacher = { name = "tess", key = "chalk" }
 student = [{ name = "ana", key = "a-key" }]
 "#;
 
-/// The lab file of nodes 65280 to 65535 in a row, all of ana.
+/// Returns the lab file of nodes 65280 to 65535 in a row, all of ana.
 fn row_of_256(alloc: Global) -> Result<String, AllocError> {
     let mut text = format!(in alloc; "{LIMITS_AND_PEOPLE}links = [")?;
     for id in 65280..65535u64 {
@@ -78,7 +78,7 @@ const AFTER: &[(u8, &str, &str)] = &[
 ];
 
 /// Answers a connection's request, and writes the reply line into `out` while each request for memory is refused; an
-/// error where memory was wanted for that, or the lab has no such connection.
+/// error if memory was wanted for that, or the lab has no such connection.
 fn written(
     alloc: Global,
     hall: &mut Hall<NullSink>,
@@ -96,7 +96,8 @@ fn written(
     told
 }
 
-/// Whether the reply to a connection's request is the wanted one, and is written without more memory than `out` has.
+/// Returns whether the reply to a connection's request is the wanted one, and is written without more memory than `out`
+/// has.
 fn is_written(
     alloc: Global,
     hall: &mut Hall<NullSink>,
@@ -109,7 +110,8 @@ fn is_written(
     told.is_ok() && out.strip_suffix(b"\n") == Some(wanted.as_bytes())
 }
 
-/// Whether the reply to the request of each row is the row's, and is written without more memory than `out` has.
+/// Returns whether the reply to the request of each row is the row's, and is written without more memory than `out`
+/// has.
 fn are_written(
     alloc: Global,
     hall: &mut Hall<NullSink>,
@@ -124,8 +126,8 @@ fn are_written(
     true
 }
 
-/// Whether the replies to a move of each node but the last grant it, and are written without more memory than `out`
-/// has.
+/// Returns whether the replies to a move of each node but the last grant it, and are written without more memory than
+/// `out` has.
 fn are_moves_written(
     alloc: Global,
     hall: &mut Hall<NullSink>,
@@ -146,7 +148,7 @@ fn are_moves_written(
     Ok(true)
 }
 
-/// The reply to the close that applies the moves of all nodes but the last.
+/// Returns the reply to the close that applies the moves of all nodes but the last.
 fn closed(alloc: Global) -> Result<String, AllocError> {
     let mut text = String::from_str(alloc, "{\"at\":1,\"moved\":[65280")?;
     for id in 65281..65535u64 {
@@ -156,7 +158,7 @@ fn closed(alloc: Global) -> Result<String, AllocError> {
     Ok(text)
 }
 
-/// A hall over the row of 256 nodes.
+/// Returns a hall over the row of 256 nodes.
 fn hall_of_256(alloc: Global) -> Result<Box<Hall<NullSink>>, Fail> {
     let file = row_of_256(alloc)?;
     let lab = read_lab(alloc, file.as_bytes())?;
@@ -164,7 +166,8 @@ fn hall_of_256(alloc: Global) -> Result<Box<Hall<NullSink>>, Fail> {
     Ok(Box::new(alloc, hall)?)
 }
 
-/// Whether each kind of reply but a look and a report is written without memory, and whether a report of all nodes is.
+/// Returns whether each kind of reply but a look and a report is written without memory, and whether a report of all
+/// nodes is.
 fn told_of_replies(alloc: Global) -> Result<(bool, bool), Fail> {
     let closed = closed(alloc)?;
     let out = &mut Vec::with_capacity(alloc, REPLY_ROOM)?;
@@ -177,7 +180,7 @@ fn told_of_replies(alloc: Global) -> Result<(bool, bool), Fail> {
     Ok((is_before && is_moved && is_closed && is_after, is_reported))
 }
 
-/// Fails where a reply that fits into its room wants memory or is another one, or where, with each request for memory
+/// Fails if a reply that fits into its room wants memory or is another one, or where, with each request for memory
 /// refused by the library, a report of all nodes is written, or isn't without the library.
 #[test]
 fn refusals_do_not_keep_a_reply_from_its_room(rt: HostRuntime) -> Result<(), Fail> {

@@ -11,8 +11,8 @@ use std::alloc::Global;
 use std::sync::Wait;
 use std::test::Fail;
 
-/// Whether the act with this place is answered by the wanted refusal, or denied where none is wanted, and no memory is
-/// taken for it or, if the library isn't there, this isn't known.
+/// Returns whether the act with this place is answered by the wanted refusal, or denied if none is wanted, and no
+/// memory is taken for it or, if the library isn't there, this isn't known.
 fn takes_none<H: House, R: Wait>(
     seat: &mut Seat<'_, MemorySink, H, R>,
     place: u64,
@@ -29,8 +29,8 @@ fn takes_none<H: House, R: Wait>(
     }
 }
 
-/// Whether a node and the number of the configuration, which is 0, are shown, and no memory is taken for them or, if
-/// the library isn't there, this isn't known.
+/// Returns whether a node and the number of the configuration, which is 0, are shown, and no memory is taken for them
+/// or, if the library isn't there, this isn't known.
 fn views_take_none<H: House, R: Wait>(
     seat: &mut Seat<'_, MemorySink, H, R>,
     is_there: bool,
@@ -67,9 +67,9 @@ impl Visit<MemorySink> for AfterFirst {
     }
 }
 
-/// Whether what is asked after a first act that is granted takes no memory, in a house over the path of three with
-/// this line as its limit of events and a sink that fails at this put, if at any, and the second act gets the wanted
-/// refusal; `None` where there were fewer than two windows. `is_there`: whether the library that counts is.
+/// Returns whether what is asked after a first act that is granted takes no memory, in a house over the path of three
+/// with this line as its limit of events and a sink that fails at this put, if at any, and the second act gets the
+/// wanted refusal, or `None` if there were fewer than two windows. `is_there`: whether the library that counts is.
 fn takes_none_after_first<R: Wait>(
     rt: &R,
     alloc: Global,
@@ -89,7 +89,7 @@ fn takes_none_after_first<R: Wait>(
     Ok(hold)
 }
 
-/// Fails where a denied act, one over the limit of events or after the journal halted, or a view takes memory or is
+/// Fails if a denied act, one over the limit of events or after the journal halted, or a view takes memory or is
 /// answered otherwise.
 #[test]
 fn refusals_that_take_no_memory(rt: HostRuntime) -> Result<(), Fail> {

@@ -9,7 +9,8 @@ use mml_serving::write_listening;
 use std::alloc::Global;
 use std::test::Fail;
 
-/// Whether a call ended with the wanted error, or well where none is wanted, and its writer has taken just these bytes.
+/// Returns whether a call ended with the wanted error, or well if none is wanted, and its writer has taken just these
+/// bytes.
 fn has_written(
     ended: Result<(), Fault>,
     writer: &FakeWriter,
@@ -25,14 +26,14 @@ const AUDITED: &[u8] = b"ok: 10 events, configuration 4, stable\n";
 
 const LISTENING: &[u8] = b"listening on port 7000\n";
 
-/// Whether a server's first line, which names its port, goes out in one write.
+/// Returns whether a server's first line, which names its port, goes out in one write.
 fn is_listening_told(alloc: Global) -> bool {
     let mut first = FakeWriter::failing_after(1, alloc);
     write_listening(alloc, 7000, &mut first) == Ok(()) && first.taken.as_slice() == LISTENING
 }
 
-/// Whether, of the path of three, the line of a lab's size and that of a journal's audit each go out in one write, and
-/// a write of the former that fails is told, with nothing written.
+/// Returns whether, of the path of three, the line of a lab's size and that of a journal's audit each go out in one
+/// write, and a write of the former that fails is reported, with nothing written.
 fn are_lines_told(alloc: Global, lab: &Lab) -> bool {
     let mut size = FakeWriter::failing_after(1, alloc);
     let is_size = write_size(alloc, lab, &mut size);
@@ -45,15 +46,15 @@ fn are_lines_told(alloc: Global, lab: &Lab) -> bool {
         && has_written(is_failed, &failing, Some(Fault::Write), b"")
 }
 
-/// Whether a server's first line and, of the built-in lab, the lines of its size and of an audit each go out in one
-/// write, and a failed write is told; an error where that lab isn't read.
+/// Returns whether a server's first line and, of the built-in lab, the lines of its size and of an audit each go out in
+/// one write, and a failed write is reported. Returns an error if that lab isn't read.
 fn told_of_lines(alloc: Global) -> Result<bool, Fail> {
     let lab = boxed_lab(alloc, BUILT_IN)?;
     Ok(is_listening_told(alloc) && are_lines_told(alloc, &lab))
 }
 
-/// Fails where the line of a port, a lab's size or an audit is another or takes more than one write, a failed write
-/// isn't told, or the built-in lab isn't the path of three.
+/// Fails if the line of a port, a lab's size or an audit is another or takes more than one write, a failed write isn't
+/// reported, or the built-in lab isn't the path of three.
 #[test]
 fn lines_go_out_in_one_write(rt: HostRuntime) -> Result<(), Fail> {
     let are_told = told_of_lines(rt.alloc())?;
@@ -68,8 +69,8 @@ const LEFT: &str = lines!("1 ", left);
 
 const BAD_SECOND_LINE: &str = lines!("1 ", bye, "5 ", bye);
 
-/// A script and how often it stands there, after how many writes and flushes its writer fails, what is told
-/// at the end, and what was written: a text, so many times.
+/// A script and how often it stands there, after how many writes and flushes its writer fails, the error at the end,
+/// and what was written: a text, so many times.
 type Row = (
     &'static str,
     usize,
@@ -80,9 +81,9 @@ type Row = (
     usize,
 );
 
-/// Before each read there is a flush, and all replies go out. A write or a flush that fails is told in the
-/// place of a good end and of the error that would be told after it. A read has at most 4096 bytes, so 273
-/// of these byes, whose replies go out in one write.
+/// Before each read there is a flush, and all replies go out. A write or a flush that fails is reported instead of a
+/// good end and of the error that would come after it. A read has at most 4096 bytes, so 273 of these byes, whose
+/// replies go out in one write.
 const ROWS: &[Row] = &[
     ("", 1, 1, 2, None, "", 1),
     (FIRST_LOOK, 1, 1, 2, None, FIRST_LOOK_REPLIES, 1),
@@ -103,15 +104,15 @@ const ROWS: &[Row] = &[
     (BYE, 1000, 100, 100, None, LEFT, 1000),
 ];
 
-/// The fault by which a script over the built-in lab ends, `None` where it ends well; what is replied goes to the
-/// writer. An error (`Fail`) where that lab isn't read.
+/// Returns the fault by which a script over the built-in lab ends, `None` if it ends well; what is replied goes to the
+/// writer. An error (`Fail`) if that lab isn't read.
 fn fault_of(alloc: Global, script: &str, writer: &mut FakeWriter) -> Result<Option<Fault>, Fail> {
     let lab = read_lab(alloc, BUILT_IN.as_bytes())?;
     let mut reader = script.as_bytes();
     Ok(answer_script(alloc, lab, &mut reader, writer, NullSink::new()).err())
 }
 
-/// Whether the script of a row ends and is answered as the row says.
+/// Returns whether the script of a row ends and is answered as the row says.
 fn is_answered(alloc: Global, row: &Row) -> Result<bool, Fail> {
     let (script, times, writes, flushes, wanted, replies, count) = row;
     let mut writer = FakeWriter::failing_after(*writes, alloc);
@@ -122,7 +123,8 @@ fn is_answered(alloc: Global, row: &Row) -> Result<bool, Fail> {
     Ok(fault == *wanted && writer.taken.as_slice() == replies.as_bytes())
 }
 
-/// The index of the first row of `ROWS` whose script ends or is answered otherwise than it says, if there is one.
+/// Returns the index of the first row of `ROWS` whose script ends or is answered otherwise than it says, if there is
+/// one.
 fn first_other(alloc: Global) -> Result<Option<usize>, Fail> {
     for (number, row) in ROWS.iter().enumerate() {
         if !is_answered(alloc, row)? {

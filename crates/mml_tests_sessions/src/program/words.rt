@@ -3,7 +3,8 @@ use mml_program::read_words;
 use std::alloc::Global;
 use std::test::Fail;
 
-/// The words between the spaces of a line: two spaces have an empty word between them, one at the end has one after it.
+/// Returns the words between the spaces of a line: two spaces have an empty word between them, one at the end has one
+/// after it.
 fn given(alloc: Global, line: &str) -> Result<Vec<String>, Fail> {
     let mut words = Vec::new(alloc);
     for word in line.split(' ') {
@@ -59,14 +60,15 @@ const FORMS: &[(&str, &str)] = &[
     ),
 ];
 
-/// Whether words ask for the task that has the wanted text for debugging; an error where they ask for none.
+/// Returns whether words ask for the task that has the wanted text for debugging. Returns an error if they ask for
+/// none.
 fn is_task(alloc: Global, words: &[String], wanted: &str) -> Result<bool, Fail> {
     let task = read_words(alloc, words)?;
     let found = format!(in alloc; "{task:?}")?;
     Ok(found.as_str() == wanted)
 }
 
-/// The first line of `FORMS` that asks for something else, if there is one.
+/// Returns the first line of `FORMS` that asks for something else, if there is one.
 fn first_other(alloc: Global) -> Result<Option<&'static str>, Fail> {
     for (line, wanted) in FORMS {
         let words = given(alloc, line)?;
@@ -77,7 +79,7 @@ fn first_other(alloc: Global) -> Result<Option<&'static str>, Fail> {
     Ok(None)
 }
 
-/// Fails where a line of `FORMS` asks for another task, or no words ask for another one than the built-in lab.
+/// Fails if a line of `FORMS` asks for another task, or no words ask for another one than the built-in lab.
 #[test]
 fn each_form_is_taken(rt: HostRuntime) -> Result<(), Fail> {
     let are_none_taken = is_task(rt.alloc(), &[], "BuiltIn")?;

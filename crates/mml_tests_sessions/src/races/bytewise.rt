@@ -10,7 +10,7 @@ pub struct Bytewise<'a> {
 }
 
 impl<'a> Read for Bytewise<'a> {
-    // The next byte; nothing where none is left, or there is no room for it.
+    // Returns the next byte; nothing if none is left, or there is no room for it.
     fn read(&mut self, buf: &mut [u8]) -> io::Result<usize> {
         let len = buf.len().min(1);
         self.rest.read(&mut buf[..len])

@@ -42,7 +42,7 @@ impl<'a> Sink for Slow<'a> {
     ghost failures = { λ s. s.failures };
 
     // Takes all bytes; the first put does so once the second session has its second line and the third one its second
-    // reply, and after a while more. Where memory runs out, it fails and counts that.
+    // reply, and after a while more. If memory runs out, it fails and counts that.
     fn put(&mut self, bytes: &[u8]) -> Result<usize, SinkFault> {
         if self.bytes.is_empty() {
             self.steps.come(PUT, Point::Line);
@@ -66,8 +66,8 @@ const CYD: &str = lines!(welcome("cyd"), seen(0, false, 2, "null"), left);
 
 const JOURNAL: &str = "1 0 grant ana 1 seduction\n2 0 grant ben 2 seduction\n";
 
-/// Whether all three sessions are answered and the journal has both moves, as it should be, and whether the put and the
-/// sessions were held until the others were there; both false where they couldn't be served to their end.
+/// Returns whether all three sessions are answered and the journal has both moves, as it should be, and whether the put
+/// and the sessions were held until the others were there; both false if they couldn't be served to their end.
 fn told_of_a_slow_put<R: Threads + Wait + Sync>(
     rt: &R,
     alloc: Global,
@@ -88,7 +88,7 @@ fn told_of_a_slow_put<R: Threads + Wait + Sync>(
     Ok((are_so, steps.were_led()))
 }
 
-/// Fails where a view waits for a lock that is held, an act doesn't, or one of the three is answered otherwise.
+/// Fails if a view waits for a lock that is held, an act doesn't, or one of the three is answered otherwise.
 #[test]
 fn a_lock_that_is_held_is_waited_for_by_acts_alone(rt: HostRuntime) -> Result<(), Fail> {
     assert_eq!(rt; told_of_a_slow_put(&rt, rt.alloc())?, (true, true));

@@ -8,16 +8,16 @@ use std::sync::atomic::{AtomicU64, Ordering};
 /// has come to so many steps.
 pub type Hold = (u8, u64, u8, u64);
 
-/// Where sessions are held.
+/// How sessions are held.
 #[derive(Clone, Copy)]
 pub enum Holds<'a> {
     /// At each step until all have come to it.
     Together,
-    /// Where one of these holds says, as long as it says.
+    /// At the steps of these holds, as long as each says.
     Each(&'a [Hold]),
 }
 
-/// Holds sessions where they are told to wait, and counts what each passes.
+/// Holds sessions at the points of its list, and counts what each passes.
 #[derive(Drop)]
 pub struct Steps<'a> {
     holds: Holds<'a>,
@@ -30,7 +30,7 @@ pub struct Steps<'a> {
 }
 
 impl<'a> Steps<'a> {
-    /// A gate for the connections 1 to `connections`, none of which has come to a step.
+    /// Returns a gate for the connections 1 to `connections`, none of which has come to a step.
     pub fn new(alloc: Global, connections: u8, holds: Holds<'a>) -> Result<Steps<'a>, AllocError> {
         let mut steps = Vec::new(alloc);
         for _ in 0..connections {
@@ -44,12 +44,13 @@ impl<'a> Steps<'a> {
         })
     }
 
-    /// The count of the steps that a connection, from 1 on, has come to; `None` where there are fewer connections.
+    /// Returns the count of the steps that a connection, from 1 on, has come to, or `None` if there are fewer
+    /// connections.
     fn count_of(&self, connection: u8) -> Option<&AtomicU64> {
         self.steps.get(usize::from(connection.saturating_sub(1)))
     }
 
-    /// Waits until the count of a connection's steps is at least `wanted`; notes that it gave up where that takes too
+    /// Waits until the count of a connection's steps is at least `wanted`; notes that it gave up if that takes too
     /// long, or there is no such connection.
     fn wait_until(&self, come: Option<&AtomicU64>, wanted: u64) {
         let has_come = match come {
@@ -85,12 +86,12 @@ impl<'a> Steps<'a> {
         }
     }
 
-    /// Whether all passed lines and replies in turn, and nobody gave up.
+    /// Returns whether all passed lines and replies in turn, and nobody gave up.
     pub fn were_led(&self) -> bool {
         self.given_up.load(Ordering::SeqCst) == 0 && self.misled.load(Ordering::SeqCst) == 0
     }
 
-    /// Whether all passed lines and replies in turn, nobody gave up, and each connection passed `steps` steps.
+    /// Returns whether all passed lines and replies in turn, nobody gave up, and each connection passed `steps` steps.
     pub fn were_kept(&self, steps: u64) -> bool {
         self.were_led()
             && self
@@ -99,9 +100,9 @@ impl<'a> Steps<'a> {
                 .all(|come| come.load(Ordering::SeqCst) == steps)
     }
 
-    /// Counts the next step of a connection, notes where it is a line instead of a reply, or a reply instead of a
-    /// line, and waits as long as the connection is held there. Where there is no such connection, no step is counted,
-    /// and its step is `u64::MAX`.
+    /// Counts the next step of a connection, notes if it is a line instead of a reply, or a reply instead of a line,
+    /// and waits as long as the connection is held there. If there is no such connection, no step is counted, and its
+    /// step is `u64::MAX`.
     pub fn come(&self, connection: u8, point: Point) {
         let step = match self.count_of(connection) {
             Some(come) => come.fetch_add(1, Ordering::SeqCst),

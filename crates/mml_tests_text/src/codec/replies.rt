@@ -1,4 +1,4 @@
-//! Replies, over a lab of two nodes far apart. An error is want of memory.
+//! Replies, over a lab of two nodes far apart. An error means that memory ran out.
 ghost use Rattle.mml_codec.specs.Replies.{IsAbout};
 
 use mml_board::Board;
@@ -12,7 +12,7 @@ use mml_stable::{Report, report};
 use std::alloc::Global;
 use std::test::Fail;
 
-/// The line that `write_reply` writes for a reply instead of an older text.
+/// Returns the line that `write_reply` writes for a reply instead of an older text.
 fn line_of(alloc: Global, lab: &Lab, reply: &Reply) -> Result<String, Fail>
     requires { IsAbout lab.now.ids lab.now.roster reply.now }
 {
@@ -21,8 +21,8 @@ fn line_of(alloc: Global, lab: &Lab, reply: &Reply) -> Result<String, Fail>
     Ok(String::from_utf8(out)?)
 }
 
-/// The line of a see's reply that shows the node 65535, with m and a pointer to the node 7 (none where the lab lacks
-/// that), in the configuration with the greatest number; no text where the lab lacks the node 65535.
+/// Returns the line of a see's reply that shows the node 65535, with m and a pointer to the node 7 (none if the lab
+/// lacks that), in the configuration with the greatest number; no text if the lab lacks the node 65535.
 fn sight(alloc: Global, lab: &Lab) -> Result<String, Fail> {
     let p = lab.ids().rank_of(7);
     let Some(node) = lab.ids().rank_of(65535) else {
@@ -33,7 +33,8 @@ fn sight(alloc: Global, lab: &Lab) -> Result<String, Fail> {
     line_of(alloc, lab, &Reply::See(See { at, node, regs }))
 }
 
-/// Whether `reply_of` answers an allowed report on a board by a report with the number and the stability of `told`.
+/// Returns whether the reply of `reply_of` to an allowed report on a board is a report with the number and the
+/// stability of the argument.
 fn is_reported(alloc: Global, board: &Board, told: &Report) -> Result<bool, Fail> {
     match reply_of(alloc, board, Ruling::Reported)? {
         Reply::Report(other) => Ok(other.at == told.at && other.stable == told.stable),
@@ -41,8 +42,8 @@ fn is_reported(alloc: Global, board: &Board, told: &Report) -> Result<bool, Fail
     }
 }
 
-/// The line of the report on the board at the beginning of a lab's run; no text where that isn't of the lab's size, or
-/// `reply_of` gives a report with another number or stability.
+/// Returns the line of the report on the board at the beginning of a lab's run; no text if that isn't of the lab's
+/// size, or `reply_of` gives a report with another number or stability.
 fn report_line(alloc: Global, lab: &Lab) -> Result<String, Fail> {
     let board = &*boxed_board(alloc, lab)?;
     if lab.ids().len() != board.size() {
@@ -55,14 +56,14 @@ fn report_line(alloc: Global, lab: &Lab) -> Result<String, Fail> {
     line_of(alloc, lab, &Reply::Report(told))
 }
 
-/// The capacity of a vector once a denial was written into it, instead of what it held.
+/// Returns the capacity of a vector once a denial was written into it, instead of what it held.
 fn room_after(alloc: Global, lab: &Lab, denial: Denial, out: &mut Vec<u8>) -> Result<usize, Fail> {
     write_reply(alloc, lab.ids(), lab.roster(), &Reply::Deny(denial), out)?;
     Ok(out.capacity())
 }
 
-/// The capacity of a vector with room for a reply, at first and after each of two denials that are written into it; the
-/// three should be the same.
+/// Returns the capacity of a vector with room for a reply, at first and after each of two denials that are written into
+/// it; the three should be the same.
 fn rooms(alloc: Global, lab: &Lab) -> Result<[usize; 3], Fail> {
     let mut out = Vec::with_capacity(alloc, REPLY_ROOM)?;
     let first = out.capacity();
@@ -86,8 +87,7 @@ fn replies_far_apart(alloc: Global) -> Result<(String, String, bool), Fail> {
     replies_of_lab(alloc, &lab)
 }
 
-// Fails where a see's or a report's line isn't the one wanted, or a reply for which there was room changed the
-// capacity.
+// Fails if a see's or a report's line isn't the one wanted, or a reply for which there was room changed the capacity.
 #[test]
 fn replies_are_written(rt: HostRuntime) -> Result<(), Fail> {
     let (sight, report, stays) = replies_far_apart(rt.alloc())?;

@@ -1,5 +1,5 @@
-//! A sink in which each byte may be the last: what it has then, and what the hall and audits say of it. An error is
-//! want of memory, or that of a script.
+//! A sink in which each byte may be the last: what it has then, and what the hall and audits say of it. An error means
+//! that memory ran out, or that of a script.
 use mml_audit::{audit, audit_events};
 use mml_fakes::labs::PATH_OF_THREE;
 use mml_fakes::scripts::{GREETINGS, TEN_ACTS, TEN_LINES, ended_lines};
@@ -9,8 +9,8 @@ use mml_lab::read_lab;
 use std::alloc::Global;
 use std::test::Fail;
 
-/// Whether a hall's sink has the first `puts` bytes of `TEN_LINES`, the hall as many events as those have whole lines,
-/// and one failed put halted it, unless those bytes are all.
+/// Returns whether a hall's sink has the first `puts` bytes of `TEN_LINES`, the hall as many events as those have whole
+/// lines, and one failed put halted it, unless those bytes are all.
 fn has_dripped(hall: &Hall<Drip>, puts: usize) -> bool {
     let (wanted, _) = TEN_LINES.as_bytes().split_at(puts.min(TEN_LINES.len()));
     let lines = ended_lines(wanted);
@@ -21,7 +21,7 @@ fn has_dripped(hall: &Hall<Drip>, puts: usize) -> bool {
         && hall.board().place() == lines as u64
 }
 
-/// Whether the audit `audit` passes a journal over the hall's lab, and leaves the world of the hall's board.
+/// Returns whether the audit `audit` passes a journal over the hall's lab, and leaves the world of the hall's board.
 fn leads_to_board(alloc: Global, hall: &Hall<Drip>, journal: &[u8]) -> bool {
     match audit(alloc, hall.lab(), journal) {
         Ok(board) => board.is_same(hall.board()),
@@ -29,7 +29,8 @@ fn leads_to_board(alloc: Global, hall: &Hall<Drip>, journal: &[u8]) -> bool {
     }
 }
 
-/// Whether `audit_events` passes a journal over the hall's lab, with the hall's events, and the world of its board.
+/// Returns whether `audit_events` passes a journal over the hall's lab, with the hall's events, and the world of its
+/// board.
 fn is_listed(alloc: Global, hall: &Hall<Drip>, journal: &[u8]) -> bool {
     match audit_events(alloc, hall.lab(), journal) {
         Ok(audited) => {
@@ -39,8 +40,8 @@ fn is_listed(alloc: Global, hall: &Hall<Drip>, journal: &[u8]) -> bool {
     }
 }
 
-/// Whether `audit` and `audit_events` both pass the journal in a hall's sink, with the hall's board and events, where
-/// its last line is whole, and neither does where it is torn.
+/// Returns whether `audit` and `audit_events` both pass the journal in a hall's sink, with the hall's board and events,
+/// if its last line is whole, and neither does if it is torn.
 fn is_audited(alloc: Global, hall: &Hall<Drip>) -> bool {
     let journal = hall.sink().bytes.as_slice();
     let is_whole = match journal.last() {
@@ -50,7 +51,8 @@ fn is_audited(alloc: Global, hall: &Hall<Drip>) -> bool {
     leads_to_board(alloc, hall, journal) == is_whole && is_listed(alloc, hall, journal) == is_whole
 }
 
-/// The hall that a script leaves, over the path of three and a sink that takes one byte a put and fails after `puts`.
+/// Returns the hall that a script leaves, over the path of three and a sink that takes one byte a put and fails after
+/// `puts`.
 fn hall_of(alloc: Global, script: &str, puts: usize) -> Result<Box<Hall<Drip>>, Fail> {
     let lab = read_lab(alloc, PATH_OF_THREE.as_bytes())?;
     let sink = Drip::failing_after(puts, alloc);
@@ -59,14 +61,15 @@ fn hall_of(alloc: Global, script: &str, puts: usize) -> Result<Box<Hall<Drip>>, 
     Ok(Box::new(alloc, hall)?)
 }
 
-/// Whether a script over a sink that fails after `puts` bytes leaves a hall with just those bytes and their events, and
-/// audits pass these bytes exactly where they are whole lines.
+/// Returns whether a script over a sink that fails after `puts` bytes leaves a hall with just those bytes and their
+/// events, and audits pass these bytes exactly if they are whole lines.
 fn drips(alloc: Global, script: &str, puts: usize) -> Result<bool, Fail> {
     let hall = hall_of(alloc, script, puts)?;
     Ok(has_dripped(&hall, puts) && is_audited(alloc, &hall))
 }
 
-/// The first number of bytes for which `drips` is false of the script of the ten acts; `None` where it is of none.
+/// Returns the first number of bytes for which `drips` is false of the script of the ten acts, or `None` if it is of
+/// none.
 fn first_byte_told_otherwise(alloc: Global) -> Result<Option<usize>, Fail> {
     let script = format!(in alloc; "{GREETINGS}{TEN_ACTS}")?;
     for puts in 0..=TEN_LINES.len() {
@@ -77,8 +80,8 @@ fn first_byte_told_otherwise(alloc: Global) -> Result<Option<usize>, Fail> {
     Ok(None)
 }
 
-// Fails where a sink that fails after any number of bytes is left with others, or the hall with other events than their
-// whole lines, or where an audit doesn't pass exactly those of whole lines.
+// Fails if a sink that fails after any number of bytes is left with others, or the hall with other events than their
+// whole lines, or if an audit doesn't pass exactly those of whole lines.
 #[test]
 fn each_byte_of_a_journal_may_be_the_last(rt: HostRuntime) -> Result<(), Fail> {
     assert_eq!(rt; first_byte_told_otherwise(rt.alloc())?, None);

@@ -1,5 +1,5 @@
-//! Each read of a script is made once, and none after its end: what is told of one that fails, and how
-//! far the replies go then. An error (`Fail`) is want of memory.
+//! Each read of a script is made once, and none after its end: the result of one that fails, and how far the replies go
+//! then. An error (`Fail`) is running out of memory.
 use super::script_error_of;
 use mml_fakes::scripts::{
     FIRST_LOOK, FIRST_LOOK_REPLIES, GREETING, GREETING_REPLIES, ended_lines, first_lines,
@@ -9,14 +9,13 @@ use mml_hall::ScriptFault;
 use std::alloc::{AllocError, Global};
 use std::test::Fail;
 
-/// How a script ends: how many reads are good, the error (`None` where it ends well), and how many bytes are left
-/// unread.
+/// How a script ends: how many reads are good, the error (`None` if it ends well), and how many bytes are left unread.
 type End = (usize, Option<ScriptFault>, usize);
 
 const FAILED: Option<ScriptFault> = Some(ScriptFault::Read);
 
-/// Whether a script that comes in reads of `step` bytes has exactly the replies and the end that are given, and is
-/// read just as often as there are good reads, and once more where one fails.
+/// Returns whether a script that comes in reads of `step` bytes has exactly the replies and the end that are given, and
+/// is read just as often as there are good reads, and once more if one fails.
 fn is_script_answered(
     alloc: Global,
     script: &str,
@@ -35,8 +34,8 @@ fn is_script_answered(
     Ok(fault == wanted && reader.reads == reads && is_rest && is_answered)
 }
 
-/// Whether a script has just the given replies by a read for each byte, and by one for all, each time with one read
-/// more that finds the end.
+/// Returns whether a script has just the given replies by a read for each byte, and by one for all, each time with one
+/// read more that finds the end.
 fn is_read_once(alloc: Global, script: &str, replies: &str) -> Result<bool, Fail> {
     let by_bytes = (script.len().saturating_add(1), None, 0);
     let is_read_by_bytes = is_script_answered(alloc, script, replies, 1, by_bytes)?;
@@ -44,8 +43,8 @@ fn is_read_once(alloc: Global, script: &str, replies: &str) -> Result<bool, Fail
     Ok(is_read_by_bytes && is_read_at_once)
 }
 
-/// The first number of good reads of `GREETING`, a byte each, after which a failed read isn't told, or other lines are
-/// answered than those that came whole; `None` where there is none.
+/// Returns the first number of good reads of `GREETING`, a byte each, after which a failed read isn't reported, or
+/// other lines are answered than those that came whole, or `None` if there is none.
 fn first_untold_read(alloc: Global) -> Result<Option<usize>, Fail> {
     let script = GREETING.as_bytes();
     for good in 0..=script.len() {
@@ -68,7 +67,8 @@ const BUFFERS: [(usize, End); 5] = [
     (600, (4, None, 0)),
 ];
 
-/// The first row of `BUFFERS` whose script ends, or is answered, otherwise than the row says; `None` where none is.
+/// Returns the first row of `BUFFERS` whose script ends, or is answered, otherwise than the row says, or `None` if none
+/// is.
 fn first_other_buffer(alloc: Global) -> Result<Option<usize>, Fail> {
     let script = lines!("2 ", bye).repeat(alloc, 600)?;
     for (row, (answered, end)) in BUFFERS.iter().enumerate() {
@@ -80,7 +80,7 @@ fn first_other_buffer(alloc: Global) -> Result<Option<usize>, Fail> {
     Ok(None)
 }
 
-/// A line of a script, of 4,036 bytes, that greets with a name and a key which nobody has.
+/// Returns a line of a script, of 4,036 bytes, that greets with a name and a key which nobody has.
 fn long_greeting(alloc: Global) -> Result<String, AllocError> {
     let (name, key) = ("n".repeat(alloc, 2000)?, "k".repeat(alloc, 2000)?);
     format!(in alloc; "1 {{\"do\":\"hello\",\"key\":\"{key}\",\"name\":\"{name}\"}}\n")
@@ -89,22 +89,23 @@ fn long_greeting(alloc: Global) -> Result<String, AllocError> {
 const UNKNOWN: &str =
     "1 {\"clause\":2,\"deny\":\"unknown\",\"text\":\"name and key do not match\"}\n";
 
-/// Whether a greeting of 4,036 bytes is answered as `UNKNOWN` says, by one read and one more that finds the end.
+/// Returns whether a greeting of 4,036 bytes is answered as `UNKNOWN` says, by one read and one more that finds the
+/// end.
 fn is_long_greeting_answered(alloc: Global) -> Result<bool, Fail> {
     let script = long_greeting(alloc)?;
     let is_told = is_script_answered(alloc, script.as_str(), UNKNOWN, usize::MAX, (2, None, 0))?;
     Ok(is_told && script.len() == 4036)
 }
 
-/// Whether an empty second line ends a script by its number, with the first line answered and nothing read after the
-/// empty one.
+/// Returns whether an empty second line ends a script by its number, with the first line answered and nothing read
+/// after the empty one.
 fn is_bad_line_told(alloc: Global) -> Result<bool, Fail> {
     let script = lines!("2 ", bye, "\n2 ", bye);
     let end = (16, Some(ScriptFault::BadLine(2)), 15);
     is_script_answered(alloc, script, lines!("2 ", left), 1, end)
 }
 
-/// Whether each read is made once, with the replies that there should be, of a script with looks, of one with
+/// Returns whether each read is made once, with the replies that there should be, of a script with looks, of one with
 /// greetings, of one with a long greeting, and of one with a bad line, in this order.
 fn are_read_once(alloc: Global) -> Result<[bool; 4], Fail> {
     let look = is_read_once(alloc, FIRST_LOOK, FIRST_LOOK_REPLIES)?;
@@ -113,16 +114,16 @@ fn are_read_once(alloc: Global) -> Result<[bool; 4], Fail> {
     Ok([look, greeting, long, is_bad_line_told(alloc)?])
 }
 
-/// What `are_read_once` tells of four scripts; and then the first number of good reads after which a failed one isn't
-/// told, and the first row of `BUFFERS` that ends otherwise than it says: `None` each where there is none.
+/// Returns the result of `are_read_once` of four scripts; and then the first number of good reads after which a failed
+/// one isn't reported, and the first row of `BUFFERS` that ends otherwise than it says: `None` each if there is none.
 fn reads_made(alloc: Global) -> Result<([bool; 4], [Option<usize>; 2]), Fail> {
     let are_read_once = are_read_once(alloc)?;
     let firsts = [first_untold_read(alloc)?, first_other_buffer(alloc)?];
     Ok((are_read_once, firsts))
 }
 
-// Fails where a script is read more or less often than it should be, or has other replies, or where a failed read or a
-// bad line isn't its error.
+// Fails if a script is read more or less often than it should be, or has other replies, or if a failed read or a bad
+// line isn't its error.
 #[test]
 fn each_read_is_made_once(rt: HostRuntime) -> Result<(), Fail> {
     assert_eq!(rt; reads_made(rt.alloc())?, ([true; 4], [None; 2]));

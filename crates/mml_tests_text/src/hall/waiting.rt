@@ -1,5 +1,5 @@
 //! Replies wait for no line: all of them are out and flushed before each read, many in one write. An error (`Fail`) is
-//! want of memory.
+//! running out of memory.
 use super::script_error_of;
 use mml_fakes::scripts::{FIRST_LOOK, FIRST_LOOK_REPLIES, GREETING, GREETING_REPLIES, ended_lines};
 use mml_fakes::{FakeWriter, Parts};
@@ -27,8 +27,8 @@ struct Asker<'a> {
 }
 
 impl<'a> Read for Asker<'a> {
-    // Gives what fits of the next line, and drops the rest of it; 0 bytes at the end. Sets `is_late` where not each
-    // line before has its reply written, or bytes of replies aren't flushed.
+    // Returns what fits of the next line, and drops the rest of it; 0 bytes at the end. Sets `is_late` if not each line
+    // before has its reply written, or bytes of replies aren't flushed.
     fn read(&mut self, buf: &mut [u8]) -> io::Result<usize> {
         if self.replies.unflushed.get() > 0 || self.replies.count.get() != self.reads {
             self.is_late = true;
@@ -48,7 +48,7 @@ struct Answered<'a> {
 }
 
 impl<'a> Write for Answered<'a> {
-    // Takes all bytes, and counts them as unflushed, and their newlines as replies; fails where memory lacks.
+    // Takes all bytes, and counts them as unflushed, and their newlines as replies; fails if memory runs out.
     fn write(&mut self, buf: &[u8]) -> io::Result<usize> {
         self.taken.extend_from_slice(buf)?;
         let count = &self.replies.count;
@@ -65,8 +65,8 @@ impl<'a> Write for Answered<'a> {
     }
 }
 
-/// Whether a script, read a line a read, ends well with just the wanted replies, each out and flushed before the next
-/// read, the last at the end; and how many reads there were.
+/// Returns whether a script, read a line a read, ends well with just the wanted replies, each out and flushed before
+/// the next read, the last at the end; and how many reads there were.
 fn asked(alloc: Global, script: &str, wanted: &str) -> Result<(bool, usize), Fail> {
     let replies = Replies {
         count: Cell::new(0),
@@ -90,7 +90,7 @@ fn asked(alloc: Global, script: &str, wanted: &str) -> Result<(bool, usize), Fai
     ))
 }
 
-/// How often a writer that `FakeWriter::patient` made was written to, and how often it was flushed.
+/// Returns how often a writer that `FakeWriter::patient` made was written to, and how often it was flushed.
 fn calls(writer: &FakeWriter) -> (usize, usize) {
     (
         usize::MAX.saturating_sub(writer.good),
@@ -98,8 +98,8 @@ fn calls(writer: &FakeWriter) -> (usize, usize) {
     )
 }
 
-/// Whether `FIRST_LOOK`, cut in two parts that come in a read each, ends well with just its replies, in at most two
-/// writes and three flushes, one for each read.
+/// Returns whether `FIRST_LOOK`, cut in two parts that come in a read each, ends well with just its replies, in at most
+/// two writes and three flushes, one for each read.
 fn is_answered_in_parts(alloc: Global, cut: usize) -> Result<bool, Fail> {
     let (first, second) = FIRST_LOOK.as_bytes().split_at(cut.min(FIRST_LOOK.len()));
     let mut reader = Parts {
@@ -114,8 +114,8 @@ fn is_answered_in_parts(alloc: Global, cut: usize) -> Result<bool, Fail> {
     Ok(is_told && writes <= 2 && flushes <= 3)
 }
 
-/// The first offset in `FIRST_LOOK` where a cut gives other replies, or more than two writes or three flushes; `None`
-/// where there is none.
+/// Returns the first offset in `FIRST_LOOK` at which a cut leads to other replies, or more than two writes or three
+/// flushes, or `None` if there is none.
 fn first_cut_that_changes(alloc: Global) -> Result<Option<usize>, Fail> {
     for cut in 0..=FIRST_LOOK.len() {
         if !is_answered_in_parts(alloc, cut)? {
@@ -129,16 +129,16 @@ fn first_cut_that_changes(alloc: Global) -> Result<Option<usize>, Fail> {
 /// were; and the first cut that changes something.
 type Writes = ((bool, usize), (bool, usize), Option<usize>);
 
-/// What `asked` tells of a script with looks and of one with greetings, and the first cut of the former that changes
-/// its replies, or takes more writes or flushes.
+/// Returns the result of `asked` of a script with looks and of one with greetings, and the first cut of the former that
+/// changes its replies, or takes more writes or flushes.
 fn writes_before_reads(alloc: Global) -> Result<Writes, Fail> {
     let looks = asked(alloc, FIRST_LOOK, FIRST_LOOK_REPLIES)?;
     let greets = asked(alloc, GREETING, GREETING_REPLIES)?;
     Ok((looks, greets, first_cut_that_changes(alloc)?))
 }
 
-// Fails where a line is read before all replies are out and flushed, there are other replies or reads, or where a cut
-// of what comes in changes the replies, or takes more writes or flushes.
+// Fails if a line is read before all replies are out and flushed, there are other replies or reads, or if a cut of what
+// comes in changes the replies, or takes more writes or flushes.
 #[test]
 fn replies_go_out_before_the_next_read(rt: HostRuntime) -> Result<(), Fail> {
     // A read for each line, and one that finds the end.

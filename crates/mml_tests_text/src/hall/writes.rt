@@ -1,5 +1,5 @@
-//! Writes and flushes that fail: the replies that went out before, and what the error tells of them. An error (`Fail`)
-//! is want of memory.
+//! Writes and flushes that fail: the replies that went out before, and what the error says of them. An error (`Fail`)
+//! is running out of memory.
 use super::script_error_of;
 use mml_fakes::scripts::{FIRST_LOOK, FIRST_LOOK_REPLIES, GREETING, GREETING_REPLIES};
 use mml_fakes::{FakeReader, FakeWriter, Refusal};
@@ -8,15 +8,15 @@ use std::alloc::Global;
 use std::io::ErrorKind;
 use std::test::Fail;
 
-/// How many of these bytes follow the last newline; all where there is none.
+/// Returns how many of these bytes follow the last newline; all if there is none.
 fn after_last_line(bytes: &[u8]) -> usize {
     let last = bytes.iter().rev().position(|byte| *byte == b'\n');
     last.unwrap_or(bytes.len())
 }
 
-/// Whether a writer that takes `step` bytes in each of `good` writes and then refuses is left with just as many bytes
-/// of the replies to `FIRST_LOOK`; the error tells how many of them belong to a line that isn't wholly out, and there
-/// is none where all replies are out.
+/// Returns whether a writer that takes `step` bytes in each of `good` writes and then refuses is left with just as many
+/// bytes of the replies to `FIRST_LOOK`; the error says how many of them belong to a line that isn't wholly out, and
+/// there is none if all replies are out.
 fn tells_a_write(alloc: Global, step: usize, good: usize, refusal: Refusal) -> Result<bool, Fail> {
     let replies = FIRST_LOOK_REPLIES.as_bytes();
     let (out, rest) = replies.split_at(usize::saturating_mul(step, good).min(replies.len()));
@@ -38,8 +38,8 @@ const FAILS: Refusal = Refusal::Fails(ErrorKind::Other);
 // How many bytes a write takes, and what comes instead once it fails.
 const WRITERS: [(usize, Refusal); 3] = [(1, FAILS), (1, Refusal::TakesNothing), (7, FAILS)];
 
-/// The first number of good writes for which `tells_a_write` is false over one of `WRITERS`, and how many bytes that
-/// takes a write; `None` where there is none.
+/// Returns the first number of good writes for which `tells_a_write` is false over one of `WRITERS`, and how many bytes
+/// that takes a write, or `None` if there is none.
 fn first_untold_write(alloc: Global) -> Result<Option<(usize, usize)>, Fail> {
     for good in 0..=FIRST_LOOK_REPLIES.len() {
         for (step, refusal) in WRITERS {
@@ -51,8 +51,8 @@ fn first_untold_write(alloc: Global) -> Result<Option<(usize, usize)>, Fail> {
     Ok(None)
 }
 
-/// Whether a flush of the replies to `GREETING` that fails after `good` good ones ends the script, told as a write of
-/// no bytes, with whole lines of replies out, and one read before each good flush.
+/// Returns whether a flush of the replies to `GREETING` that fails after `good` good ones ends the script as a write of
+/// no bytes does, with whole lines of replies out, and one read before each good flush.
 fn tells_a_flush(alloc: Global, good: usize) -> Result<bool, Fail> {
     let mut reader = FakeReader::failing_after(usize::MAX, GREETING.as_bytes());
     reader.step = 40;
@@ -65,8 +65,8 @@ fn tells_a_flush(alloc: Global, good: usize) -> Result<bool, Fail> {
     Ok(fault == Some(ScriptFault::Write { written: 0 }) && is_front && is_unread)
 }
 
-/// The first number of good flushes below seven, as many as the script takes, for which `tells_a_flush` is
-/// false; `None` where there is none.
+/// Returns the first number of good flushes below seven, as many as the script takes, for which `tells_a_flush` is
+/// false, or `None` if there is none.
 fn first_untold_flush(alloc: Global) -> Result<Option<usize>, Fail> {
     for good in 0..7 {
         if !tells_a_flush(alloc, good)? {
@@ -76,17 +76,17 @@ fn first_untold_flush(alloc: Global) -> Result<Option<usize>, Fail> {
     Ok(None)
 }
 
-/// What `first_untold_write` gives, how many writes were good and how many bytes each took, and then how many flushes
-/// were good, by `first_untold_flush`; `None` each where all is told as it should be.
+/// The result of `first_untold_write`, how many writes were good and how many bytes each took, and then how many
+/// flushes were good, by `first_untold_flush`; `None` each if all is as it should be.
 type Untold = (Option<(usize, usize)>, Option<usize>);
 
-/// The first failed write and the first failed flush that are told otherwise than they should be, `None` each where
-/// there is none.
+/// Returns the first failed write and the first failed flush that are answered otherwise than they should be, `None`
+/// each if there is none.
 fn first_untold(alloc: Global) -> Result<Untold, Fail> {
     Ok((first_untold_write(alloc)?, first_untold_flush(alloc)?))
 }
 
-// Fails where a failed write or flush doesn't end a script, or other bytes are out by then than the error says.
+// Fails if a failed write or flush doesn't end a script, or other bytes are out by then than the error says.
 #[test]
 fn failed_writes_and_flushes_are_told(rt: HostRuntime) -> Result<(), Fail> {
     assert_eq!(rt; first_untold(rt.alloc())?, (None, None));

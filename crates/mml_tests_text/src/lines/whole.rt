@@ -1,12 +1,12 @@
-//! Whole reads and writes, and lines that go out together. An error is want of memory.
+//! Whole reads and writes, and lines that go out together. An error means that memory ran out.
 use mml_fakes::{FakeReader, FakeWriter, Refusal};
 use mml_lines::{Outgoing, WriteFault, put_all, read_whole};
 use std::alloc::Global;
 use std::io::ErrorKind;
 use std::test::Fail;
 
-/// What `read_whole` gives, as a text, with a limit of six bytes over a reader that gives one byte a read and fails
-/// after `good` reads by an error of a kind: the bytes, or the name of the error.
+/// Returns the result of `read_whole`, as a text, with a limit of six bytes over a reader that gives one byte a read
+/// and fails after `good` reads by an error of a kind: the bytes, or the name of the error.
 fn bytes_or_fault(
     alloc: Global,
     input: &[u8],
@@ -21,12 +21,12 @@ fn bytes_or_fault(
     }
 }
 
-// An input, how many reads are good, the error after them, and what is told.
+// An input, how many reads are good, the error after them, and the result.
 const INPUTS: &[(&str, usize, ErrorKind, &str)] = &[
     ("", 100, ErrorKind::Other, ""),
     ("abc", 100, ErrorKind::Other, "abc"),
     ("abcdef", 100, ErrorKind::Other, "abcdef"),
-    // One byte more tells that there are too many, and no read comes after it.
+    // One byte more shows that there are too many, and no read comes after it.
     ("abcdefghi", 0, ErrorKind::Other, "Read"),
     ("abcdefghi", 6, ErrorKind::Other, "Read"),
     ("abcdefghi", 7, ErrorKind::Other, "TooLong"),
@@ -34,7 +34,8 @@ const INPUTS: &[(&str, usize, ErrorKind, &str)] = &[
     ("abc", 1, ErrorKind::OutOfMemory, "Memory"),
 ];
 
-/// The first row of `INPUTS` for which `bytes_or_fault` gives another text than the row says; `None` where none does.
+/// Returns the first row of `INPUTS` for which `bytes_or_fault` gives another text than the row says, or `None` if none
+/// does.
 fn first_told_otherwise(alloc: Global) -> Result<Option<usize>, Fail> {
     for (row, (input, good, kind, wanted)) in INPUTS.iter().enumerate() {
         if bytes_or_fault(alloc, input.as_bytes(), *good, *kind)?.as_str() != *wanted {
@@ -44,7 +45,7 @@ fn first_told_otherwise(alloc: Global) -> Result<Option<usize>, Fail> {
     Ok(None)
 }
 
-// Fails where a reader isn't read whole within a limit of six bytes, or a longer one or a failed read is told
+// Fails if a reader isn't read whole within a limit of six bytes, or a longer one or a failed read is answered
 // otherwise.
 #[test]
 fn readers_are_read_up_to_a_limit(rt: HostRuntime) -> Result<(), Fail> {
@@ -52,8 +53,8 @@ fn readers_are_read_up_to_a_limit(rt: HostRuntime) -> Result<(), Fail> {
     Ok(())
 }
 
-/// Whether `put_all`, over a writer that takes `step` bytes in each of `good` writes and then refuses, puts just as
-/// many bytes and doesn't flush, and fails where bytes are left, with an error that tells how many went out.
+/// Returns whether `put_all`, over a writer that takes `step` bytes in each of `good` writes and then refuses, puts
+/// just as many bytes and doesn't flush, and fails if bytes are left, with an error that says how many went out.
 fn puts(alloc: Global, bytes: &[u8], step: usize, good: usize, refusal: Refusal) -> bool {
     let mut writer = FakeWriter::failing_after(good, alloc);
     writer.step = step;
@@ -93,8 +94,8 @@ const PUTS: &[(usize, usize, usize)] = &[
     (200, 7, 2001),
 ];
 
-/// The first row of `PUTS` for which `puts` is false over a writer that refuses as `refusal` says; `None` where there
-/// is none.
+/// Returns the first row of `PUTS` for which `puts` is false over a writer that refuses as `refusal` says, or `None` if
+/// there is none.
 fn first_other_put(alloc: Global, refusal: Refusal) -> Result<Option<usize>, Fail> {
     for (row, (times, step, good)) in PUTS.iter().enumerate() {
         let text = "0123456789".repeat(alloc, *times)?;
@@ -105,8 +106,8 @@ fn first_other_put(alloc: Global, refusal: Refusal) -> Result<Option<usize>, Fai
     Ok(None)
 }
 
-/// How many bytes of lines that go out together are out once 512 lines are put, of four bytes each, then after one line
-/// more, and then after a flush.
+/// Returns how many bytes of lines that go out together are out once 512 lines are put, of four bytes each, then after
+/// one line more, and then after a flush.
 fn sent(alloc: Global) -> Result<[usize; 3], Fail> {
     let mut outgoing = Outgoing::new(alloc)?;
     let mut writer = FakeWriter::patient(alloc);
@@ -123,19 +124,19 @@ fn sent(alloc: Global) -> Result<[usize; 3], Fail> {
 }
 
 /// The first row of `PUTS` that is put otherwise over writers that fail, the first over writers that take nothing
-/// (`None` where there is none), and how many bytes were out at each of three times, as `sent` has them.
+/// (`None` if there is none), and how many bytes were out at each of three times, as `sent` has them.
 type Written = (Option<usize>, Option<usize>, [usize; 3]);
 
-/// The first row of `PUTS` that is put otherwise over writers that fail, the first over writers that take nothing, and
-/// how many bytes of lines that go out together were out at each of the three times of `sent`.
+/// Returns the first row of `PUTS` that is put otherwise over writers that fail, the first over writers that take
+/// nothing, and how many bytes of lines that go out together were out at each of the three times of `sent`.
 fn told_of_writes(alloc: Global) -> Result<Written, Fail> {
     let failed = first_other_put(alloc, Refusal::Fails(ErrorKind::Other))?;
     let refused = first_other_put(alloc, Refusal::TakesNothing)?;
     Ok((failed, refused, sent(alloc)?))
 }
 
-// Fails where other bytes go out than a writer takes, an error doesn't tell how many did, or held lines go out before
-// 512 are held and one more comes, or then not at once.
+// Fails if other bytes go out than a writer takes, an error doesn't say how many did, or held lines go out before 512
+// are held and one more comes, or then not at once.
 #[test]
 fn writes_tell_what_went_out(rt: HostRuntime) -> Result<(), Fail> {
     assert_eq!(rt; told_of_writes(rt.alloc())?, (None, None, [0, 2048, 2052]));

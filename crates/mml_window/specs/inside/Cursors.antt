@@ -9,6 +9,6 @@ left_of [] cursors = []
 left_of (w ∷ ws) [] = []
 left_of (w ∷ ws) (c ∷ cursors) = drop c w.places ++ left_of ws cursors
 
--- where this place is left, a smaller one is too
+-- if this place is left, a smaller one is too
 abbrev pub IsStuck : ℕ → List ℕ → Type 0
 IsStuck place ps = 0 < times place ps → (p : ℕ) × (0 < p) × (p < place) × (0 < times p ps)

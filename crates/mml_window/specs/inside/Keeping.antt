@@ -6,7 +6,7 @@ use Rattle.mml_window.specs.declared.answer.Answer.{Answer}
 use Rattle.mml_window.specs.declared.answer.Answer.TheVariants.{Granted, Denied, Refused}
 use Rattle.mml_window.specs.Windows.{WindowValue, window, window_with}
 
--- the place that a grant tells is the number of events, one more than the window has seen, and within the limit
+-- the place in a grant's answer is the number of events, one more than the window has seen, and within the limit
 abbrev pub IsNextPlace : LabValue → List Event → List Event → Answer → Type 0
 IsNextPlace lab seen events (Denied d) = Unit {0}
 IsNextPlace lab seen events (Refused why) = Unit {0}

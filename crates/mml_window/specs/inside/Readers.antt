@@ -3,7 +3,7 @@ use Rattle.std.specs.Prelude.{Option, None, Some}
 use Rattle.mml_window.specs.declared.seeing.View.{View}
 use Rattle.mml_window.specs.Rule.{nothing_seen}
 
--- what the reader of a window has seen: nothing, where there is no reader
+-- what the reader of a window has seen: nothing, if there is no reader
 abbrev pub view_by : Option View → View
 view_by None = nothing_seen
 view_by (Some v) = v
