@@ -15,6 +15,7 @@ use Rattle.mml_rules.proofs.StepLemmas.{effect-linked, step-lawful}
 use Rattle.mml_rules.proofs.NetworkLemmas.{length-unpointed, with_registers-lawful, with_link-lawful, without_link-lawful}
 use Rattle.mml_board.specs.declared.event.Event.{Event}
 use Rattle.mml_board.specs.World.{World, size, configuration, chosen_at, IsWorld}
+use Rattle.mml_board.proofs.ClausesLemmas.{is_fit, fit}
 use Rattle.mml_board.specs.Events.{is_possible, may_point, moved_registers, renewed, choosing, after}
 
 -- moves leave the number of nodes
@@ -107,29 +108,33 @@ partner_within c i r l h = grind (arith, effect-linked)
 pub length-without_link : (n : Network) (a b : ℕ) → length (without_link n a b).registers ≡ length n.registers
 length-without_link n a b = length-unpointed (unpointed n.registers a b) b a ∙ length-unpointed n.registers a b
 
--- a lawful world stays lawful
-pub after-world : (w : World) (e : Event) → IsWorld w → is_possible w e ≡ true → IsWorld (after w e)
-after-world w (Event.Grant s i rule) k h =
+-- the same, by the tests that the event passes
+after_fit : (w : World) (e : Event) → IsWorld w → is_fit w e ≡ true → IsWorld (after w e)
+after_fit w (Event.Grant s i rule) k h =
     let x = and_parts (ltb i (size w)) (is_none (chosen_at w.chosen i) && guard (configuration w) i rule) h in
     let y = and_parts (is_none (chosen_at w.chosen i)) (guard (configuration w) i rule) x.1 in
     choosing-world w i (Some rule) (ltb-true i (size w) x.0) (λ r e. let same : rule ≡ r = cc in subst (λ z. guard (configuration w) i z ≡ true) same y.1) k
-after-world w (Event.Release i) k h = choosing-world w i None (chosen_node w i k.choices h) (λ r e. cc) k
-after-world w Event.Close k h = renewed-world w (closed w) (closed-network w k) (length-moved_registers w)
-after-world w (Event.Fault i registers) k h =
+after_fit w (Event.Release i) k h = choosing-world w i None (chosen_node w i k.choices h) (λ r e. cc) k
+after_fit w Event.Close k h = renewed-world w (closed w) (closed-network w k) (length-moved_registers w)
+after_fit w (Event.Fault i registers) k h =
     let x = and_parts (ltb i (size w)) (may_point (configuration w) i registers.p) h in
     let l = ltb-true i (size w) x.0 in
     renewed-world w (with_registers w.network i registers)
     (with_registers-lawful w.network i registers k.network l (λ j e. may_point-linked w.network i j registers.p x.1 e))
     (length-set w.network.registers i registers)
-after-world w (Event.Link a b) k h =
+after_fit w (Event.Link a b) k h =
     let x = and_parts (ltb a (size w) && ltb b (size w)) (not (eqb a b) && not ((configuration w).linked a b)) h in
     let y = and_parts (ltb a (size w)) (ltb b (size w)) x.0 in
     let z = and_parts (not (eqb a b)) (not ((configuration w).linked a b)) x.1 in
     renewed-world w (with_link w.network a b)
     (with_link-lawful w.network a b k.network (ltb-true a (size w) y.0) (ltb-true b (size w) y.1) (eqb-false a b (not-true _ z.0))) refl
-after-world w (Event.Cut a b) k h =
+after_fit w (Event.Cut a b) k h =
     let l = k.network.lawful.in_range a b h in
     renewed-world w (without_link w.network a b) (without_link-lawful w.network a b k.network l.0 l.1) (length-without_link w.network a b)
+
+-- a lawful world stays lawful
+pub after-world : (w : World) (e : Event) → IsWorld w → is_possible w e ≡ true → IsWorld (after w e)
+after-world w e k h = after_fit w e k (fit w e h)
 
 -- two lists with the same elements
 pub same_lists : {X : Type 0} (d : X) (xs ys : List X) → length xs ≡ length ys → ((k : ℕ) → k < length xs → get_or xs k d ≡ get_or ys k d) → xs ≡ ys

@@ -1,4 +1,7 @@
 pub mod World
+pub mod Denials
+pub mod Clauses
+pub mod ActNodes
 pub mod Events
 pub mod Runs
 pub mod Lists

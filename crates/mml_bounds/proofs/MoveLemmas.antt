@@ -6,6 +6,7 @@ use Rattle.mml_lab.specs.Rosters.{RosterValue, owns}
 use Rattle.mml_board.specs.{declared.event.Event.Event, World.World, World.size, World.configuration, World.chosen_at, World.IsWorld, Runs.is_legal_list, Runs.world_of}
 use Rattle.mml_board.specs.Events.{is_chosen, is_any_chosen, is_possible, is_legal, after, chosen_count, moved_registers}
 use Rattle.mml_board.proofs.WorldLemmas.{after-world, chosen_at-set, moved_at, none_at, size-after}
+use Rattle.mml_board.proofs.ClausesLemmas.{owned_legal, grant_possible, close_possible}
 use Rattle.mml_convergence.specs.{Moves.applied_over, Moves.count_closes, Rest.is_grant_or_close, Rounds.Rounds}
 use Rattle.mml_convergence.proofs.{RestLemmas.any_chosen, SumsLemmas.count_same}
 use Rattle.mml_bounds.proofs.CountLemmas.{count_one}
@@ -75,7 +76,7 @@ after_move s w x rule = after (after w (event.Grant s x rule)) event.Close
 pub record Move (r : RosterValue) (s : ℕ) (w : World) (x : ℕ) (rule : Rule) : Type 0 where
   pub legal : is_legal r w (event.Grant s x rule) ≡ true
   pub chosen : is_chosen (after w (event.Grant s x rule)) x ≡ true
-  pub any : is_any_chosen (after w (event.Grant s x rule)) ≡ true
+  pub close : is_legal r (after w (event.Grant s x rule)) event.Close ≡ true
   pub one : chosen_count (after w (event.Grant s x rule)) ≡ 1
   pub world : IsWorld (after_move s w x rule)
   pub quiet : IsQuiet (after_move s w x rule)
@@ -84,16 +85,16 @@ pub record Move (r : RosterValue) (s : ℕ) (w : World) (x : ℕ) (rule : Rule) 
 pub move : (r : RosterValue) (s : ℕ) (w : World) (x : ℕ) (rule : Rule) → IsWorld w → IsQuiet w → x < size w → owns r (who.Student s) x ≡ true
     → guard (configuration w) x rule ≡ true → Move r s w x rule
 unfolding chosen_count
-move r s w x rule world quiet lt owner holds = record { legal = legal; chosen = chosen; any = any; one = one; world = closed; quiet = none_at (size w); moved = moves }
+move r s w x rule world quiet lt owner holds = record { legal = legal; chosen = chosen; close = owned_legal r v event.Close refl (close_possible v any); one = one; world = closed; quiet = none_at (size w); moved = moves }
   where
     v : World
     v = after w (event.Grant s x rule)
 
     possible : is_possible w (event.Grant s x rule) ≡ true
-    possible = and_from _ _ (lt-ltb x (size w) lt) (and_from _ _ (ap is_none (quiet x)) holds)
+    possible = grant_possible w s x rule lt (quiet x) holds
 
     legal : is_legal r w (event.Grant s x rule) ≡ true
-    legal = and_from _ _ owner possible
+    legal = owned_legal r w (event.Grant s x rule) owner possible
 
     granted : IsWorld v
     granted = after-world w (event.Grant s x rule) world possible
@@ -108,7 +109,7 @@ move r s w x rule world quiet lt owner holds = record { legal = legal; chosen = 
     any = any_chosen v.chosen x chosen
 
     closed : IsWorld (after v event.Close)
-    closed = after-world v event.Close granted any
+    closed = after-world v event.Close granted (close_possible v any)
 
     there : (b : Bool) → is_some (cond b (Some rule) None) ≡ b
     there true = refl
@@ -139,7 +140,7 @@ single n r s owned x a rule w world quiet e lt hold next =
     let g = next (after_move s w x rule) o.world o.quiet o.moved in
     record {
       events = event.Grant s x rule ∷ event.Close ∷ g.events;
-      legal = and_from _ _ o.legal (and_from _ _ o.any g.legal);
+      legal = and_from _ _ o.legal (and_from _ _ o.close g.legal);
       forward = g.forward;
       alone = omega (arith, o.one, g.alone);
       rounds = tt;

@@ -68,7 +68,7 @@ module _ (A : World → ℕ → Type 0) (r : RosterValue) (s k n : ℕ) (c : Con
       record {
         front = event.Grant s m rule ∷ event.Close ∷ rest.front;
         back = rest.back;
-        legal = and_from _ _ o.legal (and_from _ _ o.any rest.legal);
+        legal = and_from _ _ o.legal (and_from _ _ o.close rest.legal);
         forward = rest.forward;
         alone = omega (arith, o.one, rest.alone);
         moves = omega (arith, o.one, rest.moves, counted);

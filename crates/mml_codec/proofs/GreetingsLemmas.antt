@@ -5,7 +5,7 @@ use Rattle.mml_lab.specs.declared.who.Who.{Who}
 use Rattle.mml_lab.specs.Rosters.{RosterValue, IsRoster, principal}
 use Rattle.mml_lab.specs.RosterMeaning.{IsKnownAs}
 use Rattle.mml_lab.proofs.RosterMeaningLemmas.{principal-one}
-use Rattle.mml_policy.specs.declared.denial.Denial.{Denial}
+use Rattle.mml_board.specs.declared.denial.Denial.{Denial}
 use Rattle.mml_codec.specs.declared.request.Request.{Request}
 use Rattle.mml_codec.specs.declared.request.Request.TheVariants as requests
 use Rattle.mml_codec.specs.declared.reply.Reply.TheVariants as replies

@@ -1,10 +1,10 @@
 -- Texts that are put in parts are those of their fields.
 use Rattle.std.proofs.Common.{◌≡◌, ℕ, List, [], ◌∷◌, ◌++◌, Option, None, Some, map, codes, decimal, refl, ap, ◌∙◌, append_assoc}
 use Rattle.std.specs.List.{concat}
-use Rattle.mml_policy.specs.declared.denial.Denial.{Denial}
+use Rattle.mml_board.specs.declared.denial.Denial.{Denial}
 use Rattle.mml_policy.specs.declared.look.Look.{Look}
-use Rattle.mml_policy.specs.Denials.{clause_of, text_of}
-use Rattle.mml_policy.specs.Denials as denials
+use Rattle.mml_board.specs.Denials.{clause_of, text_of}
+use Rattle.mml_board.specs.Denials as denials
 use Rattle.mml_codec.specs.Facts.{object_text, separated, near_text}
 use Rattle.mml_codec.specs.Replies.{current_number, number_first, told_fields, look_fields, deny_fields}
 use Rattle.mml_codec.specs.inside.Puts.{number_front, deny_parts, look_head, look_tail, joined_text, look_parts}

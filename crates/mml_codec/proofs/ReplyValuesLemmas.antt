@@ -22,10 +22,10 @@ use Rattle.mml_lab.specs.declared.who.Who.{Who}
 use Rattle.mml_lab.specs.Rosters.{RosterValue, IsRoster, IsPrincipal, name_of}
 use Rattle.mml_lab.proofs.FormLemmas.{name-means}
 use Rattle.mml_policy.specs.About.{IsNear}
-use Rattle.mml_policy.specs.declared.denial.Denial.{Denial}
-use Rattle.mml_policy.specs.declared.denial.Denial.TheVariants as denial
-use Rattle.mml_policy.specs.Denials.{clause_of, text_of}
-use Rattle.mml_policy.specs.Denials as denials
+use Rattle.mml_board.specs.declared.denial.Denial.{Denial}
+use Rattle.mml_board.specs.declared.denial.Denial.TheVariants as denial
+use Rattle.mml_board.specs.Denials.{clause_of, text_of}
+use Rattle.mml_board.specs.Denials as denials
 use Rattle.mml_stable.specs.Reports.{IsPairOf, IsOpenLinkOf}
 use Rattle.mml_stable.specs.declared.open_link.OpenLink.{OpenLink}
 use Rattle.mml_codec.specs.declared.reply.Refused.{Refused}

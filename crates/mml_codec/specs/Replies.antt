@@ -4,13 +4,13 @@ use Rattle.mml_board.specs.declared.done.Done.{Done}
 use Rattle.mml_board.specs.declared.done.Done.TheVariants as done
 use Rattle.mml_board.specs.Vocabulary as verb
 use Rattle.mml_lab.specs.Rosters.{RosterValue, name_of, IsPrincipal}
-use Rattle.mml_policy.specs.declared.denial.Denial.{Denial}
-use Rattle.mml_policy.specs.declared.denial.Denial.TheVariants as denial
+use Rattle.mml_board.specs.declared.denial.Denial.{Denial}
+use Rattle.mml_board.specs.declared.denial.Denial.TheVariants as denial
 use Rattle.mml_policy.specs.declared.look.Look.{Look}
 use Rattle.mml_policy.specs.declared.see.See.{See}
 use Rattle.mml_policy.specs.About.{IsSeen, IsLookedAt}
-use Rattle.mml_policy.specs.Denials.{clause_of, text_of}
-use Rattle.mml_policy.specs.Denials as denials
+use Rattle.mml_board.specs.Denials.{clause_of, text_of}
+use Rattle.mml_board.specs.Denials as denials
 use Rattle.mml_stable.specs.declared.stability_report.Report.{Report}
 use Rattle.mml_stable.specs.Reports.{NamesNodes}
 use Rattle.mml_codec.specs.declared.reply.Refused.{Refused}

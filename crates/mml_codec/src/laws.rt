@@ -4,7 +4,7 @@ ghost use Rattle.mml_codec.specs.declared.request.Request.{Request};
 ghost use Rattle.mml_lab.specs.Rosters.{RosterValue, IsRoster};
 ghost use Rattle.mml_lab.specs.RosterMeaning.{IsKnownAs};
 ghost use Rattle.mml_lab.specs.declared.who.Who.{Who};
-ghost use Rattle.mml_policy.specs.declared.denial.Denial.{Denial};
+ghost use Rattle.mml_board.specs.declared.denial.Denial.{Denial};
 ghost use Rattle.mml_codec.specs.declared.request.Request.TheVariants as requests;
 ghost use Rattle.mml_codec.specs.declared.greeting.Greeting.TheVariants.{Answered};
 ghost use Rattle.mml_codec.specs.Greetings.{greeting};

@@ -6,7 +6,7 @@ use Rattle.mml_rules.specs.{declared.rule.Rule.Rule, Configuration.Configuration
 use Rattle.mml_lab.specs.{Labs.link_count, Rosters.RosterValue}
 use Rattle.mml_board.specs.{declared.event.Event.Event, Events.is_possible, Events.is_any_chosen, Events.after, Events.chosen_count, Runs.is_legal_list}
 use Rattle.mml_board.specs.World.{World, size, configuration, chosen_at, IsWorld}
-use Rattle.mml_board.proofs.WorldLemmas.{closed-step, after-world}
+use Rattle.mml_board.proofs.{WorldLemmas.closed-step, WorldLemmas.after-world, ClausesLemmas.fit, ClausesLemmas.legal_possible}
 use Rattle.mml_convergence.specs.{Runs.is_of_step, Potential.whole_potential, Moves.moves, Moves.applied_by, Moves.applied_over, Moves.is_close, Moves.count_closes}
 use Rattle.mml_convergence.proofs.{SumsLemmas.count_some, WholePotentialLemmas.whole_fell, WholePotentialLemmas.whole_most}
 use Rattle.mml_board.specs.declared.event.Event.TheVariants as event
@@ -31,7 +31,7 @@ event_pays P falls w _ k of_step = absurd (false≢true of_step)
 pub moves_paid : (P : Configuration → ℕ) → Falls P → (r : RosterValue) (w : World) (es : List Event) → IsWorld w → is_legal_list r w es ≡ true
     → list_all is_of_step es ≡ true → applied_over w es ≤ P (configuration w)
 moves_paid P falls r w [] k legal steps = omega arith
-moves_paid P falls r w (e ∷ es) k legal steps = grind (arith, event_pays P falls w e k, moves_paid P falls r (after w e) es, after-world w e k)
+moves_paid P falls r w (e ∷ es) k legal steps = grind (arith, event_pays P falls w e k, moves_paid P falls r (after w e) es, after-world w e k, legal_possible r w e)
 
 -- a close pays for its moves
 pub close_pays : (w : World) → IsWorld w → chosen_count w + whole_potential (configuration (after w event.Close)) ≤ whole_potential (configuration w)
@@ -59,10 +59,10 @@ close_moves w k any =
 
 closes_fewer : (r : RosterValue) (w : World) (es : List Event) → IsWorld w → is_legal_list r w es ≡ true → count_closes es ≤ applied_over w es
 closes_fewer r w [] k legal = omega arith
-closes_fewer r w (e ∷ es) k legal = grind (arith, one e, closes_fewer r (after w e) es, after-world w e k)
+closes_fewer r w (e ∷ es) k legal = grind (arith, one e, closes_fewer r (after w e) es, after-world w e k, legal_possible r w e)
   where
     one : (e : Event) → is_possible w e ≡ true → cond (is_close e) 1 0 ≤ applied_by w e
-    one event.Close p = close_moves w k p
+    one event.Close p = close_moves w k (fit w event.Close p)
     one _ p = omega arith
 
 -- over grants, releases and closes, there are at most 2 closes for each link and 3 for each node

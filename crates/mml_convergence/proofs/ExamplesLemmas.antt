@@ -11,6 +11,7 @@ use Rattle.mml_lab.specs.{Labs.links_below, Labs.link_count, Rosters.RosterValue
 use Rattle.mml_board.specs.{declared.event.Event.Event, Events.moved_registers, Events.chosen_count, Events.after, Runs.is_legal_list}
 use Rattle.mml_board.specs.World.{World, size, configuration, chosen_at, IsWorld}
 use Rattle.mml_board.proofs.WorldLemmas.{size-after, hold-none}
+use Rattle.mml_board.proofs.ClausesLemmas.{owned_legal, grant_possible, close_possible}
 use Rattle.mml_convergence.specs.{Potential.potential, Potential.whole_potential, Moves.applied_over}
 use Rattle.mml_convergence.specs.Examples.{unlinked, triangle, triangle_world, sole_owner, twenty_moves}
 use Rattle.std.specs.FinSet as sets
@@ -40,7 +41,11 @@ tells linked registers chosen (event.Close ∷ es) n =
     (replicate (length registers) None) es (n - chosen_among registers chosen))
 tells linked registers chosen (_ ∷ es) n = false
 
--- it holds of a world with these links, registers and choices
+none_is : (o : Option Rule) → is_none o ≡ true → o ≡ None
+none_is None h = refl
+none_is (Some rule) h = absurd (false≢true h)
+
+-- what it tells holds of a world with these links, registers and choices
 sound : (r : RosterValue) (w : World) (es : List Event) (n : ℕ) → ((i : ℕ) → i < size w → owns r (who.Student 0) i ≡ true)
     → tells (configuration w).linked w.network.registers w.chosen es n ≡ true
     → (is_legal_list r w es ≡ true) × (applied_over w es ≡ n)
@@ -49,15 +54,14 @@ sound r w [] n owned t = (refl, sym (eqb-true n 0 t))
 sound r w (event.Grant s i rule ∷ es) n owned t =
     let x = and_parts (s == 0) _ t in
     let y = and_parts (nat_lt i (size w) && (is_none (chosen_at w.chosen i) && guard (configuration w) i rule)) _ x.1 in
-    grind (
-      arith,
-      nat_tests,
-      and_parts (nat_lt i (size w)) (is_none (chosen_at w.chosen i) && guard (configuration w) i rule) y.0,
-      sound r (after w (event.Grant s i rule)) es n owned y.1,
-      eqb-true,
-      ltb-true,
-      and_from,
-    )
+    let z = and_parts (nat_lt i (size w)) (is_none (chosen_at w.chosen i) && guard (configuration w) i rule) y.0 in
+    let free = and_parts (is_none (chosen_at w.chosen i)) (guard (configuration w) i rule) z.1 in
+    let there = ltb-true i (size w) z.0 in
+    let owner : owns r (who.Student s) i ≡ true = ap (λ k. owns r (who.Student k) i) (eqb-true s 0 x.0) ∙ owned i there in
+    let possible = grant_possible w s i rule there (none_is (chosen_at w.chosen i) free.0) free.1 in
+    let rest = sound r (after w (event.Grant s i rule)) es n (λ j lt. owned j (omega (arith, size-after w (event.Grant s i rule), lt))) y.1 in
+    let last = rest.1 in
+    (and_from _ _ (owned_legal r w (event.Grant s i rule) owner possible) rest.0, omega (arith, last))
 sound r w (event.Close ∷ es) n owned t =
     let x = and_parts (list_any is_some w.chosen) _ t in
     let y = and_parts (nat_le (chosen_among w.network.registers w.chosen) n) _ x.1 in
@@ -65,7 +69,7 @@ sound r w (event.Close ∷ es) n owned t =
     sound r (after w event.Close) es (n - chosen_among w.network.registers w.chosen) (λ i lt. owned i (omega (arith, size-after w event.Close, lt))) y.1 in
     let le = leb-true (chosen_among w.network.registers w.chosen) n y.0 in
     let last = rest.1 in
-    (and_from _ _ x.0 rest.0, omega (arith, le, last))
+    (and_from _ _ (owned_legal r w event.Close refl (close_possible w x.0)) rest.0, omega (arith, le, last))
 sound r w (_ ∷ es) n owned t = absurd (false≢true t)
 
 -- ---- the triangle with a tail

@@ -1,12 +1,13 @@
 -- From every world, a grant and a close for each move lead to a state with no node privileged.
 use Rattle.std.proofs.Common.{◌≡◌, ℕ, zero, suc, ◌+◌, ◌*◌, ◌≤◌, ◌⊎◌, Bool, true, false, List, [], ◌∷◌, set, None, Some, is_some, inl, inr, refl, ap, arith}
-use Rattle.std.proofs.lemmas.{Bool.and_from, Bool.and_parts, Bool.Decides.nat_tests, List.get_or-set_same}
+use Rattle.std.proofs.lemmas.{Bool.and_from, Bool.Decides.nat_tests, List.get_or-set_same}
 use Rattle.mml_ids.specs.Search.{some_below}
 use Rattle.mml_ids.proofs.SearchLemmas.{some_below-find, some_below-none}
 use Rattle.mml_rules.specs.{declared.rule.Rule.Rule, Rules.is_privileged, Matching.IsStable}
 use Rattle.mml_lab.specs.{Labs.link_count, Rosters.RosterValue}
 use Rattle.mml_board.specs.{declared.event.Event.Event, World.World, World.size, World.configuration, World.chosen_at, World.IsWorld, Events.is_any_chosen, Events.is_legal, Events.after}
 use Rattle.mml_board.proofs.WorldLemmas.{after-world, size-after, none_at}
+use Rattle.mml_board.proofs.ClausesLemmas.{fit, legal_possible, owned_legal, close_possible}
 use Rattle.mml_convergence.specs.{Potential.whole_potential, Rest.is_grant_or_close, Rest.EachHasOwner, Rest.LeadsToRest}
 use Rattle.mml_convergence.proofs.AppliedLemmas.{close_moves, close_pays, network_most}
 use Rattle.mml_convergence.proofs.RestLemmas.{none_chosen, any_chosen, may_move, first_owner}
@@ -21,7 +22,12 @@ record IsReady (r : RosterValue) (w : World) : Type 0 where
   owned : EachHasOwner r (size w)
 
 ready_after : (r : RosterValue) (w : World) (e : Event) → IsReady r w → is_legal r w e ≡ true → IsReady r (after w e)
-ready_after r w e k legal = grind (arith, nat_tests, after-world, and_parts, size-after)
+ready_after r w e k legal =
+    record { world = after-world w e k.world (legal_possible r w e legal); owned = λ i lt. k.owned i (omega (arith, lt, size-after w e)) }
+
+-- a close is legal if some move is chosen
+may_close : (r : RosterValue) (w : World) → is_any_chosen w ≡ true → is_legal r w event.Close ≡ true
+may_close r w any = owned_legal r w event.Close refl (close_possible w any)
 
 -- a move that can be granted, and closed at once
 record NextMove (r : RosterValue) (w : World) : Type 0 where
@@ -43,13 +49,18 @@ next_move r w k quiet = go (some_below (size w) (is_privileged (configuration w)
         let owner = first_owner r i (k.owned i found.1) in
         let here : chosen_at (set w.chosen i (Some move.0)) i ≡ Some move.0 =
         get_or-set_same w.chosen i (Some move.0) None (omega (arith, found.1, k.world.choices)) in
-        inr (record
-        { owner = owner.0; node = i; rule = move.0; grant = move.1 owner.0 owner.1; close = any_chosen (set w.chosen i (Some move.0)) i (ap is_some here) })
+        inr (record {
+          owner = owner.0;
+          node = i;
+          rule = move.0;
+          grant = move.1 owner.0 owner.1;
+          close = may_close r (after w (event.Grant owner.0 i move.0)) (any_chosen (set w.chosen i (Some move.0)) i (ap is_some here));
+        })
 
 -- a close takes at least 1 from the potential
 close_lowers : (r : RosterValue) (w : World) → IsWorld w → is_legal r w event.Close ≡ true
     → whole_potential (configuration (after w event.Close)) + 1 ≤ whole_potential (configuration w)
-close_lowers r w k legal = let pays = close_pays w k in let moves = close_moves w k legal in omega (arith, pays, moves)
+close_lowers r w k legal = let pays = close_pays w k in let moves = close_moves w k (fit w event.Close (legal_possible r w event.Close legal)) in omega (arith, pays, moves)
 
 goes_on : (r : RosterValue) (w : World) (e : Event) (n : ℕ) (es : List Event) → is_legal r w e ≡ true → is_grant_or_close e ≡ true
     → LeadsToRest r (after w e) n es → LeadsToRest r w (n + 1) (e ∷ es)
@@ -105,8 +116,9 @@ reached r w k owned = go (is_any_chosen w) refl
         )
     go true e =
         let most = network_most w.network k.network in
-        let less = close_lowers r w k e in
+        let legal = may_close r w e in
+        let less = close_lowers r w k legal in
         let rest =
-        by_moves (whole_potential (configuration (after w event.Close))) r (after w event.Close) (ready_after r w event.Close ready e)
+        by_moves (whole_potential (configuration (after w event.Close))) r (after w event.Close) (ready_after r w event.Close ready legal)
         (none_at (size w)) (omega arith) in
-        (event.Close ∷ rest.0, within r w _ _ (event.Close ∷ rest.0) (omega (arith, most, less)) (goes_on r w event.Close _ rest.0 e refl rest.1))
+        (event.Close ∷ rest.0, within r w _ _ (event.Close ∷ rest.0) (omega (arith, most, less)) (goes_on r w event.Close _ rest.0 legal refl rest.1))

@@ -1,13 +1,14 @@
 -- A run that is over has ended with no node privileged; each run can be led there.
 use Rattle.std.proofs.Common.{◌≡◌, ℕ, zero, suc, ◌<◌, true, false, ◌==◌, List, [], ◌∷◌, length, Option, None, Some, is_some, sym, refl, ap, ◌∙◌, arith}
 use Rattle.std.specs.List.{list_any}
-use Rattle.std.proofs.lemmas.Bool.{false≢true, both_ways, or_left, eq-eqb, false_from_ne_true, and_right, Decides.nat_tests}
+use Rattle.std.proofs.lemmas.Bool.{false≢true, both_ways, or_left, eq-eqb, false_from_ne_true, Decides.nat_tests}
 use Rattle.mml_rules.specs.{declared.rule.Rule.Rule, Rules.guard, Rules.is_privileged, Matching.IsStable, Matching.IsMaximal}
 use Rattle.mml_rules.proofs.{EnabledKindLemmas.idle-guard, MeaningLemmas.privileged-means}
 use Rattle.mml_lab.specs.Rosters.{RosterValue, owners_of, owns}
-use Rattle.mml_board.specs.{declared.event.Event.Event, Events.has_right_asker, Events.is_possible, Events.is_legal, Events.after, Runs.is_legal_list, Runs.world_of}
+use Rattle.mml_board.specs.{declared.event.Event.Event, Events.is_any_chosen, Events.is_legal, Events.after, Runs.is_legal_list, Runs.world_of}
 use Rattle.mml_board.specs.World.{World, size, configuration, chosen_at, IsWorld}
 use Rattle.mml_board.proofs.{WorldLemmas.size-after, WorldLemmas.chosen_node, RunsLemmas.list-world}
+use Rattle.mml_board.proofs.ClausesLemmas.{is_fit, fit, legal_possible, owned_legal, grant_possible, close_possible}
 use Rattle.mml_convergence.specs.{Runs.is_of_step, Rest.EachHasOwner, Rest.IsOver}
 use Rattle.mml_stable.proofs.MatchingLemmas.{maximal}
 use Rattle.mml_lab.specs.declared.who.Who.TheVariants as who
@@ -34,7 +35,9 @@ any_chosen (None ∷ xs) (suc i) e = any_chosen xs i e
 -- a privileged node for which no move is chosen has a rule that may be granted to each of its owners
 pub may_move : (r : RosterValue) (w : World) (i : ℕ) → IsWorld w → i < size w → is_privileged (configuration w) i ≡ true → chosen_at w.chosen i ≡ None
     → (rule : Rule) × ((s : ℕ) → owns r (who.Student s) i ≡ true → is_legal r w (event.Grant s i rule) ≡ true)
-may_move r w i k lt privileged none = grind (arith, nat_tests, privileged-means)
+may_move r w i k lt privileged none =
+    let enabled = (privileged-means (configuration w) i k.network.lawful).0 privileged in
+    (enabled.0, λ s owner. owned_legal r w (event.Grant s i enabled.0) owner (grant_possible w s i enabled.0 lt none enabled.1))
 
 -- ---- if no node is privileged
 
@@ -48,20 +51,21 @@ stable_unchosen w k stable i = go (chosen_at w.chosen i) refl
     go None e = ap is_some e
     go (Some rule) e = absurd (both_ways (guard (configuration w) i rule) (stable_guard w k stable i rule (chosen_node w i k.choices (ap is_some e))) (k.hold i rule e))
 
-stable_impossible : (w : World) (e : Event) → IsWorld w → IsStable (configuration w) → is_of_step e ≡ true → is_possible w e ≡ false
-stable_impossible w (event.Grant s i rule) k stable of_step = grind (arith, nat_tests, stable_guard)
-stable_impossible w (event.Release i) k stable of_step = stable_unchosen w k stable i
-stable_impossible w event.Close k stable of_step = none (w.chosen) (stable_unchosen w k stable)
+stable_unfit : (w : World) (e : Event) → IsWorld w → IsStable (configuration w) → is_of_step e ≡ true → is_fit w e ≡ false
+stable_unfit w (event.Grant s i rule) k stable of_step = grind (arith, nat_tests, stable_guard)
+stable_unfit w (event.Release i) k stable of_step = stable_unchosen w k stable i
+stable_unfit w event.Close k stable of_step = none (w.chosen) (stable_unchosen w k stable)
   where
     none : (xs : List (Option Rule)) → ((i : ℕ) → is_some (chosen_at xs i) ≡ false) → list_any is_some xs ≡ false
     none [] h = refl
     none (None ∷ xs) h = none xs (λ i. h (suc i))
     none (Some x ∷ xs) h = absurd (false≢true (sym (h 0)))
-stable_impossible w _ k stable of_step = absurd (false≢true of_step)
+stable_unfit w _ k stable of_step = absurd (false≢true of_step)
 
 -- if no node is privileged, no grant, release or close is legal
 pub stable_final : (r : RosterValue) (w : World) (e : Event) → IsWorld w → IsStable (configuration w) → is_of_step e ≡ true → is_legal r w e ≡ false
-stable_final r w e k stable of_step = and_right (has_right_asker r e) (is_possible w e) (stable_impossible w e k stable of_step)
+stable_final r w e k stable of_step =
+    false_from_ne_true (is_legal r w e) (λ legal. both_ways (is_fit w e) (stable_unfit w e k stable of_step) (fit w e (legal_possible r w e legal)))
 
 -- ---- a run that is over
 
@@ -75,7 +79,9 @@ first_owner r i some = go (owners_of r i) refl some
 
 over_stable : (r : RosterValue) (w : World) → IsWorld w → EachHasOwner r (size w) → IsOver r w → IsStable (configuration w)
 over_stable r w k owned over i lt = false_from_ne_true (is_privileged (configuration w) i) (λ privileged.
-    let move = may_move r w i k lt privileged (none_chosen w.chosen i over.no_close) in
+    let idle : is_any_chosen w ≡ false =
+    false_from_ne_true (is_any_chosen w) (λ any. both_ways (is_legal r w event.Close) over.no_close (owned_legal r w event.Close refl (close_possible w any))) in
+    let move = may_move r w i k lt privileged (none_chosen w.chosen i idle) in
     let owner = first_owner r i (owned i lt) in
     both_ways (is_legal r w (event.Grant owner.0 i move.0)) (over.no_grant owner.0 i move.0) (move.1 owner.0 owner.1))
 

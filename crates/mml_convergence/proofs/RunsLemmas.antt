@@ -6,7 +6,7 @@ use Rattle.mml_lab.specs.Rosters.{RosterValue}
 use Rattle.mml_board.specs.{declared.event.Event.Event, World.World, World.configuration, World.chosen_at, World.IsWorld, Events.after, Runs.is_legal_list}
 use Rattle.mml_convergence.specs.Runs.{is_of_step, changes_of_m}
 use Rattle.mml_convergence.proofs.StepLemmas.{weight, change, step-weight, weight_at_most}
-use Rattle.mml_board.proofs.WorldLemmas.{closed-step, after-world}
+use Rattle.mml_board.proofs.{WorldLemmas.closed-step, WorldLemmas.after-world, ClausesLemmas.legal_possible}
 use Rattle.mml_board.specs.declared.event.Event.TheVariants as event
 
 -- how often m may still change at i
@@ -26,7 +26,7 @@ step_pays w _ i k of_step = absurd (false≢true of_step)
 changes_paid : (r : RosterValue) (i : ℕ) (w : World) (es : List Event) → IsWorld w → is_legal_list r w es ≡ true → list_all is_of_step es ≡ true
     → changes_of_m i w es ≤ weight_at w i
 changes_paid r i w [] k legal steps = omega arith
-changes_paid r i w (e ∷ es) k legal steps = grind (arith, step_pays w e i k, changes_paid r i (after w e) es, after-world w e k)
+changes_paid r i w (e ∷ es) k legal steps = grind (arith, step_pays w e i k, changes_paid r i (after w e) es, after-world w e k, legal_possible r w e)
 
 -- over grants, releases and closes m changes at most twice at a node
 pub twice_at_most : (r : RosterValue) (w : World) (es : List Event) (i : ℕ) → IsWorld w → is_legal_list r w es ≡ true → list_all is_of_step es ≡ true → changes_of_m i w es ≤ 2

@@ -5,8 +5,8 @@ use Rattle.std.proofs.lemmas.Bool.{and_parts, or_cases, not-true, false≢true, 
 use Rattle.mml_rules.specs.{declared.rule.Rule.Rule, Configuration.Configuration, Matching.IsStable}
 use Rattle.mml_lab.specs.Rosters.{RosterValue}
 use Rattle.mml_board.specs.{declared.event.Event.Event, World.World, World.size, World.configuration, World.chosen_at, World.IsWorld, Runs.is_legal_list, Runs.world_of}
-use Rattle.mml_board.specs.Events.{has_right_asker, is_possible, is_legal, is_chosen, after}
-use Rattle.mml_board.proofs.WorldLemmas.{closed-step, after-world}
+use Rattle.mml_board.specs.Events.{is_legal, is_chosen, after}
+use Rattle.mml_board.proofs.{WorldLemmas.closed-step, WorldLemmas.after-world, ClausesLemmas.legal_possible}
 use Rattle.mml_convergence.specs.{Runs.is_of_step, Moves.is_close, Rounds.is_served, Rounds.IsRound}
 use Rattle.mml_convergence.proofs.{RestLemmas.stable_final, RestLemmas.same_size, MarriedCountLemmas.married_count}
 use Rattle.mml_convergence.proofs.PhasesLemmas.{Stays, Brings, Within, CalmStays, CalmBrings, calm_stays, calm_brings}
@@ -28,7 +28,7 @@ first_of_step r w e es k = (and_parts (is_of_step e) (list_all is_of_step es) k.
 
 run_on : (r : RosterValue) (w : World) (e : Event) (es : List Event) → IsRun r w (e ∷ es) → IsRun r (after w e) es
 run_on r w e es k = record {
-  world = after-world w e k.world (and_parts (has_right_asker r e) (is_possible w e) (first_legal r w e es k)).1;
+  world = after-world w e k.world (legal_possible r w e (first_legal r w e es k));
   legal = (and_parts (is_legal r w e) (is_legal_list r (after w e) es) k.legal).1;
   of_step = (and_parts (is_of_step e) (list_all is_of_step es) k.of_step).1;
 }

@@ -1,5 +1,5 @@
--- A student has the same replies in worlds that are alike.
-use Rattle.std.proofs.Common.{◌≡◌, ℕ, Bool, true, false, cond, List, Result, ap, arith}
+-- A student is told the same in worlds that are alike.
+use Rattle.std.proofs.Common.{◌≡◌, ℕ, Bool, true, false, cond, option_map, List, Result, Ok, Err, ap, arith}
 use Rattle.std.proofs.lemmas.Bool.{false≢true}
 use Rattle.std.specs.Result.{IfOk}
 use Rattle.mml_ids.proofs.GivesLemmas.{bind-if, need-if}
@@ -9,12 +9,18 @@ use Rattle.mml_board.specs.declared.event.Event.{Event}
 use Rattle.mml_board.specs.World.{World}
 use Rattle.mml_board.specs.declared.done.Done.{Done}
 use Rattle.mml_policy.specs.declared.command.Command.{Command}
-use Rattle.mml_policy.specs.declared.denial.Denial.{Denial}
+use Rattle.mml_board.specs.declared.denial.Denial.{Denial}
 use Rattle.mml_policy.specs.declared.ruling.Ruling.{Ruling}
 use Rattle.mml_policy.specs.declared.ruling.Ruling.TheVariants.{Reported, Full, Journal, Granted}
 use Rattle.mml_policy.specs.declared.verdict.Leave.{Leave}
 use Rattle.mml_policy.specs.declared.verdict.Leave.TheVariants.{Report}
-use Rattle.mml_policy.specs.Verdicts.{clauses}
+use Rattle.mml_policy.specs.Clauses.{rule_of}
+use Rattle.mml_policy.specs.Verdicts.{clauses, granted}
+use Rattle.mml_policy.specs.declared.command.Command.TheVariants as command
+use Rattle.mml_ids.specs.Ids.{rank_in}
+use Rattle.mml_lab.specs.Rosters.{owns}
+use Rattle.mml_board.specs.declared.act.Act.TheVariants as acts
+use Rattle.mml_board.specs.Clauses.{check}
 use Rattle.mml_policy.specs.Rulings.{ruled, ruling}
 use Rattle.mml_policy.specs.Alike.{Alike, IsWorldOf}
 use Rattle.mml_policy.proofs.AlikeLemmas.{same_ruling, alike_afterwards}
@@ -30,8 +36,21 @@ abbrev NoReport : Leave → Type 0
 NoReport Report = ⊥
 NoReport _ = Unit {0}
 
+-- an act gives leave to an event alone
+event_only : (s : Result Event Denial) → IfOk (granted s) NoReport
+event_only (Ok e) = tt
+event_only (Err d) = tt
+
 no_report : (ids : List ℕ) (r : RosterValue) (w : World) (s : ℕ) (k : Command) → IfOk (clauses ids r w (who.Student s) k) NoReport
-no_report ids r w s k = grind (arith, nat_tests, bind-if, need-if)
+no_report ids r w s (command.See id) = grind (arith, nat_tests, bind-if, need-if)
+no_report ids r w s (command.Look id) = grind (arith, nat_tests, bind-if, need-if)
+no_report ids r w s (command.Move id a at) = event_only (check (owns r) w (who.Student s) (acts.Move (rank_in ids id) (rule_of ids a) at))
+no_report ids r w s command.Close = event_only (check (owns r) w (who.Student s) acts.Close)
+no_report ids r w s (command.Fault id p m) = event_only (check (owns r) w (who.Student s) (acts.Fault (rank_in ids id) (option_map (rank_in ids) p) m))
+no_report ids r w s (command.Link a b) = event_only (check (owns r) w (who.Student s) (acts.Link (rank_in ids a) (rank_in ids b)))
+no_report ids r w s (command.Cut a b) = event_only (check (owns r) w (who.Student s) (acts.Cut (rank_in ids a) (rank_in ids b)))
+no_report ids r w s (command.Release id) = event_only (check (owns r) w (who.Student s) (acts.Release (rank_in ids id)))
+no_report ids r w s command.Report = tt
 
 abbrev is_report : Ruling → Bool
 is_report Reported = true

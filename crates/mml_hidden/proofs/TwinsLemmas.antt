@@ -10,7 +10,7 @@ use Rattle.mml_board.specs.declared.event.Event.{Event}
 use Rattle.mml_board.specs.World.{World}
 use Rattle.mml_board.specs.Events.{after}
 use Rattle.mml_board.proofs.WorldLemmas.{after-world, size-after}
-use Rattle.mml_board.proofs.RunsLemmas.{legal-possible}
+use Rattle.mml_board.proofs.ClausesLemmas.{legal_possible}
 use Rattle.mml_policy.specs.declared.command.Command.{Command}
 use Rattle.mml_policy.specs.Rulings.{ruling, event_of}
 use Rattle.mml_policy.specs.Alike.{Alike, IsWorldOf}
@@ -45,7 +45,7 @@ module _ (lab : LabValue) (st : State) (k : ℕ) (line : List ℕ) where
     | inr (inr grants) ↦
         let legal = (legal_event lab.ids lab.roster lab.events st.halted st.world grants.who grants.command grants.event is.nodes (ap event_of grants.ruled)).0 in
         subst (λ (after : State). IsWorldOf lab.ids after.world) (sym grants.state) (record {
-          world = after-world st.world grants.event is.world (legal-possible lab.roster st.world grants.event legal);
+          world = after-world st.world grants.event is.world (legal_possible lab.roster st.world grants.event legal);
           nodes = is.nodes ∙ sym (size-after st.world grants.event);
         })
   ]

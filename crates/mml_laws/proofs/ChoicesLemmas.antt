@@ -5,7 +5,8 @@ use Rattle.std.proofs.lemmas.Bool.{and_parts, and_from, false≢true, ltb-true, 
 use Rattle.mml_rules.specs.declared.rule.Rule.{Rule}
 use Rattle.mml_lab.specs.{Labs.LabValue, Labs.IsLab, Rosters.RosterValue}
 use Rattle.mml_board.specs.{declared.event.Event.Event, World.World, World.IsWorld, World.size, World.chosen_at, World.opening_of, Events.is_legal, Events.after, Runs.is_legal_list, Runs.world_of}
-use Rattle.mml_board.proofs.{WorldLemmas.after-world, WorldLemmas.none_at, WorldLemmas.chosen_node, EventsLemmas.dropped, RunsLemmas.legal-possible}
+use Rattle.mml_board.proofs.{WorldLemmas.after-world, WorldLemmas.none_at, WorldLemmas.chosen_node, EventsLemmas.dropped}
+use Rattle.mml_board.proofs.ClausesLemmas.{is_fit, fit, legal_possible}
 use Rattle.mml_audit.proofs.AuditMeaningLemmas.{reached_first}
 use Rattle.mml_tally.specs.Meaning.{leaves}
 use Rattle.mml_laws.specs.Choices.{IsGrantedLast}
@@ -28,19 +29,29 @@ module _ (w : World) (is : IsWorld w) where
   by_release : (j i : ℕ) (q : Rule) → j < size w → chosen_at (after w (event.Release j)).chosen i ≡ Some q → IsFrom w (event.Release j) i q
   by_release j i q lt h = grind (arith, nat_tests, cases_eq, get_or-set_same, none_some, get_or-set_other, ne_eqb)
 
+  -- a legal event fits
+  legal_fit : (r : RosterValue) (e : Event) → is_legal r w e ≡ true → is_fit w e ≡ true
+  legal_fit r e legal = fit w e (legal_possible r w e legal)
+
+  fit_back : (e : Event) (i : ℕ) (q : Rule) → is_fit w e ≡ true → chosen_at (after w e).chosen i ≡ Some q → IsFrom w e i q
+  fit_back e i q fits h = grind (arith, common_steps, by_grant, ltb-true, and_parts, by_release, chosen_node, none_some, dropped)
+
   one_back : (r : RosterValue) (e : Event) (i : ℕ) (q : Rule) → is_legal r w e ≡ true → chosen_at (after w e).chosen i ≡ Some q → IsFrom w e i q
-  one_back r e i q legal h = grind (arith, common_steps, by_grant, ltb-true, and_parts, legal-possible, by_release, chosen_node, none_some, dropped)
+  one_back r e i q legal h = fit_back e i q (legal_fit r e legal) h
 
   granted_here : (r : RosterValue) (s i : ℕ) (q : Rule) → is_legal r w (event.Grant s i q) ≡ true → chosen_at (after w (event.Grant s i q)).chosen i ≡ Some q
-  granted_here r s i q legal = grind (arith, nat_tests, ltb-true, and_parts, legal-possible, get_or-set_same)
+  granted_here r s i q legal = let fits = legal_fit r (event.Grant s i q) legal in grind (arith, nat_tests, ltb-true, and_parts, get_or-set_same)
+
+  fit_keeps : (e : Event) (i : ℕ) (q : Rule) → is_fit w e ≡ true → leaves i e ≡ true → chosen_at w.chosen i ≡ Some q → chosen_at (after w e).chosen i ≡ Some q
+  fit_keeps e i q fits keep h = grind (arith, nat_tests, cases_eq, get_or-set_other, and_parts, false≢true, eq-eqb)
 
   -- a grant isn't legal if a move is chosen
   kept_on : (r : RosterValue) (e : Event) (i : ℕ) (q : Rule) → is_legal r w e ≡ true → leaves i e ≡ true → chosen_at w.chosen i ≡ Some q
       → chosen_at (after w e).chosen i ≡ Some q
-  kept_on r e i q legal keep h = grind (arith, nat_tests, cases_eq, get_or-set_other, and_parts, legal-possible, false≢true, eq-eqb)
+  kept_on r e i q legal keep h = fit_keeps e i q (legal_fit r e legal) keep h
 
 after_legal : (r : RosterValue) (w : World) (e : Event) → IsWorld w → is_legal r w e ≡ true → IsWorld (after w e)
-after_legal r w e is legal = after-world w e is (legal-possible r w e legal)
+after_legal r w e is legal = after-world w e is (legal_possible r w e legal)
 
 -- chosen before and kept by all, or granted last
 abbrev Stays : World → List Event → ℕ → Rule → Type 0

@@ -3,11 +3,12 @@ use Rattle.std.proofs.Common.{◌≡◌, ◌⊎◌, ℕ, List, Option, None, Som
 use Rattle.std.proofs.lemmas.{List.set-get_or, Bool.Decides.nat_tests}
 use Rattle.mml_lab.specs.{declared.who.Who.Who, Labs.LabValue, Rosters.RosterValue, Rosters.IsRoster, RosterMeaning.IsKnownAs}
 use Rattle.mml_lab.proofs.RosterMeaningLemmas.{principal-nobody}
-use Rattle.mml_policy.specs.{declared.command.Command.Command, declared.denial.Denial.Denial, Rulings.ruling}
+use Rattle.mml_board.specs.declared.denial.Denial.{Denial}
+use Rattle.mml_policy.specs.{declared.command.Command.Command, Rulings.ruling}
 use Rattle.mml_codec.specs.declared.{greeting.Greeting.Greeting, greeting.Greeting.TheVariants.Answered, greeting.Greeting.TheVariants.LeftToJudge, request.Request.Request, reply.Reply.Reply}
 use Rattle.mml_codec.specs.{Greetings.admitted, Greetings.greeting, Lines.request_in}
 use Rattle.mml_laws.specs.Greeted.{IsTold, IsDenied}
-use Rattle.mml_policy.specs.declared.denial.Denial.TheVariants as denial
+use Rattle.mml_board.specs.declared.denial.Denial.TheVariants as denial
 use Rattle.mml_codec.specs.declared.request.Request.TheVariants as requests
 use Rattle.mml_codec.specs.declared.reply.Reply.TheVariants as reply
 use Rattle.mml_hall.specs.Turns as hall

@@ -10,7 +10,8 @@ use Rattle.mml_rules.specs.{declared.regs.Regs.Regs, declared.rule.Kind.Kind, de
 use Rattle.mml_rules.proofs.{EnabledKindLemmas.guard-kind, EnabledKindLemmas.kind-guard, MeaningLemmas.guard-means}
 use Rattle.mml_lab.specs.{declared.who.Who.Who, Rosters.RosterValue, Rosters.owns}
 use Rattle.mml_board.specs.{declared.event.Event.Event, World.World, World.size, World.configuration, World.chosen_at, Events.done_by}
-use Rattle.mml_policy.specs.declared.{denial.Denial.Denial, verdict.Leave.Leave, verdict.Leave.TheVariants.Look}
+use Rattle.mml_board.specs.declared.denial.Denial.{Denial}
+use Rattle.mml_policy.specs.declared.{verdict.Leave.Leave, verdict.Leave.TheVariants.Look}
 use Rattle.mml_policy.specs.declared.ruling.Ruling.TheVariants.{Full, Journal, Granted, Seen, Looked}
 use Rattle.mml_policy.specs.{Rulings.ruled, Rulings.ruling, Shown.look_of, Shown.near, Shown.near_below, Visible.is_teacher}
 use Rattle.mml_policy.proofs.{ClausesLemmas.node-ok, NearLemmas.passing_with, NearLemmas.passing_without, NearLemmas.shown, SeenLemmas.see_shows, VisibleLemmas.teacher_is}

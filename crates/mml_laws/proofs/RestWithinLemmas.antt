@@ -10,7 +10,8 @@ use Rattle.mml_lab.specs.{Labs.LabValue, Labs.lab_of, Labs.link_count, Rosters.R
 use Rattle.mml_lab.proofs.{LabMeaningLemmas.lawful, OwnersLemmas.one_or_two}
 use Rattle.mml_board.specs.{declared.event.Event.Event, Events.is_legal, Events.is_node, Events.is_chosen, Events.after, Events.chosen_count, Runs.is_legal_list, Runs.world_of}
 use Rattle.mml_board.specs.World.{World, IsWorld, size, configuration, chosen_at, opening_of}
-use Rattle.mml_board.proofs.{WorldLemmas.after-world, WorldLemmas.size-after, RunsLemmas.legal-possible, RunsLemmas.list-world, RunsLemmas.legal-one_more, RunsLemmas.place-world_of}
+use Rattle.mml_board.proofs.ClausesLemmas.{fit, legal_possible, owned_legal, close_possible}
+use Rattle.mml_board.proofs.{WorldLemmas.after-world, WorldLemmas.size-after, RunsLemmas.list-world, RunsLemmas.legal-one_more, RunsLemmas.place-world_of}
 use Rattle.mml_convergence.specs.{Potential.whole_potential, Rest.EachHasOwner, Rest.is_grant_or_close}
 use Rattle.mml_convergence.proofs.{SumsLemmas.count_same, WholePotentialLemmas.whole_fell, RestLemmas.any_chosen, RestLemmas.may_move, RestLemmas.first_owner}
 use Rattle.mml_convergence.proofs.AppliedLemmas.{Falls, close_paid, close_moves, network_most}
@@ -42,9 +43,9 @@ grant_chooses : (r : RosterValue) (w : World) (s i : ℕ) (q : Rule) → IsWorld
     → chosen_count (after w (event.Grant s i q)) ≡ chosen_count w + 1
 unfolding chosen_count
 grant_chooses r w s i q k legal =
-    let possible = and_parts (is_node w i) _ (legal-possible r w (event.Grant s i q) legal) in
-    let lt = ltb-true i (size w) possible.0 in
-    let free = (and_parts (is_none (chosen_at w.chosen i)) _ possible.1).0 in
+    let fits = and_parts (is_node w i) _ (fit w (event.Grant s i q) (legal_possible r w (event.Grant s i q) legal)) in
+    let lt = ltb-true i (size w) fits.0 in
+    let free = (and_parts (is_none (chosen_at w.chosen i)) _ fits.1).0 in
     count_one_more (size w) i (is_chosen w) (is_chosen (after w (event.Grant s i q))) lt (off (chosen_at w.chosen i) free)
     (ap is_some (get_or-set_same w.chosen i (Some q) None (omega (arith, lt, k.choices))))
     (λ j ne. ap is_some (get_or-set_other w.chosen i j (Some q) None ne))
@@ -63,14 +64,14 @@ module _ (potential : Configuration → ℕ) (falls : Falls potential) where
   events_paid r w (e ∷ es) k legal forward =
       let both = and_parts (is_legal r w e) (is_legal_list r (after w e) es) legal in
       let kinds = and_parts (is_grant_or_close e) (list_all is_grant_or_close es) forward in
-      let rest = events_paid r (after w e) es (after-world w e k (legal-possible r w e both.0)) both.1 kinds.1 in
+      let rest = events_paid r (after w e) es (after-world w e k (legal_possible r w e both.0)) both.1 kinds.1 in
       one e both.0 kinds.0 rest
     where
       one : (e : Event) → is_legal r w e ≡ true → is_grant_or_close e ≡ true
           → length es + chosen_count (after w e) ≤ 2 * potential (configuration (after w e))
           → suc (length es) + chosen_count w ≤ 2 * potential (configuration w)
       one (event.Grant s i q) l g rest = let more = grant_chooses r w s i q k l in omega (arith, more, rest)
-      one event.Close l g rest = let paid = close_paid potential falls w k in let moves = close_moves w k l in omega (arith, paid, moves, rest)
+      one event.Close l g rest = let paid = close_paid potential falls w k in let moves = close_moves w k (fit w event.Close (legal_possible r w event.Close l)) in omega (arith, paid, moves, rest)
       one _ l g rest = absurd (false≢true g)
 
 least : (a n l q : ℕ) → a ≤ 4 * l + 6 * n → a ≤ 6 * n + 4 * q → a ≤ 6 * n + 4 * min l q
@@ -112,7 +113,7 @@ next_event r w k owned = go (some_below (size w) (is_privileged (configuration w
         let move = may_move r w i k lt privileged e in
         let owner = first_owner r i (owned i lt) in
         record { event = event.Grant owner.0 i move.0; legal = move.1 owner.0 owner.1; forward = refl }
-    at i lt privileged (Some q) e = record { event = event.Close; legal = any_chosen w.chosen i (ap is_some e); forward = refl }
+    at i lt privileged (Some q) e = record { event = event.Close; legal = owned_legal r w event.Close refl (close_possible w (any_chosen w.chosen i (ap is_some e))); forward = refl }
 
     go : (b : Bool) → some_below (size w) (is_privileged (configuration w)) ≡ b → IsStable (configuration w) ⊎ NextEvent r w
     go false e = inl (λ i lt. some_below-none (size w) i (is_privileged (configuration w)) e lt)

@@ -5,7 +5,8 @@ use Rattle.serde_json.specs.{Data.Data, Find.get, Read.read}
 use Rattle.mml_ids.specs.Ids.{IsTable}
 use Rattle.mml_rules.specs.declared.rule.Kind.{Kind}
 use Rattle.mml_lab.specs.Rosters.{RosterValue, IsRoster}
-use Rattle.mml_policy.specs.declared.{look.Look.Look, denial.Denial.Denial}
+use Rattle.mml_board.specs.declared.denial.Denial.{Denial}
+use Rattle.mml_policy.specs.declared.{look.Look.Look}
 use Rattle.mml_codec.specs.{declared.request.Request.Request, declared.reply.Refused.Refused, declared.reply.Reply.Reply, Facts.kind_or_null_value, Facts.pointer_value, Fields.Has, Fields.HasEach}
 use Rattle.mml_codec.specs.{Requests.fields_of, Requests.request, Replies.IsAbout, ReplyValues.reply_value, ReplyValues.AreWritableCounts}
 use Rattle.mml_codec.proofs.{RequestsLemmas.asked_there, RequestsLemmas.there_asked, ReplyValuesLemmas.read-reply}

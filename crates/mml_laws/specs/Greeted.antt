@@ -1,6 +1,6 @@
 -- Replies that change nothing.
 use Rattle.std.specs.Prelude.{◌≡◌, ◌⊎◌}
-use Rattle.mml_policy.specs.declared.denial.Denial.{Denial}
+use Rattle.mml_board.specs.declared.denial.Denial.{Denial}
 use Rattle.mml_codec.specs.declared.reply.Reply.{Reply}
 use Rattle.mml_codec.specs.declared.reply.Reply.TheVariants as reply
 use Rattle.mml_hall.specs.Turns as hall

@@ -6,9 +6,9 @@ use Rattle.mml_lab.specs.Rosters.{RosterValue, name_of}
 use Rattle.mml_policy.specs.declared.command.Asked.{Asked}
 use Rattle.mml_policy.specs.declared.command.Asked.TheVariants as asked
 use Rattle.mml_policy.specs.declared.command.Command.TheVariants as command
-use Rattle.mml_policy.specs.declared.denial.Denial.{Denial}
-use Rattle.mml_policy.specs.declared.denial.Denial.TheVariants as denial
-use Rattle.mml_policy.specs.Denials.{clause_of, denial_name, text_of}
+use Rattle.mml_board.specs.declared.denial.Denial.{Denial}
+use Rattle.mml_board.specs.declared.denial.Denial.TheVariants as denial
+use Rattle.mml_board.specs.Denials.{clause_of, denial_name, text_of}
 use Rattle.mml_codec.specs.declared.request.Request.{Request}
 use Rattle.mml_codec.specs.declared.request.Request.TheVariants as requests
 use Rattle.mml_codec.specs.declared.reply.Refused.{Refused}

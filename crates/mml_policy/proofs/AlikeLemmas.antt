@@ -20,11 +20,17 @@ use Rattle.mml_board.specs.World.{World, size, configuration, chosen_at}
 use Rattle.mml_board.specs.Events.{choosing, done_by}
 use Rattle.mml_policy.specs.declared.command.Command.{Command}
 use Rattle.mml_policy.specs.declared.command.Command.TheVariants as command
-use Rattle.mml_policy.specs.declared.denial.Denial.{Denial}
+use Rattle.mml_board.specs.declared.denial.Denial.{Denial}
 use Rattle.mml_policy.specs.declared.verdict.Leave.{Leave}
 use Rattle.mml_policy.specs.declared.verdict.Leave.TheVariants.{Grant}
 use Rattle.mml_policy.specs.Visible.{is_visible, owns_neighbour}
-use Rattle.mml_policy.specs.Verdicts.{clauses}
+use Rattle.mml_policy.specs.Verdicts.{granted, clauses}
+use Rattle.mml_ids.specs.Ids.{rank_in}
+use Rattle.mml_policy.specs.Clauses.{rule_of}
+use Rattle.mml_policy.specs.declared.command.Asked.{Asked}
+use Rattle.mml_board.specs.declared.act.Act.{Act}
+use Rattle.mml_board.specs.declared.act.Act.TheVariants as acts
+use Rattle.mml_board.specs.Clauses.{check}
 use Rattle.mml_policy.specs.Shown.{near, look_of}
 use Rattle.mml_policy.specs.Rulings.{ruling_on_leave, ruled, ruling, after_ruling}
 use Rattle.mml_policy.specs.declared.ruling.Ruling.{Ruling}
@@ -81,10 +87,17 @@ module _ (ids : List ℕ) (r : RosterValue) (limit : ℕ) (is_halted : Bool) (s 
   same_visible : (i : ℕ) → is_visible r c x i ≡ is_visible r d x i
   same_visible i = ap (λ b. owns r x i || b) (same_neighbour i)
 
+  -- the same clauses of a move
+  same_move : (m : Act) (id : ℕ) (q : Asked) (at : ℕ) → m ≡ acts.Move (rank_in ids id) (rule_of ids q) at → check (owns r) w x m ≡ check (owns r) v x m
+  same_move m id q at is = ap (check (owns r) w x) is ∙ to_same (rank_in ids id) (rule_of ids q) at ∙ ap (check (owns r) v x) (sym is)
+    where
+      to_same : (found : Option ℕ) (rule : Option Rule) (at : ℕ) → check (owns r) w x (acts.Move found rule at) ≡ check (owns r) v x (acts.Move found rule at)
+      to_same found rule at = grind (arith, nat_tests, bind-same, need-same, same_guard, around)
+
   -- the same verdicts
   same_clauses : (k : Command) → clauses ids r w x k ≡ clauses ids r v x k
   same_clauses (command.See id) = grind (arith, nat_tests, bind-same, need-same, same_visible)
-  same_clauses (command.Move id q at) = grind (arith, nat_tests, bind-same, need-same, same_guard, around)
+  same_clauses (command.Move id q at) = ap granted (same_move (acts.Move (rank_in ids id) (rule_of ids q) at) id q at refl)
   same_clauses _ = refl
 
   -- what is shown is the same

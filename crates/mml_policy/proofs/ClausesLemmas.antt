@@ -1,11 +1,15 @@
--- The steps of clauses: what they return, and why they deny.
-use Rattle.std.proofs.Common.{◌≡◌, ℕ, ◌<◌, List, length, ◌==◌, None, Some, Ok, Err, arith}
+-- Steps of clauses: what they hand on, and why they deny.
+use Rattle.std.proofs.Common.{◌≡◌, ℕ, ◌<◌, List, length, ◌==◌, Option, None, Some, option_map, Result, Ok, Err, arith}
 use Rattle.std.proofs.lemmas.List.Quantifiers.{position-Some}
 use Rattle.mml_ids.specs.Ids.{rank_in}
 use Rattle.mml_lab.specs.declared.who.Who.{Who}
 use Rattle.mml_lab.specs.declared.who.Who.TheVariants as who
-use Rattle.mml_policy.specs.declared.denial.Denial.{Denial}
-use Rattle.mml_policy.specs.Clauses.{node, student}
+use Rattle.mml_board.specs.declared.denial.Denial.{Denial}
+use Rattle.mml_board.specs.Clauses.{student, pointer}
+use Rattle.mml_rules.specs.declared.rule.Rule.{Rule}
+use Rattle.mml_policy.specs.declared.command.Asked.{Asked}
+use Rattle.std.specs.Option.{ok_or}
+use Rattle.mml_policy.specs.Clauses.{node, rule_of}
 
 -- the node that a step found is the one with this identifier
 pub node-ok : (ids : List ℕ) (id : ℕ) (d : Denial) (i : ℕ) → node ids id d ≡ Ok i → rank_in ids id ≡ Some i
@@ -26,3 +30,11 @@ node-err ids id d e h = grind arith
 -- a step that finds no student was asked by the teacher, and returns the denial that it was called with
 pub student-err : (x : Who) (d e : Denial) → student x d ≡ Err e → (x ≡ who.Teacher) × (e ≡ d)
 student-err x d e h = grind arith
+
+-- the rule that is asked for, as a step
+abbrev pub rule_step : List ℕ → Asked → Denial → Result Rule Denial
+rule_step ids a d = ok_or (rule_of ids a) d
+
+-- the register that is asked for, as a step
+abbrev pub pointer_step : List ℕ → Option ℕ → Denial → Result (Option ℕ) Denial
+pointer_step ids p d = pointer (option_map (rank_in ids) p) d

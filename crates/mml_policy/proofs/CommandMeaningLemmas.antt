@@ -15,18 +15,18 @@ use Rattle.mml_board.specs.declared.event.Event.TheVariants as event
 use Rattle.mml_board.specs.World.{World, configuration, chosen_at}
 use Rattle.mml_board.specs.Events.{may_point}
 use Rattle.mml_policy.specs.declared.command.Command.TheVariants as command
-use Rattle.mml_policy.specs.declared.denial.Denial.{Denial}
-use Rattle.mml_policy.specs.declared.denial.Denial.TheVariants.{NotTeacher, NoNode, BadRegister, Loop, Linked, NotLinked}
+use Rattle.mml_board.specs.declared.denial.Denial.{Denial}
+use Rattle.mml_board.specs.declared.denial.Denial.TheVariants.{NotTeacher, NoNode, BadRegister, Loop, Linked, NotLinked}
 use Rattle.mml_policy.specs.declared.verdict.Verdict.TheVariants as verdicts
 use Rattle.mml_policy.specs.declared.verdict.Leave.{Leave}
-use Rattle.mml_policy.specs.declared.verdict.Leave.TheVariants.{Grant}
 use Rattle.mml_policy.specs.Visible.{is_teacher}
-use Rattle.mml_policy.specs.Clauses.{node, pointer}
+use Rattle.mml_policy.specs.Clauses.{node}
+use Rattle.mml_policy.proofs.ClausesLemmas.{pointer_step}
 use Rattle.mml_policy.specs.Verdicts.{settled, verdict}
 use Rattle.mml_policy.specs.Meaning.{MaySee, MayLook, MayClose, MayFault, MayLink, MayCut, MayRelease, IsNamed, IsRegister}
 use Rattle.mml_policy.specs.Denied.{IsAskedOfBoth}
 use Rattle.mml_policy.proofs.ClausesLemmas.{node-ok}
-use Rattle.mml_policy.proofs.VerdictLemmas.{settled-grant}
+use Rattle.mml_policy.proofs.VerdictLemmas.{act-grant}
 use Rattle.mml_policy.proofs.VisibleLemmas.{teacher_is, visible_means}
 
 pub some-value : {A : Type 0} (o : Option A) → is_some o ≡ true → (x : A) × (o ≡ Some x)
@@ -49,15 +49,15 @@ some-chosen (o ∷ os) (suc i) q h = or_right (is_some o) (list_any is_some os) 
 settled-show : (s : Result Leave Denial) → settled s ≡ verdicts.Show → (l : Leave) × (s ≡ Ok l)
 settled-show s h = grind arith
 
-event-same : (f e : Event) → (let s : Result Leave Denial = Ok (Grant f) in s ≡ Ok (Grant e)) → e ≡ f
+event-same : (f e : Event) → (let s : Result Event Denial = Ok f in s ≡ Ok e) → e ≡ f
 event-same f e h = grind arith
 
 -- the pointer that a step found is the one that is named
-pub named-is : (ids : List ℕ) (p q : Option ℕ) → pointer ids p BadRegister ≡ Ok q → IsNamed ids p q
+pub named-is : (ids : List ℕ) (p q : Option ℕ) → pointer_step ids p BadRegister ≡ Ok q → IsNamed ids p q
 named-is ids p q h = grind (arith, bind-ok, node-ok)
 
 -- a pointer that is named is found
-pub named-from : (ids : List ℕ) (p q : Option ℕ) → IsNamed ids p q → pointer ids p BadRegister ≡ Ok q
+pub named-from : (ids : List ℕ) (p q : Option ℕ) → IsNamed ids p q → pointer_step ids p BadRegister ≡ Ok q
 named-from ids p q h = grind (arith, bind-from)
 
 -- a pointer that passes is null or to a neighbour
@@ -69,23 +69,23 @@ pub register-from : (w : World) (i : ℕ) (q : Option ℕ) → IsRegister w i q 
 register-from w i q h = grind arith
 
 -- what comes next of a link and of a cut, once both nodes are found
-abbrev pub link_at : World → ℕ → ℕ → Result Leave Denial
-link_at w a b = need (not (a == b)) Loop >> (need (not ((configuration w).linked a b)) Linked >> Ok (Grant (event.Link a b)))
+abbrev pub link_at : World → ℕ → ℕ → Result Event Denial
+link_at w a b = need (not (a == b)) Loop >> (need (not ((configuration w).linked a b)) Linked >> Ok ((event.Link a b)))
 
-abbrev pub cut_at : World → ℕ → ℕ → Result Leave Denial
-cut_at w a b = need ((configuration w).linked a b) NotLinked >> Ok (Grant (event.Cut a b))
+abbrev pub cut_at : World → ℕ → ℕ → Result Event Denial
+cut_at w a b = need ((configuration w).linked a b) NotLinked >> Ok ((event.Cut a b))
 
-module _ (ids : List ℕ) (x : Who) (first second : ℕ) (rest : ℕ → ℕ → Result Leave Denial) where
+module _ (ids : List ℕ) (x : Who) (first second : ℕ) (rest : ℕ → ℕ → Result Event Denial) where
   -- what the teacher asks of two nodes
-  abbrev pub asked_of_both : Result Leave Denial
+  abbrev pub asked_of_both : Result Event Denial
   asked_of_both = need (is_teacher x) NotTeacher >> (node ids first NoNode >>= (λ a. node ids second NoNode >>= rest a))
 
-  -- if both are there, what comes next
-  pub both_ends : (a b : ℕ) (v : Result Leave Denial) → IsAskedOfBoth ids x first second a b → rest a b ≡ v → asked_of_both ≡ v
+  -- where both are there, what comes next
+  pub both_ends : (a b : ℕ) (v : Result Event Denial) → IsAskedOfBoth ids x first second a b → rest a b ≡ v → asked_of_both ≡ v
   both_ends a b v asked e = grind (arith, need-from, bind-from)
 
-  -- if it is granted, both are there
-  pub both_found : (l : Leave) → asked_of_both ≡ Ok l → (a : ℕ) × (b : ℕ) × IsAskedOfBoth ids x first second a b × (rest a b ≡ Ok l)
+  -- where it is granted, both are there
+  pub both_found : (l : Event) → asked_of_both ≡ Ok l → (a : ℕ) × (b : ℕ) × IsAskedOfBoth ids x first second a b × (rest a b ≡ Ok l)
   both_found l h = grind (arith, need-ok, bind-ok, teacher_is, node-ok)
 
 module _ (ids : List ℕ) (r : RosterValue) (w : World) (x : Who) where
@@ -114,7 +114,7 @@ module _ (ids : List ℕ) (r : RosterValue) (w : World) (x : Who) where
   look_means id = (to_look id, from_look id)
 
   to_close : (e : Event) → verdict ids r w x command.Close ≡ verdicts.Grant e → (x ≡ who.Teacher) × MayClose w e
-  to_close e h = grind (arith, need-ok, settled-grant, chosen-some, teacher_is, event-same)
+  to_close e h = grind (arith, need-ok, act-grant, chosen-some, teacher_is, event-same)
 
   from_close : (e : Event) → (x ≡ who.Teacher) × MayClose w e → verdict ids r w x command.Close ≡ verdicts.Grant e
   from_close e f = grind (arith, need-from, some-chosen)
@@ -124,7 +124,7 @@ module _ (ids : List ℕ) (r : RosterValue) (w : World) (x : Who) where
 
   to_fault : (id : ℕ) (p : Option ℕ) (m : Bool) (e : Event) → verdict ids r w x (command.Fault id p m) ≡ verdicts.Grant e
       → (x ≡ who.Teacher) × MayFault ids w id p m e
-  to_fault id p m e h = grind (arith, need-ok, settled-grant, bind-ok, teacher_is, node-ok, named-is, register-is, event-same)
+  to_fault id p m e h = grind (arith, need-ok, act-grant, bind-ok, teacher_is, node-ok, named-is, register-is, event-same)
 
   from_fault : (id : ℕ) (p : Option ℕ) (m : Bool) (e : Event) → (x ≡ who.Teacher) × MayFault ids w id p m e
       → verdict ids r w x (command.Fault id p m) ≡ verdicts.Grant e
@@ -135,7 +135,7 @@ module _ (ids : List ℕ) (r : RosterValue) (w : World) (x : Who) where
   fault_means id p m e = (to_fault id p m e, from_fault id p m e)
 
   to_link : (first second : ℕ) (e : Event) → verdict ids r w x (command.Link first second) ≡ verdicts.Grant e → (x ≡ who.Teacher) × MayLink ids w first second e
-  to_link first second e h = grind (arith, both_found, settled-grant, need-ok, eqb-false, not-true, event-same)
+  to_link first second e h = grind (arith, both_found, act-grant, need-ok, eqb-false, not-true, event-same)
 
   from_link : (first second : ℕ) (e : Event) → (x ≡ who.Teacher) × MayLink ids w first second e
       → verdict ids r w x (command.Link first second) ≡ verdicts.Grant e
@@ -146,7 +146,7 @@ module _ (ids : List ℕ) (r : RosterValue) (w : World) (x : Who) where
   link_means first second e = (to_link first second e, from_link first second e)
 
   to_cut : (first second : ℕ) (e : Event) → verdict ids r w x (command.Cut first second) ≡ verdicts.Grant e → (x ≡ who.Teacher) × MayCut ids w first second e
-  to_cut first second e h = grind (arith, both_found, settled-grant, need-ok, event-same)
+  to_cut first second e h = grind (arith, both_found, act-grant, need-ok, event-same)
 
   from_cut : (first second : ℕ) (e : Event) → (x ≡ who.Teacher) × MayCut ids w first second e → verdict ids r w x (command.Cut first second) ≡ verdicts.Grant e
   from_cut first second e f = grind (arith, both_ends, need-from)
@@ -156,7 +156,7 @@ module _ (ids : List ℕ) (r : RosterValue) (w : World) (x : Who) where
   cut_means first second e = (to_cut first second e, from_cut first second e)
 
   to_release : (id : ℕ) (e : Event) → verdict ids r w x (command.Release id) ≡ verdicts.Grant e → (x ≡ who.Teacher) × MayRelease ids w id e
-  to_release id e h = grind (arith, need-ok, settled-grant, bind-ok, some-value, teacher_is, node-ok, event-same)
+  to_release id e h = grind (arith, need-ok, act-grant, bind-ok, some-value, teacher_is, node-ok, event-same)
 
   from_release : (id : ℕ) (e : Event) → (x ≡ who.Teacher) × MayRelease ids w id e → verdict ids r w x (command.Release id) ≡ verdicts.Grant e
   from_release id e f = grind (arith, need-from, bind-from)

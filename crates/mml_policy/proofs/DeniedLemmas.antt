@@ -12,24 +12,24 @@ use Rattle.mml_rules.specs.declared.rule.Rule.{Rule}
 use Rattle.mml_lab.specs.declared.who.Who.{Who}
 use Rattle.mml_lab.specs.declared.who.Who.TheVariants as who
 use Rattle.mml_lab.specs.Rosters.{RosterValue}
+use Rattle.mml_board.specs.declared.event.Event.{Event}
 use Rattle.mml_board.specs.declared.event.Event.TheVariants as event
 use Rattle.mml_board.specs.World.{World, configuration, chosen_at}
 use Rattle.mml_board.specs.Events.{may_point}
 use Rattle.mml_policy.specs.declared.command.Command.TheVariants as command
-use Rattle.mml_policy.specs.declared.denial.Denial.{Denial}
-use Rattle.mml_policy.specs.declared.denial.Denial.TheVariants.{NotTeacher, NoNode, BadRegister, Loop}
+use Rattle.mml_board.specs.declared.denial.Denial.{Denial}
+use Rattle.mml_board.specs.declared.denial.Denial.TheVariants.{NotTeacher, NoNode, BadRegister, Loop}
 use Rattle.mml_policy.specs.declared.verdict.Verdict.TheVariants as verdicts
-use Rattle.mml_policy.specs.declared.verdict.Leave.{Leave}
-use Rattle.mml_policy.specs.declared.verdict.Leave.TheVariants.{Grant}
 use Rattle.mml_policy.specs.Visible.{is_teacher}
-use Rattle.mml_policy.specs.Clauses.{node, pointer}
+use Rattle.mml_policy.specs.Clauses.{node}
+use Rattle.mml_policy.proofs.ClausesLemmas.{pointer_step}
 use Rattle.mml_policy.specs.Verdicts.{verdict}
 use Rattle.mml_policy.specs.Meaning.{IsNamed, IsRegister}
 use Rattle.mml_policy.specs.Denied.{IsAskedOf, IsAskedOfBoth, DeniesClose, DeniesFault, LacksAnEnd, DeniesLink, DeniesCut, DeniesRelease, DeniesReport}
 use Rattle.mml_policy.proofs.ClausesLemmas.{node-ok, node-err}
 use Rattle.mml_policy.proofs.CommandMeaningLemmas.{chosen-some, some-chosen, named-is, named-from, register-is, register-from, link_at, cut_at}
 use Rattle.mml_policy.proofs.CommandMeaningLemmas.{asked_of_both, both_ends}
-use Rattle.mml_policy.proofs.VerdictLemmas.{settled-deny}
+use Rattle.mml_policy.proofs.VerdictLemmas.{act-deny}
 use Rattle.mml_policy.proofs.VisibleLemmas.{teacher_is}
 
 -- ---- the step that fails
@@ -57,30 +57,30 @@ from_none_chosen chosen h = grind (arith, false_from_ne_true, chosen-some)
 no_choice : (o : Option Rule) → is_some o ≡ false → o ≡ None
 no_choice o h = grind (arith, both_ways)
 
-no_pointer : (ids : List ℕ) (p : Option ℕ) (d : Denial) → pointer ids p BadRegister ≡ Err d → (d ≡ BadRegister) × ((q : Option ℕ) → ¬ IsNamed ids p q)
+no_pointer : (ids : List ℕ) (p : Option ℕ) (d : Denial) → pointer_step ids p BadRegister ≡ Err d → (d ≡ BadRegister) × ((q : Option ℕ) → ¬ IsNamed ids p q)
 no_pointer ids p d h = grind arith
 
 same_pointer : (p q : Option ℕ) → (let s : Result (Option ℕ) Denial = Ok p in s ≡ Ok q) → p ≡ q
 same_pointer p q e = grind arith
 
 module _ (ids : List ℕ) (r : RosterValue) (w : World) (x : Who) where
-  -- an asker who isn't the teacher, whatever comes next
-  not_teachers : (rest : Result Leave Denial) → x ≢ who.Teacher → (need (is_teacher x) NotTeacher >> rest) ≡ Err NotTeacher
+  -- who isn't the teacher, whatever comes next
+  not_teachers : (rest : Result Event Denial) → x ≢ who.Teacher → (need (is_teacher x) NotTeacher >> rest) ≡ Err NotTeacher
   not_teachers rest h = need-fails (is_teacher x) _ rest (from_no_teacher x h)
 
-  module _ (id : ℕ) (rest : ℕ → Result Leave Denial) where
-    -- if the node isn't there, whatever comes next
+  module _ (id : ℕ) (rest : ℕ → Result Event Denial) where
+    -- where the node isn't there, whatever comes next
     no_node : (x ≡ who.Teacher) × (rank_in ids id ≡ None) → (need (is_teacher x) NotTeacher >> (node ids id NoNode >>= rest)) ≡ Err NoNode
     no_node h = need-from (is_teacher x) _ _ _ (ap is_teacher h.0) (bind-fails (node ids id NoNode) _ _ (ap (λ o. ok_or o NoNode) h.1))
 
-    -- if it is there, what comes next
-    at_node : (i : ℕ) (v : Result Leave Denial) → IsAskedOf ids x id i → rest i ≡ v → (need (is_teacher x) NotTeacher >> (node ids id NoNode >>= rest)) ≡ v
+    -- where it is there, what comes next
+    at_node : (i : ℕ) (v : Result Event Denial) → IsAskedOf ids x id i → rest i ≡ v → (need (is_teacher x) NotTeacher >> (node ids id NoNode >>= rest)) ≡ v
     at_node i v asked e = grind (arith, need-from, bind-from)
 
   -- ---- a close
 
   close_to : (d : Denial) → verdict ids r w x command.Close ≡ verdicts.Deny d → DeniesClose w x d
-  close_to d h = grind (arith, IfErr-at_err, settled-deny, need-deny, no_teacher, teacher_is, none_chosen)
+  close_to d h = grind (arith, IfErr-at_err, act-deny, need-deny, no_teacher, teacher_is, none_chosen)
 
   close_from : (d : Denial) → DeniesClose w x d → verdict ids r w x command.Close ≡ verdicts.Deny d
   close_from d h = grind (arith, not_teachers, need-from, need-fails, from_none_chosen)
@@ -94,21 +94,21 @@ module _ (ids : List ℕ) (r : RosterValue) (w : World) (x : Who) where
     abbrev why_no_fault : Denial → Type 0
     why_no_fault = DeniesFault ids w x id p
 
-    unfit : (i : ℕ) (q : Option ℕ) → pointer ids p BadRegister ≡ Ok q → may_point (configuration w) i q ≡ false → (q : Option ℕ) → IsNamed ids p q
+    unfit : (i : ℕ) (q : Option ℕ) → pointer_step ids p BadRegister ≡ Ok q → may_point (configuration w) i q ≡ false → (q : Option ℕ) → IsNamed ids p q
         → ¬ IsRegister w i q
     unfit i q found fails other named fits = grind (arith, same_pointer, named-from, both_ways, register-from)
 
     -- the clause of the register, and the event
-    abbrev with_register : ℕ → Option ℕ → Result Leave Denial
-    with_register i q = need (may_point (configuration w) i q) BadRegister >> Ok (Grant (event.Fault i (record { p = q; m = m })))
+    abbrev with_register : ℕ → Option ℕ → Result Event Denial
+    with_register i q = need (may_point (configuration w) i q) BadRegister >> Ok ((event.Fault i (record { p = q; m = m })))
 
-    no_register : (i : ℕ) → ((q : Option ℕ) → IsNamed ids p q → ¬ IsRegister w i q) → (s : Result (Option ℕ) Denial) → pointer ids p BadRegister ≡ s
-        → (pointer ids p BadRegister >>= with_register i) ≡ Err BadRegister
+    no_register : (i : ℕ) → ((q : Option ℕ) → IsNamed ids p q → ¬ IsRegister w i q) → (s : Result (Option ℕ) Denial) → pointer_step ids p BadRegister ≡ s
+        → (pointer_step ids p BadRegister >>= with_register i) ≡ Err BadRegister
     no_register i none (Ok q) e = search (arith, bind-from, need-fails, false_from_ne_true, named-is, register-is)
-    no_register i none (Err d) e = bind-fails (pointer ids p BadRegister) (with_register i) BadRegister (e ∙ ap Err (no_pointer ids p d e).0)
+    no_register i none (Err d) e = bind-fails (pointer_step ids p BadRegister) (with_register i) BadRegister (e ∙ ap Err (no_pointer ids p d e).0)
 
     fault_to : (d : Denial) → verdict ids r w x (command.Fault id p m) ≡ verdicts.Deny d → why_no_fault d
-    fault_to d h = grind (arith, IfErr-at_err, settled-deny, need-deny, no_teacher, bind-deny, node-err, teacher_is, node-ok, no_pointer, unfit)
+    fault_to d h = grind (arith, IfErr-at_err, act-deny, need-deny, no_teacher, bind-deny, node-err, teacher_is, node-ok, no_pointer, unfit)
 
     fault_from : (d : Denial) → why_no_fault d → verdict ids r w x (command.Fault id p m) ≡ verdicts.Deny d
     fault_from d h = grind (arith, not_teachers, no_node, at_node, no_register)
@@ -120,12 +120,12 @@ module _ (ids : List ℕ) (r : RosterValue) (w : World) (x : Who) where
 
   module _ (first second : ℕ) where
     -- what holds of each error that what is asked of two nodes may end in
-    both_deny : (why : Denial → Type 0) (rest : ℕ → ℕ → Result Leave Denial) → (x ≢ who.Teacher → why NotTeacher) → (LacksAnEnd ids x first second → why NoNode)
+    both_deny : (why : Denial → Type 0) (rest : ℕ → ℕ → Result Event Denial) → (x ≢ who.Teacher → why NotTeacher) → (LacksAnEnd ids x first second → why NoNode)
         → ((a b : ℕ) → IsAskedOfBoth ids x first second a b → IfErr (rest a b) why) → IfErr (asked_of_both ids x first second rest) why
     both_deny why rest alone lacks found = grind (arith, need-deny, no_teacher, bind-deny, node-err, teacher_is, node-ok)
 
-    -- if an end isn't there, whatever comes next
-    no_end : (rest : ℕ → ℕ → Result Leave Denial) → LacksAnEnd ids x first second
+    -- where an end isn't there, whatever comes next
+    no_end : (rest : ℕ → ℕ → Result Event Denial) → LacksAnEnd ids x first second
         → asked_of_both ids x first second rest ≡ Err NoNode
     no_end rest h = grind (arith, need-from, bind-fails, bind-from)
 
@@ -136,7 +136,7 @@ module _ (ids : List ℕ) (r : RosterValue) (w : World) (x : Who) where
     looped a b e asked = (a, record { teacher = asked.teacher; node_a = asked.node_a; node_b = asked.node_b ∙ ap Some (sym e) })
 
     link_to : (d : Denial) → verdict ids r w x (command.Link first second) ≡ verdicts.Deny d → why_no_link d
-    link_to d h = grind (arith, IfErr-at_err, settled-deny, both_deny, link_at, need-deny, looped, eqb-true, not-false, eqb-false, not-true)
+    link_to d h = grind (arith, IfErr-at_err, act-deny, both_deny, link_at, need-deny, looped, eqb-true, not-false, eqb-false, not-true)
 
     link_from : (d : Denial) → why_no_link d → verdict ids r w x (command.Link first second) ≡ verdicts.Deny d
     link_from d h = grind (arith, not_teachers, no_end, link_at, both_ends, need-fails, not_from_true, eq-eqb, need-from, not_from_false, ne_eqb)
@@ -148,7 +148,7 @@ module _ (ids : List ℕ) (r : RosterValue) (w : World) (x : Who) where
     why_no_cut = DeniesCut ids w x first second
 
     cut_to : (d : Denial) → verdict ids r w x (command.Cut first second) ≡ verdicts.Deny d → why_no_cut d
-    cut_to d h = grind (arith, IfErr-at_err, settled-deny, both_deny, cut_at, need-deny)
+    cut_to d h = grind (arith, IfErr-at_err, act-deny, both_deny, cut_at, need-deny)
 
     cut_from : (d : Denial) → why_no_cut d → verdict ids r w x (command.Cut first second) ≡ verdicts.Deny d
     cut_from d h = grind (arith, not_teachers, no_end, cut_at, both_ends, need-fails)
@@ -163,7 +163,7 @@ module _ (ids : List ℕ) (r : RosterValue) (w : World) (x : Who) where
     why_no_release = DeniesRelease ids w x id
 
     release_to : (d : Denial) → verdict ids r w x (command.Release id) ≡ verdicts.Deny d → why_no_release d
-    release_to d h = grind (arith, IfErr-at_err, settled-deny, need-deny, no_teacher, bind-deny, node-err, teacher_is, node-ok, no_choice)
+    release_to d h = grind (arith, IfErr-at_err, act-deny, need-deny, no_teacher, bind-deny, node-err, teacher_is, node-ok, no_choice)
 
     release_from : (d : Denial) → why_no_release d → verdict ids r w x (command.Release id) ≡ verdicts.Deny d
     release_from d h = grind (arith, not_teachers, no_node, at_node, need-fails)
@@ -172,7 +172,7 @@ module _ (ids : List ℕ) (r : RosterValue) (w : World) (x : Who) where
     release_denied d = (release_to d, release_from d)
 
   report_to : (d : Denial) → verdict ids r w x command.Report ≡ verdicts.Deny d → DeniesReport x d
-  report_to d h = grind (arith, IfErr-at_err, settled-deny, need-deny, no_teacher)
+  report_to d h = grind (arith, IfErr-at_err, act-deny, need-deny, no_teacher)
 
   report_from : (d : Denial) → DeniesReport x d → verdict ids r w x command.Report ≡ verdicts.Deny d
   report_from d h = grind (arith, not_teachers)

@@ -18,15 +18,18 @@ use Rattle.mml_board.specs.declared.event.Event.TheVariants as event
 use Rattle.mml_board.specs.World.{World, configuration, chosen_at}
 use Rattle.mml_policy.specs.declared.command.Asked.{Asked}
 use Rattle.mml_policy.specs.declared.command.Command.TheVariants as command
-use Rattle.mml_policy.specs.declared.denial.Denial.{Denial}
-use Rattle.mml_policy.specs.declared.denial.Denial.TheVariants.{NotOwner, Guard}
+use Rattle.mml_board.specs.declared.denial.Denial.{Denial}
+use Rattle.mml_board.specs.declared.denial.Denial.TheVariants.{NotOwner, Guard}
 use Rattle.mml_policy.specs.declared.verdict.Verdict.TheVariants as verdicts
-use Rattle.mml_policy.specs.Clauses.{node, student, rule_of}
-use Rattle.mml_policy.specs.Verdicts.{clauses, verdict}
+use Rattle.mml_policy.specs.Clauses.{node, rule_of}
+use Rattle.mml_board.specs.declared.act.Act.TheVariants as acts
+use Rattle.mml_board.specs.Clauses.{student, check}
+use Rattle.mml_policy.proofs.ClausesLemmas.{rule_step}
+use Rattle.mml_policy.specs.Verdicts.{verdict}
 use Rattle.mml_policy.specs.Meaning.{IsAsked, IsOwner, IsGuarded, MayMove, DeniesMove}
 use Rattle.mml_ids.proofs.GivesLemmas.{bind-ok, bind-from, need-ok, bind-deny, need-deny}
 use Rattle.mml_policy.proofs.ClausesLemmas.{node-ok, node-err, student-ok, student-err}
-use Rattle.mml_policy.proofs.VerdictLemmas.{settled-grant, settled-deny, owner_is}
+use Rattle.mml_policy.proofs.VerdictLemmas.{act-grant, act-deny, owner_is}
 
 none-is : {A : Type 0} (o : Option A) → is_none o ≡ true → o ≡ None
 none-is o h = grind arith
@@ -41,20 +44,20 @@ some-is : {A : Type 0} (o : Option A) → is_none o ≡ false → (x : A) × (o 
 some-is o h = grind arith
 
 -- the rule that a step found is the one that is asked for
-pub asked_is : (ids : List ℕ) (a : Asked) (d : Denial) (q : Rule) → rule_of ids a d ≡ Ok q → IsAsked ids a q
+pub asked_is : (ids : List ℕ) (a : Asked) (d : Denial) (q : Rule) → rule_step ids a d ≡ Ok q → IsAsked ids a q
 asked_is ids a d q h = grind (arith, bind-ok, node-ok)
 
-asked_from : (ids : List ℕ) (a : Asked) (d : Denial) (q : Rule) → IsAsked ids a q → rule_of ids a d ≡ Ok q
+asked_from : (ids : List ℕ) (a : Asked) (d : Denial) (q : Rule) → IsAsked ids a q → rule_step ids a d ≡ Ok q
 asked_from ids a d q h = grind (arith, bind-from)
 
 ok-same : (p q : Rule) → (let s : Result Rule Denial = Ok p in s ≡ Ok q) → p ≡ q
 ok-same p q e = grind arith
 
-asked_once : (ids : List ℕ) (a : Asked) (p q : Rule) → rule_of ids a Guard ≡ Ok p → IsAsked ids a q → p ≡ q
+asked_once : (ids : List ℕ) (a : Asked) (p q : Rule) → rule_step ids a Guard ≡ Ok p → IsAsked ids a q → p ≡ q
 asked_once ids a p q h k = ok-same p q (sym h ∙ asked_from ids a Guard q k)
 
--- if no rule was found the denial is that of the guard, and no rule is asked for
-pub no_rule : (ids : List ℕ) (a : Asked) (d : Denial) → rule_of ids a Guard ≡ Err d → (d ≡ Guard) × ((q : Rule) → ¬ IsAsked ids a q)
+-- where no rule was found the denial is that of the guard, and no rule is asked for
+pub no_rule : (ids : List ℕ) (a : Asked) (d : Denial) → rule_step ids a Guard ≡ Err d → (d ≡ Guard) × ((q : Rule) → ¬ IsAsked ids a q)
 no_rule ids a d h = grind (arith, none_some)
 
 module _ (ids : List ℕ) (r : RosterValue) (w : World) (x : Who) (id : ℕ) (a : Asked) (at : ℕ) (l : IsLawful (configuration w)) where
@@ -63,12 +66,12 @@ module _ (ids : List ℕ) (r : RosterValue) (w : World) (x : Who) (id : ℕ) (a 
 
   to_facts : (e : Event) → verdict ids r w x (command.Move id a at) ≡ verdicts.Grant e → IsMove e
   to_facts e h =
-      let one = bind-ok (student x NotOwner) _ _ (settled-grant (clauses ids r w x (command.Move id a at)) e h) in
+      let one = bind-ok (student x NotOwner) _ _ (act-grant (check (owns r) w x (acts.Move (rank_in ids id) (rule_of ids a) at)) e h) in
       let two = bind-ok (node ids id NotOwner) _ _ one.2 in
       let three = need-ok (owns r x two.0) _ _ _ two.2 in
       let four = need-ok (at == w.number) _ _ _ three.1 in
       let five = need-ok (is_none (chosen_at w.chosen two.0)) _ _ _ four.1 in
-      let six = bind-ok (rule_of ids a Guard) _ _ five.1 in
+      let six = bind-ok (rule_step ids a Guard) _ _ five.1 in
       grind (arith, nat_tests, need-ok, student-ok, node-ok, owner_is, eqb-true, none-is, asked_is, guard-means)
 
   from_facts : (e : Event) → IsMove e → verdict ids r w x (command.Move id a at) ≡ verdicts.Grant e
@@ -93,10 +96,10 @@ module _ (ids : List ℕ) (r : RosterValue) (w : World) (x : Who) (id : ℕ) (a 
   no_owner : (i : ℕ) → rank_in ids id ≡ Some i → owns r x i ≡ false → why NotOwner
   no_owner i there h s j own = grind (arith, true≢false)
 
-  no_guard : (i : ℕ) (q : Rule) → rule_of ids a Guard ≡ Ok q → guard (configuration w) i q ≡ false → (p : Rule) → ¬ IsGuarded ids w i a p
+  no_guard : (i : ℕ) (q : Rule) → rule_step ids a Guard ≡ Ok q → guard (configuration w) i q ≡ false → (p : Rule) → ¬ IsGuarded ids w i a p
   no_guard i q asked fails p k = grind (arith, true≢false, asked_once, guard-means)
 
-  reasons : IfErr (clauses ids r w x (command.Move id a at)) why
+  reasons : IfErr (check (owns r) w x (acts.Move (rank_in ids id) (rule_of ids a) at)) why
   reasons =
       bind-deny why (student x NotOwner) _ no_student (λ s is.
       bind-deny why (node ids id NotOwner) _ no_node (λ i there.
@@ -109,11 +112,11 @@ module _ (ids : List ℕ) (r : RosterValue) (w : World) (x : Who) (id : ℕ) (a 
       need-deny why (at == w.number) _ _ (λ late. record { s = s; i = i; own = own; late = eqb-false at w.number late; told = refl }) (λ now.
       let current : at ≡ w.number = eqb-true at w.number now in
       need-deny why (is_none (chosen_at w.chosen i)) _ _ (λ taken. record { s = s; i = i; own = own; current = current; chosen = some-is _ taken }) (λ free.
-      bind-deny why (rule_of ids a Guard) _ (λ d h.
+      bind-deny why (rule_step ids a Guard) _ (λ d h.
       let e = no_rule ids a d h in
       subst why (sym e.0) (record { s = s; i = i; own = own; current = current; free = none-is _ free; unfit = λ q k. e.1 q k.0 })) (λ q rule.
       need-deny why (guard (configuration w) i q) _ _
       (λ fails. record { s = s; i = i; own = own; current = current; free = none-is _ free; unfit = no_guard i q rule fails }) (λ _. tt)))))))
 
   pub move_denied : (d : Denial) → verdict ids r w x (command.Move id a at) ≡ verdicts.Deny d → why d
-  move_denied d h = IfErr-at_err why (settled-deny (clauses ids r w x (command.Move id a at)) d h) reasons
+  move_denied d h = IfErr-at_err why (act-deny (check (owns r) w x (acts.Move (rank_in ids id) (rule_of ids a) at)) d h) reasons

@@ -9,18 +9,21 @@ use Rattle.mml_rules.specs.Configuration.{IsLawful}
 use Rattle.mml_rules.specs.Rules.{guard}
 use Rattle.mml_rules.proofs.MeaningLemmas.{guard-means}
 use Rattle.mml_lab.specs.declared.who.Who.{Who}
-use Rattle.mml_lab.specs.Rosters.{RosterValue}
+use Rattle.mml_lab.specs.Rosters.{RosterValue, owns}
+use Rattle.mml_board.specs.declared.event.Event.{Event}
 use Rattle.mml_board.specs.declared.event.Event.TheVariants as event
+use Rattle.mml_board.specs.declared.act.Act.TheVariants as acts
+use Rattle.mml_ids.specs.Ids.{rank_in}
 use Rattle.mml_board.specs.World.{World, configuration, chosen_at}
 use Rattle.mml_policy.specs.declared.command.Asked.{Asked}
 use Rattle.mml_policy.specs.declared.command.Command.TheVariants as command
-use Rattle.mml_policy.specs.declared.denial.Denial.{Denial}
-use Rattle.mml_policy.specs.declared.denial.Denial.TheVariants.{NotOwner, Stale, Chosen, Guard}
+use Rattle.mml_board.specs.declared.denial.Denial.{Denial}
+use Rattle.mml_board.specs.declared.denial.Denial.TheVariants.{NotOwner, Stale, Chosen, Guard}
 use Rattle.mml_policy.specs.declared.verdict.Verdict.TheVariants as verdicts
-use Rattle.mml_policy.specs.declared.verdict.Leave.{Leave}
-use Rattle.mml_policy.specs.declared.verdict.Leave.TheVariants.{Grant}
 use Rattle.mml_policy.specs.Clauses.{rule_of}
-use Rattle.mml_policy.specs.Verdicts.{clauses, settled, verdict}
+use Rattle.mml_board.specs.Clauses.{check}
+use Rattle.mml_policy.proofs.ClausesLemmas.{rule_step}
+use Rattle.mml_policy.specs.Verdicts.{granted, settled, verdict}
 use Rattle.mml_policy.specs.Meaning.{IsOwner, IsGuarded, DeniesMove}
 use Rattle.mml_policy.proofs.DeniedLemmas.{need-fails, bind-fails}
 use Rattle.mml_policy.proofs.MeaningLemmas.{asked_is, no_rule, move_denied}
@@ -30,29 +33,29 @@ module _ (ids : List ℕ) (r : RosterValue) (w : World) (x : Who) (id : ℕ) (a 
   abbrev why : Denial → Type 0
   why = DeniesMove ids r w x id a at
 
-  abbrev with_rule : ℕ → ℕ → Rule → Result Leave Denial
-  with_rule s i q = need (guard (configuration w) i q) Guard >> Ok (Grant (event.Grant s i q))
+  abbrev with_rule : ℕ → ℕ → Rule → Result Event Denial
+  with_rule s i q = need (guard (configuration w) i q) Guard >> Ok ((event.Grant s i q))
 
   -- the clauses after the first
-  abbrev owned : ℕ → ℕ → Result Leave Denial
-  owned s i = need (at == w.number) (Stale w.number) >> (need (is_none (chosen_at w.chosen i)) Chosen >> (rule_of ids a Guard >>= with_rule s i))
+  abbrev owned : ℕ → ℕ → Result Event Denial
+  owned s i = need (at == w.number) (Stale w.number) >> (need (is_none (chosen_at w.chosen i)) Chosen >> (rule_step ids a Guard >>= with_rule s i))
 
-  past_owner : (s i : ℕ) (v : Result Leave Denial) → IsOwner ids r x id s i → owned s i ≡ v → clauses ids r w x (command.Move id a at) ≡ v
+  past_owner : (s i : ℕ) (v : Result Event Denial) → IsOwner ids r x id s i → owned s i ≡ v → check (owns r) w x (acts.Move (rank_in ids id) (rule_of ids a) at) ≡ v
   past_owner s i v own e = grind (arith, bind-from, need-from)
 
-  no_owner : ((s i : ℕ) → ¬ IsOwner ids r x id s i) → clauses ids r w x (command.Move id a at) ≡ Err NotOwner
+  no_owner : ((s i : ℕ) → ¬ IsOwner ids r x id s i) → check (owns r) w x (acts.Move (rank_in ids id) (rule_of ids a) at) ≡ Err NotOwner
   no_owner h = grind (arith, bind-fails, bind-from, need-fails, false_from_ne_true, owner_is)
 
-  no_guard : (s i : ℕ) → ((q : Rule) → ¬ IsGuarded ids w i a q) → (rule_of ids a Guard >>= with_rule s i) ≡ Err Guard
-  no_guard s i none = go (rule_of ids a Guard) refl
+  no_guard : (s i : ℕ) → ((q : Rule) → ¬ IsGuarded ids w i a q) → (rule_step ids a Guard >>= with_rule s i) ≡ Err Guard
+  no_guard s i none = go (rule_step ids a Guard) refl
     where
-      go : (t : Result Rule Denial) → rule_of ids a Guard ≡ t → (rule_of ids a Guard >>= with_rule s i) ≡ Err Guard
-      go (Ok q) e = bind-from (rule_of ids a Guard) (with_rule s i) _ q e (need-fails (guard (configuration w) i q) _ _
+      go : (t : Result Rule Denial) → rule_step ids a Guard ≡ t → (rule_step ids a Guard >>= with_rule s i) ≡ Err Guard
+      go (Ok q) e = bind-from (rule_step ids a Guard) (with_rule s i) _ q e (need-fails (guard (configuration w) i q) _ _
           (false_from_ne_true (guard (configuration w) i q) (λ g. none q (asked_is ids a Guard q e, (guard-means (configuration w) i q l).0 g))))
-      go (Err d) e = bind-fails (rule_of ids a Guard) (with_rule s i) Guard (e ∙ ap Err (no_rule ids a d e).0)
+      go (Err d) e = bind-fails (rule_step ids a Guard) (with_rule s i) Guard (e ∙ ap Err (no_rule ids a d e).0)
 
   from_why : (d : Denial) → why d → verdict ids r w x (command.Move id a at) ≡ verdicts.Deny d
-  from_why NotOwner h = ap settled (no_owner h)
+  from_why NotOwner h = ap (λ s. settled (granted s)) (no_owner h)
   from_why (Stale n) h = grind (arith, nat_tests, past_owner, need-fails, ne_eqb)
   from_why Chosen h = grind (arith, nat_tests, past_owner, need-from, eq-eqb, need-fails)
   from_why Guard h = let none = no_guard h.s h.i h.unfit in grind (arith, nat_tests, past_owner, none)

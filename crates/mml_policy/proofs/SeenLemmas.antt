@@ -10,8 +10,8 @@ use Rattle.mml_board.specs.declared.event.Event.{Event}
 use Rattle.mml_board.specs.World.{World, configuration}
 use Rattle.mml_board.specs.Events.{done_by}
 use Rattle.mml_policy.specs.declared.command.Command.TheVariants as command
-use Rattle.mml_policy.specs.declared.denial.Denial.{Denial}
-use Rattle.mml_policy.specs.declared.denial.Denial.TheVariants.{Hidden}
+use Rattle.mml_board.specs.declared.denial.Denial.{Denial}
+use Rattle.mml_board.specs.declared.denial.Denial.TheVariants.{Hidden}
 use Rattle.mml_policy.specs.declared.ruling.Ruling.TheVariants.{Seen, Full, Journal, Granted, Denied}
 use Rattle.mml_policy.specs.declared.see.See as TheSee
 use Rattle.mml_policy.specs.declared.verdict.Leave.{Leave}

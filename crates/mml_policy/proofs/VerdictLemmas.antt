@@ -1,29 +1,37 @@
 -- What a verdict grants is legal, and what it shows is there; acts alone are granted.
 use Rattle.std.proofs.lemmas.Bool.Decides.{nat_tests}
-use Rattle.std.proofs.Common.{◌≡◌, ℕ, ◌<◌, ◌==◌, Bool, true, false, List, length, is_none, Result, Ok, Err, refl, sym, ap, ◌∙◌, arith}
-use Rattle.std.specs.Result.{IfOk}
-use Rattle.std.proofs.lemmas.Bool.{and_from, lt-ltb}
+use Rattle.std.specs.Prelude.{◌||◌}
+use Rattle.std.proofs.Common.{◌≡◌, ℕ, ◌<◌, ◌==◌, Bool, true, false, List, length, Option, None, Some, option_map, Result, Ok, Err, refl, sym, ap, ◌∙◌, arith}
+use Rattle.std.specs.Result.{IfOk, IfErr}
 use Rattle.std.proofs.lemmas.Result.{IfOk-at_ok}
-use Rattle.mml_rules.specs.Rules.{guard}
 use Rattle.mml_lab.specs.declared.who.Who.{Who}
 use Rattle.mml_lab.specs.declared.who.Who.TheVariants as who
 use Rattle.mml_lab.specs.Rosters.{RosterValue, owns}
 use Rattle.mml_board.specs.declared.event.Event.{Event}
-use Rattle.mml_board.specs.World.{World, size, configuration, chosen_at}
-use Rattle.mml_board.specs.Events.{is_legal, is_node}
+use Rattle.mml_board.specs.World.{World, size, configuration}
+use Rattle.mml_board.specs.Events.{is_legal}
 use Rattle.mml_policy.specs.Acts.{is_act}
 use Rattle.mml_policy.specs.declared.command.Command.{Command}
 use Rattle.mml_policy.specs.declared.command.Command.TheVariants as command
-use Rattle.mml_policy.specs.declared.denial.Denial.{Denial}
-use Rattle.mml_policy.specs.declared.denial.Denial.TheVariants.{NotOwner, Guard}
-use Rattle.mml_policy.specs.Visible.{is_teacher}
+use Rattle.mml_board.specs.declared.denial.Denial.{Denial}
+use Rattle.mml_board.specs.declared.denial.Denial.TheVariants.{Hidden, NotOwner}
+use Rattle.mml_policy.specs.Visible.{is_teacher, is_visible}
 use Rattle.mml_policy.specs.declared.verdict.Verdict.TheVariants as verdicts
 use Rattle.mml_policy.specs.declared.verdict.Leave.{Leave}
 use Rattle.mml_policy.specs.declared.verdict.Leave.TheVariants.{See, Look, Report, Grant}
-use Rattle.mml_policy.specs.Clauses.{node, student, rule_of}
-use Rattle.mml_policy.specs.Verdicts.{clauses, settled, verdict}
-use Rattle.mml_ids.proofs.GivesLemmas.{bind-if, need-if}
-use Rattle.mml_policy.proofs.ClausesLemmas.{node_there, student-ok}
+use Rattle.mml_policy.specs.Clauses.{node, rule_of}
+use Rattle.mml_policy.specs.Verdicts.{granted, clauses, settled, verdict}
+use Rattle.mml_ids.specs.Ids.{rank_in}
+use Rattle.std.specs.Option.{IfSome}
+use Rattle.std.proofs.lemmas.List.Quantifiers.{position-Some}
+use Rattle.mml_board.specs.declared.act.Act.{Act}
+use Rattle.mml_board.specs.declared.act.Act.TheVariants as acts
+use Rattle.mml_board.specs.Clauses.{check}
+use Rattle.mml_board.specs.ActNodes.{AreAllThere}
+use Rattle.mml_board.proofs.ClausesLemmas.{again_legal}
+use Rattle.mml_board.proofs.DenialsLemmas.{is_of_act, of_err, denied_of_act}
+use Rattle.mml_ids.proofs.GivesLemmas.{bind-if, need-if, bind-deny, need-deny}
+use Rattle.mml_policy.proofs.ClausesLemmas.{node_there}
 
 -- a verdict that grants an event comes of clauses that allow that event
 pub settled-grant : (s : Result Leave Denial) (e : Event) → settled s ≡ verdicts.Grant e → s ≡ Ok (Grant e)
@@ -33,16 +41,32 @@ settled-grant s e h = grind arith
 pub settled-deny : (s : Result Leave Denial) (d : Denial) → settled s ≡ verdicts.Deny d → s ≡ Err d
 settled-deny s d h = grind arith
 
+-- a verdict on an act that grants an event comes of clauses that let it happen
+pub act-grant : (s : Result Event Denial) (e : Event) → settled (granted s) ≡ verdicts.Grant e → s ≡ Ok e
+act-grant s e h = grind arith
+
+-- a verdict on an act that denies comes of clauses that end in that denial
+pub act-deny : (s : Result Event Denial) (d : Denial) → settled (granted s) ≡ verdicts.Deny d → s ≡ Err d
+act-deny s d h = grind arith
+
+-- what clauses let happen is given leave to
+pub granted-if : (P : Leave → Type 0) (s : Result Event Denial) → IfOk s (λ e. P (Grant e)) → IfOk (granted s) P
+granted-if P s h = grind arith
+
+-- what holds of the denial of clauses holds where they would give leave
+pub granted-deny : (P : Denial → Type 0) (s : Result Event Denial) → IfErr s P → IfErr (granted s) P
+granted-deny P s h = grind arith
+
+-- what follows from a fact of an error is a fact of it
+pub both_err : {A E : Type 0} (P Q : E → Type 0) (s : Result A E) → ((e : E) → P e → Q e) → IfErr s P → IfErr s Q
+both_err P Q s f h = grind arith
+
 -- what may be shown is a node, and what may happen is legal
 abbrev pub IsFine : List ℕ → RosterValue → World → Leave → Type 0
 IsFine ids r w (See i) = i < length ids
 IsFine ids r w (Look i) = i < length ids
 IsFine ids r w Report = Unit {0}
 IsFine ids r w (Grant e) = is_legal r w e ≡ true
-
--- a rank of the identifiers is a node of the world
-node_is : (ids : List ℕ) (w : World) (i : ℕ) → length ids ≡ size w → i < length ids → is_node w i ≡ true
-node_is ids w i same there = lt-ltb i (size w) (omega (arith, same, there))
 
 -- one who owns a node, and is a student, owns it as that student
 pub owner_is : (r : RosterValue) (x : Who) (s i : ℕ) → x ≡ who.Student s → owns r x i ≡ true → owns r (who.Student s) i ≡ true
@@ -66,38 +90,67 @@ Good ids r w b l = IsEvent b l × (length ids ≡ size w → IsFine ids r w l)
 both_of : {A E : Type 0} (P Q : A → Type 0) (s : Result A E) → ((a : A) → P a → Q a) → IfOk s P → IfOk s Q
 both_of P Q s f h = grind arith
 
+found_there : (ids : List ℕ) (id n : ℕ) → length ids ≡ n → IfSome (rank_in ids id) (λ i. i < n)
+found_there ids id n same = go (rank_in ids id) refl
+  where
+    go : (o : Option ℕ) → rank_in ids id ≡ o → IfSome o (λ i. i < n)
+    go None e = tt
+    go (Some i) e = let l = (position-Some (λ m. m == id) ids i 0 e).0 in omega (arith, l, same)
+
 module _ (ids : List ℕ) (r : RosterValue) (w : World) (x : Who) where
+  with_event : (s : Result Event Denial) → (length ids ≡ size w → IfOk s (λ e. is_legal r w e ≡ true)) → IfOk s (λ e. Good ids r w true (Grant e))
+  with_event (Ok e) h = (refl, h)
+  with_event (Err d) h = tt
+
   abbrev act : Leave → Type 0
   act = Good ids r w true
 
   abbrev view : Leave → Type 0
   view = Good ids r w false
 
+  of_act : (a : Act) → (length ids ≡ size w → AreAllThere (size w) a) → IfOk (granted (check (owns r) w x a)) act
+  of_act a there = granted-if act (check (owns r) w x a) (with_event (check (owns r) w x a) (λ same. again_legal r w x a (there same)))
+
+  found : (id : ℕ) → length ids ≡ size w → IfSome (rank_in ids id) (λ i. i < size w)
+  found id same = found_there ids id (size w) same
+
+  pointed : (p : Option ℕ) → length ids ≡ size w → IfSome (option_map (rank_in ids) p) (λ o. IfSome o (λ j. j < size w))
+  pointed None same = tt
+  pointed (Some id) same = found id same
+
   good : (c : Command) → IfOk (clauses ids r w x c) (Good ids r w (is_act c))
   good (command.See id) = grind (arith, nat_tests, bind-if, need-if, node_there)
   good (command.Look id) = grind (arith, nat_tests, bind-if, need-if, node_there)
-  good (command.Move id a at) =
-      bind-if act (student x NotOwner) _ (λ s is.
-      bind-if act (node ids id NotOwner) _ (λ i there.
-      need-if act (owns r x i) _ _ (λ owner.
-      need-if act (at == w.number) _ _ (λ current.
-      need-if act (is_none (chosen_at w.chosen i)) _ _ (λ free.
-      bind-if act (rule_of ids a Guard) _ (λ q rule.
-      need-if act (guard (configuration w) i q) _ _ (λ g. (
-        refl,
-        λ same. and_from _ _ (owner_is r x s i (student-ok x _ s is) owner)
-            (and_from _ _ (node_is ids w i same (node_there ids id _ i there)) (and_from _ _ free g)),
-      ))))))))
-  good command.Close = grind (arith, nat_tests, need-if)
-  good (command.Fault id p m) = grind (arith, nat_tests, need-if, bind-if, and_from, node_is, node_there)
-  good (command.Link first second) = grind (arith, nat_tests, need-if, bind-if, and_from, node_is, node_there)
-  good (command.Cut first second) = grind (arith, nat_tests, need-if, bind-if)
-  good (command.Release id) = grind (arith, nat_tests, need-if, bind-if)
+  good (command.Move id a at) = of_act (acts.Move (rank_in ids id) (rule_of ids a) at) (λ same. found id same)
+  good command.Close = of_act acts.Close (λ same. tt)
+  good (command.Fault id p m) = of_act (acts.Fault (rank_in ids id) (option_map (rank_in ids) p) m) (λ same. (found id same, pointed p same))
+  good (command.Link first second) = of_act (acts.Link (rank_in ids first) (rank_in ids second)) (λ same. (found first same, found second same))
+  good (command.Cut first second) = of_act (acts.Cut (rank_in ids first) (rank_in ids second)) (λ same. (found first same, found second same))
+  good (command.Release id) = of_act (acts.Release (rank_in ids id)) (λ same. found id same)
   good command.Report = need-if view (is_teacher x) _ _ (λ _. (refl, λ same. tt))
 
   -- only acts are allowed an event
   pub of_kind : (c : Command) (b : Bool) → is_act c ≡ b → IfOk (clauses ids r w x c) (IsEvent b)
   of_kind c b h = grind (arith, both_of, good)
+
+  abbrev denies : Denial → Type 0
+  denies d = is_of_act w d ≡ true
+
+  -- a denial is of a clause from 1 to 4, and names no number but the world's
+  pub denied_of : (c : Command) → IfErr (clauses ids r w x c) denies
+  denied_of (command.See id) =
+      bind-deny denies (node ids id Hidden) _ (of_err denies (rank_in ids id) Hidden refl) (λ i there.
+      need-deny denies (is_visible r (configuration w) x i) _ _ (λ no. refl) (λ visible. tt))
+  denied_of (command.Look id) =
+      bind-deny denies (node ids id NotOwner) _ (of_err denies (rank_in ids id) NotOwner refl) (λ i there.
+      need-deny denies (is_teacher x || owns r x i) _ _ (λ no. refl) (λ may. tt))
+  denied_of (command.Move id a at) = granted-deny denies _ (denied_of_act (owns r) w x (acts.Move (rank_in ids id) (rule_of ids a) at))
+  denied_of command.Close = granted-deny denies _ (denied_of_act (owns r) w x acts.Close)
+  denied_of (command.Fault id p m) = granted-deny denies _ (denied_of_act (owns r) w x (acts.Fault (rank_in ids id) (option_map (rank_in ids) p) m))
+  denied_of (command.Link first second) = granted-deny denies _ (denied_of_act (owns r) w x (acts.Link (rank_in ids first) (rank_in ids second)))
+  denied_of (command.Cut first second) = granted-deny denies _ (denied_of_act (owns r) w x (acts.Cut (rank_in ids first) (rank_in ids second)))
+  denied_of (command.Release id) = granted-deny denies _ (denied_of_act (owns r) w x (acts.Release (rank_in ids id)))
+  denied_of command.Report = need-deny denies (is_teacher x) _ _ (λ no. refl) (λ t. tt)
 
   module _ (same : length ids ≡ size w) where
     pub fine : (c : Command) → IfOk (clauses ids r w x c) (IsFine ids r w)

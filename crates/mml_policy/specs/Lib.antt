@@ -1,5 +1,4 @@
 pub mod Acts
-pub mod Denials
 pub mod Visible
 pub mod Clauses
 pub mod Courses

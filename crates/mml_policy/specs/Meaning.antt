@@ -13,8 +13,8 @@ use Rattle.mml_board.specs.declared.event.Event.{Event}
 use Rattle.mml_board.specs.declared.event.Event.TheVariants as event
 use Rattle.mml_policy.specs.declared.command.Asked.{Asked}
 use Rattle.mml_policy.specs.declared.command.Asked.TheVariants as asked
-use Rattle.mml_policy.specs.declared.denial.Denial.{Denial}
-use Rattle.mml_policy.specs.declared.denial.Denial.TheVariants as denial
+use Rattle.mml_board.specs.declared.denial.Denial.{Denial}
+use Rattle.mml_board.specs.declared.denial.Denial.TheVariants as denial
 use Rattle.mml_policy.specs.declared.look.Look.{Look}
 use Rattle.mml_policy.specs.Visible.{IsVisible, is_visible}
 

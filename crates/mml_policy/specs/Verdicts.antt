@@ -1,25 +1,31 @@
--- The decision on a command: its clauses in the order in which they are tried, and then what they allow.
-use Rattle.std.specs.Prelude.{ℕ, ◌==◌, ◌||◌, not, is_none, is_some, List, Result, Ok, Err}
+-- What is decided of a command: its clauses in the order in which they are tried, and then what it is granted.
+use Rattle.std.specs.Prelude.{ℕ, ◌||◌, List, option_map, Result, Ok, Err}
 use Rattle.mml_ids.specs.Gives.{◌>>=◌, ◌>>◌, need}
-use Rattle.mml_rules.specs.Rules.{guard}
 use Rattle.mml_lab.specs.declared.who.Who.{Who}
 use Rattle.mml_lab.specs.Rosters.{RosterValue, owns}
-use Rattle.mml_board.specs.declared.event.Event.TheVariants as event
-use Rattle.mml_board.specs.World.{World, configuration, chosen_at}
-use Rattle.mml_board.specs.Events.{is_any_chosen, may_point}
+use Rattle.mml_board.specs.declared.act.Act.TheVariants as act
+use Rattle.mml_board.specs.declared.event.Event.{Event}
+use Rattle.mml_board.specs.World.{World, configuration}
+use Rattle.mml_board.specs.Clauses.{check}
 use Rattle.mml_policy.specs.declared.command.Command.{Command}
 use Rattle.mml_policy.specs.declared.command.Command.TheVariants as command
-use Rattle.mml_policy.specs.declared.denial.Denial.{Denial}
-use Rattle.mml_policy.specs.declared.denial.Denial.TheVariants.{Hidden, NotOwner, Stale, Chosen, Guard, NotTeacher, Empty, NoNode, BadRegister, Loop, Linked}
-use Rattle.mml_policy.specs.declared.denial.Denial.TheVariants.{NotLinked, NotChosen}
+use Rattle.mml_board.specs.declared.denial.Denial.{Denial}
+use Rattle.mml_board.specs.declared.denial.Denial.TheVariants.{Hidden, NotOwner, NotTeacher}
 use Rattle.mml_policy.specs.declared.verdict.Verdict.{Verdict}
 use Rattle.mml_policy.specs.declared.verdict.Verdict.TheVariants as verdicts
 use Rattle.mml_policy.specs.declared.verdict.Leave.{Leave}
 use Rattle.mml_policy.specs.declared.verdict.Leave.TheVariants.{See, Look, Report, Grant}
 use Rattle.mml_policy.specs.Visible.{is_teacher, is_visible}
-use Rattle.mml_policy.specs.Clauses.{node, student, rule_of, pointer}
+use Rattle.mml_policy.specs.Clauses.{node, rule_of}
+use Rattle.mml_ids.specs.Ids.{rank_in}
 
--- the clauses of each command, in the order in which they are tried, and what they allow
+-- leave for the event that clauses let happen
+abbrev pub granted : Result Event Denial → Result Leave Denial
+granted (Ok e) = Ok (Grant e)
+granted (Err d) = Err d
+
+-- the clauses of each command, in the order in which they are tried, and what they give leave to; those of an act are its
+-- clauses on the board
 abbrev pub clauses : List ℕ → RosterValue → World → Who → Command → Result Leave Denial
 clauses ids r w x (command.See id) = do
   i ← node ids id Hidden
@@ -29,46 +35,15 @@ clauses ids r w x (command.Look id) = do
   i ← node ids id NotOwner
   need (is_teacher x || owns r x i) NotOwner
   Ok (Look i)
-clauses ids r w x (command.Move id asked at) = do
-  s ← student x NotOwner
-  i ← node ids id NotOwner
-  need (owns r x i) NotOwner
-  need (at == w.number) (Stale w.number)
-  need (is_none (chosen_at w.chosen i)) Chosen
-  rule ← rule_of ids asked Guard
-  need (guard (configuration w) i rule) Guard
-  Ok (Grant (event.Grant s i rule))
-clauses ids r w x command.Close = do
-  need (is_teacher x) NotTeacher
-  need (is_any_chosen w) Empty
-  Ok (Grant event.Close)
-clauses ids r w x (command.Fault id p m) = do
-  need (is_teacher x) NotTeacher
-  i ← node ids id NoNode
-  q ← pointer ids p BadRegister
-  need (may_point (configuration w) i q) BadRegister
-  Ok (Grant (event.Fault i (record { p = q; m = m })))
-clauses ids r w x (command.Link first second) = do
-  need (is_teacher x) NotTeacher
-  a ← node ids first NoNode
-  b ← node ids second NoNode
-  need (not (a == b)) Loop
-  need (not ((configuration w).linked a b)) Linked
-  Ok (Grant (event.Link a b))
-clauses ids r w x (command.Cut first second) = do
-  need (is_teacher x) NotTeacher
-  a ← node ids first NoNode
-  b ← node ids second NoNode
-  need ((configuration w).linked a b) NotLinked
-  Ok (Grant (event.Cut a b))
-clauses ids r w x (command.Release id) = do
-  need (is_teacher x) NotTeacher
-  i ← node ids id NoNode
-  need (is_some (chosen_at w.chosen i)) NotChosen
-  Ok (Grant (event.Release i))
 clauses ids r w x command.Report = do
   need (is_teacher x) NotTeacher
   Ok Report
+clauses ids r w x (command.Move id asked at) = granted (check (owns r) w x (act.Move (rank_in ids id) (rule_of ids asked) at))
+clauses ids r w x command.Close = granted (check (owns r) w x act.Close)
+clauses ids r w x (command.Fault id p m) = granted (check (owns r) w x (act.Fault (rank_in ids id) (option_map (rank_in ids) p) m))
+clauses ids r w x (command.Link a b) = granted (check (owns r) w x (act.Link (rank_in ids a) (rank_in ids b)))
+clauses ids r w x (command.Cut a b) = granted (check (owns r) w x (act.Cut (rank_in ids a) (rank_in ids b)))
+clauses ids r w x (command.Release id) = granted (check (owns r) w x (act.Release (rank_in ids id)))
 
 -- the verdict of clauses: what they allow, or their denial
 abbrev pub settled : Result Leave Denial → Verdict

@@ -1,11 +1,9 @@
-//! The steps of clauses: each returns what it found, or the denial that it was called with.
-ghost use Rattle.std.specs.Prelude.{◌≡◌, ◌<◌, length, IfOk, IfSome};
+//! What a command names, looked up.
+ghost use Rattle.std.specs.Prelude.{◌≡◌, ◌<◌, length, IfSome, option_map};
 ghost use Rattle.mml_ids.specs.Ids.{rank_in};
-ghost use Rattle.mml_rules.specs.Rules.{IsWithin};
-ghost use Rattle.mml_policy.specs.Clauses.{rule_of, pointer};
+ghost use Rattle.mml_policy.specs.Clauses.{rule_of};
 
 use crate::command::Asked;
-use crate::denial::Denial;
 use mml_ids::{IdTable, Rank};
 use mml_lab::{Student, Who};
 use mml_rules::Rule;
@@ -41,28 +39,25 @@ pub(crate) fn asked_for(ids: &IdTable, who: Who, id: u64) -> AskedNode
     }
 }
 
-/// Returns the rule that is asked for, with the node whose identifier is named as a marriage's partner. Returns
-/// `denial` if no node has that identifier.
-pub(crate) fn rule_of(ids: &IdTable, asked: Asked, denial: Denial) -> Result<Rule, Denial>
-    ensures step { result ≡ rule_of ids.now asked denial }
-    ensures there { IfOk result (IsWithin (length ids.now)) }
+/// Returns the rule that is asked for, the partner of a marriage by rank; `None` if no node has the partner's
+/// identifier.
+pub(crate) fn rule_of(ids: &IdTable, asked: Asked) -> Option<Rule>
+    ensures { result ≡ rule_of ids.now asked }
 {
     match asked {
-        Asked::Update => Ok(Rule::Update),
-        Asked::Marriage(id) => Ok(Rule::Marriage(ids.rank_of(id).ok_or(denial)?)),
-        Asked::Seduction => Ok(Rule::Seduction),
-        Asked::Abandonment => Ok(Rule::Abandonment),
+        Asked::Update => Some(Rule::Update),
+        Asked::Marriage(id) => Some(Rule::Marriage(ids.rank_of(id)?)),
+        Asked::Seduction => Some(Rule::Seduction),
+        Asked::Abandonment => Some(Rule::Abandonment),
     }
 }
 
-/// Returns the node with the identifier `p`, or `None` if `p` is null. Returns `denial` as an error if no node has that
-/// identifier.
-pub(crate) fn pointer(ids: &IdTable, p: Option<u64>, denial: Denial) -> Result<Option<Rank>, Denial>
-    ensures step { result ≡ pointer ids.now p denial }
-    ensures there { IfOk result (λ q. IfSome q (λ j. j < length ids.now)) }
+/// Looks `p` up: null, or the node with that identifier, if there is one.
+pub(crate) fn pointer(ids: &IdTable, p: Option<u64>) -> Option<Option<Rank>>
+    ensures { result ≡ option_map (rank_in ids.now) p }
 {
     match p {
-        None => Ok(None),
-        Some(id) => Ok(Some(ids.rank_of(id).ok_or(denial)?)),
+        None => None,
+        Some(id) => Some(ids.rank_of(id)),
     }
 }

@@ -4,7 +4,6 @@
 mod clause;
 mod command;
 mod course;
-mod denial;
 pub mod laws;
 mod look;
 mod refusal;
@@ -15,8 +14,8 @@ mod visibility;
 
 pub use command::{Asked, Command};
 pub use course::Course;
-pub use denial::Denial;
 pub use look::{Look, look_of};
+pub use mml_board::Denial;
 pub use refusal::Refusal;
 pub use ruling::{Ruling, rule_on};
 pub use see::{See, see_of};

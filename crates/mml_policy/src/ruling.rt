@@ -4,11 +4,10 @@ ghost use Rattle.mml_policy.specs.Rulings.{event_of, is_look};
 
 use crate::command::Command;
 use crate::course::Course;
-use crate::denial::Denial;
 use crate::look::{Look, look_of};
 use crate::see::{See, see_of};
 use crate::verdict::{Leave, clauses};
-use mml_board::{Done, Event};
+use mml_board::{Denial, Done, Event};
 use mml_ids::Memory;
 use mml_lab::Who;
 use std::alloc::Global;

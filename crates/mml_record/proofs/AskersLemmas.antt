@@ -2,7 +2,6 @@
 use Rattle.std.proofs.Common.{◌≡◌, ℕ, Bool, true, List, [], ◌∷◌, length, take, refl, sym, subst, Option, None, Some, Result, arith}
 use Rattle.std.specs.Prelude.{IfErr, IfSome, position, option_map, if◌then◌else◌}
 use Rattle.std.proofs.lemmas.List.Quantifiers.{position-Some}
-use Rattle.mml_ids.proofs.GivesLemmas.{bind-deny, need-deny}
 use Rattle.mml_lab.specs.declared.who.Who.{Who}
 use Rattle.mml_lab.specs.declared.who.Who.TheVariants as who
 use Rattle.mml_lab.specs.Labs.{LabValue}
@@ -12,13 +11,16 @@ use Rattle.mml_board.specs.declared.event.Event.{Event}
 use Rattle.mml_board.specs.World.{World}
 use Rattle.mml_board.specs.Events.{done_by}
 use Rattle.mml_policy.specs.declared.command.Command.{Command}
-use Rattle.mml_policy.specs.declared.denial.Denial.{Denial}
+use Rattle.mml_board.specs.declared.denial.Denial.{Denial}
+use Rattle.mml_board.specs.declared.denial.Denial.TheVariants as denial
+use Rattle.mml_board.proofs.DenialsLemmas.{is_of_act}
 use Rattle.mml_policy.specs.declared.ruling.Ruling.{Ruling}
 use Rattle.mml_policy.specs.declared.ruling.Ruling.TheVariants.{Full, Journal, Granted}
 use Rattle.mml_policy.specs.declared.verdict.Leave.{Leave}
-use Rattle.mml_policy.specs.Denials.{clause_of}
+use Rattle.mml_board.specs.Denials.{clause_of}
 use Rattle.mml_policy.specs.Rulings.{ruled, after_ruling}
 use Rattle.mml_policy.specs.Verdicts.{clauses}
+use Rattle.mml_policy.proofs.VerdictLemmas.{both_err, denied_of}
 use Rattle.mml_codec.specs.declared.request.LineFault.{LineFault}
 use Rattle.mml_codec.specs.declared.request.Request.{Request}
 use Rattle.mml_codec.specs.declared.request.Request.TheVariants as requests
@@ -33,7 +35,6 @@ use Rattle.mml_record.specs.declared.kept_entry.Entry.{Entry}
 use Rattle.mml_record.specs.declared.kept_entry.Entry.TheVariants as entry
 use Rattle.mml_record.specs.Certified.{FitsRuling, FitsGreeting, FitsAsked, Fits}
 use Rattle.mml_record.specs.Asks.{student_of, clause_in, AreAskedOf}
-use Rattle.mml_record.proofs.DenialLemmas.{of_err, student_meets, node_meets, rule_meets, pointer_meets}
 use Rattle.std.proofs.lemmas.Bool.Decides.{nat_tests}
 
 -- ---- a command is denied by a clause from 1 to 4
@@ -42,9 +43,13 @@ use Rattle.std.proofs.lemmas.Bool.Decides.{nat_tests}
 abbrev IsFair : Denial → Type 0
 IsFair d = is_numbered (Some (clause_of d)) ≡ true
 
+is_fair : (w : World) (d : Denial) → is_of_act w d ≡ true → IsFair d
+is_fair w (denial.Stale at) h = refl
+is_fair w _ h = h
+
 fair : (ids : List ℕ) (r : RosterValue) (w : World) (x : Who) (c : Command) → IfErr (clauses ids r w x c) IsFair
 fair ids r w x c =
-    grind (arith, nat_tests, bind-deny, need-deny, (node_meets IsFair ids), (student_meets IsFair), (of_err IsFair), (rule_meets IsFair ids), (pointer_meets IsFair ids))
+    both_err (λ d. is_of_act w d ≡ true) IsFair (clauses ids r w x c) (is_fair w) (denied_of ids r w x c)
 
 -- ---- so is what a student who is known asks
 

@@ -19,7 +19,7 @@ use Rattle.mml_board.specs.declared.event.Event.{Event}
 use Rattle.mml_board.specs.Lists.{world_in}
 use Rattle.mml_policy.specs.declared.command.Command.{Command}
 use Rattle.mml_policy.specs.declared.command.Command.TheVariants as command
-use Rattle.mml_policy.specs.declared.denial.Denial.TheVariants.{NotOwner}
+use Rattle.mml_board.specs.declared.denial.Denial.TheVariants.{NotOwner}
 use Rattle.mml_policy.specs.declared.ruling.Ruling.{Ruling}
 use Rattle.mml_policy.specs.declared.verdict.Leave.TheVariants.{Look}
 use Rattle.mml_policy.specs.Clauses.{node}

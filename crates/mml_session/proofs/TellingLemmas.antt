@@ -7,7 +7,7 @@ use Rattle.mml_board.specs.declared.done.Done.{Done}
 use Rattle.mml_board.specs.World.{World}
 use Rattle.mml_board.specs.Events.{after}
 use Rattle.mml_policy.specs.declared.command.Command.{Command}
-use Rattle.mml_policy.specs.declared.denial.Denial.{Denial}
+use Rattle.mml_board.specs.declared.denial.Denial.{Denial}
 use Rattle.mml_policy.specs.declared.refusal.Refusal.{Refusal}
 use Rattle.mml_policy.specs.declared.refusal.Refusal.TheVariants.{Full, Journal, Memory}
 use Rattle.mml_policy.specs.declared.ruling.Ruling.{Ruling}

@@ -2,18 +2,19 @@
 use Rattle.std.proofs.Common.{◌≡◌, ℕ, ◌+◌, ◌<◌, ◌≤◌, zero, suc, Bool, true, false, cond, ◌&&◌, eqb, List, [], ◌∷◌, Some, None, is_some, is_none}
 use Rattle.std.proofs.Common.{replicate, refl, ap, ◌∙◌, arith}
 use Rattle.std.specs.Prelude.{count_by}
-use Rattle.std.proofs.lemmas.Bool.{and_right}
+use Rattle.std.proofs.lemmas.Bool.{and_parts, and_right, ltb-true}
 use Rattle.std.proofs.lemmas.Bool.Decides.{nat_tests}
 use Rattle.mml_ids.specs.Search.{count_below}
 use Rattle.mml_rules.specs.declared.rule.Rule.{Rule}
-use Rattle.mml_rules.specs.Rules.{kind_of}
+use Rattle.mml_rules.specs.Rules.{guard, kind_of}
 use Rattle.mml_lab.specs.Rosters.{RosterValue}
 use Rattle.mml_board.specs.declared.event.Event.{Event}
 use Rattle.mml_board.specs.declared.event.Event.TheVariants as event
-use Rattle.mml_board.specs.World.{World, size, chosen_at, IsWorld}
-use Rattle.mml_board.specs.Events.{is_chosen, after, chosen_count}
+use Rattle.mml_board.specs.World.{World, size, configuration, chosen_at, IsWorld}
+use Rattle.mml_board.specs.Events.{is_legal, is_node, is_chosen, after, chosen_count}
 use Rattle.mml_board.specs.Runs.{is_legal_list}
 use Rattle.mml_board.proofs.WorldLemmas.{none_at, chosen_at-set, chosen_node, after-world}
+use Rattle.mml_board.proofs.ClausesLemmas.{is_fit, fit, legal_possible}
 use Rattle.mml_convergence.specs.Moves.{applied_over}
 use Rattle.mml_convergence.proofs.SumsLemmas.{count_none, count_same}
 use Rattle.mml_tally.specs.Moves.{fate_of, moves_from}
@@ -76,26 +77,43 @@ never w n = count_none n (λ i. is_chosen w i && false) (λ i l. and_right (is_c
 none_left : (w : World) (e : Event) (q : ℕ) (es : List Event) → (after w e).chosen ≡ replicate (size w) None → pending (after w e) q es ≡ 0
 none_left w e q es new = grind (arith, nat_tests, nothing_pending, unchosen)
 
+-- the first event of a legal list fits, and leaves a lawful world in which the rest is legal
+first_of : (r : RosterValue) (w : World) (e : Event) (es : List Event) → IsWorld w → is_legal_list r w (e ∷ es) ≡ true
+    → (is_fit w e ≡ true) × IsWorld (after w e) × (is_legal_list r (after w e) es ≡ true)
+first_of r w e es k legal =
+    let both = and_parts (is_legal r w e) (is_legal_list r (after w e) es) legal in
+    let possible = legal_possible r w e both.0 in
+    (fit w e possible, after-world w e k possible, both.1)
+
 -- what closes apply is what is chosen now and what is granted later, as far as a close applies it
 pub applied_is : (r : RosterValue) (w : World) (q : ℕ) (es : List Event) → IsWorld w → is_legal_list r w es ≡ true
     → applied_over w es ≡ pending w q es + count_by is_applied (moves_from q es)
 applied_is r w q [] k legal = let none = never w (size w) in omega (arith, none)
 applied_is r w q (event.Grant s i rule ∷ es) k legal =
     let e = event.Grant s i rule in
+    let on = first_of r w e es k legal in
+    let fits = and_parts (is_node w i) (is_none (chosen_at w.chosen i) && guard (configuration w) i rule) on.0 in
+    let free = (and_parts (is_none (chosen_at w.chosen i)) (guard (configuration w) i rule) fits.1).0 in
     let counted = more is_applied (record { place = q; who = s; node = i; kind = kind_of rule; fate = fate_of i (q + 1) es }) (moves_from (q + 1) es) in
-    grind (arith, nat_tests, counted, applied_is r (after w e) (q + 1) es, after-world w e k, pending_grant w i rule s (q + 1) es k)
+    let granted = pending_grant w i rule s (q + 1) es k (ltb-true i (size w) fits.0) free in
+    grind (arith, nat_tests, counted, applied_is r (after w e) (q + 1) es on.1 on.2, granted)
 applied_is r w q (event.Release i ∷ es) k legal =
     let e = event.Release i in
-    grind (arith, applied_is r (after w e) (q + 1) es, after-world w e k, pending_release w i q es k, chosen_node w i k.choices)
+    let on = first_of r w e es k legal in
+    grind (arith, applied_is r (after w e) (q + 1) es on.1 on.2, pending_release w i q es k (chosen_node w i k.choices on.0))
 applied_is r w q (event.Close ∷ es) k legal =
     let e = event.Close in
-    grind (arith, applied_is r (after w e) (q + 1) es, after-world w e k, pending_close w q es, none_left w e (q + 1) es refl)
+    let on = first_of r w e es k legal in
+    grind (arith, applied_is r (after w e) (q + 1) es on.1 on.2, pending_close w q es, none_left w e (q + 1) es refl)
 applied_is r w q (event.Fault i registers ∷ es) k legal =
     let e = event.Fault i registers in
-    grind (arith, applied_is r (after w e) (q + 1) es, after-world w e k, never w (size w), none_left w e (q + 1) es refl)
+    let on = first_of r w e es k legal in
+    grind (arith, applied_is r (after w e) (q + 1) es on.1 on.2, never w (size w), none_left w e (q + 1) es refl)
 applied_is r w q (event.Link a b ∷ es) k legal =
     let e = event.Link a b in
-    grind (arith, applied_is r (after w e) (q + 1) es, after-world w e k, never w (size w), none_left w e (q + 1) es refl)
+    let on = first_of r w e es k legal in
+    grind (arith, applied_is r (after w e) (q + 1) es on.1 on.2, never w (size w), none_left w e (q + 1) es refl)
 applied_is r w q (event.Cut a b ∷ es) k legal =
     let e = event.Cut a b in
-    grind (arith, applied_is r (after w e) (q + 1) es, after-world w e k, never w (size w), none_left w e (q + 1) es refl)
+    let on = first_of r w e es k legal in
+    grind (arith, applied_is r (after w e) (q + 1) es on.1 on.2, never w (size w), none_left w e (q + 1) es refl)

@@ -9,9 +9,9 @@ use Rattle.mml_lab.proofs.RosterMeaningLemmas.{owner_there}
 use Rattle.mml_board.specs.declared.event.Event.{Event}
 use Rattle.mml_board.specs.declared.event.Event.TheVariants as event
 use Rattle.mml_board.specs.World.{World, IsWorld, size, opening_of}
-use Rattle.mml_board.specs.Events.{is_legal, is_possible, after}
+use Rattle.mml_board.specs.Events.{is_legal, after}
 use Rattle.mml_board.specs.Runs.{is_legal_list}
-use Rattle.mml_board.proofs.WorldLemmas.{length-none, hold-none}
+use Rattle.mml_board.proofs.{WorldLemmas.length-none, WorldLemmas.hold-none, ClausesLemmas.right_owner}
 use Rattle.mml_convergence.specs.Potential.{sum_below}
 use Rattle.mml_convergence.specs.Moves.{applied_over}
 use Rattle.mml_tally.specs.Moves.{moves_from, moves}
@@ -27,8 +27,7 @@ askers_there r w q [] known legal = tt
 askers_there r w q (event.Grant s i rule ∷ es) known legal =
     let e = event.Grant s i rule in
     let here = and_parts (is_legal r w e) (is_legal_list r (after w e) es) legal in
-    let asked = and_parts (owns r (who.Student s) i) (is_possible w e) here.0 in
-    (owner_there r s i known asked.0, askers_there r (after w e) (q + 1) es known here.1)
+    (owner_there r s i known (right_owner r w e here.0), askers_there r (after w e) (q + 1) es known here.1)
 askers_there r w q (_ ∷ es) known legal = askers_there r _ (q + 1) es known (and_parts _ _ legal).1
 
 opening-world : (lab : LabValue) → IsLab lab → IsWorld (opening_of lab.network)

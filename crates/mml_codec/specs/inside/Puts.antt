@@ -2,10 +2,10 @@
 use Rattle.std.specs.Prelude.{ℕ, ◌++◌, List, [], ◌∷◌, map, Option, None, Some, codes}
 use Rattle.std.specs.Prelude.{decimal}
 use Rattle.std.specs.List.{concat}
-use Rattle.mml_policy.specs.declared.denial.Denial.{Denial}
+use Rattle.mml_board.specs.declared.denial.Denial.{Denial}
 use Rattle.mml_policy.specs.declared.look.Look.{Look}
-use Rattle.mml_policy.specs.Denials.{clause_of, text_of}
-use Rattle.mml_policy.specs.Denials as denials
+use Rattle.mml_board.specs.Denials.{clause_of, text_of}
+use Rattle.mml_board.specs.Denials as denials
 use Rattle.mml_ids.specs.Pieces.{truth_text}
 use Rattle.mml_codec.specs.Facts.{node_text, pointer_text, kind_or_null, separated, near_text}
 use Rattle.mml_codec.specs.Replies.{current_number}

@@ -5,7 +5,7 @@ ghost use Rattle.mml_lab.specs.Labs.{LabValue};
 ghost use Rattle.mml_lab.specs.Rosters.{RosterValue, IsRoster};
 ghost use Rattle.mml_lab.specs.RosterMeaning.{IsKnownAs};
 ghost use Rattle.mml_policy.specs.declared.command.Command.{Command};
-ghost use Rattle.mml_policy.specs.declared.denial.Denial.TheVariants as denial;
+ghost use Rattle.mml_board.specs.declared.denial.Denial.TheVariants as denial;
 ghost use Rattle.mml_policy.specs.Rulings.{ruling};
 ghost use Rattle.mml_codec.specs.declared.greeting.Greeting.TheVariants.{Answered, LeftToJudge};
 ghost use Rattle.mml_codec.specs.declared.request.Request.TheVariants as requests;

@@ -7,7 +7,7 @@ ghost use Rattle.mml_board.specs.declared.event.Event.{Event};
 ghost use Rattle.mml_board.specs.World.{World};
 ghost use Rattle.mml_board.specs.Events.{done_by};
 ghost use Rattle.mml_policy.specs.declared.command.Command.{Command};
-ghost use Rattle.mml_policy.specs.declared.denial.Denial.{Denial};
+ghost use Rattle.mml_board.specs.declared.denial.Denial.{Denial};
 ghost use Rattle.mml_policy.specs.declared.ruling.Ruling.TheVariants as rulings;
 ghost use Rattle.mml_policy.specs.declared.verdict.Verdict.TheVariants as verdicts;
 ghost use Rattle.mml_policy.specs.Rulings.{ruling};

@@ -5,7 +5,7 @@ ghost use Rattle.serde_json.specs.Data.{Data};
 ghost use Rattle.serde_json.specs.Read.{read};
 ghost use Rattle.mml_ids.specs.Ids.{IsTable};
 ghost use Rattle.mml_lab.specs.Rosters.{RosterValue, IsRoster};
-ghost use Rattle.mml_policy.specs.declared.denial.Denial.TheVariants as denial;
+ghost use Rattle.mml_board.specs.declared.denial.Denial.TheVariants as denial;
 ghost use Rattle.mml_codec.specs.declared.request.Request.{Request};
 ghost use Rattle.mml_codec.specs.declared.reply.Reply.{Reply};
 ghost use Rattle.mml_codec.specs.Fields.{HasEach};

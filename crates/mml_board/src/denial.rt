@@ -1,5 +1,5 @@
 ghost use Rattle.std.specs.Prelude.{◌≡◌};
-ghost use Rattle.mml_policy.specs.Denials.{clause_of, denial_name, text_of};
+ghost use Rattle.mml_board.specs.Denials.{clause_of, denial_name, text_of};
 
 /// Why a request is denied: the first clause that doesn't hold.
 #[derive(Clone, Copy, Debug, PartialEq, Eq)]

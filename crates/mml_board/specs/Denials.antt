@@ -1,7 +1,7 @@
 -- The denials, a row each.
 use Rattle.std.specs.Prelude.{ℕ, List, codes}
-use Rattle.mml_policy.specs.declared.denial.Denial.{Denial}
-use Rattle.mml_policy.specs.declared.denial.Denial.TheVariants as denial
+use Rattle.mml_board.specs.declared.denial.Denial.{Denial}
+use Rattle.mml_board.specs.declared.denial.Denial.TheVariants as denial
 
 -- the number of the clause, by the order in which the clauses of a request are tried, the word that a program reads,
 -- and the sentence that a person reads
@@ -10,7 +10,7 @@ pub record DenialWords : Type 0 where
   pub name : List ℕ
   pub text : List ℕ
 
--- the clause, the word and the sentence of a denial
+-- the words of a denial
 abbrev pub words_of : Denial → DenialWords
 words_of denial.NotGreeted = record { clause = 0; name = codes "not-greeted"; text = codes "say hello first" }
 words_of denial.Greeted = record { clause = 1; name = codes "greeted"; text = codes "this connection has a name already" }

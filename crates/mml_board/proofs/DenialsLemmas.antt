@@ -1,0 +1,60 @@
+-- For whom the clauses of an act let it happen, and with what they deny it.
+use Rattle.std.proofs.lemmas.Bool.Decides.{nat_tests}
+use Rattle.std.proofs.Common.{◌≡◌, ◌⊎◌, ℕ, Bool, true, ◌==◌, Option, Err, refl, subst, arith}
+use Rattle.std.specs.Prelude.{◌||◌}
+use Rattle.std.specs.Option.{ok_or}
+use Rattle.std.specs.Result.{IfOk, IfErr}
+use Rattle.std.proofs.lemmas.Bool.{eq-eqb}
+use Rattle.mml_ids.proofs.GivesLemmas.{bind-if, need-if, bind-deny, need-deny}
+use Rattle.mml_rules.specs.declared.rule.Rule.{Rule}
+use Rattle.mml_lab.specs.declared.who.Who.{Who}
+use Rattle.mml_board.specs.declared.act.Act.{Act}
+use Rattle.mml_board.specs.declared.denial.Denial.{Denial}
+use Rattle.mml_board.specs.declared.denial.Denial.TheVariants as denial
+use Rattle.mml_board.specs.World.{World}
+use Rattle.mml_board.specs.Clauses.{check, student, pointer, is_teacher}
+use Rattle.mml_board.specs.Denials.{clause_of}
+
+-- a denial of a clause from 1 to 4, which names no number but the world's
+abbrev pub is_of_act : World → Denial → Bool
+is_of_act w (denial.Stale at) = at == w.number
+is_of_act w d = clause_of d == 1 || (clause_of d == 2 || (clause_of d == 3 || clause_of d == 4))
+
+module _ (P : Denial → Type 0) where
+  -- a step that finds nothing answers the denial that it is given
+  pub of_err : {A : Type 0} (o : Option A) (d : Denial) → P d → (e : Denial) → ok_or o d ≡ Err e → P e
+  of_err o d meets e h = subst P (same o h) meets
+    where
+      same : {A : Type 0} (o : Option A) → ok_or o d ≡ Err e → d ≡ e
+      same o h = grind (arith, nat_tests)
+
+  student_err : (x : Who) (d : Denial) → P d → (e : Denial) → student x d ≡ Err e → P e
+  student_err x d meets e h = grind (arith, nat_tests)
+
+  pointer_err : (p : Option (Option ℕ)) (d : Denial) → P d → (e : Denial) → pointer p d ≡ Err e → P e
+  pointer_err p d meets e h = grind (arith, nat_tests)
+
+module _ (owned : Who → ℕ → Bool) (w : World) (x : Who) where
+  -- the one who asks is the teacher, or owns a node
+  abbrev pub HasRight : Type 0
+  HasRight = (is_teacher x ≡ true) ⊎ ((i : ℕ) × (owned x i ≡ true))
+
+  -- an act is let happen for the teacher, or for one who owns a node
+  pub by_right : (a : Act) → IfOk (check owned w x a) (λ e. HasRight)
+  by_right a = grind (arith, nat_tests, bind-if, need-if)
+
+  abbrev D : Denial → Type 0
+  D d = is_of_act w d ≡ true
+
+  stale_here : D (denial.Stale w.number)
+  stale_here = eq-eqb w.number w.number refl
+
+  node_err : (o : Option ℕ) (d : Denial) → D d → (e : Denial) → ok_or o d ≡ Err e → D e
+  node_err o d = of_err D o d
+
+  rule_err : (o : Option Rule) (d : Denial) → D d → (e : Denial) → ok_or o d ≡ Err e → D e
+  rule_err o d = of_err D o d
+
+  -- what the clauses of an act deny with
+  pub denied_of_act : (a : Act) → IfErr (check owned w x a) D
+  denied_of_act a = grind (arith, nat_tests, bind-deny, need-deny, node_err, rule_err, (student_err D), (pointer_err D), stale_here)

@@ -1,0 +1,85 @@
+ghost use Rattle.std.specs.Prelude.{◌≡◌, ℕ, Bool, Option, Some, true};
+ghost use Rattle.mml_lab.specs.declared.who.Who.{Who};
+ghost use Rattle.mml_lab.specs.Rosters.{owns};
+ghost use Rattle.mml_board.specs.Clauses.{asker, anybodys};
+
+use crate::Event;
+use mml_ids::Rank;
+use mml_lab::{Roster, Who};
+use mml_rules::Rule;
+
+/// What is asked to happen, its nodes looked up: `None` if no node has the name.
+#[derive(Clone, Copy, Debug, PartialEq, Eq)]
+pub enum Act {
+    /// Choose a move for a node in the configuration with this number; no rule if its partner is no node.
+    Move {
+        node: Option<Rank>,
+        rule: Option<Rule>,
+        at: u64,
+    },
+    /// Apply all chosen moves at once.
+    Close,
+    /// Set the registers of a node.
+    Fault {
+        node: Option<Rank>,
+        p: Option<Option<Rank>>,
+        m: bool,
+    },
+    /// Link two nodes.
+    Link {
+        a: Option<Rank>,
+        b: Option<Rank>,
+    },
+    /// Remove the link between two nodes.
+    Cut {
+        a: Option<Rank>,
+        b: Option<Rank>,
+    },
+    /// Drop the chosen move of a node.
+    Release {
+        node: Option<Rank>,
+    },
+}
+
+/// A rule that says who owns which node.
+pub trait Owners {
+    ghost owned: { Self → Who → ℕ → Bool };
+
+    /// Returns whether `who` owns the node.
+    fn is_owned(&self, who: Who, node: Rank) -> bool
+        ensures { result ≡ owned self.now who node };
+}
+
+impl Owners for Roster {
+    ghost owned = { owns };
+
+    fn is_owned(&self, who: Who, node: Rank) -> bool {
+        self.owns(who, node)
+    }
+}
+
+/// Owners under whom anybody owns any node, so that an event's clauses hold whoever asks for it.
+#[derive(Clone, Copy, Debug)]
+pub struct Anybody;
+
+impl Owners for Anybody {
+    ghost owned = { λ _. anybodys };
+
+    fn is_owned(&self, _who: Who, _node: Rank) -> bool {
+        true
+    }
+}
+
+/// Returns who asks for an event: the student whose move it is, else the teacher.
+pub fn asker(event: &Event) -> Who
+    ensures { result ≡ asker event.now }
+{
+    match *event {
+        Event::Grant { who, .. } => Who::Student(who),
+        Event::Release { .. }
+        | Event::Close
+        | Event::Fault { .. }
+        | Event::Link { .. }
+        | Event::Cut { .. } => Who::Teacher,
+    }
+}

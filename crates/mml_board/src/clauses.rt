@@ -1,0 +1,179 @@
+//! The clauses of each act, in the order in which they are tried. No other place states them.
+ghost use Rattle.std.specs.Prelude.{◌≡◌, ◌<◌, length, IfSome, Option, Some};
+ghost use Rattle.std.specs.Option.{ok_or};
+ghost use Rattle.mml_board.specs.declared.act.Act.TheVariants as act;
+ghost use Rattle.mml_board.specs.Clauses.{check, pointer, is_teacher};
+ghost use Rattle.mml_board.specs.ActNodes.{AreThere};
+
+use crate::act::{Act, Owners};
+use crate::{Board, Denial, Event};
+use mml_ids::{Rank, need};
+use mml_lab::{Student, Who};
+use mml_rules::{Regs, Rule};
+
+/// Tries the clauses of an act in order, and returns the event that they let happen, or the denial of the first that
+/// doesn't hold.
+#[inline(always)]
+pub fn check<O: Owners>(owners: &O, board: &Board, who: Who, act: &Act) -> Result<Event, Denial>
+    requires { AreThere (length board.now.network.registers) act.now }
+    ensures { result ≡ check (O.owned owners.now) board.now who act.now }
+{
+    match *act {
+        Act::Move { node, rule, at } => check_move(owners, board, who, node, rule, at),
+        Act::Close => check_close(owners, board, who),
+        Act::Fault { node, p, m } => check_fault(owners, board, who, node, p, m),
+        Act::Link { a, b } => check_link(owners, board, who, a, b),
+        Act::Cut { a, b } => check_cut(owners, board, who, a, b),
+        Act::Release { node } => check_release(owners, board, who, node),
+    }
+}
+
+/// Tries the clauses of a move, as `check` does.
+fn check_move<O: Owners>(
+    owners: &O,
+    board: &Board,
+    who: Who,
+    node: Option<Rank>,
+    rule: Option<Rule>,
+    at: u64,
+) -> Result<Event, Denial>
+    requires node { IfSome node (λ i. i < length board.now.network.registers) }
+    ensures { result ≡ check (O.owned owners.now) board.now who (act.Move node rule at) }
+{
+    let s = match who {
+        Who::Teacher => return Err(Denial::NotOwner),
+        Who::Student(student) => student,
+    };
+    // Missing nodes and nodes of others take the same steps: another node and a student who owns nothing stand in.
+    let asking = &asking(who, node);
+    let is_owner = owners.is_owned(asking.0, asking.1);
+    need(is_owner, Denial::NotOwner)?;
+    let i = node.ok_or(Denial::NotOwner)?;
+    let number = board.number();
+    need(at == number, Denial::Stale(number))?;
+    need(board.chosen(i).is_none(), Denial::Chosen)?;
+    let rule = &named(rule, Denial::Guard)?;
+    need(board.may_apply(i, *rule), Denial::Guard)?;
+    Ok(Event::Grant {
+        who: s,
+        node: i,
+        rule: *rule,
+    })
+}
+
+/// Returns who asks for which node; a student who owns nothing, and some node, if there is none.
+fn asking(who: Who, node: Option<Rank>) -> (Who, Rank)
+    ensures { IfSome node (λ i. result ≡ (who, i)) }
+{
+    match node {
+        Some(i) => (who, i),
+        None => (Who::Student(Student::new(u16::MAX)), Rank::at(0)),
+    }
+}
+
+/// Tries the clauses of a close, as `check` does.
+fn check_close<O: Owners>(owners: &O, board: &Board, who: Who) -> Result<Event, Denial>
+    ensures { result ≡ check (O.owned owners.now) board.now who act.Close }
+{
+    need(is_teacher(who), Denial::NotTeacher)?;
+    need(board.is_any_chosen(), Denial::Empty)?;
+    Ok(Event::Close)
+}
+
+/// Tries the clauses of a fault, as `check` does.
+fn check_fault<O: Owners>(
+    owners: &O,
+    board: &Board,
+    who: Who,
+    node: Option<Rank>,
+    p: Option<Option<Rank>>,
+    m: bool,
+) -> Result<Event, Denial>
+    ensures { result ≡ check (O.owned owners.now) board.now who (act.Fault node p m) }
+{
+    need(is_teacher(who), Denial::NotTeacher)?;
+    let i = node.ok_or(Denial::NoNode)?;
+    let q = &pointer(p, Denial::BadRegister)?;
+    need(board.may_point(i, *q), Denial::BadRegister)?;
+    Ok(Event::Fault {
+        node: i,
+        regs: Regs { p: *q, m },
+    })
+}
+
+/// Tries the clauses of a link, as `check` does.
+fn check_link<O: Owners>(
+    owners: &O,
+    board: &Board,
+    who: Who,
+    first: Option<Rank>,
+    second: Option<Rank>,
+) -> Result<Event, Denial>
+    ensures { result ≡ check (O.owned owners.now) board.now who (act.Link first second) }
+{
+    need(is_teacher(who), Denial::NotTeacher)?;
+    let a = first.ok_or(Denial::NoNode)?;
+    let b = second.ok_or(Denial::NoNode)?;
+    need(a != b, Denial::Loop)?;
+    need(!board.is_link(a, b), Denial::Linked)?;
+    Ok(Event::Link { a, b })
+}
+
+/// Tries the clauses of a cut, as `check` does.
+fn check_cut<O: Owners>(
+    owners: &O,
+    board: &Board,
+    who: Who,
+    first: Option<Rank>,
+    second: Option<Rank>,
+) -> Result<Event, Denial>
+    ensures { result ≡ check (O.owned owners.now) board.now who (act.Cut first second) }
+{
+    need(is_teacher(who), Denial::NotTeacher)?;
+    let a = first.ok_or(Denial::NoNode)?;
+    let b = second.ok_or(Denial::NoNode)?;
+    need(board.is_link(a, b), Denial::NotLinked)?;
+    Ok(Event::Cut { a, b })
+}
+
+/// Tries the clauses of a release, as `check` does.
+fn check_release<O: Owners>(
+    owners: &O,
+    board: &Board,
+    who: Who,
+    node: Option<Rank>,
+) -> Result<Event, Denial>
+    ensures { result ≡ check (O.owned owners.now) board.now who (act.Release node) }
+{
+    need(is_teacher(who), Denial::NotTeacher)?;
+    let i = node.ok_or(Denial::NoNode)?;
+    need(board.chosen(i).is_some(), Denial::NotChosen)?;
+    Ok(Event::Release { node: i })
+}
+
+/// Returns whether the one who asks is the teacher.
+pub fn is_teacher(who: Who) -> bool
+    ensures { result ≡ is_teacher who }
+{
+    matches!(who, Who::Teacher)
+}
+
+/// Returns the rule if its partner is a node, else the denial.
+fn named(rule: Option<Rule>, denial: Denial) -> Result<Rule, Denial>
+    ensures { result ≡ ok_or rule denial }
+{
+    match rule {
+        Some(rule) => Ok(rule),
+        None => Err(denial),
+    }
+}
+
+/// Returns null, or the node that `p` names; the denial if it names none.
+fn pointer(p: Option<Option<Rank>>, denial: Denial) -> Result<Option<Rank>, Denial>
+    ensures { result ≡ pointer p denial }
+{
+    match p {
+        None => Ok(None),
+        Some(found) => Ok(Some(found.ok_or(denial)?)),
+    }
+}
