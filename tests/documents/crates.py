@@ -17,6 +17,7 @@ TOP = Path(__file__).resolve().parents[2]
 PICTURE = TOP / "docs/crates.svg"
 TESTS = "mml_tests_"
 FOLDERS = {
+    "mml_lab_file": ["labs"],
     "mml_tally": ["tally"],
     "mml_stable": ["scripts"],
     "mml_audit": ["journals"],

@@ -1,6 +1,7 @@
 //! Labs that several tests share, as TOML documents, and what is read of a document.
 use mml_board::Board;
-use mml_lab::{Lab, read_lab};
+use mml_lab::Lab;
+use mml_lab_file::read_lab;
 use std::alloc::{AllocError, Global};
 use std::test::Fail;
 

@@ -7,7 +7,7 @@ use crate::seat::Pair;
 use crate::windows::{give_back, take_two};
 use mml_fakes::labs::PATH_OF_THREE;
 use mml_journal::{MemorySink, Sink};
-use mml_lab::read_lab;
+use mml_lab_file::read_lab;
 use mml_window::{Astray, Blank, Brand, Desk, House, Log, Window, open_house};
 use std::alloc::Global;
 use std::sync::Wait;

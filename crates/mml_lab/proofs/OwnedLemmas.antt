@@ -6,7 +6,7 @@ use Rattle.std.proofs.lemmas.List.{get_or_past, get_or-replicate, length-replica
 use Rattle.mml_ids.specs.inside.WordsLemmas.{has_empty}
 use Rattle.mml_ids.proofs.SearchLemmas.{same_bool}
 use Rattle.mml_lab.specs.inside.Owned.{row_at, is_owner, AreOwned}
-use Rattle.mml_lab.proofs.NeighboursLemmas.{Rows, inserted}
+use Rattle.mml_lab.proofs.RowLemmas.{Rows, inserted}
 use Rattle.std.specs.FinSet as sets
 
 or_false : (b : Bool) → (b || false) ≡ b

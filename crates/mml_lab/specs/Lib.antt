@@ -1,8 +1,5 @@
-pub mod Shape
 pub mod Rosters
-pub mod Faults
+pub mod AccountView
 pub mod Labs
-pub mod LabErrors
 pub mod RosterMeaning
-pub mod LabMeaning
 pub mod inside

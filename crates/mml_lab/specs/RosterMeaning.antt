@@ -1,10 +1,9 @@
--- The roster's definitions, stated as facts.
-use Rattle.std.specs.Prelude.{◌≡◌, ◌≢◌, ℕ, ◌<◌, ◌≤◌, ◌⊎◌, List, length, slice_index, slice_index_or, All}
+-- What the roster's definitions mean, stated as facts.
+use Rattle.std.specs.Prelude.{◌≡◌, ℕ, ◌<◌, ◌≤◌, ◌⊎◌, List, length, slice_index, All}
 use Rattle.std.specs.Int.{IsInRange}
 use Rattle.mml_lab.specs.declared.TheConstants.{MAX_NAME, MAX_KEY}
 use Rattle.mml_lab.specs.declared.who.Who.{Who}
-use Rattle.mml_lab.specs.Shape.{Account}
-use Rattle.mml_lab.specs.Rosters.{RosterValue, IsPrincipal, name_of, key_of, no_account}
+use Rattle.mml_lab.specs.Rosters.{RosterValue, IsPrincipal, name_of, key_of}
 
 -- a to z
 abbrev pub IsLetter : ℕ → Type 0
@@ -32,17 +31,3 @@ pub record IsKnownAs (r : RosterValue) (w : Who) (name key : List ℕ) : Type 0 
   pub member : IsPrincipal r w
   pub named : name_of r w ≡ name
   pub keyed : key_of r w ≡ key
-
--- the name at an index of the accounts
-abbrev pub name_at : List Account → ℕ → List ℕ
-name_at accounts k = (slice_index_or accounts k no_account).name
-
--- no two of the first n have one name
-abbrev pub AreDistinctBelow : List Account → ℕ → Type 0
-AreDistinctBelow accounts n = (j k : ℕ) → j < k → k < n → name_at accounts j ≢ name_at accounts k
-
--- the name at k stands before k, and k is the first such index
-pub record IsFirstAgain (accounts : List Account) (k : ℕ) : Type 0 where
-  pub within : k < length accounts
-  pub again : (j : ℕ) × (j < k) × (name_at accounts j ≡ name_at accounts k)
-  pub first : AreDistinctBelow accounts k

@@ -1,15 +1,16 @@
--- The participants of a lab: under which name and key each takes part, and who owns each node.
-use Rattle.std.specs.Prelude.{◌≡◌, ◌==◌, ℕ, ◌<◌, ◌≤◌, nat_lt, nat_le, Bool, false, ◌&&◌, ◌||◌, IsTrue, List, [], ◌∷◌, length, take, position, slice_index_or}
+-- Who takes part in a lab, under which name and key, and who owns each node.
+use Rattle.std.specs.Prelude.{◌≡◌, ◌==◌, ℕ, ◌<◌, ◌≤◌, nat_lt, nat_le, Bool, false, ◌&&◌, ◌||◌, IsTrue, List, [], ◌∷◌, length, position, slice_index_or}
 use Rattle.std.specs.Prelude.{All, Option, Some, option_map, if◌then◌else◌, bytes_eq}
 use Rattle.std.specs.List.{list_any, list_all}
 use Rattle.std.specs.Char.{is_ascii_lowercase, is_ascii_digit, is_ascii_graphic}
-use Rattle.mml_ids.specs.Search.{first_below}
 use Rattle.mml_lab.specs.declared.TheConstants.{MAX_STUDENTS, MAX_NAME, MAX_KEY}
 use Rattle.mml_lab.specs.declared.who.Who.{Who}
 use Rattle.mml_lab.specs.declared.who.Who.TheVariants as who
-use Rattle.mml_lab.specs.declared.lab_fault.LabFault.{LabFault}
-use Rattle.mml_lab.specs.declared.lab_fault.LabFault.TheVariants as fault
-use Rattle.mml_lab.specs.Shape.{Account}
+
+-- the name and the key of one who takes part
+pub record Account : Type 0 where
+  pub name : List ℕ
+  pub key : List ℕ
 
 -- the teacher, the students in the file's order, and for each rank the students who own the node
 pub record RosterValue : Type 0 where
@@ -46,15 +47,7 @@ has_name_and_key name key a = bytes_eq name a.name && bytes_eq key a.key
 abbrev pub no_account : Account
 no_account = record { name = []; key = [] }
 
--- the name at this index of the list stands at a lower index too
-abbrev pub is_name_again : List Account → ℕ → Bool
-is_name_again accounts k = list_any (has_name (slice_index_or accounts k no_account).name) (take k accounts)
-
--- the error of the first name that another account has before it, if there is one; the teacher's is at index 0
-abbrev pub name_twice : List Account → Option LabFault
-name_twice accounts = option_map fault.NameTwice (first_below (is_name_again accounts) (length accounts))
-
--- the account of a participant
+-- the account of one who takes part
 abbrev pub account_of : RosterValue → Who → Account
 account_of r who.Teacher = r.teacher
 account_of r (who.Student s) = slice_index_or r.students s no_account

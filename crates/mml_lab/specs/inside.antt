@@ -1,7 +1,4 @@
--- What is kept apart from the model: how a file is checked and its lab made. No public clause cites it.
-pub mod Checks
-pub mod ChecksView
+-- What stands apart from the model: how a roster and a lab are kept. No public clause cites it.
 pub mod Owned
-pub mod Raw
 pub mod RosterView
 pub mod LabView

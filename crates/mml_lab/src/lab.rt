@@ -36,15 +36,8 @@ impl Model for Lab {
 }
 
 impl Lab {
-    /// Returns the lab of its identifiers, roster, first network and limits of events and sessions, which fit one
-    /// another.
-    pub(crate) fn new(
-        ids: IdTable,
-        roster: Roster,
-        network: Network,
-        events: u64,
-        sessions: u8,
-    ) -> Lab
+    /// The lab of its identifiers, roster, first network and limits of events and sessions, which fit one another.
+    pub fn new(ids: IdTable, roster: Roster, network: Network, events: u64, sessions: u8) -> Lab
         requires { IsLab (record {
           ids = ids;
           roster = roster;

@@ -5,7 +5,7 @@ use mml_ids::IdFault;
 use std::alloc::{AllocError, AllocFailed};
 
 /// A key of the lab file, in the order in which the keys are read.
-#[derive(Clone, Copy, Debug, PartialEq, Eq)]
+#[derive(Clone, Copy, Debug)]
 pub enum Key {
     /// `events`: the most events that a run may have.
     Events,
@@ -32,9 +32,9 @@ pub enum Key {
     Link,
 }
 
-/// Why bytes are no lab: the first error. Indices of nodes and links count from 0 in the file's order. Of those who
-/// take part the teacher has 0, and the students count from 1.
-#[derive(Clone, Copy, Debug, PartialEq, Eq)]
+/// Why bytes are no lab: the first error. Indices of nodes and links count from 0 in the file's order; of
+/// those who take part the teacher has 0, and the students count from 1.
+#[derive(Clone, Copy, Debug)]
 pub enum LabFault {
     /// The bytes are no TOML document.
     NotToml,

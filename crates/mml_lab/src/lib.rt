@@ -1,23 +1,17 @@
-//! The lab file: identifiers, who takes part, the network at the beginning, and the limits of a run.
+//! A lab: identifiers, who takes part, the network at the beginning, and the limits of a run.
 #![tactic(auto)]
 
 mod accounts;
-mod build;
-mod checks;
 mod lab;
 mod lab_fault;
-mod lab_reading;
 pub mod laws;
-mod links;
 mod owned;
-mod raw_lab;
 mod roster;
 mod who;
 
-pub use accounts::is_name;
+pub use accounts::{Account, is_name};
 pub use lab::{Lab, link_count};
 pub use lab_fault::{Key, LabFault};
-pub use lab_reading::read_lab;
 pub use roster::Roster;
 pub use who::{Student, Who};
 

@@ -1,22 +1,15 @@
-ghost use Rattle.std.specs.Prelude.{◌≡◌, ◌<◌, ◌≤◌, [], ◌∷◌, length, map, position, slice_index_or, string_bytes, Some, None, IfSome, IsTrue, ◌&&◌, ◌||◌};
-ghost use Rattle.std.specs.Prelude.{ℕ, ◌++◌, IfOk, IfErr, OnOk, is_some, bytes_eq};
+ghost use Rattle.std.specs.Prelude.{◌≡◌, ◌<◌, ◌≤◌, length, map, position, slice_index_or, Some, None, IfSome, IsTrue, ◌&&◌, ℕ, IfOk, IfErr};
 ghost use Rattle.std.specs.FinSet as set;
-ghost use Rattle.std.specs.Map.{lookup};
-ghost use Rattle.std.specs.String.{string_eq};
-ghost use Rattle.indexmap.specs.IndexMap.{get};
-ghost use Rattle.mml_ids.specs.Gives.{Gives, unless_fault};
 ghost use Rattle.mml_lab.specs.declared.who.Who.TheVariants.{Student as AStudent};
 ghost use Rattle.mml_lab.specs.declared.TheConstants.{MAX_NAME};
 ghost use Rattle.mml_lab.specs.declared.lab_fault.LabFault.TheVariants.{Memory};
 ghost use Rattle.mml_ids.specs.declared.TheConstants.{MAX_NODES};
-ghost use Rattle.mml_lab.specs.Shape.{is_lab_memory};
-ghost use Rattle.mml_lab.specs.inside.Raw.{account_view, entry_account};
-ghost use Rattle.mml_lab.specs.Rosters.{principal, student_named, owns, name_of, is_name, has_name_and_key, no_account, name_twice, with_owners, IsPrincipal};
-ghost use Rattle.mml_lab.specs.Rosters.{IsRoster};
+ghost use Rattle.mml_lab.specs.AccountView.{account_view, entry_account};
+ghost use Rattle.mml_lab.specs.Rosters.{principal, student_named, owns, name_of, is_name, has_name_and_key, no_account, with_owners, IsPrincipal, IsRoster};
 
+use crate::accounts::Account;
 use crate::lab_fault::LabFault;
 use crate::owned::owned_by_each;
-use crate::raw_lab::Account;
 use crate::who::{Student, Who};
 use indexmap::IndexMap;
 use mml_ids::{NodeSet, Rank};
@@ -48,9 +41,8 @@ impl Model for Roster {
 }
 
 impl Roster {
-    /// Returns the roster of a teacher, of the students' names and keys in the file's order, and of each node's owners
-    /// by rank.
-    pub(crate) fn new(
+    /// The roster of a teacher, of the students' names and keys in the file's order, and of each node's owners by rank.
+    pub fn new(
         alloc: Global,
         teacher: Account,
         students: IndexMap<String, String>,
@@ -178,60 +170,4 @@ fn is_at(students: &IndexMap<String, String>, index: usize, name: &str, key: &st
         Some((known, secret)) => are_name_and_key(name, key, known.as_str(), secret.as_str()),
         None => unreachable!(),
     }
-}
-
-/// Returns whether a name is `teacher`, the teacher's, or that of one of `students`, the students read so far.
-fn is_taken(students: &IndexMap<String, String>, teacher: &str, name: &str) -> bool
-    ensures { result ≡ (bytes_eq name.now teacher.now
-        || is_some (lookup (λ k. bytes_eq name.now (string_bytes k)) students.now.entries)) }
-{
-    name == teacher || students.contains_key(name)
-}
-
-/// Returns the students' names and keys in the file's order, or the error of the first name that stands twice, the
-/// teacher's being before the students'.
-pub(crate) fn students_map(
-    alloc: Global,
-    teacher: &Account,
-    students: Vec<Account>,
-) -> Result<IndexMap<String, String>, LabFault>
-    ensures { Gives is_lab_memory (λ m. map entry_account m.entries) result
-        (unless_fault (name_twice (account_view teacher.now ∷ map account_view students.items))
-        (map account_view students.items)) }
-{
-    let mut found = IndexMap::new(alloc);
-    fill(&mut found, teacher, students)?;
-    Ok(found)
-}
-
-/// Adds the students' names and keys to an empty map, up to a name that the teacher or an earlier student has: then
-/// returns an error with its index, counted from 1.
-fn fill(
-    found: &mut IndexMap<String, String>,
-    teacher: &Account,
-    students: Vec<Account>,
-) -> Result<(), LabFault>
-    requires { found.old.entries ≡ [] }
-    ensures { Gives is_lab_memory (λ _. map entry_account found.new.entries) result
-        (unless_fault (name_twice (account_view teacher.now ∷ map account_view students.items))
-        (map account_view students.items)) }
-{
-    for student in students {
-        let Account { name, key } = student;
-        if is_taken(found, teacher.name.as_str(), name.as_str()) {
-            return Err(LabFault::NameTwice(found.len() + 1));
-        }
-        append(found, name, key)?;
-    }
-    Ok(())
-}
-
-/// Adds a name that the map doesn't have yet, with its key, at the end of the map.
-fn append(found: &mut IndexMap<String, String>, name: String, key: String) -> Result<(), LabFault>
-    requires { get string_eq found.old name ≡ None }
-    ensures entries { OnOk result (found.new.entries ≡ found.old.entries ++ (name, key) ∷ []) }
-    ensures err { IfErr result (λ fault. fault ≡ Memory) }
-{
-    found.insert(name, key)?;
-    Ok(())
 }

@@ -2,8 +2,10 @@
 use Rattle.std.proofs.Common.{◌≡◌, ◌≢◌, ◌<◌, ◌≤◌, ◌+◌, ◌*◌, ℕ, Bool, true, false, List, ◌++◌, length, None, Some, Ok, refl, sym, ap, ◌∙◌, subst, arith}
 use Rattle.std.{specs.List.list_all, proofs.lemmas.Bool.and_parts, proofs.lemmas.Bool.false_from_ne_true, proofs.lemmas.Bool.Decides.nat_tests}
 use Rattle.mml_rules.specs.Matching.{IsStable}
-use Rattle.mml_lab.specs.Labs.{LabValue, IsLab, lab_of, link_count}
-use Rattle.mml_lab.proofs.{LabMeaningLemmas.lawful, OwnersLemmas.one_or_two}
+use Rattle.mml_lab.specs.Labs.{LabValue, IsLab, link_count}
+use Rattle.mml_lab_file.specs.Reading.{lab_of}
+use Rattle.mml_lab_file.proofs.LabMeaningLemmas.{lawful}
+use Rattle.mml_lab_file.proofs.OwnersLemmas.{one_or_two}
 use Rattle.mml_board.specs.{declared.event.Event.Event, Events.is_legal, Events.done_by, Runs.is_legal_list, Runs.world_of, Lists.world_in, Lists.world_in}
 use Rattle.mml_board.specs.World.{World, IsWorld, size, configuration, opening_of}
 use Rattle.mml_board.proofs.RunsLemmas.{list-world, legal-append, place-world_of}

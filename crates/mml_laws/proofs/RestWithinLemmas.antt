@@ -6,8 +6,11 @@ use Rattle.std.specs.List.{list_all}
 use Rattle.mml_ids.specs.Search.{count_below, some_below}
 use Rattle.mml_ids.proofs.SearchLemmas.{some_below-find, some_below-none}
 use Rattle.mml_rules.specs.{declared.rule.Rule.Rule, Configuration.Configuration, Rules.is_privileged, Matching.IsStable}
-use Rattle.mml_lab.specs.{Labs.LabValue, Labs.lab_of, Labs.link_count, Rosters.RosterValue}
-use Rattle.mml_lab.proofs.{LabMeaningLemmas.lawful, OwnersLemmas.one_or_two}
+use Rattle.mml_lab.specs.Labs.{LabValue, link_count}
+use Rattle.mml_lab_file.specs.Reading.{lab_of}
+use Rattle.mml_lab.specs.Rosters.{RosterValue}
+use Rattle.mml_lab_file.proofs.LabMeaningLemmas.{lawful}
+use Rattle.mml_lab_file.proofs.OwnersLemmas.{one_or_two}
 use Rattle.mml_board.specs.{declared.event.Event.Event, Events.is_legal, Events.is_node, Events.is_chosen, Events.after, Events.chosen_count, Runs.is_legal_list, Runs.world_of}
 use Rattle.mml_board.specs.World.{World, IsWorld, size, configuration, chosen_at, opening_of}
 use Rattle.mml_board.proofs.ClausesLemmas.{fit, legal_possible, owned_legal, close_possible}

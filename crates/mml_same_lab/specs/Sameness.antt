@@ -4,7 +4,8 @@ use Rattle.std.specs.FinSet as set
 use Rattle.mml_rules.specs.Network.{neighbours_at, registers_at}
 use Rattle.mml_lab.specs.declared.who.Who.TheVariants as who
 use Rattle.mml_lab.specs.Rosters.{RosterValue, name_of, owns}
-use Rattle.mml_lab.specs.Labs.{LabValue, lab_of}
+use Rattle.mml_lab.specs.Labs.{LabValue}
+use Rattle.mml_lab_file.specs.Reading.{lab_of}
 
 -- the node of that rank has the same links in both labs
 abbrev pub HasSameLinks : LabValue → LabValue → ℕ → Type 0

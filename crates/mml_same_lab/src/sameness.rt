@@ -3,7 +3,8 @@ ghost use Rattle.std.specs.Prelude.{◌≡◌, ◌↔◌, ◌<◌, IsTrue, IfOk,
 ghost use Rattle.mml_same_lab.specs.Sameness.{HasSameLinks, HasSameOwners, HasSameNames, IsSameNode, IsSameLab, SpellsSame};
 
 use mml_ids::{IdTable, Memory, Rank};
-use mml_lab::{Lab, LabFault, Roster, Student, Who, read_lab};
+use mml_lab::{Lab, LabFault, Roster, Student, Who};
+use mml_lab_file::read_lab;
 use std::alloc::Global;
 
 /// Returns whether the bytes spell a lab with the same identifiers, names, links, registers and owners as `lab`.

@@ -14,7 +14,8 @@ use mml_fakes::scripts::{
     ANA_JOURNAL, BEN_MOVES, CLOSED_JOURNAL, NOTHING_CLOSED, ONE_CLOSED, TESS_CLOSES,
 };
 use mml_journal::{MemorySink, Sink};
-use mml_lab::{Lab, read_lab};
+use mml_lab::Lab;
+use mml_lab_file::read_lab;
 use mml_serving::{ServeFault, ServedHouse, serve_arrivals};
 use mml_session::{Gate, NoGate};
 use std::alloc::{AllocError, Global};

@@ -6,7 +6,7 @@ use mml_fakes::lines;
 use mml_fakes::meeting::wait_for;
 use mml_fakes::scripts::{ANA_GRANTED, ANA_MOVES, ONE_CLOSED};
 use mml_journal::MemorySink;
-use mml_lab::read_lab;
+use mml_lab_file::read_lab;
 use mml_serving::serve_on;
 use mml_session::{Gate, Point};
 use std::alloc::Global;

@@ -9,7 +9,7 @@ mod writes;
 use mml_fakes::labs::PATH_OF_THREE;
 use mml_hall::{ScriptFault, run_script};
 use mml_journal::NullSink;
-use mml_lab::read_lab;
+use mml_lab_file::read_lab;
 use std::alloc::Global;
 use std::io::{Read, Write};
 use std::test::Fail;

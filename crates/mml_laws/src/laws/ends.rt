@@ -2,7 +2,8 @@
 ghost use Rattle.std.specs.Prelude.{◌≡◌, ◌+◌, ◌*◌, ◌<◌, ◌≤◌, ℕ, true, false, List, ◌++◌, length, Option, Ok};
 ghost use Rattle.std.specs.List.{list_all};
 ghost use Rattle.mml_rules.specs.Matching.{IsStable};
-ghost use Rattle.mml_lab.specs.Labs.{LabValue, IsLab, lab_of, link_count};
+ghost use Rattle.mml_lab.specs.Labs.{LabValue, IsLab, link_count};
+ghost use Rattle.mml_lab_file.specs.Reading.{lab_of};
 ghost use Rattle.mml_board.specs.declared.event.Event.{Event};
 ghost use Rattle.mml_board.specs.World.{configuration};
 ghost use Rattle.mml_board.specs.Lists.{world_in};

@@ -2,7 +2,8 @@
 ghost use Rattle.std.specs.Prelude.{◌≡◌, ℕ, ◌+◌, ◌<◌, ◌≤◌, true, List, length, Ok};
 ghost use Rattle.std.specs.List.{list_all};
 ghost use Rattle.mml_rules.specs.Matching.{IsStable};
-ghost use Rattle.mml_lab.specs.Labs.{LabValue, lab_of, link_count};
+ghost use Rattle.mml_lab.specs.Labs.{LabValue, link_count};
+ghost use Rattle.mml_lab_file.specs.Reading.{lab_of};
 ghost use Rattle.mml_lab.specs.Rosters.{RosterValue};
 ghost use Rattle.mml_board.specs.declared.event.Event.{Event};
 ghost use Rattle.mml_board.specs.World.{World, IsWorld, size, configuration, opening_of};

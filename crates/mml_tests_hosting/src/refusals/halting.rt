@@ -8,7 +8,7 @@ use mml_fakes::scripts::{TEN_LINES, first_lines};
 use mml_fakes::{line, lines};
 use mml_hall::Hall;
 use mml_journal::MemorySink;
-use mml_lab::read_lab;
+use mml_lab_file::read_lab;
 use std::alloc::Global;
 use std::test::Fail;
 

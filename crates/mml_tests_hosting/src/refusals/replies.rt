@@ -5,7 +5,7 @@ use mml_fakes::line;
 use mml_hall::Hall;
 use mml_ids::Memory;
 use mml_journal::NullSink;
-use mml_lab::read_lab;
+use mml_lab_file::read_lab;
 use std::alloc::{AllocError, Global};
 use std::test::Fail;
 

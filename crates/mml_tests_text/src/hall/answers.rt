@@ -4,7 +4,8 @@ use mml_codec::{REPLY_ROOM, tell_reply};
 use mml_fakes::labs::{PAIR, boxed_board, boxed_lab, greatest};
 use mml_hall::Hall;
 use mml_journal::NullSink;
-use mml_lab::{Lab, read_lab};
+use mml_lab::Lab;
+use mml_lab_file::read_lab;
 use std::alloc::Global;
 use std::test::Fail;
 

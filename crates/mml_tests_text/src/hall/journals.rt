@@ -5,7 +5,7 @@ use mml_fakes::labs::PATH_OF_THREE;
 use mml_fakes::scripts::{GREETINGS, TEN_ACTS, TEN_LINES, ended_lines};
 use mml_fakes::{Drip, FakeWriter};
 use mml_hall::{Hall, run_script};
-use mml_lab::read_lab;
+use mml_lab_file::read_lab;
 use std::alloc::Global;
 use std::test::Fail;
 

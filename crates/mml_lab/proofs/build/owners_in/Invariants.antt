@@ -1,6 +1,0 @@
-use Rattle.std.proofs.Common.{◌≡◌, map, take, string_bytes}
-use Rattle.mml_lab.specs.{inside.Raw.entry_account, Labs.student_index}
-use Rattle.mml_lab.proofs.build.owners_in.Given as goal
-
-abbrev pub invariant-loop-name : goal.invariant-loop-name
-invariant-loop-name l = l.found.items ≡ map (λ name. student_index (map entry_account l.students.entries) (string_bytes name)) (take l.name-index l.names)

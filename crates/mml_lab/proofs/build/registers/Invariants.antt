@@ -1,6 +1,0 @@
-use Rattle.std.proofs.Common.{◌≡◌, map, take}
-use Rattle.mml_lab.specs.{inside.Raw.node_view, Labs.registers_with}
-use Rattle.mml_lab.proofs.build.registers.Given as goal
-
-abbrev pub invariant-loop-index : goal.invariant-loop-index
-invariant-loop-index l = l.found.items ≡ map (registers_with l.ids (map node_view l.nodes)) (take l.index l.ids)

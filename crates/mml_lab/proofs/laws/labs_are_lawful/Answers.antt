@@ -1,5 +1,0 @@
-use Rattle.mml_lab.proofs.LabMeaningLemmas.{lawful}
-use Rattle.mml_lab.proofs.laws.labs_are_lawful.Goals as goal
-
-pub returns : goal.returns
-returns c = lawful

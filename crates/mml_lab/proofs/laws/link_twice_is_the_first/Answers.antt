@@ -1,5 +1,0 @@
-use Rattle.mml_lab.proofs.{LabOfLemmas.twice-told, LinksFaultLemmas.twice-fault, LinksFaultLemmas.twice-none}
-use Rattle.mml_lab.proofs.laws.link_twice_is_the_first.Goals as goal
-
-pub returns : goal.returns
-returns c = record { fault = twice-fault; none = twice-none; told = twice-told }

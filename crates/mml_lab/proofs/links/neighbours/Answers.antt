@@ -1,6 +1,0 @@
-use Rattle.mml_lab.proofs.ChecksLemmas.{all-ranked}
-use Rattle.mml_lab.proofs.links.neighbours.Goals as goal
-use Rattle.std.proofs.Common.{arith}
-
-pub rows-requires : goal.rows-requires
-rows-requires c = grind (arith, all-ranked)

@@ -1,5 +1,0 @@
-use Rattle.mml_lab.proofs.ChecksLemmas.{AreFresh}
-use Rattle.mml_lab.proofs.links.rows.Given as goal
-
-abbrev pub invariant-loop-index : goal.invariant-loop-index
-invariant-loop-index l = AreFresh l.ids l.links l.index l.rows.items

@@ -1,0 +1,93 @@
+-- Links are looked up by rank, and put into the rows of neighbours one after the other.
+use Rattle.std.proofs.lemmas.Bool.{Decides.nat_tests, Decides.Decides-int_eq, and_parts, and_from, not-false, false≢true, lt-ltb}
+use Rattle.std.proofs.Common.{◌≡◌, ℕ, ℤ, pos, ◌-◌, ◌<◌, ◌≤◌, true, not, ◌&&◌, List, length, get_or, take, map, Option, Some, None, Ok, Err, ap, subst, arith}
+use Rattle.std.specs.{Prelude.is_some, Prelude.slice_index, Prelude.position, FinSet.FinSet, Ordering.nat_cmp, Ordering.int_eq}
+use Rattle.std.proofs.lemmas.{List.take_all, List.Quantifiers.position-Some, Option.slice_get-get_or}
+use Rattle.mml_ids.specs.{Search.first_from, Search.first_below, Ids.in_order, Ids.rank_in, Ids.IsTable}
+use Rattle.mml_ids.proofs.{GivesLemmas.map_none, IdsLemmas.id_of_rank, SearchLemmas.position-none, SearchLemmas.position-None, SearchLemmas.first_here, SearchLemmas.first_end}
+use Rattle.mml_lab.specs.declared.lab_fault.LabFault.{LabFault}
+use Rattle.mml_lab.specs.Rosters.{Account}
+use Rattle.mml_lab_file.specs.Shape.{NodeSpec, RawSpec}
+use Rattle.mml_lab_file.specs.Reading.{number_of, file_ids, is_node, is_linked, lacks_end}
+use Rattle.mml_lab_file.specs.Reading.{is_link_again, neighbours_of, ends_fault, again_fault, pass_unless, pointers_fault, identified, enrolled, owned, linked}
+use Rattle.mml_lab_file.specs.Reading.{limited, checked, lab_from, lab_in, network_in}
+use Rattle.mml_lab_file.specs.inside.Checks.{rank_at, lacks_rank, are_near, lab_with}
+use Rattle.mml_lab_file.proofs.LabInLemmas.{positive}
+use Rattle.mml_lab_file.proofs.LabMeaningLemmas.{any_means, ranked}
+use Rattle.mml_lab_file.proofs.NeighboursLemmas.{AreRows, has-neighbours_of, all_rows}
+use Rattle.mml_lab.specs.declared.lab_fault.LabFault.TheVariants as fault
+
+some_rank : (o : Option ℕ) → is_some o ≡ true → (j : ℕ) × (o ≡ Some j)
+some_rank o h = grind (arith, false≢true)
+
+-- the rank of an integer is that of its own identifier
+rank-names : (ids : List ℕ) → IsTable ids → (z : ℤ) (j : ℕ) → rank_at ids z ≡ Some j → (j < length ids) × (z ≡ pos (slice_index ids j))
+unfolding rank_at
+rank-names ids table z j at = grind (arith, position-Some, positive, id_of_rank)
+
+-- a rank stands in the row of another exactly if a link joins their nodes
+near-linked : (ids : List ℕ) → IsTable ids → (links : List (ℤ × ℤ)) (rows : List (FinSet nat_cmp)) → AreRows ids links rows → (z w : ℤ)
+    → is_some (rank_at ids z) ≡ true → is_some (rank_at ids w) ≡ true
+    → are_near rows (rank_at ids z) (rank_at ids w) ≡ is_linked links z w
+unfolding are_near
+near-linked ids table links rows are z w some_z some_w =
+    let i = some_rank (rank_at ids z) some_z in
+    let j = some_rank (rank_at ids w) some_w in
+    let at_i = rank-names ids table z i.0 i.1 in
+    grind (arith, nat_tests, rank-names, has-neighbours_of, lt-ltb)
+
+-- if each end is a node of the file, each has a rank
+pub all-ranked : (nodes : List NodeSpec) → IsTable (in_order (file_ids nodes)) → (links : List (ℤ × ℤ)) → pass_unless (ends_fault nodes links) ≡ Ok tt
+    → position (lacks_rank (in_order (file_ids nodes))) links ≡ None
+unfolding ends_fault rank_at
+all-ranked nodes table links right = position-none (lacks_rank (in_order (file_ids nodes))) links (pos 0, pos 0) (λ k lt.
+    let link : ℤ × ℤ = get_or links k (pos 0, pos 0) in
+    let both = not-false (is_node nodes link.0 && is_node nodes link.1)
+    (position-None (lacks_end nodes) links (pos 0, pos 0) (map_none fault.LinkEnd _ (none_in _ right)) k lt) in
+    let parts = and_parts (is_node nodes link.0) (is_node nodes link.1) both in
+    ap not (and_from _ _ (has link.0 parts.0) (has link.1 parts.1)))
+  where
+    none_in : (o : Option LabFault) → pass_unless o ≡ Ok tt → o ≡ None
+    none_in o h = grind arith
+
+    has : (z : ℤ) → is_node nodes z ≡ true → is_some (rank_in (in_order (file_ids nodes)) (number_of z)) ≡ true
+    has z holds = ap is_some (ranked nodes table z ((any_means (λ node. int_eq node.id z) (λ node. node.id ≡ z) (λ node. Decides-int_eq node.id z) nodes).0 holds)).2
+
+-- ---- the rows, link after link
+
+-- the rows are those of the first k links, of which none stands twice
+pub record AreFresh (ids : List ℕ) (links : List (ℤ × ℤ)) (k : ℕ) (rows : List (FinSet nat_cmp)) : Type 0 where
+  pub are : AreRows ids (take k links) rows
+  pub fresh : first_from (is_link_again links) k (length links - k) ≡ first_below (is_link_again links) (length links)
+
+-- the row of one end has the other exactly if the link stood before
+pub again-at : (ids : List ℕ) → IsTable ids → (links : List (ℤ × ℤ)) (k : ℕ) (rows : List (FinSet nat_cmp)) (d : ℤ × ℤ) → k < length links
+    → position (lacks_rank ids) links ≡ None → AreRows ids (take k links) rows
+    → are_near rows (rank_at ids (get_or links k d).0) (rank_at ids (get_or links k d).1) ≡ is_link_again links k
+again-at ids table links k rows d lt ends are = grind (arith, not-false, position-None, and_parts, near-linked, slice_get-get_or)
+
+-- the first link that stood before is the error of the links
+pub again-found : (ids : List ℕ) (links : List (ℤ × ℤ)) (k : ℕ) (rows : List (FinSet nat_cmp)) → k < length links → AreFresh ids links k rows
+    → is_link_again links k ≡ true → pass_unless (again_fault links) ≡ Err (fault.LinkTwice k)
+unfolding again_fault
+again-found ids links k rows lt so_far again = grind (arith, first_here)
+
+module _ (ids : List ℕ) (links : List (ℤ × ℤ)) (k : ℕ) (rows : List (FinSet nat_cmp)) where
+  -- once all links were put in, none stood before
+  pub again-none : length links ≤ k → AreFresh ids links k rows → pass_unless (again_fault links) ≡ Ok tt
+  unfolding again_fault
+  again-none le so_far = grind (arith, first_end)
+
+  -- and the rows are whole
+  pub all-rows : length links ≤ k → AreFresh ids links k rows → rows ≡ map (neighbours_of ids links) ids
+  all-rows le so_far = all_rows ids links rows (subst (λ l. AreRows ids l rows) (take_all k links le) so_far.are)
+
+-- a file that passes its tests gives the lab of what they found
+pub gathered : (raw : RawSpec) (ids : List ℕ) (students : List Account) (rows : List (FinSet nat_cmp)) (events sessions : ℕ)
+    → identified raw.nodes ≡ Ok tt → enrolled raw.teacher raw.students ≡ Ok tt → owned students raw.nodes ≡ Ok tt → linked raw.nodes raw.links ≡ Ok tt
+    → pass_unless (pointers_fault raw.links raw.nodes) ≡ Ok tt → limited raw.events raw.sessions (length students) ≡ Ok tt
+    → ids ≡ in_order (file_ids raw.nodes) → students ≡ raw.students → rows ≡ map (neighbours_of ids raw.links) ids
+    → events ≡ number_of raw.events → sessions ≡ number_of raw.sessions
+    → lab_from raw ≡ Ok (lab_with ids raw.teacher students raw.nodes rows events sessions)
+unfolding lab_from checked lab_in network_in lab_with
+gathered raw ids students rows events sessions a b c d e f table same neighbours some_events some_sessions = grind arith

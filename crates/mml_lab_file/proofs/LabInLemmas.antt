@@ -1,0 +1,173 @@
+-- The lab of a file without an error is a lab.
+use Rattle.std.proofs.Common.{◌≡◌, ℕ, ℤ, pos, negsuc, ◌<◌, ◌≤◌, ◌==◌, true, false, not, ◌&&◌, ltb, List, [], length, get_or, map, Option, Some, Ok, None, inl, inr, refl, sym, ap, ◌∙◌, subst, arith}
+use Rattle.std.proofs.Common.{All}
+use Rattle.std.specs.{Prelude.slice_index, Prelude.position, List.list_any, Option.option_and_then, Option.option_map_or}
+use Rattle.std.proofs.lemmas.Bool.{cases_lt, cases_Bool, lt-ltb, ltb-true, leb-true, eqb-true, eq-eqb, and_parts, and_from, not-false, both_ways}
+use Rattle.std.proofs.lemmas.List.{get_or-map, get_or_past, length-map, Elements.All-map, Elements.All-from_get_or, Folds.list_any_at, Sorted.list_any-IsPermutation, Quantifiers.position-Some}
+use Rattle.mml_ids.specs.{Ids.in_order, Ids.rank_in, Ids.IsTable, inside.WordsLemmas.has_empty}
+use Rattle.mml_ids.proofs.{IdsLemmas.id_of_rank, MapLemmas.list_any-map, SearchLemmas.position-None, InOrderLemmas.in_order-moves, InOrderTableLemmas.in_order-table}
+use Rattle.mml_rules.specs.{declared.regs.Regs.Regs, Network.Network, Network.no_regs, Network.registers_at, Network.configuration_of, Network.IsNetwork}
+use Rattle.mml_lab.specs.declared.TheConstants.{MAX_EVENTS, MAX_SESSIONS}
+use Rattle.mml_lab.specs.Rosters.{Account, has_name, no_account, with_owners, IsRoster}
+use Rattle.mml_lab_file.specs.Shape.{NodeSpec, RawSpec}
+use Rattle.mml_lab.specs.Labs.{IsLab, LabValue}
+use Rattle.mml_lab_file.specs.Reading.{number_of, file_ids, joins, is_linked, is_loop, is_within, lacks_owner, points_at_unlinked, node_with, student_index, owners_in, owners_with, registers_in}
+use Rattle.mml_lab_file.specs.Reading.{registers_with, neighbours_of, network_in, lab_in, lab_from}
+use Rattle.mml_lab_file.proofs.FirstAgainLemmas.{is_roster}
+use Rattle.mml_lab_file.proofs.NeighboursLemmas.{has-neighbours_of}
+use Rattle.mml_lab_file.proofs.LabFaultLemmas.{IsFaultless, faultless, made}
+use Rattle.mml_ids.proofs.FindLemmas.{IsFound, find-is, find-some, list_any-found, list_any-same}
+
+-- a number that is some natural number above 0 is not negative
+pub positive : (z : ℤ) (n : ℕ) → number_of z ≡ n → 0 < n → z ≡ pos n
+positive z n e h = grind (arith, pos, negsuc)
+
+-- a link joins its ends in either order
+pub is_linked_turned : (links : List (ℤ × ℤ)) (a b : ℤ) → is_linked links a b ≡ is_linked links b a
+is_linked_turned links a b = list_any-same (joins a b) (joins b a) links (grind arith)
+
+-- without a loop no link joins a node to itself
+pub no_loop : (links : List (ℤ × ℤ)) (a : ℤ) → position is_loop links ≡ None → is_linked links a a ≡ false
+no_loop links a none = grind (arith, cases_Bool, list_any-found, and_parts, both_ways, position-None)
+
+-- the node of the file that has a rank
+pub record IsNodeAt (nodes : List NodeSpec) (id : ℕ) (node : NodeSpec) : Type 0 where
+  pub found : node_with nodes id ≡ Some node
+  pub stands : IsFound (λ n. number_of n.id == id) nodes node
+  pub named : node.id ≡ pos id
+
+-- a student's name has an index among the students
+pub index-position : (students : List Account) (name : List ℕ) → list_any (has_name name) students ≡ true
+    → position (has_name name) students ≡ Some (student_index students name)
+index-position students name some = grind (arith, IsFound, list_any-found, both_ways, position-None)
+
+-- each owner is a student
+pub owners-known : (students : List Account) (node : NodeSpec) → lacks_owner students node ≡ false → All (λ name. list_any (has_name name) students ≡ true) node.owners
+owners-known students node right k d lt = grind (arith, cases_Bool, both_ways, list_any_at)
+
+owners-in : (students : List Account) (node : NodeSpec) → lacks_owner students node ≡ false → All (λ s. s < length students) (owners_in students node)
+owners-in students node right = All-map (λ s. s < length students) (student_index students) node.owners
+    (λ k d lt. let name = get_or node.owners k d in
+    (position-Some (has_name name) students (student_index students name) no_account
+    (index-position students name (owners-known students node right k d lt))).0)
+
+module _ (raw : RawSpec) (right : IsFaultless raw) where
+  abbrev pub ids : List ℕ
+  ids = in_order (file_ids raw.nodes)
+
+  pub table : IsTable ids
+  table = in_order-table (file_ids raw.nodes) right.ids
+
+  abbrev pub net : Network
+  net = record { neighbours = map (neighbours_of ids raw.links) ids; registers = map (registers_with ids raw.nodes) ids }
+
+  pub node_at : (i : ℕ) → i < length ids → (node : NodeSpec) × IsNodeAt raw.nodes (slice_index ids i) node
+  node_at i lt =
+      let id : ℕ = slice_index ids i in
+      let some : list_any (λ n. number_of n.id == id) raw.nodes ≡ true =
+      list_any-map (λ n. n == id) (λ node. number_of node.id) raw.nodes
+      ∙ list_any-IsPermutation (λ n. n == id) (file_ids raw.nodes) ids (in_order-moves (file_ids raw.nodes))
+      ∙ list_any_at (λ n. n == id) ids i 0 lt (eq-eqb id id refl) in
+      let f = find-some (λ n. number_of n.id == id) raw.nodes some in
+      let is = find-is (λ n. number_of n.id == id) raw.nodes f.0 f.1 in
+      (f.0, record { found = f.1; stands = is; named = positive f.0.id id (eqb-true (number_of f.0.id) id is.passes) (table.positive i lt) })
+
+  pub linked-in : (i j : ℕ) → i < length ids
+      → (configuration_of net).linked i j ≡ (ltb j (length ids) && is_linked raw.links (pos (slice_index ids i)) (pos (slice_index ids j)))
+  linked-in i j lt = grind (arith, get_or-map, has-neighbours_of)
+
+  both_in : (i j : ℕ) → (configuration_of net).linked i j ≡ true
+      → (i < length ids) × (j < length ids) × (is_linked raw.links (pos (slice_index ids i)) (pos (slice_index ids j)) ≡ true)
+  both_in i j holds = grind (arith, cases_lt, and_parts, pos, linked-in, ltb-true, both_ways, length-map, get_or_past, has_empty)
+
+  from_in : (i j : ℕ) → i < length ids → j < length ids → is_linked raw.links (pos (slice_index ids i)) (pos (slice_index ids j)) ≡ true
+      → (configuration_of net).linked i j ≡ true
+  from_in i j in_i in_j holds = linked-in i j in_i ∙ and_from _ _ (lt-ltb j (length ids) in_j) holds
+
+  symmetric : (i j : ℕ) → (configuration_of net).linked i j ≡ true → (configuration_of net).linked j i ≡ true
+  symmetric i j holds = let b = both_in i j holds in from_in j i b.1 b.0 (is_linked_turned raw.links (pos (slice_index ids j)) (pos (slice_index ids i)) ∙ b.2)
+
+  not_itself : (i : ℕ) → (configuration_of net).linked i i ≡ false
+  not_itself i = elim (cases_Bool ((configuration_of net).linked i i)) [
+    | inl holds ↦ let b = both_in i i holds in
+        absurd
+        (both_ways (is_linked raw.links (pos (slice_index ids i)) (pos (slice_index ids i))) (no_loop raw.links (pos (slice_index ids i)) right.loops) b.2)
+    | inr apart ↦ apart
+  ]
+
+  pub registers-in : (i : ℕ) → i < length ids → registers_at net.registers i ≡ registers_with ids raw.nodes (slice_index ids i)
+  registers-in i lt = get_or-map (registers_with ids raw.nodes) ids i 0 no_regs lt
+
+  to_linked : (i j : ℕ) → (configuration_of net).p i ≡ Some j → (configuration_of net).linked i j ≡ true
+  to_linked i j points = elim (cases_lt i (length ids)) [
+    | inl lt ↦
+        let n = node_at i lt in
+        let node = n.0 in
+        let regs : registers_at net.registers i ≡ registers_in ids node =
+        registers-in i lt ∙ ap (λ (o : Option NodeSpec). option_map_or (registers_in ids) o no_regs) n.1.found in
+        let kept : points_at_unlinked raw.links node ≡ false =
+        ap (points_at_unlinked raw.links) (sym n.1.stands.there)
+        ∙ position-None (points_at_unlinked raw.links) raw.nodes node right.pointers n.1.stands.index n.1.stands.within in
+        by i lt node n.1.named node.p (ap (λ (r : Regs). r.p) (sym regs) ∙ points) kept
+    | inr past ↦ grind (arith, length-map, get_or_past)
+  ]
+    where
+      by : (i : ℕ) → i < length ids → (node : NodeSpec) → node.id ≡ pos (slice_index ids i) → (o : Option ℤ)
+          → option_and_then (λ p. rank_in ids (number_of p)) o ≡ Some j
+          → option_map_or (λ p. not (is_linked raw.links node.id p)) o false ≡ false → (configuration_of net).linked i j ≡ true
+      by i lt node named None rank kept = absurd cc
+      by i lt node named (Some z) rank kept =
+          let in_j = (position-Some (λ n. n == number_of z) ids j 0 rank).0 in
+          let target : z ≡ pos (slice_index ids j) = positive z (slice_index ids j) (sym (id_of_rank ids (number_of z) j rank)) (table.positive j in_j) in
+          let linked : is_linked raw.links node.id z ≡ true = not-false (is_linked raw.links node.id z) kept in
+          from_in i j lt in_j ((λ t. is_linked raw.links (sym named t) (sym target t)) ∙ linked)
+
+  pub network : IsNetwork net
+  network = record {
+    rows = length-map ids (neighbours_of ids raw.links) ∙ sym (length-map ids (registers_with ids raw.nodes));
+    few = let long = length-map ids (registers_with ids raw.nodes) in let few = table.few in omega arith;
+    lawful = record {
+      in_range = λ i j holds. let b = both_in i j holds in let long = length-map ids (registers_with ids raw.nodes) in (omega (arith, b.0), omega (arith, b.1));
+      symmetric = symmetric;
+      no_loop = not_itself;
+      to_linked = to_linked;
+    };
+  }
+
+  pub owners-within : All (All (λ s. s < length raw.students)) (map (owners_with raw.students raw.nodes) ids)
+  owners-within =
+      All-map (All (λ s. s < length raw.students)) (owners_with raw.students raw.nodes) ids
+      (All-from_get_or (λ id. All (λ s. s < length raw.students) (owners_with raw.students raw.nodes id)) ids 0 (λ i lt.
+      let n = node_at i lt in
+      let node = n.0 in
+      let owned : lacks_owner raw.students node ≡ false =
+      ap (lacks_owner raw.students) (sym n.1.stands.there)
+      ∙ position-None (lacks_owner raw.students) raw.nodes node right.owners n.1.stands.index n.1.stands.within in
+      subst (λ (o : Option NodeSpec). All (λ s. s < length raw.students) (option_map_or (owners_in raw.students) o [])) (sym n.1.found)
+      (owners-in raw.students node owned)))
+
+  pub roster : IsRoster (with_owners raw.teacher raw.students (map (owners_with raw.students raw.nodes) ids))
+  roster = is_roster raw.teacher raw.students (map (owners_with raw.students raw.nodes) ids) right.students right.forms right.names owners-within
+
+-- a number that is found within its limit is from 1 to the greatest
+pub within : (greatest : ℕ) (z : ℤ) → is_within greatest z ≡ true → (0 < number_of z) × (number_of z ≤ greatest)
+within greatest z holds = let parts = and_parts (ltb 0 (number_of z)) _ holds in (ltb-true 0 (number_of z) parts.0, leb-true (number_of z) greatest parts.1)
+
+-- the lab of a file without an error is lawful
+pub lab_in-lab : (raw : RawSpec) → IsFaultless raw → IsLab (lab_in raw)
+unfolding lab_in network_in
+lab_in-lab raw right = record {
+  ids = table raw right;
+  roster = roster raw right;
+  network = network raw right;
+  nodes = length-map (ids raw right) (registers_with (ids raw right) raw.nodes);
+  owned = length-map (ids raw right) (owners_with raw.students raw.nodes);
+  some_events = (within MAX_EVENTS raw.events right.events).0;
+  few_events = (within MAX_EVENTS raw.events right.events).1;
+  some_sessions = (within MAX_SESSIONS raw.sessions right.sessions).0;
+  few_sessions = (within MAX_SESSIONS raw.sessions right.sessions).1;
+}
+
+-- and so is each lab that a file gives
+pub lawful_from : (raw : RawSpec) (lab : LabValue) → lab_from raw ≡ Ok lab → IsLab lab
+lawful_from raw lab is = let m = made raw lab is in subst (λ l. IsLab l) m.1 (lab_in-lab raw (faultless raw m.0))

@@ -1,0 +1,61 @@
+-- Which bytes are read as a lab, and which errors a file has: never that memory ran out.
+use Rattle.std.proofs.Common.{◌≡◌, ◌≢◌, ◌↔◌, ℕ, List, length, Bool, Option, Some, None, Ok, arith}
+use Rattle.std.specs.Prelude.{option_map}
+use Rattle.mml_ids.specs.{Gives.fault_if, Search.first_below, Ids.id_fault, declared.id_table.IdFault.IdFault}
+use Rattle.mml_ids.proofs.GivesLemmas.{bind-ok, bind-from}
+use Rattle.mml_lab_file.specs.Shape.{RawSpec}
+use Rattle.mml_lab_file.specs.LabMeaning.{IsLabOfFile, IsFirstLinkAgain}
+use Rattle.mml_lab.specs.Labs.{LabValue}
+use Rattle.mml_lab_file.specs.Reading.{file_ids, is_link_again, ids_fault, again_fault, lab_fault, lab_of}
+use Rattle.mml_lab_file.proofs.LabErrorsLemmas.{told_in_order}
+use Rattle.mml_lab_file.proofs.LabFaultLemmas.{made, makes}
+use Rattle.mml_lab_file.proofs.LinksFaultLemmas.{first-means}
+use Rattle.mml_ids.specs.declared.id_table.IdFault.TheVariants as id
+use Rattle.mml_lab.specs.declared.lab_fault.LabFault.TheVariants as fault
+
+-- bytes are read as a lab exactly if they spell a file without an error, whose lab it is
+pub of_file : (bytes : List ℕ) (lab : LabValue) → (lab_of bytes ≡ Ok lab) ↔ ((raw : RawSpec) × IsLabOfFile bytes raw lab)
+unfolding lab_of
+of_file bytes lab = grind (arith, bind-ok, made, bind-from, makes)
+
+-- the error is not out of memory
+abbrev Tells : IdFault → Type 0
+Tells id.Empty = Unit {0}
+Tells id.TooMany = Unit {0}
+Tells (id.OutOfRange k) = Unit {0}
+Tells (id.Twice k) = Unit {0}
+Tells id.Memory = ⊥
+
+-- if there is an error, the fact holds of it
+abbrev OfFault : {E : Type 0} → (E → Type 0) → Option E → Type 0
+OfFault P None = Unit {0}
+OfFault P (Some f) = P f
+
+of_if : {E : Type 0} (P : E → Type 0) (b : Bool) (f : E) → P f → OfFault P (fault_if b f)
+of_if P b f p = grind arith
+
+of_index : {E : Type 0} (P : E → Type 0) (f : ℕ → E) → ((k : ℕ) → P (f k)) → (o : Option ℕ) → OfFault P (option_map f o)
+of_index P f all o = grind arith
+
+of_ids : (ns : List ℕ) → OfFault Tells (id_fault ns)
+of_ids ns = grind (arith, of_if, of_index)
+
+-- the error of a file is never that memory ran out for the identifiers
+pub no_memory_of_ids : (raw : RawSpec) → lab_fault raw ≢ Some (fault.Id id.Memory)
+unfolding ids_fault
+no_memory_of_ids raw is = by (id_fault (file_ids raw.nodes)) (of_ids (file_ids raw.nodes)) (told_in_order raw (fault.Id id.Memory) is).here
+  where
+    by : (o : Option IdFault) → OfFault Tells o → Some (option_map fault.Id o) ≡ Some (Some (fault.Id id.Memory)) → ⊥
+    by o tells here = grind arith
+
+-- the error of a file is never that memory ran out
+pub no_memory : (raw : RawSpec) → lab_fault raw ≢ Some fault.Memory
+no_memory raw is = let here = (told_in_order raw fault.Memory is).here in absurd cc
+
+-- a file whose error is a link twice has there the first link that stood before
+pub twice-told : (raw : RawSpec) (k : ℕ) → lab_fault raw ≡ Some (fault.LinkTwice k) → IsFirstLinkAgain raw.links k
+unfolding again_fault
+twice-told raw k is = by (first_below (is_link_again raw.links) (length raw.links)) ((first-means raw.links k).0) (told_in_order raw (fault.LinkTwice k) is).here
+  where
+    by : (o : Option ℕ) → (o ≡ Some k → IsFirstLinkAgain raw.links k) → Some (option_map fault.LinkTwice o) ≡ Some (Some (fault.LinkTwice k)) → IsFirstLinkAgain raw.links k
+    by o means here = grind arith

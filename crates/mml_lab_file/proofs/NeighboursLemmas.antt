@@ -1,0 +1,68 @@
+-- The rows of neighbours, as links are put into them one after the other.
+use Rattle.std.proofs.lemmas.Bool.{Decides.nat_tests, and_right, cases_lt, ne_eqb, lt-ltb, le-ltb}
+use Rattle.std.proofs.lemmas.{Grind.common_steps, List.Folds.list_any_more, List.Quantifiers.position-Some}
+use Rattle.std.proofs.Common.{◌≡◌, ℕ, ℤ, pos, negsuc, ◌+◌, ◌<◌, ◌&&◌, ◌||◌, ltb, List, [], length, get_or, take, map, sym, ◌∙◌, arith, rules}
+use Rattle.std.specs.{Prelude.slice_index, Prelude.replicate, Ordering.nat_cmp, Ordering.int_eq}
+use Rattle.std.proofs.lemmas.List.{get_or_default, get_or-replicate, length-replicate, get_or-map, length-map, same_lists}
+use Rattle.mml_ids.specs.{Ids.rank_in, Ids.IsTable, inside.WordsLemmas.has_empty, inside.WordsLemmas.has-those_below, inside.WordsLemmas.same_ranks}
+use Rattle.mml_ids.proofs.{IdsLemmas.rank_of_id, IdsLemmas.id_of_rank, SearchLemmas.same_bool}
+use Rattle.mml_rules.specs.{Configuration.holds, Network.neighbours_at}
+use Rattle.mml_rules.proofs.ConfigurationLemmas.{holds-true, holds-from}
+use Rattle.mml_lab_file.specs.Reading.{number_of, joins, is_linked, neighbours_of}
+use Rattle.std.specs.FinSet as sets
+use Rattle.mml_lab.proofs.RowLemmas.{Rows}
+
+-- an end is a node's identifier exactly if it has the node's rank
+pub end_at : (ids : List ℕ) → IsTable ids → (z : ℤ) (i : ℕ) → i < length ids → int_eq z (pos (slice_index ids i)) ≡ holds (rank_in ids (number_of z)) i
+end_at ids table z i lt = search (rules, same_bool, pos, holds-from, rank_of_id, get_or_default, id_of_rank, holds-true, negsuc)
+
+pub joins_at : (ids : List ℕ) → IsTable ids → (link : ℤ × ℤ) (i q : ℕ) → i < length ids → q < length ids
+    → joins (pos (slice_index ids i)) (pos (slice_index ids q)) link
+    ≡ ((holds (rank_in ids (number_of link.0)) i && holds (rank_in ids (number_of link.1)) q)
+    || (holds (rank_in ids (number_of link.1)) i && holds (rank_in ids (number_of link.0)) q))
+joins_at ids table link i q in_i in_q = grind (arith, end_at)
+
+-- which ranks are a node's neighbours
+pub has-neighbours_of : (ids : List ℕ) (links : List (ℤ × ℤ)) (id q : ℕ)
+    → sets.contains (neighbours_of ids links id) q ≡ (ltb q (length ids) && is_linked links (pos id) (pos (slice_index ids q)))
+unfolding neighbours_of
+has-neighbours_of ids links id q = has-those_below (length ids) (λ rank. is_linked links (pos id) (pos (slice_index ids rank))) q
+
+-- the rows are those of the links
+pub record AreRows (ids : List ℕ) (links : List (ℤ × ℤ)) (rows : Rows) : Type 0 where
+  pub size : length rows ≡ length ids
+  pub members : (i q : ℕ) → i < length ids → sets.contains (neighbours_at rows i) q ≡ sets.contains (neighbours_of ids links (slice_index ids i)) q
+
+-- empty rows are those of no link
+pub no_rows : (ids : List ℕ) (rows : Rows) → rows ≡ replicate (length ids) (sets.empty {R = nat_cmp}) → AreRows ids [] rows
+no_rows ids rows is = grind (arith, length-replicate, get_or-replicate, has_empty, has-neighbours_of, and_right)
+
+-- with each end of the next link put into the row of the other, the rows are those of one link more
+pub one_more : (ids : List ℕ) → IsTable ids → (links : List (ℤ × ℤ)) (k : ℕ) (link : ℤ × ℤ) (rows new : Rows) → k < length links → link ≡ get_or links k link
+    → length new ≡ length rows
+    → ((i q : ℕ) → sets.contains (neighbours_at new i) q ≡ (sets.contains (neighbours_at rows i) q
+    || ((holds (rank_in ids (number_of link.0)) i && holds (rank_in ids (number_of link.1)) q)
+    || (holds (rank_in ids (number_of link.1)) i && holds (rank_in ids (number_of link.0)) q))))
+    → AreRows ids (take k links) rows → AreRows ids (take (k + 1) links) new
+one_more ids table links k link rows new lt is long step so_far = grind (
+  arith,
+  common_steps,
+  nat_tests,
+  has-neighbours_of,
+  cases_lt,
+  position-Some,
+  ne_eqb,
+  and_right,
+  lt-ltb,
+  list_any_more,
+  joins_at,
+  le-ltb,
+)
+
+-- the rows of all links hold each node's neighbours
+pub all_rows : (ids : List ℕ) (links : List (ℤ × ℤ)) (rows : Rows) → AreRows ids links rows → rows ≡ map (neighbours_of ids links) ids
+all_rows ids links rows are = same_lists rows (map (neighbours_of ids links) ids) (are.size ∙ sym (length-map ids (neighbours_of ids links)))
+    (λ i d lt. let in_i : i < length ids = omega (arith, are.size) in
+    get_or_default rows i d sets.empty lt
+    ∙ same_ranks _ _ (λ q. are.members i q in_i)
+    ∙ sym (get_or-map (neighbours_of ids links) ids i 0 d in_i))

@@ -1,0 +1,34 @@
+-- The checks of a file: links are looked up by rank, and the lab is made of what was found.
+use Rattle.std.specs.Prelude.{ℕ, ℤ, Bool, false, not, ◌&&◌, List, map, Option, is_some}
+use Rattle.std.specs.Option.{option_map_or}
+use Rattle.std.specs.FinSet as set
+use Rattle.std.specs.FinSet.{FinSet}
+use Rattle.std.specs.Ordering.{nat_cmp}
+use Rattle.mml_ids.specs.Ids.{rank_in}
+use Rattle.mml_rules.specs.Network.{neighbours_at}
+use Rattle.mml_lab.specs.Rosters.{Account, with_owners}
+use Rattle.mml_lab_file.specs.Shape.{NodeSpec}
+use Rattle.mml_lab.specs.Labs.{LabValue}
+use Rattle.mml_lab_file.specs.Reading.{number_of, registers_with, owners_with}
+
+-- the rank of the node that an integer of the file names, if it names one
+unfoldable pub rank_at : List ℕ → ℤ → Option ℕ
+rank_at ids z = rank_in ids (number_of z)
+
+-- an end of the link has no rank
+abbrev pub lacks_rank : List ℕ → ℤ × ℤ → Bool
+lacks_rank ids link = not (is_some (rank_at ids link.0) && is_some (rank_at ids link.1))
+
+-- both are nodes, and the second stands in the row of the first
+unfoldable pub are_near : List (FinSet nat_cmp) → Option ℕ → Option ℕ → Bool
+are_near rows a b = option_map_or (λ i. option_map_or (set.contains (neighbours_at rows i)) b false) a false
+
+-- the lab of these identifiers, accounts, nodes and rows of neighbours
+unfoldable pub lab_with : List ℕ → Account → List Account → List NodeSpec → List (FinSet nat_cmp) → ℕ → ℕ → LabValue
+lab_with ids teacher students nodes neighbours events sessions = record {
+  ids = ids;
+  roster = with_owners teacher students (map (owners_with students nodes) ids);
+  network = record { neighbours = neighbours; registers = map (registers_with ids nodes) ids };
+  events = events;
+  sessions = sessions;
+}

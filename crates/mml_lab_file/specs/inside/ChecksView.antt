@@ -1,0 +1,20 @@
+-- The lab of a file that was checked.
+use Rattle.std.specs.Prelude.{List, map}
+use Rattle.mml_lab.specs.declared.accounts.Account.{Account}
+use Rattle.mml_lab_file.specs.declared.raw_lab.RawNode.{RawNode}
+use Rattle.mml_lab_file.specs.declared.checks.Checked.{Checked}
+use Rattle.mml_lab_file.specs.declared.checks.Found.{Found}
+use Rattle.mml_lab.specs.Labs.{LabValue}
+use Rattle.mml_lab.specs.AccountView.{account_view, entry_account}
+use Rattle.mml_lab_file.specs.inside.Raw.{node_view}
+use Rattle.mml_lab_file.specs.inside.Checks.{lab_with}
+
+-- the lab of a file that was checked
+abbrev pub checked_view : Checked → LabValue
+checked_view c =
+    lab_with c.ids (account_view c.teacher) (map entry_account c.students.entries) (map node_view c.nodes.items) c.neighbours.items c.events c.sessions
+
+-- the lab of what was found, with the teacher and the nodes of the file
+abbrev pub found_view : Account → List RawNode → Found → LabValue
+found_view teacher nodes f =
+    lab_with f.ids (account_view teacher) (map entry_account f.students.entries) (map node_view nodes) f.neighbours.items f.events f.sessions

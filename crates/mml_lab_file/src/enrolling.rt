@@ -1,0 +1,70 @@
+//! The students of a file, by their names.
+ghost use Rattle.std.specs.Prelude.{◌≡◌, [], ◌∷◌, ◌++◌, map, string_bytes, None, ◌||◌, IfErr, OnOk, is_some, bytes_eq};
+ghost use Rattle.std.specs.Map.{lookup};
+ghost use Rattle.std.specs.String.{string_eq};
+ghost use Rattle.indexmap.specs.IndexMap.{get};
+ghost use Rattle.mml_ids.specs.Gives.{Gives, unless_fault};
+ghost use Rattle.mml_lab.specs.declared.lab_fault.LabFault.TheVariants.{Memory};
+ghost use Rattle.mml_lab.specs.AccountView.{account_view, entry_account};
+ghost use Rattle.mml_lab_file.specs.Shape.{is_lab_memory};
+ghost use Rattle.mml_lab_file.specs.Reading.{name_twice};
+
+use indexmap::IndexMap;
+use mml_lab::{Account, LabFault};
+use std::alloc::Global;
+
+/// Whether a name is `teacher`, the teacher's, or that of one of `students`, the students read so far.
+fn is_taken(students: &IndexMap<String, String>, teacher: &str, name: &str) -> bool
+    ensures { result ≡ (bytes_eq name.now teacher.now
+        || is_some (lookup (λ k. bytes_eq name.now (string_bytes k)) students.now.entries)) }
+{
+    name == teacher || students.contains_key(name)
+}
+
+/// The students' names and keys in the file's order, or the error of the first name that stands twice, the teacher's
+/// being before the students'.
+pub(crate) fn students_map(
+    alloc: Global,
+    teacher: &Account,
+    students: Vec<Account>,
+) -> Result<IndexMap<String, String>, LabFault>
+    ensures { Gives is_lab_memory (λ m. map entry_account m.entries) result
+        (unless_fault (name_twice (account_view teacher.now ∷ map account_view students.items))
+        (map account_view students.items)) }
+{
+    let mut found = IndexMap::new(alloc);
+    fill(&mut found, teacher, students)?;
+    Ok(found)
+}
+
+/// Puts the students' names and keys into an empty map, up to a name that the teacher or an earlier student has: the
+/// error then tells its index, counted from 1.
+fn fill(
+    found: &mut IndexMap<String, String>,
+    teacher: &Account,
+    students: Vec<Account>,
+) -> Result<(), LabFault>
+    requires { found.old.entries ≡ [] }
+    ensures { Gives is_lab_memory (λ _. map entry_account found.new.entries) result
+        (unless_fault (name_twice (account_view teacher.now ∷ map account_view students.items))
+        (map account_view students.items)) }
+{
+    for student in students {
+        let Account { name, key } = student;
+        if is_taken(found, teacher.name.as_str(), name.as_str()) {
+            return Err(LabFault::NameTwice(found.len() + 1));
+        }
+        append(found, name, key)?;
+    }
+    Ok(())
+}
+
+/// Puts a name that the map doesn't have yet, with its key, at the end of the map.
+fn append(found: &mut IndexMap<String, String>, name: String, key: String) -> Result<(), LabFault>
+    requires { get string_eq found.old name ≡ None }
+    ensures entries { OnOk result (found.new.entries ≡ found.old.entries ++ (name, key) ∷ []) }
+    ensures err { IfErr result (λ fault. fault ≡ Memory) }
+{
+    found.insert(name, key)?;
+    Ok(())
+}

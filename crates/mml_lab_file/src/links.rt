@@ -1,0 +1,168 @@
+//! The checks of links, and the rows of neighbours by the ranks of the nodes.
+ghost use Rattle.std.specs.Prelude.{◌≡◌, ◌<◌, ◌==◌, ◌&&◌, ◌||◌, ℕ, None, position, map, length, IfSome, IfOk};
+ghost use Rattle.std.specs.List.{list_any};
+ghost use Rattle.std.specs.Option.{ForSome};
+ghost use Rattle.std.specs.Ordering.{int_eq};
+ghost use Rattle.std.specs.FinSet as set;
+ghost use Rattle.mml_ids.specs.Gives.{Gives};
+ghost use Rattle.mml_ids.specs.Ids.{in_order};
+ghost use Rattle.mml_rules.specs.Configuration.{holds};
+ghost use Rattle.mml_rules.specs.Network.{neighbours_at};
+ghost use Rattle.mml_lab_file.specs.Shape.{is_lab_memory};
+ghost use Rattle.mml_lab_file.specs.inside.Raw.{node_view};
+ghost use Rattle.mml_lab_file.specs.Reading.{number_of, file_ids, is_node, lacks_end, is_loop, neighbours_of, ends_fault, loops_fault, again_fault, pass_unless, linked};
+ghost use Rattle.mml_lab_file.specs.inside.Checks.{rank_at, lacks_rank, are_near};
+
+use crate::checks::{number_of, pass_unless};
+use crate::raw_lab::RawNode;
+use mml_ids::{IdTable, NodeSet, Rank};
+use mml_lab::LabFault;
+use std::alloc::Global;
+
+/// For each node by rank the set of its neighbours; or the first error of the links: an end that is no node, then a
+/// loop, then a link that stands twice.
+#[tactic(auto, unfolding(crate::specs::Reading::linked))]
+pub(crate) fn neighbours(
+    alloc: Global,
+    ids: &IdTable,
+    nodes: &[RawNode],
+    links: &[(i64, i64)],
+) -> Result<Vec<NodeSet>, LabFault>
+    requires { ids.now ≡ in_order (file_ids (map node_view nodes.now)) }
+    ensures tests { Gives is_lab_memory (λ _. tt {0}) result
+        (linked (map node_view nodes.now) links.now) }
+    ensures rows { IfOk result (λ rows. rows.items ≡ map (neighbours_of ids.now links.now) ids.now) }
+{
+    // By what this call ensures, the identifiers are a table.
+    let _count = ids.len();
+    pass_unless(ends_fault(nodes, links))?;
+    pass_unless(loops_fault(links))?;
+    rows(alloc, ids, links)
+}
+
+/// The error of the first link with an end that is no node; `None` where each end is one.
+#[tactic(auto, unfolding(crate::specs::Reading::ends_fault))]
+fn ends_fault(nodes: &[RawNode], links: &[(i64, i64)]) -> Option<LabFault>
+    ensures { result ≡ ends_fault (map node_view nodes.now) links.now }
+{
+    first_without_end(nodes, links).map(LabFault::LinkEnd)
+}
+
+/// Returns the index of the first link with an end that is no node, or `None` if each end is one.
+fn first_without_end(nodes: &[RawNode], links: &[(i64, i64)]) -> Option<usize>
+    ensures { result ≡ position (lacks_end (map node_view nodes.now)) links.now }
+{
+    links.iter().position(|link| lacks_end(nodes, *link))
+}
+
+/// Returns whether the first end of a link, or the second, is no node.
+fn lacks_end(nodes: &[RawNode], link: (i64, i64)) -> bool
+    ensures { result ≡ lacks_end (map node_view nodes.now) link }
+{
+    let (a, b) = link;
+    !(is_node(nodes, a) && is_node(nodes, b))
+}
+
+/// Returns whether an identifier is that of one of the file's nodes. The contract is about the nodes as the definitions
+/// have them, and that of `has_id` about the nodes as they were read.
+fn is_node(nodes: &[RawNode], id: i64) -> bool
+    ensures { result ≡ is_node (map node_view nodes.now) id }
+{
+    has_id(nodes, id)
+}
+
+/// Returns whether one of the nodes has the identifier `id`.
+fn has_id(nodes: &[RawNode], id: i64) -> bool
+    ensures { result ≡ list_any (λ node. int_eq node.id id) nodes.now }
+{
+    nodes.iter().any(|node| node.id == id)
+}
+
+/// The error of the first link whose ends are one node; `None` where there is no such link.
+#[tactic(auto, unfolding(crate::specs::Reading::loops_fault))]
+fn loops_fault(links: &[(i64, i64)]) -> Option<LabFault>
+    ensures { result ≡ loops_fault links.now }
+{
+    first_loop(links).map(LabFault::Loop)
+}
+
+/// Returns the index of the first link whose ends are one node, or `None` if there is no such link.
+fn first_loop(links: &[(i64, i64)]) -> Option<usize>
+    ensures { result ≡ position is_loop links.now }
+{
+    links.iter().position(|link| is_loop(*link))
+}
+
+/// Returns whether both ends of a link are one node.
+fn is_loop(link: (i64, i64)) -> bool
+    ensures { result ≡ is_loop link }
+{
+    link.0 == link.1
+}
+
+/// Returns the set of neighbours of each node, by rank, or the error of the first link whose ends, in either order, are
+/// those of a link before it.
+fn rows(alloc: Global, ids: &IdTable, links: &[(i64, i64)]) -> Result<Vec<NodeSet>, LabFault>
+    requires { position (lacks_rank ids.now) links.now ≡ None }
+    ensures tests { Gives is_lab_memory (λ _. tt {0}) result (pass_unless (again_fault links.now)) }
+    ensures rows { IfOk result (λ rows. rows.items ≡ map (neighbours_of ids.now links.now) ids.now) }
+{
+    let mut rows = vec![in alloc; NodeSet::empty(); ids.len() as usize]?;
+    for index in 0..links.len() {
+        // By reference: a value with a rank inside isn't copied by the toolchain if it is used again.
+        let a = &rank_at(ids, links[index].0);
+        let b = &rank_at(ids, links[index].1);
+        if are_near(&rows, *a, *b) {
+            return Err(LabFault::LinkTwice(index));
+        }
+        join(&mut rows, *a, *b);
+    }
+    Ok(rows)
+}
+
+/// Returns whether `a` and `b` are both nodes, and neighbours in `rows`. `None` is no node.
+#[tactic(auto, unfolding(crate::specs::inside::Checks::are_near))]
+fn are_near(rows: &[NodeSet], a: Option<Rank>, b: Option<Rank>) -> bool
+    requires { ForSome a (λ rank. rank < length rows.now) }
+    ensures { result ≡ are_near rows.now a b }
+{
+    match (a, b) {
+        (Some(a), Some(b)) => rows[a.index() as usize].has(b),
+        _ => false,
+    }
+}
+
+/// Returns the rank of the node with an identifier, or `None` if there is no such node.
+#[tactic(auto, unfolding(crate::specs::inside::Checks::rank_at))]
+pub(crate) fn rank_at(ids: &IdTable, id: i64) -> Option<Rank>
+    ensures rank { result ≡ rank_at ids.now id }
+    ensures node { IfSome result (λ rank. rank < length ids.now) }
+{
+    ids.rank_of(number_of(id))
+}
+
+/// Makes `a` and `b` neighbours in `rows`. Does nothing if one of them is `None`, and so no node.
+fn join(rows: &mut [NodeSet], a: Option<Rank>, b: Option<Rank>)
+    requires a { ForSome a (λ rank. rank < length rows.old) }
+    requires b { ForSome b (λ rank. rank < length rows.old) }
+    ensures { (i q : ℕ) → set.contains (neighbours_at rows.new i) q
+        ≡ (set.contains (neighbours_at rows.old i) q
+        || ((holds a i && holds b q) || (holds b i && holds a q))) }
+{
+    if let Some(a) = a
+        && let Some(b) = b
+    {
+        insert(rows, a, b);
+        insert(rows, b, a);
+    }
+}
+
+/// Adds `neighbour` to the neighbours of `node`.
+fn insert(rows: &mut [NodeSet], node: Rank, neighbour: Rank)
+    requires { node < length rows.old }
+    ensures { (i q : ℕ) → set.contains (neighbours_at rows.new i) q
+        ≡ (set.contains (neighbours_at rows.old i) q || (node == i && neighbour == q)) }
+{
+    let index = node.index() as usize;
+    rows[index] = rows[index].with(neighbour);
+}

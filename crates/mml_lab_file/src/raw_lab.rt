@@ -1,0 +1,383 @@
+ghost use Rattle.std.specs.Prelude.{◌≡◌, map, string_bytes, codes, Some, None, Ok, Err, option_map, ok_or};
+ghost use Rattle.mml_ids.specs.Gives.{Gives};
+ghost use Rattle.toml.specs.Data.{as_str, as_integer, as_bool, as_table, as_array, get_member};
+ghost use Rattle.toml.specs.View.{view, table_view, array_view};
+ghost use Rattle.mml_lab_file.specs.Shape.{is_lab_memory, value_under, needed, of_kind, optional_of, optional, names_of, owner_names, each, account_in, student_of};
+ghost use Rattle.mml_lab_file.specs.Shape.{node_of, link_of, links_of, teacher_of, raw_of, two_of, spelled};
+ghost use Rattle.mml_lab.specs.AccountView.{account_view};
+ghost use Rattle.mml_lab_file.specs.inside.Raw.{node_view, raw_view};
+
+use mml_lab::{Account, Key, LabFault, MAX_OWNERS};
+use std::alloc::Global;
+use toml::value::Array;
+use toml::{Table, Value};
+
+/// A node as the file spells it: its identifier, the names of its owners, and its registers.
+#[derive(Drop)]
+pub struct RawNode {
+    pub id: i64,
+    pub owners: Vec<String>,
+    /// Whether it has both keys, `owner` and `owners`.
+    pub both: bool,
+    pub p: Option<i64>,
+    pub m: bool,
+}
+
+/// How many events and connections a file allows.
+#[derive(Clone, Copy)]
+pub struct RawLimits {
+    pub events: i64,
+    pub sessions: i64,
+}
+
+/// The contents of a file, before its values are compared with one another.
+#[derive(Drop)]
+pub struct RawLab {
+    pub bounds: RawLimits,
+    pub teacher: Account,
+    pub students: Vec<Account>,
+    pub nodes: Vec<RawNode>,
+    /// For each link the identifiers of its two ends.
+    pub links: Vec<(i64, i64)>,
+}
+
+/// Returns the value under the key `name` of a table, or `None` if the table doesn't have it.
+fn find<'a>(table: &'a Table, name: &str) -> Option<&'a Value>
+    ensures { option_map (λ v. view v.now) result ≡ get_member name.now (table_view table.now) }
+{
+    table.get(name)
+}
+
+/// Returns the value under the key `name` of a table, or the error that the key, named as `key`, is missing.
+fn value_at<'a>(table: &'a Table, name: &str, key: Key) -> Result<&'a Value, LabFault>
+    ensures { Gives is_lab_memory (λ v. view v.now) result (value_under key name.now (table_view table.now)) }
+{
+    find(table, name).ok_or(LabFault::Missing(key))
+}
+
+/// Returns the value's integer, or the error that the value under `key` is of another kind.
+fn integer(value: &Value, key: Key) -> Result<i64, LabFault>
+    ensures { Gives is_lab_memory (λ z. z) result (of_kind key as_integer (view value.now)) }
+{
+    value.as_integer().ok_or(LabFault::WrongKind(key))
+}
+
+/// Returns the value's truth value, or the error that the value under `key` is of another kind.
+fn boolean(value: &Value, key: Key) -> Result<bool, LabFault>
+    ensures { Gives is_lab_memory (λ b. b) result (of_kind key as_bool (view value.now)) }
+{
+    value.as_bool().ok_or(LabFault::WrongKind(key))
+}
+
+/// Returns the value's string, or the error that the value under `key` is of another kind.
+fn text(alloc: Global, value: &Value, key: Key) -> Result<String, LabFault>
+    ensures { Gives is_lab_memory string_bytes result (of_kind key as_str (view value.now)) }
+{
+    let text = value.as_str().ok_or(LabFault::WrongKind(key))?;
+    Ok(String::from_str(alloc, text)?)
+}
+
+/// Returns the value's table, or the error that the value under `key` is of another kind.
+fn table_of(value: &Value, key: Key) -> Result<&Table, LabFault>
+    ensures { Gives is_lab_memory (λ t. table_view t.now) result (of_kind key as_table (view value.now)) }
+{
+    value.as_table().ok_or(LabFault::WrongKind(key))
+}
+
+/// Returns the value's array, or the error that the value under `key` is of another kind.
+fn array_of(value: &Value, key: Key) -> Result<&Array, LabFault>
+    ensures { Gives is_lab_memory (λ t. array_view t.now) result (of_kind key as_array (view value.now)) }
+{
+    value.as_array().ok_or(LabFault::WrongKind(key))
+}
+
+/// Returns the integer under the key `name`, or the error that the key, named as `key`, is missing or of another kind.
+fn integer_at(table: &Table, name: &str, key: Key) -> Result<i64, LabFault>
+    ensures { Gives is_lab_memory (λ z. z) result
+        (needed key name.now as_integer (table_view table.now)) }
+{
+    integer(value_at(table, name, key)?, key)
+}
+
+/// Returns the string under the key `name`, or the error that the key, named as `key`, is missing or of another kind.
+fn text_at(alloc: Global, table: &Table, name: &str, key: Key) -> Result<String, LabFault>
+    ensures { Gives is_lab_memory string_bytes result
+        (needed key name.now as_str (table_view table.now)) }
+{
+    text(alloc, value_at(table, name, key)?, key)
+}
+
+/// Returns the table under the key `name`, or the error that the key, named as `key`, is missing or of another kind.
+fn table_at<'a>(table: &'a Table, name: &str, key: Key) -> Result<&'a Table, LabFault>
+    ensures { Gives is_lab_memory (λ t. table_view t.now) result
+        (needed key name.now as_table (table_view table.now)) }
+{
+    table_of(value_at(table, name, key)?, key)
+}
+
+/// Returns the array under the key `name`, or the error that the key, named as `key`, is missing or of another kind.
+fn array_at<'a>(table: &'a Table, name: &str, key: Key) -> Result<&'a Array, LabFault>
+    ensures { Gives is_lab_memory (λ t. array_view t.now) result
+        (needed key name.now as_array (table_view table.now)) }
+{
+    array_of(value_at(table, name, key)?, key)
+}
+
+/// Returns the strings under `name` and `key` of a table. An error of the first names `name_key`, one of the second
+/// `key_key`.
+#[tactic(auto, unfolding(crate::specs::Shape::account_in))]
+fn account_at(
+    alloc: Global,
+    table: &Table,
+    name_key: Key,
+    key_key: Key,
+) -> Result<Account, LabFault>
+    ensures { Gives is_lab_memory account_view result
+        (account_in name_key key_key (table_view table.now)) }
+{
+    let name = text_at(alloc, table, "name", name_key)?;
+    let key = text_at(alloc, table, "key", key_key)?;
+    Ok(Account { name, key })
+}
+
+/// Returns the name and key of an element of `student`, or the first error of the element.
+#[tactic(auto, unfolding(crate::specs::Shape::student_of))]
+fn student(alloc: Global, value: &Value) -> Result<Account, LabFault>
+    ensures { Gives is_lab_memory account_view result (student_of (view value.now)) }
+{
+    let table = table_of(value, Key::Student)?;
+    account_at(alloc, table, Key::StudentName, Key::StudentKey)
+}
+
+/// Returns the names and keys of the elements of `student`, in order, or the first error of one.
+fn students(alloc: Global, list: &Array) -> Result<Vec<Account>, LabFault>
+    ensures { Gives is_lab_memory (λ v. map account_view v.items) result
+        (each student_of (array_view list.now)) }
+{
+    let mut found = Vec::new(alloc);
+    for value in list {
+        found.push(student(alloc, value)?)?;
+    }
+    Ok(found)
+}
+
+/// Returns the integer under the key `name`, or `None` if the key is left out. Returns the error that the key, named as
+/// `key`, is of another kind.
+fn optional_integer(table: &Table, name: &str, key: Key) -> Result<Option<i64>, LabFault>
+    ensures { Gives is_lab_memory (λ z. z) result
+        (optional_of key as_integer (get_member name.now (table_view table.now))) }
+{
+    match find(table, name) {
+        Some(v) => Ok(Some(integer(v, key)?)),
+        None => Ok(None),
+    }
+}
+
+/// Returns the truth value under the key `name`, or `None` if the key is left out. Returns the error that the key,
+/// named as `key`, is of another kind.
+fn optional_boolean(table: &Table, name: &str, key: Key) -> Result<Option<bool>, LabFault>
+    ensures { Gives is_lab_memory (λ z. z) result
+        (optional_of key as_bool (get_member name.now (table_view table.now))) }
+{
+    match find(table, name) {
+        Some(v) => Ok(Some(boolean(v, key)?)),
+        None => Ok(None),
+    }
+}
+
+/// Returns the string under the key `name`, or `None` if the key is left out. Returns the error that the key, named as
+/// `key`, is of another kind.
+fn optional_text(
+    alloc: Global,
+    table: &Table,
+    name: &str,
+    key: Key,
+) -> Result<Option<String>, LabFault>
+    ensures { Gives is_lab_memory (option_map string_bytes) result
+        (optional_of key as_str (get_member name.now (table_view table.now))) }
+{
+    match find(table, name) {
+        Some(v) => Ok(Some(text(alloc, v, key)?)),
+        None => Ok(None),
+    }
+}
+
+/// Returns the strings of an array, in order, or the error that an element of the value under `key` is of another kind.
+fn texts(alloc: Global, list: &Array, key: Key) -> Result<Vec<String>, LabFault>
+    ensures { Gives is_lab_memory (λ v. map string_bytes v.items) result
+        (each (of_kind key as_str) (array_view list.now)) }
+{
+    let mut found = Vec::new(alloc);
+    for value in list {
+        found.push(text(alloc, value, key)?)?;
+    }
+    Ok(found)
+}
+
+/// Returns the names under `owners`, which are one or two strings, or the error that the key is of another kind.
+#[tactic(auto, unfolding(crate::specs::Shape::names_of))]
+fn names(alloc: Global, value: &Value) -> Result<Vec<String>, LabFault>
+    ensures { Gives is_lab_memory (λ v. map string_bytes v.items) result (names_of (view value.now)) }
+{
+    let names = texts(alloc, array_of(value, Key::NodeOwners)?, Key::NodeOwners)?;
+    if names.is_empty() || names.len() as u64 > MAX_OWNERS {
+        return Err(LabFault::WrongKind(Key::NodeOwners));
+    }
+    Ok(names)
+}
+
+/// Returns the names under `owners`, or `None` if the key is left out, or the error that it is of another kind.
+fn optional_names(alloc: Global, table: &Table) -> Result<Option<Vec<String>>, LabFault>
+    ensures { Gives is_lab_memory (option_map (λ v. map string_bytes v.items)) result
+        (optional names_of (get_member (codes "owners") (table_view table.now))) }
+{
+    match find(table, "owners") {
+        Some(v) => Ok(Some(names(alloc, v)?)),
+        None => Ok(None),
+    }
+}
+
+/// Returns the names under `owners`, or else the one under `owner`, or the error that `owner` is missing if neither is
+/// there.
+fn owner_names(
+    alloc: Global,
+    owner: Option<String>,
+    owners: Option<Vec<String>>,
+) -> Result<Vec<String>, LabFault>
+    ensures { Gives is_lab_memory (λ v. map string_bytes v.items) result (ok_or
+        (owner_names (option_map string_bytes owner) (option_map (λ v. map string_bytes v.items) owners))
+        (LabFault.Missing Key.NodeOwner)) }
+{
+    if let Some(names) = owners {
+        return Ok(names);
+    }
+    let name = owner.ok_or(LabFault::Missing(Key::NodeOwner))?;
+    let mut names = Vec::new(alloc);
+    names.push(name)?;
+    Ok(names)
+}
+
+/// Returns a node as an element of `node` spells it, with m false if the key is left out, or the first error of the
+/// element.
+#[tactic(auto, unfolding(crate::specs::Shape::node_of))]
+fn node(alloc: Global, value: &Value) -> Result<RawNode, LabFault>
+    ensures { Gives is_lab_memory node_view result (node_of (view value.now)) }
+{
+    let table = table_of(value, Key::Node)?;
+    let id = integer_at(table, "id", Key::NodeId)?;
+    let owner = optional_text(alloc, table, "owner", Key::NodeOwner)?;
+    let owners = optional_names(alloc, table)?;
+    let both = owner.is_some() && owners.is_some();
+    let owners = owner_names(alloc, owner, owners)?;
+    let p = optional_integer(table, "p", Key::NodeP)?;
+    let m = optional_boolean(table, "m", Key::NodeM)?.unwrap_or(false);
+    Ok(RawNode {
+        id,
+        owners,
+        both,
+        p,
+        m,
+    })
+}
+
+/// Returns the nodes that the elements of `node` spell, in order, or the first error of one.
+fn nodes(alloc: Global, list: &Array) -> Result<Vec<RawNode>, LabFault>
+    ensures { Gives is_lab_memory (λ v. map node_view v.items) result
+        (each node_of (array_view list.now)) }
+{
+    let mut found = Vec::new(alloc);
+    for value in list {
+        found.push(node(alloc, value)?)?;
+    }
+    Ok(found)
+}
+
+/// Returns the first and the second value of an array of exactly two, or the error that a link is of another kind.
+fn two_of(list: &Array) -> Result<(&Value, &Value), LabFault>
+    ensures { Gives is_lab_memory (λ e. (view e.0.now, view e.1.now)) result
+        (ok_or (two_of (array_view list.now)) (LabFault.WrongKind Key.Link)) }
+{
+    if list.len() != 2 {
+        return Err(LabFault::WrongKind(Key::Link));
+    }
+    Ok((&list[0], &list[1]))
+}
+
+/// Returns the identifiers of the first and the second end of a link, or the error that it isn't an array of two
+/// integers.
+#[tactic(auto, unfolding(crate::specs::Shape::link_of))]
+fn link_ends(value: &Value) -> Result<(i64, i64), LabFault>
+    ensures { Gives is_lab_memory (λ e. e) result (link_of (view value.now)) }
+{
+    let (a, b) = two_of(array_of(value, Key::Link)?)?;
+    let a = integer(a, Key::Link)?;
+    let b = integer(b, Key::Link)?;
+    Ok((a, b))
+}
+
+/// Returns for each link that the elements of `links` spell, in order, the identifiers of its two ends, or the first
+/// error of one.
+fn links(alloc: Global, list: &Array) -> Result<Vec<(i64, i64)>, LabFault>
+    ensures { Gives is_lab_memory (λ v. v.items) result (each link_of (array_view list.now)) }
+{
+    let mut found = Vec::new(alloc);
+    for value in list {
+        found.push(link_ends(value)?)?;
+    }
+    Ok(found)
+}
+
+/// Returns the links under `links`, each by the identifiers of its two ends, or no links if the key is left out, or the
+/// first error.
+fn links_at(alloc: Global, table: &Table) -> Result<Vec<(i64, i64)>, LabFault>
+    ensures { Gives is_lab_memory (λ v. v.items) result
+        (links_of (get_member (codes "links") (table_view table.now))) }
+{
+    match find(table, "links") {
+        Some(value) => links(alloc, array_of(value, Key::Links)?),
+        None => Ok(Vec::new(alloc)),
+    }
+}
+
+/// Returns the name and key under `teacher`, or the error of the first key, `teacher` among them, that is missing or of
+/// another kind.
+#[tactic(auto, unfolding(crate::specs::Shape::teacher_of))]
+fn teacher_at(alloc: Global, table: &Table) -> Result<Account, LabFault>
+    ensures { Gives is_lab_memory account_view result (teacher_of (table_view table.now)) }
+{
+    let teacher = table_at(table, "teacher", Key::Teacher)?;
+    account_at(alloc, teacher, Key::TeacherName, Key::TeacherKey)
+}
+
+/// Returns the contents of a document's table, or the error of the first key that is missing or of the wrong kind.
+#[tactic(auto, unfolding(crate::specs::Shape::raw_of, crate::specs::Shape::students_of, crate::specs::Shape::nodes_of))]
+pub fn read_raw(alloc: Global, table: &Table) -> Result<RawLab, LabFault>
+    ensures { Gives is_lab_memory raw_view result (raw_of (table_view table.now)) }
+{
+    let events = integer_at(table, "events", Key::Events)?;
+    let sessions = integer_at(table, "sessions", Key::Sessions)?;
+    let teacher = teacher_at(alloc, table)?;
+    let students = students(alloc, array_at(table, "student", Key::Student)?)?;
+    let nodes = nodes(alloc, array_at(table, "node", Key::Node)?)?;
+    let links = links_at(alloc, table)?;
+    Ok(RawLab {
+        bounds: RawLimits { events, sessions },
+        teacher,
+        students,
+        nodes,
+        links,
+    })
+}
+
+/// Returns the contents of the bytes of a lab file, or the error that they are no TOML, or of the first key that is
+/// missing or of the wrong kind.
+#[tactic(auto, unfolding(crate::specs::Shape::spelled))]
+pub fn read_bytes(alloc: Global, bytes: &[u8]) -> Result<RawLab, LabFault>
+    ensures { Gives is_lab_memory raw_view result (spelled bytes.now) }
+{
+    match toml::table_from_slice(alloc, bytes) {
+        Ok(table) => read_raw(alloc, &table),
+        Err(e) if e.is_memory() => Err(LabFault::Memory),
+        Err(_) => Err(LabFault::NotToml),
+    }
+}
