@@ -86,7 +86,7 @@ class Class:
         threading.Thread(target=self.read, daemon=True).start()
         self.until(lambda: any(line.startswith("words: ") for line in self.lines))
         text = "\n".join(self.lines)
-        self.port, self.desk = (int(re.findall(rf"(?m)^{word} (\d+)", text)[0]) for word in ("port", "desk"))
+        self.port, self.desk = (int(re.findall(rf"(?m)^{word} (\d+)(?:,|$)", text)[0]) for word in ("port", "desk"))  # not one in use
 
     def read(self) -> None:
         """Reads what the class prints."""
