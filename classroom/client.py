@@ -281,7 +281,7 @@ def connected(port: int, limit: float, slip: Slip | None = None, host: str = "12
     except (OSError, NoDoor) as error:
         if it is not None:
             it.close()
-            if isinstance(error, ConnectionError) or type(error).__name__ == "SSLEOFError":
+            if isinstance(error, ConnectionError) or type(error).__name__ in ("SSLEOFError", "SSLZeroReturnError"):
                 raise Refused("busy") from None
         where = f"door at {slip.door}" if slip and slip.door else f"server at port {port}"
         raise error if isinstance(error, NoDoor) else NoServer(f"no {where}: {error}") from None

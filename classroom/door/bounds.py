@@ -9,7 +9,7 @@ from collections.abc import Callable
 from dataclasses import dataclass
 
 CONNECTIONS, CONNECTIONS_EACH = 512, 256  # in all, and of an address
-HANDSHAKES, HANDSHAKES_EACH = 64, 32
+HANDSHAKES, HANDSHAKES_EACH = 256, 128
 RATE, RATE_EACH = 16e6, 8e6  # bytes a second, both ways together
 BURST = 2.0  # seconds of the rate that may come at once
 PREFIX = 64  # bits of an IPv6 address by which whoever has many of them is known

@@ -19,7 +19,7 @@ import termios
 import threading
 import time
 import unittest
-from collections.abc import Iterator
+from collections.abc import Callable, Iterator
 from contextlib import contextmanager
 from pathlib import Path
 from typing import Any
@@ -63,6 +63,14 @@ def no_server() -> Iterator[int]:
     with socket.socket() as it:
         it.bind(("127.0.0.1", 0))
         yield it.getsockname()[1]
+
+
+def wait_until(holds: Callable[[], object], what: str = "") -> None:
+    """Waits until a condition holds; raises an error with `what` if that takes too long."""
+    end = time.monotonic() + LIMIT
+    while not holds():
+        assert time.monotonic() < end, what
+        time.sleep(0.05)
 
 
 def stop(process: int) -> None:

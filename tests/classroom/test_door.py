@@ -255,6 +255,19 @@ class Bots(AtDoor):
         self.assertEqual(plain.makefile("rb").readline(), lines[:13])
         self.assertEqual(it.taken, 2 * lines.splitlines(keepends=True))
 
+    def test_a_door_without_room_is_busy(self) -> None:
+        with socket.create_server(("127.0.0.1", 0)) as full:
+            def turn_away(most: int) -> None:
+                """Takes so many bytes of a connection, and ends it: in order, or if some weren't taken by a reset."""
+                connection, _ = full.accept()
+                with connection:
+                    connection.recv(most)
+
+            for most in (65536, 1):
+                threading.Thread(target=turn_away, args=[most], daemon=True).start()
+                with self.assertRaisesRegex(Refused, "^busy: "):
+                    Client.of(Slip(4711, "gus", "heron-31", (1,), f"127.0.0.1:{full.getsockname()[1]}", "maths", "0" * 64))
+
     def test_a_network_whose_server_is_gone_and_comes_back(self) -> None:
         first = self.lines("maths")
         with Client.of(self.slip("maths")):

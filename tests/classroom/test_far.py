@@ -8,9 +8,8 @@ import re
 import signal
 import subprocess
 import sys
-import time
 import unittest
-from collections.abc import Callable, Iterator
+from collections.abc import Iterator
 from contextlib import contextmanager
 from pathlib import Path
 from typing import Any
@@ -18,7 +17,7 @@ from typing import Any
 from classroom.client import Slip
 from classroom.core.lab import read
 from classroom.core.program import host
-from tests.classroom.help import EXAMPLES, LIMIT, Going, InRoom, a_port, words
+from tests.classroom.help import EXAMPLES, LIMIT, Going, InRoom, a_port, wait_until, words
 from tests.classroom.machines import TEACHERS, Machine, can_be_made, two
 
 CROWD = Path(__file__).parent / "bots/crowd.py"
@@ -59,13 +58,6 @@ class Far(InRoom):
         """Who was greeted until now, one for each time."""
         return self.told.read_text(encoding="utf-8").split() if self.told.exists() else []
 
-    def wait(self, until: Callable[[], bool]) -> None:
-        """Waits until something is so."""
-        end = time.monotonic() + LIMIT
-        while not until():
-            self.assertLess(time.monotonic(), end, self.greeted())
-            time.sleep(0.1)
-
     def reaches(self, machine: Machine, port: int) -> bool:
         """Returns whether the teacher's machine takes connections from a machine at a port."""
         return subprocess.run([*machine.on, sys.executable, "-c", REACHES, TEACHERS, str(port)], check=False, capture_output=True).returncode == 0
@@ -89,7 +81,7 @@ class Far(InRoom):
         self.addCleanup(run.kill)
         with self.crowd([Path(row["file"]) for row in rows]):
             assert run.stdout is not None and run.stdin is not None
-            self.wait(lambda: len(set(self.greeted())) == 44)
+            wait_until(lambda: len(set(self.greeted())) == 44)
             runs = sorted((self.room / "runs").glob("*-maths/maths-*"))
             self.assertEqual([folder.name for folder in runs], [lab.stem for lab in labs])
             records = [json.loads((folder / "run.json").read_text(encoding="utf-8")) for folder in runs]
@@ -101,7 +93,7 @@ class Far(InRoom):
                 self.assertEqual(self.gets(f"/{lab.stem}/look/{record['looks']}/")[0], 200)
             path = self.page_for_all(runs[0].parent, [record["looks"] for record in records])
             self.killed(3, records[2]["server"]["number"], path, run, {Path(row["file"]).stem for row in rows if row["network"] == "maths-3"})
-            self.wait(lambda: all("; stable, " in (folder / "run.txt").read_text(encoding="utf-8") for folder in runs))
+            wait_until(lambda: all("; stable, " in (folder / "run.txt").read_text(encoding="utf-8") for folder in runs))
             run.stdin.write("end\n")
             run.stdin.flush()
             output = run.communicate(timeout=LIMIT)[0]
@@ -112,7 +104,7 @@ class Far(InRoom):
         self.assertEqual(sum(len(it["students"]) for it in marks), 44)
         self.assertEqual(re.findall("(?m)^ALARM (maths-\\d) is down: the server has ended, by SIGKILL", output), ["maths-3"])
         self.assertTrue(all(it["stable"] for it in marks))
-        self.wait(lambda: not self.reaches(self.students, self.port))  # It stays open a little after its last network.
+        wait_until(lambda: not self.reaches(self.students, self.port))  # It stays open a little after its last network.
 
     def page_for_all(self, folder: Path, looks: list[str]) -> str:
         """Wants the page for all networks at the students' machine, with pages that are there too, and none to act. Returns its path."""
@@ -136,12 +128,12 @@ class Far(InRoom):
         """Kills the server of a network, which is down on the page for all until the desk resumes it; its bots come back."""
         before = {name: self.greeted().count(name) for name in students}
         os.kill(server, signal.SIGKILL)
-        self.wait(lambda: bool(self.networks(path)[number - 1]["status"] == "down"))
+        wait_until(lambda: bool(self.networks(path)[number - 1]["status"] == "down"))
         self.assertEqual([it["status"] for it in self.networks(path)].count("runs"), 3)
         assert run.stdin is not None
         run.stdin.write(f"resume {number}\n")
         run.stdin.flush()
-        self.wait(lambda: all(self.greeted().count(name) > count for name, count in before.items()))
+        wait_until(lambda: all(self.greeted().count(name) > count for name, count in before.items()))
 
     def test_another_key_while_the_class_goes_on(self) -> None:
         lab, = self.new(6)
@@ -150,7 +142,7 @@ class Far(InRoom):
         slips = {file.stem: file for file in sorted(folder.iterdir())}
         old = Slip.read(slips["student-3"])
         with self.crowd([*slips.values()]):
-            self.wait(lambda: len(set(self.greeted())) == 6)
+            wait_until(lambda: len(set(self.greeted())) == 6)
             going.until("; stable, ")
             before = (going.folder / "journal").read_bytes()
             going.type("key nobody")
@@ -158,7 +150,7 @@ class Far(InRoom):
             going.type("key student-3")
             going.until("^the class goes on at port ")
             others = [name for name in slips if name != "student-3"]
-            self.wait(lambda: all(self.greeted().count(name) == 2 for name in others))
+            wait_until(lambda: all(self.greeted().count(name) == 2 for name in others))
             new = Slip.read(slips["student-3"])
             self.assertNotEqual(new.key, old.key)
             self.assertEqual(read(lab).students["student-3"], new.key)

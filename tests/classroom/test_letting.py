@@ -12,7 +12,7 @@ from classroom.client import Client, Closed, NoServer, Refused, Slip
 from classroom.core.folders import Record
 from classroom.core.program import host
 from classroom.door.routes import Kept
-from tests.classroom.help import LIMIT, Going, InRoom, a_port, words
+from tests.classroom.help import LIMIT, Going, InRoom, a_port, wait_until, words
 
 
 @unittest.skipUnless(host(), "not tried: no host is built")
@@ -49,14 +49,6 @@ class Doors(InRoom):
                 self.assertLess(time.monotonic(), end)
                 time.sleep(0.1)
 
-    def wait(self, holds: object) -> None:
-        """Waits until a condition holds."""
-        assert callable(holds)
-        end = time.monotonic() + LIMIT
-        while not holds():
-            self.assertLess(time.monotonic(), end)
-            time.sleep(0.05)
-
     def grants(self, client: Client) -> int:
         """Asks for what is enabled at the student's node, and returns how many events the class has then."""
         look = client.look(self.slip.nodes[0])
@@ -72,7 +64,7 @@ class Doors(InRoom):
             os.kill(record.server.number, signal.SIGKILL)
             self.assertEqual(going.ends(), 4, going.lines)
         door = self.door(going).process
-        self.wait(lambda: not door.lives())
+        wait_until(lambda: not door.lives())
         with self.assertRaises(NoServer):
             Client.of(self.slip)
         again = Going(self, None, "run", "--resume", going.folder)
@@ -91,14 +83,15 @@ class Doors(InRoom):
         going.process.wait()
         with self.comes() as client:  # The server and the door go on.
             self.grants(client)
-        os.kill(record.server.number, signal.SIGKILL)
-        self.wait(lambda: not record.server.lives())
+        server = record.server
+        os.kill(server.number, signal.SIGKILL)
+        wait_until(lambda: not server.lives())
         again = Going(self, None, "run", "--resume", going.folder)
         with self.comes() as client:
             self.assertEqual(client.look(self.slip.nodes[0]).node, self.slip.nodes[0])
         self.assertEqual(self.door(again).port, self.port)
         self.assertEqual(again.ended(), 0, again.lines)
-        self.wait(lambda: not door.lives() and not self.door(again).process.lives())
+        wait_until(lambda: not door.lives() and not self.door(again).process.lives())
 
     def test_slips_that_lead_elsewhere_are_named(self) -> None:
         self.port = a_port()

@@ -5,7 +5,6 @@ import json
 import os
 import re
 import signal
-import time
 import unittest
 from pathlib import Path
 
@@ -16,7 +15,7 @@ from classroom.core.classes import Class, name_of
 from classroom.core.program import host
 from classroom.run.addressed import addressed
 from classroom.run.network_table import now_table, start_table
-from tests.classroom.help import LIMIT, words
+from tests.classroom.help import LIMIT, wait_until, words
 from tests.classroom.several import Classes, GoingClass
 
 NAMES = ["maths-1", "maths-2", "close"]
@@ -154,7 +153,7 @@ class OneDesk(Classes):
         desk.process.kill()
         desk.process.wait(LIMIT)
         desk.kill("maths-2")
-        self.wait_for(lambda: not desk.record("maths-2").goes_on())
+        wait_until(lambda: not desk.record("maths-2").goes_on())
         again = GoingClass(self, "attach", desk.folder)
         self.assertEqual([line for line in again.lines if "ALARM" in line],
                          ["ALARM maths-2 is down: its server has ended; resume 2 goes on with it, end 2 gives it up"])
@@ -167,23 +166,15 @@ class OneDesk(Classes):
         self.assertEqual(again.ends(), 0, again.lines)
         self.assertEqual(again.marks("maths-1")["faults"], 1)
 
-    def wait_for(self, holds: object) -> None:
-        """Waits until a condition holds."""
-        assert callable(holds)
-        end = time.monotonic() + LIMIT
-        while not holds():
-            self.assertLess(time.monotonic(), end)
-            time.sleep(0.05)
-
     def test_the_state_of_each_network(self) -> None:
         desk = self.begin("--close", "by-hand", "--anonymous")
-        self.wait_for(lambda: desk.state("maths-1").get("missing") == ["#1", "#2", "#3", "#4"])
+        wait_until(lambda: desk.state("maths-1").get("missing") == ["#1", "#2", "#3", "#4"])
         lab = labs.read(self.labs[0])
         with Client(desk.record("maths-1").port, "ana-lima", lab.students["ana-lima"]) as ana:
-            self.wait_for(lambda: desk.state("maths-1")["missing"] == ["#1", "#2", "#4"])
+            wait_until(lambda: desk.state("maths-1")["missing"] == ["#1", "#2", "#4"])
             look = next(look for look in map(ana.look, lab.nodes_of("ana-lima")))
             desk.type(f"1 fault {look.node} null true")
-            self.wait_for(lambda: desk.state("maths-1")["configuration"] == 1)
+            wait_until(lambda: desk.state("maths-1")["configuration"] == 1)
             state = desk.state("maths-1")
             self.assertEqual((state["events"], state["limit"], state["moves"], state["closing"]), (1, 100000, 0, "by-hand"))
             self.assertIn({"node": look.node, "owners": ["#3"], "rule": dict(state["privileged"])[look.node]}, state["waiting"])
