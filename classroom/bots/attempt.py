@@ -16,7 +16,6 @@ from classroom.bots.conduct import FLOODS, MINUTE, most_connections
 from classroom.bots.playing import No, Playing
 from classroom.bots.suites import Case
 from classroom.core.program import call
-from classroom.pages import play
 from classroom.setup import slips
 
 ALLOWED = ("stale", "chosen")
@@ -204,4 +203,4 @@ class Attempt:
         (folder / "output.txt").write_bytes(os.pread(self.room.output.fileno(), MOST_KEPT, 0))
         answer = call("script", folder / "lab.toml", folder / "script", folder / "journal")
         if answer.status == 0:
-            (folder / "run.html").write_text(play.page(folder / "lab.toml", folder / "journal"), encoding="utf-8")
+            (folder / "run.html").write_text(self.playing.own_page(folder, self.case.who), encoding="utf-8")

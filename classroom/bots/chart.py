@@ -10,8 +10,9 @@ from classroom.core import bounds
 from classroom.core.bounds import MOVES
 from classroom.pages import colours
 
-WIDE, HIGH = 360, 300  # of a panel
-LEFT, RIGHT, ABOVE, BELOW = 48, 14, 30, 38
+WIDE, HIGH = 360, 346  # of a panel
+LEFT, RIGHT, ABOVE, BELOW = 48, 14, 78, 38
+LINE = 16  # between two lines of text
 KEY = 86
 MEASURES: list[tuple[str, str, Callable[[Row], int]]] = [
     ("moves", "--point", lambda row: row.moves),
@@ -27,6 +28,8 @@ svg .loose { stroke-width: 1; stroke-dasharray: 12 3 2 3; }
 svg .most { stroke-width: 1.2; }
 svg .median { stroke-width: 2.4; }
 svg circle { opacity: 0.35; }
+svg circle.worst { opacity: 1; fill: none; stroke: var(--ink); stroke-width: 1.6; }
+svg text.over { paint-order: stroke; stroke: var(--ground); stroke-width: 4px; stroke-linejoin: round; }
 svg text { font-size: 12px; text-anchor: middle; }
 svg text.left { text-anchor: start; }
 svg text.end { text-anchor: end; }
@@ -91,7 +94,7 @@ def panel(title: str, rows: list[Row]) -> str:
     most = {size: bounds.of(size, links[size]) for size in sizes}
     loose = {size: 3 * size + 2 * links[size] for size in sizes}
     scale = Scale(sizes[0], sizes[-1], max(loose.values()))
-    parts = [f'<text class="title" x="{WIDE / 2}" y="18">{escape(title)}</text>', *axes(scale)]
+    parts = [f'<text class="title" x="{WIDE / 2}" y="18">{escape(title)}</text>', *told_worst(rows), *axes(scale)]
     parts.append(line([(scale.x(size), scale.y(loose[size])) for size in sizes], "bound loose"))
     parts.append(line([(scale.x(size), scale.y(most[size].moves)) for size in sizes], "bound"))
     parts.append(line([(scale.x(size), scale.y(most[size].rounds)) for size in sizes], "bound least"))
@@ -101,7 +104,25 @@ def panel(title: str, rows: list[Row]) -> str:
         by_size = {size: [of(row) for row in rows if row.nodes == size] for size in sizes}
         parts.append(line([(scale.x(size), scale.y(max(by_size[size]))) for size in sizes], f"most {name}", colour))
         parts.append(line([(scale.x(size), scale.y(statistics.median(by_size[size]))) for size in sizes], f"median {name}", colour))
+    for name, row, count, bound in worst(rows):
+        parts.append(f'<circle class="worst" cx="{scale.x(row.nodes):.1f}" cy="{scale.y(count):.1f}" r="5"><title>{count} of {bound} {name}</title></circle>')
+    last = sizes[-1]
+    for count, name in ((most[last].moves, "moves"), (most[last].rounds, "rounds")):
+        parts.append(f'<text class="end over" x="{WIDE - RIGHT}" y="{scale.y(count) - 5:.1f}">at most {count} {name}</text>')
     return "".join(parts)
+
+
+def worst(rows: list[Row]) -> list[tuple[str, Row, int, int]]:
+    """Returns the run that came closest to its bound of moves, and that of rounds: each with its count and the bound."""
+    every = [(name, row, count, bound) for row in rows for most in (bounds.of(row.nodes, row.links),)
+             for name, count, bound in (("moves", row.moves, most.moves), ("rounds", row.rounds, most.rounds))]
+    return [max((each for each in every if each[0] == name), key=lambda each: each[2] / each[3]) for name in ("moves", "rounds")]
+
+
+def told_worst(rows: list[Row]) -> list[str]:
+    """Returns which runs came closest to their bounds, as lines below a panel's title."""
+    texts = [f"{count} of {bound} {name} (n {row.nodes}, seed {row.seed})" for name, row, count, bound in worst(rows)]
+    return [f'<text x="{WIDE / 2}" y="{18 + LINE * number}">{text}</text>' for number, text in enumerate([f"closest: {texts[0]}", *texts[1:]], 1)]
 
 
 def key(runs: int) -> str:
@@ -111,7 +132,7 @@ def key(runs: int) -> str:
         x = 12 + 84 * column
         parts.append(line([(x, 14), (x + 22, 14)], "median", colour) + f'<text class="left" x="{x + 28}" y="18">{name}</text>')
     parts.append(f'<text class="left" x="270" y="18">{runs} runs</text>')
-    parts.append('<text class="left" x="12" y="36">points: runs; thick: median; thin: greatest</text>')
+    parts.append('<text class="left" x="12" y="36">points: runs; thick: median; thin: greatest; ring: closest to its bound</text>')
     parts.append(line([(12, 46), (34, 46)], "bound") + '<text class="left" x="40" y="50">' + f"{MOVES} moves: proved</text>")
     parts.append(line([(12, 62), (34, 62)], "bound loose") + '<text class="left" x="40" y="66">3n + 2L moves: proved</text>')
     parts.append(line([(12, 78), (34, 78)], "bound least") + '<text class="left" x="40" y="82">2n rounds (2n - 1, n odd): proved</text>')

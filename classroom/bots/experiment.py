@@ -199,11 +199,9 @@ def spread(counts: list[int], bound: int) -> str:
 
 def closest(family: str, daemon: str, own: list[Row]) -> str:
     """Returns which runs came closest to the bounds of their networks."""
-    by_moves = max(own, key=lambda row: row.moves / bounds.of(row.nodes, row.links).moves)
-    by_rounds = max(own, key=lambda row: row.rounds / bounds.of(row.nodes, row.links).rounds)
-    return (f"{family:10} {daemon:14} closest to the bound {MOVES}: {by_moves.moves} of {bounds.of(by_moves.nodes, by_moves.links).moves} moves "
-            f"(n {by_moves.nodes}, seed {by_moves.seed}); to that of rounds: {by_rounds.rounds} of "
-            f"{bounds.of(by_rounds.nodes, by_rounds.links).rounds} (n {by_rounds.nodes}, seed {by_rounds.seed})")
+    (_, by_moves, moves, most_moves), (_, by_rounds, rounds, most_rounds) = chart.worst(own)
+    return (f"{family:10} {daemon:14} closest to the bound {MOVES}: {moves} of {most_moves} moves (n {by_moves.nodes}, seed {by_moves.seed}); "
+            f"to that of rounds: {rounds} of {most_rounds} (n {by_rounds.nodes}, seed {by_rounds.seed})")
 
 
 def new_file(path: Path) -> None:

@@ -4,33 +4,14 @@ They are for a reader who looks for a mistake, and are marked as the model's. No
 """
 from __future__ import annotations
 
-import subprocess
-import sys
-import tempfile
-from pathlib import Path
-
 from classroom.bots.playing import Playing
-from classroom.core import lab as labs
-from classroom.core.processes import run
-from classroom.core.program import TOP
-
-MARK = "the plain model, which decides nothing, adds: "
-LIMIT = 60.0  # seconds after which there is no explanation
+from classroom.core import explained
+from classroom.core.explained import MARK
 
 
 def lines_of(playing: Playing, more: bytes = b"") -> list[list[str]]:
-    """Returns what the model says of a class up to now and of one more line: of each line its place, node and text.
-    Returns an empty list if the model can't be asked."""
-    with tempfile.TemporaryDirectory() as room:
-        lab, script = Path(room, "lab.toml"), Path(room, "script")
-        lab.write_text(labs.text(playing.lab), encoding="utf-8")
-        script.write_bytes(playing.program.script() + (more + b"\n" if more else b""))
-        call: list[str | Path] = [sys.executable, "-B", "-m", "model.explain", lab, script]
-        try:
-            done = run(call, seconds=LIMIT, cwd=TOP)
-        except (OSError, subprocess.TimeoutExpired):
-            return []
-    return [line.split(" ", 2) for line in done.stdout.decode(errors="replace").splitlines()]
+    """Returns what the model says of a class up to now and of one more line: of each line its place, node and text."""
+    return explained.lines_of(playing.lab, playing.program.script() + (more + b"\n" if more else b""))
 
 
 def of_denial(playing: Playing, line: bytes) -> str:

@@ -3,7 +3,7 @@ from __future__ import annotations
 
 import contextlib
 import random
-from collections.abc import Sequence
+from collections.abc import Callable, Sequence
 from dataclasses import dataclass
 
 from classroom.client import Denied, Refused
@@ -60,9 +60,11 @@ def drawn(setting: Setting, seed: int) -> labs.Lab:
     return made
 
 
-def lowest(nodes: Sequence[int]) -> int:
-    """Returns the lowest of some nodes."""
-    return min(nodes)
+def taker(how: Daemon, chance: random.Random) -> Callable[[Sequence[int]], int]:
+    """Returns who of several is married under a daemon: the lowest if it makes runs long, else one that is drawn."""
+    if how.kind in SEARCHING:
+        return min
+    return chance.choice
 
 
 def run(bench: Bench, setting: Setting, made: labs.Lab, seed: int) -> Row:
@@ -70,6 +72,7 @@ def run(bench: Bench, setting: Setting, made: labs.Lab, seed: int) -> Row:
     row."""
     named = f"{setting.family} {setting.nodes} {setting.start} {seed} {setting.daemon.spelled()}"
     chance = random.Random(named)
+    partner_of = taker(setting.daemon, chance)
     report = bench.begin(made)
     recovery = Recovery(node for node, _ in report["privileged"])
     most = bounds.of_lab(made).moves
@@ -77,7 +80,7 @@ def run(bench: Bench, setting: Setting, made: labs.Lab, seed: int) -> Row:
         while report["privileged"] and recovery.moves <= most:
             search = adversary.search_of(setting.daemon, dict(report["privileged"]), bench.present)
             nodes = movers(setting.daemon, [node for node, _ in report["privileged"]], chance, search)
-            report = bench.step(report, nodes, lowest if setting.daemon.kind in SEARCHING else chance.choice)
+            report = bench.step(report, nodes, partner_of)
             recovery.step(nodes, [node for node, _ in report["privileged"]])
     return Row(setting.family, len(made.nodes), len(made.links), setting.daemon.spelled(), setting.start, seed,
                recovery.moves, recovery.closes, recovery.rounds, bool(report["stable"]))

@@ -22,6 +22,9 @@ from classroom.client import Denied, reply_of, wrong
 from classroom.core import lab as labs
 from classroom.core.answering import Answering
 from classroom.core.bench import network
+from classroom.core.folders import title
+from classroom.marks.hiding import Hider
+from classroom.marks.history import Row, own_page
 from classroom.run.adversary import Adversary
 from classroom.run.daemons import Daemon, Sight, applied
 
@@ -29,6 +32,7 @@ TEACHER, HOUSE, FIRST = 1, 2, 3  # connections of the script; from the third on 
 PACE = 0.02  # seconds between two looks of the house at its nodes
 SHARED = 0.05  # how often the house asks at such a look for a node that a program plays too
 KEPT_LINES = 20_000  # of a conversation
+KEPT_ROWS = 2_000  # of a program's own page
 SHOWN, SHOWN_LINE = 40, 120  # characters of a word and of a line that was asked
 OWN_RULE = "no look shows a program the enabled rule (--own-rule): it has to decide by p, m and near, as STUDENT.md says"
 RULE = re.compile(rb',"rule":"[a-z]+"}$')  # at the end of a look
@@ -98,9 +102,12 @@ class Playing:
         self.chance, self.pace_chance = random.Random(f"{seed} daemon"), random.Random(f"{seed} house")
         self.adversary = Adversary(seed)
         self.heard = {name: Heard() for name in programs}
+        self.hider = Hider({*lab.students.values(), lab.teacher[1]}, [*lab.students, lab.teacher[0]])
         self.names: dict[int, str] = {}
         self.chosen: dict[int, tuple[str, str]] = {}
         self.conversation: list[str] = []
+        self.rows: list[Row] = []  # what programs asked for, and what was denied, for their own pages
+        self.owners: list[str] = []  # whose row each of them is
         self.on_no: Callable[[No], None] = lambda no: None
         self.on_step: Callable[[Step], None] = lambda step: None
         self.own_rule = own_rule
@@ -168,6 +175,7 @@ class Playing:
     def count(self, who: str, asked: dict[str, Any], sent: bytes, told: dict[str, Any]) -> None:
         """Counts a line of a student's program with its reply; `sent` has the connection before it."""
         heard, line = self.heard[who], sent.partition(b" ")[2]
+        self.note_row(who, sent, told)
         heard.lines += 1
         heard.last, heard.last_at = line[:SHOWN_LINE].decode(errors="backslashreplace"), time.monotonic()
         if asked.get("do") == "move":
@@ -186,6 +194,20 @@ class Playing:
             text = f"{told['refuse']}: {note}" if note else told["refuse"]
             kind = text.partition(" (")[0]  # how to mend it may have a number
             self.on_no(No(who, told["refuse"], f"{text}: {line[:SHOWN_LINE].decode(errors='backslashreplace')}", kind, sent))
+
+    def note_row(self, who: str, sent: bytes, told: dict[str, Any]) -> None:
+        """Keeps a move that was asked for, or a line that was denied or refused, with its place among the events."""
+        if told.get("ok") not in ("move", None) or len(self.rows) >= KEPT_ROWS:
+            return
+        connection, _, line = sent.partition(b" ")
+        place = told["place"] - 1 if "place" in told else self.program.place
+        reply = json.dumps(told, sort_keys=True, separators=(",", ":"))
+        self.rows.append(Row(place, int(connection), 0, self.hider.line(line), reply, told.get("deny") or told.get("refuse") or ""))
+        self.owners.append(who)
+
+    def own_rows(self, who: str) -> list[Row]:
+        """Returns what a program asked for, in its order."""
+        return [row for row, owner in zip(self.rows, self.owners) if owner == who]
 
     def explained(self, asked: dict[str, Any], told: dict[str, Any]) -> str:
         """Returns a denial with its clause, the node's registers, and what would be granted there."""
@@ -342,6 +364,12 @@ class Playing:
         (folder / "lab.toml").write_text(labs.text(self.lab), encoding="utf-8")
         (folder / "script").write_bytes(self.program.script())
         (folder / "conversation.txt").write_text("".join(f"{line}\n" for line in self.conversation), encoding="utf-8")
+
+    def own_page(self, folder: Path, who: str) -> str:
+        """Returns the page of a program's own run, which was written into a folder and played again: what it asked for, and
+        each denial at its moment."""
+        lab, journal = folder / "lab.toml", folder / "journal"
+        return own_page(f"{who}: {title(lab, journal)}", who, lab, journal, [], self.own_rows(who))
 
     def end(self) -> None:
         """Closes the port, and ends the program and the adversary."""

@@ -27,7 +27,7 @@ from classroom.core.processes import reap_orphans
 from classroom.core.program import TOP, Fault, call, first_free, program
 from classroom.core.rounds import Recovery
 from classroom.core.statuses import WARNED
-from classroom.pages import by_hand, play
+from classroom.pages import by_hand
 from classroom.run.daemons import FORMS, Daemon, daemon
 from classroom.run.heard import MALFORMED
 from classroom.run.teller import Teller
@@ -200,7 +200,9 @@ def leave(playing: Playing, folder: Path, tell: Callable[[str], None]) -> None:
     answer = call("script", folder / "lab.toml", folder / "script", folder / "journal")
     if answer.status != 0:
         raise Fault(f"{folder}: the run can't be played again: {answer.error}", 4)
-    (folder / "run.html").write_text(play.page(folder / "lab.toml", folder / "journal"), encoding="utf-8")
+    names = playing.programs
+    for name, file in zip(names, [folder / "run.html", *(folder / f"{name}.html" for name in names[1:])]):
+        file.write_text(playing.own_page(folder, name), encoding="utf-8")
     tell(f"page: {folder / 'run.html'}; what was said: {folder / 'conversation.txt'}")
 
 

@@ -60,7 +60,7 @@ class Answering:
     def __init__(self, lab: labs.Lab) -> None:
         self.lab = lab
         self.process = started(lab)
-        self.size = 0
+        self.size = self.place = 0  # the last event's place
         self.granted: list[bytes] = []  # the lines of a script that does again what was granted
         self.names: dict[int, str] = {}
 
@@ -104,8 +104,9 @@ class Answering:
         return reply
 
     def keep(self, connection: int, line: bytes, reply: dict[str, Any]) -> None:
-        """Keeps a line for the script that does again what was granted, if its reply says that it was: a hello, a bye
-        or an event. A full script takes no more."""
+        """Keeps a line for the script that does again what was granted, where its reply says that it was: a hello, a
+        bye or an event. A full script takes no more."""
+        self.place = reply.get("place", self.place)
         if (reply.get("ok") in ("hello", "bye") or "place" in reply) and self.size + len(line) < MOST_SCRIPT:
             self.granted.append(b"%d %s\n" % (connection, line))
             self.size += len(self.granted[-1])

@@ -5,7 +5,7 @@ import argparse
 import csv
 import sys
 from collections.abc import Iterator
-from dataclasses import dataclass
+from dataclasses import dataclass, replace
 from html import escape
 from itertools import groupby
 from pathlib import Path
@@ -18,10 +18,11 @@ from classroom.core.printable import guarded, printable
 from classroom.core.program import Fault
 from classroom.core.record import CUT, ENDED, PAUSED, RESUMED, Entry, Reader, seats
 from classroom.marks.hiding import Hider
+from classroom.marks.reasons import reasons
 from classroom.marks.vouched import Vouched, vouched
 from classroom.pages import kept_layout
 from classroom.pages.frames import frames_of
-from classroom.pages.page import page_of
+from classroom.pages.page import Played
 
 HEADS = ["place", "seat", "session", "asked", "reply", "denied", "event"]
 MARKS = {
@@ -29,7 +30,9 @@ MARKS = {
     PAUSED: "from here on lines aren't recorded", RESUMED: "lines that weren't recorded: {}",
 }
 GOES_ON = "this connection goes on"
+GUARD = "guard"  # the denial of a move by its rule's guard
 Session = list[Entry]
+Said = tuple[Vouched, Session, set[str]]  # a session with its record and the names that it is of
 
 
 @dataclass(frozen=True)
@@ -43,6 +46,16 @@ class Row:
     reply: str = ""
     denied: str = ""
     event: str = ""
+    latest: int = 0  # how many events came before at the most, if the record doesn't say it exactly
+
+    @property
+    def at(self) -> int:
+        """After how many events it is listed."""
+        return max(self.place, self.latest)
+
+    def after(self) -> str:
+        """Returns after how many events it came, as a text."""
+        return f"after {self.place}" + f" to {self.latest}" * (self.latest > self.place)
 
 
 def add_words(words: argparse.ArgumentParser) -> None:
@@ -69,23 +82,34 @@ def sessions(part: Vouched) -> Iterator[Session]:
             yield said
 
 
-def is_of(said: Session, name: str) -> bool:
-    """Returns whether a session was known by that name; or by none, and had asked for it."""
-    known = {entry.told().get("who") for entry in said if not entry.mark} - {None}
-    return name in known or not known and any(
-        entry.asked_name() == name for entry in said if entry.told().get("deny") == "unknown")
+def names_of(said: Session) -> set[str]:
+    """Returns the names by which a session was known; if there is none, those that it had asked for."""
+    told = [(entry, entry.told()) for entry in said if not entry.mark]
+    known = {reply["who"] for _, reply in told if "who" in reply}
+    return known or {name for entry, reply in told if reply.get("deny") == "unknown" and (name := entry.asked_name()) is not None}
 
 
-def rows_of(parts: list[Vouched], name: str, hider: Hider) -> list[Row]:
-    """Returns what the connections of that name sent and were answered, in the order of the places, and at one place
-    seat by seat."""
-    found, number = [], 0
-    for part in parts:
-        for said in sessions(part):
-            if is_of(said, name):
-                number += 1
-                found += [*(row_of(entry, number, hider) for entry in said), *left_open(part, said, number)]
-    return sorted(found, key=lambda row: row.place)
+def sessions_of(parts: list[Vouched]) -> list[Said]:
+    """Returns the sessions of all records, each with its record and the names that it is of."""
+    return [(part, said, names_of(said)) for part in parts for said in sessions(part)]
+
+
+def rows_of(every: list[Said], name: str, hider: Hider) -> list[Row]:
+    """What the connections of that name sent and were answered, in the order of the places, and at one place seat by
+    seat. How a session begins is listed before what follows in it."""
+    found: list[Row] = []
+    for number, (part, said, _) in enumerate((each for each in every if name in each[2]), 1):
+        count, latest = beginning(said)
+        found += [replace(row_of(entry, number, hider), latest=latest if index < count else 0) for index, entry in enumerate(said)]
+        found += left_open(part, said, number)
+    return sorted(found, key=lambda row: row.at)
+
+
+def beginning(said: Session) -> tuple[int, int]:
+    """Returns how many entries a session has up to the hello that is granted, and after how many events they came at the most.
+    Nothing is read of the journal before that, so that they have the place of what was said in the seat before."""
+    count = next((index for index, entry in enumerate(said, 1) if not entry.mark and entry.told().get("ok") == "hello"), len(said))
+    return count, said[count].place if count < len(said) else 0
 
 
 def left_open(part: Vouched, said: Session, session: int) -> list[Row]:
@@ -128,15 +152,15 @@ def steps(lab: labs.Lab, journal: list[Event], name: str, own: set[int]) -> Iter
 
 
 def merged(lines: list[Row], between: list[Row]) -> list[Row]:
-    """Returns both in their order: an event stands before the lines that were answered after it."""
-    return sorted([*between, *lines], key=lambda row: (row.place, row.seat > 0))
+    """Both in their order: an event stands before the lines that were answered after it."""
+    return sorted([*between, *lines], key=lambda row: (row.at, row.seat > 0))
 
 
 def text(told: list[str], rows: list[Row]) -> str:
     """Returns the rows for people."""
     lines = [*told]
     for row, count in alike(rows):
-        head = f"  after {row.place}, seat {row.seat}{times(count)}"
+        head = f"  {row.after()}, seat {row.seat}{times(count)}"
         if not row.seat:
             lines.append(f"  event {row.place}: {row.event}")
         elif row.event:
@@ -162,9 +186,10 @@ def cells(row: Row) -> list[str]:
     return list(map(guarded, every))
 
 
-def section(title: str, told: list[str], rows: list[Row]) -> str:
-    """Returns the rows as a part of the player's page: each leads to its place."""
-    items = [f'<li><a href="#p={row.place}">after {row.place}</a> {item(row, count)}</li>'
+def section(title: str, told: list[str], rows: list[Row], why: dict[tuple[int, str], str] | None = None) -> str:
+    """The rows as a part of the player's page: each leads to its place, and a move that a guard denied has the reason, if it is
+    known."""
+    items = [f'<li><a href="#p={row.at}">{row.after()}</a> {item(row, count)}{reason((why or {}).get((row.place, row.asked), ""))}</li>'
              for row, count in alike(rows)]
     heads = "".join(f"<p>{escape(line)}</p>" for line in told)
     text = f'<h2>{escape(title)}</h2>{heads}<ol>{"".join(items)}</ol>'
@@ -177,6 +202,32 @@ def item(row: Row, count: int) -> str:
         return escape(row.event if not row.seat else f"seat {row.seat}: {row.event}")
     reply = f"<strong>{escape(row.reply)}</strong>" if row.denied else escape(row.reply)
     return f"seat {row.seat}{times(count)} <code>{escape(row.asked)}</code> <code>{reply}</code>"
+
+
+def reason(text: str) -> str:
+    """The reason of a denial, as HTML; nothing if there is none."""
+    return f" <em>{escape(text)}</em>" if text else ""
+
+
+def guarded_rows(rows: list[Row]) -> list[tuple[int, str]]:
+    """The moves that a guard denied, each with how many events there were before."""
+    return [(row.place, row.asked) for row in rows if row.denied == GUARD]
+
+
+def own_page(title: str, name: str, lab_file: Path, journal: Path, told: list[str], lines: list[Row]) -> str:
+    """The page of a student's own run: the player, and beside it what the student sent, each denial at its moment and with the
+    part of the guard that failed."""
+    kept_layout.take(lab_file.parent)
+    lab, frames = frames_of(lab_file, journal)
+    happened = events(journal.read_text(encoding="ascii"))
+    rows = with_steps(lab, happened, name, lines)
+    return Played(lab, frames).page(title, section(f"What {name} sent", told, rows, reasons(lab, happened, guarded_rows(lines))))
+
+
+def with_steps(lab: labs.Lab, journal: list[Event], name: str, lines: list[Row]) -> list[Row]:
+    """Returns what a student sent with the steps between."""
+    own = {row.place + 1 for row in lines if '"place":' in row.reply}
+    return merged(lines, [*steps(lab, journal, name, own)])
 
 
 def hider_of(parts: list[Vouched], lab: labs.Lab) -> Hider:
@@ -201,18 +252,14 @@ def history(words: argparse.Namespace) -> int:
         if refused:
             raise Fault(refused[0].told(), refused[0].status)
         told = [part.told() for part in parts]
-        lines = rows_of(parts, name, hider_of(parts, lab))
-        own = {row.place + 1 for row in lines if '"place":' in row.reply}
-        between = list(steps(lab, events(parts[-1].journal.read_text(encoding="ascii")), name, own))
-        rows = merged(lines, between)
+        lines = rows_of(sessions_of(parts), name, hider_of(parts, lab))
         if words.output:
-            title = f"{name}: {folders.title(lab_file, journal)}"
-            kept_layout.take(lab_file.parent)
-            more = section(f"What {name} sent", told, rows)
-            page = page_of(title, *frames_of(lab_file, parts[-1].journal), history=more)
+            page = own_page(f"{name}: {folders.title(lab_file, journal)}", name, lab_file, parts[-1].journal, told, lines)
             Path(words.output).write_text(page, encoding="utf-8")
             print(f"{words.output}: {len(page.encode())} bytes")
-        elif words.csv:
+            return 0
+        rows = with_steps(lab, events(parts[-1].journal.read_text(encoding="ascii")), name, lines)
+        if words.csv:
             csv.writer(sys.stdout, lineterminator="\n").writerows([HEADS, *map(cells, rows)])
         else:
             print(text(told, rows), end="")

@@ -5,7 +5,7 @@ const acts = document.body.classList.contains("acts");
 const here = location.href.replace(/\/[^/]*$/, "/");
 const order = (word) => fetch(here + "act", {method: "POST", body: word});
 const NS = "http://www.w3.org/2000/svg";
-const LINES = 8;
+const LINES = 3; // of the desk, the newest
 const SMALLEST = 12, SMALLEST_ON_PHONE = 11; // pixels of a text that can be read
 const LETTER = 0.37; // of a radius: what a digit takes, if it is as large as the radius
 const PILL_AT = [1.1, -1.25]; // in radii, from a node's middle: the middle of its rule's frame

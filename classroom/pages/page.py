@@ -115,16 +115,26 @@ class Frames:
         return [[self.order[a], self.order[b]] for a, b in self.links[known:]]
 
 
-def page_of(title: str, lab: Lab, frames: Iterable[Frame], history: str = "") -> str:
-    """Returns the file's text, with a part more below the player."""
-    each = iter(frames)
-    first = next(each)
-    drawing = drawing_of(lab.without_house(), first.state.links)
-    picture, rows = drawing.svg(first.state, None), Frames(drawing)
-    for frame in chain([first], each):
-        rows.add(frame, len(frame.state.links))
-    data = what_stays(drawing, first.state) | {"links": rows.drawn_links(), "frames": rows.rows}
-    return filled("player", title, drawing, picture, data, {"MORE": history})[0]
+class Played:
+    """A run that was played again, for one page or several."""
+
+    def __init__(self, lab: Lab, frames: Iterable[Frame]) -> None:
+        each = iter(frames)
+        first = next(each)
+        self.drawing = drawing_of(lab.without_house(), first.state.links)
+        self.picture, rows = self.drawing.svg(first.state, None), Frames(self.drawing)
+        for frame in chain([first], each):
+            rows.add(frame, len(frame.state.links))
+        self.data = as_element(what_stays(self.drawing, first.state) | {"links": rows.drawn_links(), "frames": rows.rows})
+
+    def page(self, title: str, history: str = "") -> str:
+        """Returns the file's text, with a part more beside the player."""
+        return filled("player", title, self.drawing, self.picture, self.data, {"MORE": history})[0]
+
+
+def page_of(title: str, lab: Lab, frames: Iterable[Frame]) -> str:
+    """Returns the text of a run's page."""
+    return Played(lab, frames).page(title)
 
 
 def live_page(title: str, drawing: Drawing, state: State, acts: bool) -> tuple[str, str]:
@@ -132,7 +142,7 @@ def live_page(title: str, drawing: Drawing, state: State, acts: bool) -> tuple[s
     with."""
     own = {"links": [], "acts": acts, "buttons": {name: it.line for name, it in BUTTONS.items()}, "byLinks": BY_LINKS}
     parts = {name: button(it) for name, it in BUTTONS.items()}
-    return filled("live", title, drawing, drawing.svg(state, None), what_stays(drawing, state) | own, parts)
+    return filled("live", title, drawing, drawing.svg(state, None), as_element(what_stays(drawing, state) | own), parts)
 
 
 def button(it: Button) -> str:
@@ -157,13 +167,10 @@ def size_of(drawing: Drawing) -> str:
     return f"{kind} of {plural(len(drawing.lab.nodes), 'node')}, {plural(len(drawing.lab.students), 'student')}"
 
 
-def filled(name: str, title: str, drawing: Drawing, picture: str, data: dict[str, Any], more: dict[str, str]) -> tuple[str, str]:
-    """Returns a page of a drawing by its form, which has more parts of its own, and the policy that it is sent with."""
+def filled(name: str, title: str, drawing: Drawing, picture: str, data: str, more: dict[str, str]) -> tuple[str, str]:
+    """A page of a drawing by its form, which has more parts of its own, and the policy that it is sent with."""
     header = form("header", {"TITLE": escape(title), "SIZE": escape(size_of(drawing))})
-    parts = more | {
-        "TITLE": title, "DRAWING": picture, "HEADER": header,
-        "DATA": data_element(json.dumps(data, separators=(",", ":"))),
-    }
+    parts = more | {"TITLE": title, "DRAWING": picture, "HEADER": header, "DATA": data}
     return assembled(name, parts, "", ("drawing.css", "page.css"), ("picture.js", "chart.js", f"{name}.js"))
 
 
@@ -191,6 +198,11 @@ def legend() -> str:
     """Returns what the signs of a drawing stand for, each as it is drawn; the letters of rules are shown where they
     stand."""
     return (FOLDER / "legend.html").read_text("utf-8").replace("{{LETTERS}}", LETTERS)
+
+
+def as_element(data: dict[str, Any]) -> str:
+    """Returns the element with a page's data."""
+    return data_element(json.dumps(data, separators=(",", ":")))
 
 
 def data_element(text: str) -> str:

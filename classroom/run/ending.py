@@ -8,7 +8,7 @@ from typing import IO
 
 from classroom.core import lab as labs
 from classroom.core.program import Fault, call
-from classroom.marks import mark
+from classroom.marks import mark, own_pages
 from classroom.pages import kept_layout, play
 
 
@@ -56,6 +56,7 @@ def finish(folder: Path, tell: Callable[[str], None], brief: bool = False) -> in
         tell(f"marks: {folder / 'marks.txt'}" if brief else text.rstrip())
         (folder / "marks.txt").write_text(text, encoding="utf-8")
         (folder / "marks.json").write_text(mark.as_json([run]), encoding="utf-8")
+        own_pages.keep(folder, tell)
     except Fault as fault:
         tell(f"class: {fault}")
         return fault.status

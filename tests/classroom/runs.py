@@ -80,3 +80,16 @@ def largest_run(room: Path) -> tuple[Path, Path]:
         lines += ['2 {"do":"close"}' if number == 10 else f'2 {{"do":"fault","node":{200 + number},"p":null,"m":true}}']
     script.write_text("\n".join(lines) + "\n")
     return lab, journal_of(lab, script, room / "largest.journal")
+
+
+def long_run(room: Path, events: int) -> tuple[Path, Path]:
+    """So many events over a path of 15 nodes, each three of which are a fault, the move that it makes possible, and a close."""
+    lab, journal = room / "long.toml", room / "long.journal"
+    lab.write_text(lab_text(15, [(a, a + 1) for a in range(1, 15)], events))
+    rows = []
+    for place in range(1, events + 1):
+        turn, part = divmod(place - 1, 3)
+        node = 1 + turn * 4 % 15
+        rows.append(f"{place} {2 * turn + (part > 0)} " + (f"fault {node} - true", f"grant ana {node} update", "close")[part])
+    journal.write_text("".join(f"{row}\n" for row in rows))
+    return lab, journal

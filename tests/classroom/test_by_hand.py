@@ -21,10 +21,10 @@ from selenium.webdriver.support.select import Select
 from classroom.client import Client
 from classroom.core.lab import read
 from classroom.pages.by_hand import Hands, open_hands
-from tests.classroom.browser import browser, pale, show_as, until
+from tests.classroom.browser import browser, show_as, until
 from tests.classroom.help import CYCLE, KEYS, LIMIT, Going, InRoom, Rows, a_port
 from tests.classroom.test_page import hashed
-from tests.classroom.test_shown import LETTERS, PHONE, SMALLEST_ON_PHONE, resize
+from tests.classroom.test_shown import PHONE, WINDOWS, can_be_read, resize
 
 CARD = """
 const card = [...document.querySelectorAll('#nodes section')].find((it) => it.querySelector('.id').textContent === arguments[0]);
@@ -258,30 +258,25 @@ class Playing(InRoom):
         self.is_in()
         self.assertEqual(self.press(4, "update"), "step 0, update: granted, at place 1; it is applied when the step closes")
 
-    def test_on_a_phone_in_both_themes(self) -> None:
+    def test_in_four_windows_and_both_themes(self) -> None:
         self.begin()
         self.addCleanup(resize, self.driver, None)
         self.addCleanup(show_as, self.driver)
-        for size in (PHONE, None):
+        for size in WINDOWS:
             resize(self.driver, size)
             self.open()
-            if size is not None:
-                self.assertLessEqual(self.driver.execute_script(WIDE), size[0])
+            self.assertLessEqual(self.driver.execute_script(WIDE), size[0])
             self.come()
             self.is_in()
             self.press(4, "seduction")
-            if size is not None:
-                self.assertLessEqual(self.driver.execute_script(WIDE), size[0])
-                high = self.driver.execute_script("return [...document.querySelectorAll('button')].filter((it) => it.offsetWidth)"
-                                                  ".map((it) => it.getBoundingClientRect().height)")
-                self.assertGreaterEqual(min(high), 36)
-                small = [text for text in self.driver.execute_script(LETTERS) if text[0] < SMALLEST_ON_PHONE]
-                self.assertEqual(small, [])
+            self.assertLessEqual(self.driver.execute_script(WIDE), size[0])
+            high = self.driver.execute_script("return [...document.querySelectorAll('button')].filter((it) => it.offsetWidth)"
+                                              ".map((it) => it.getBoundingClientRect().height)")
+            self.assertGreaterEqual(min(high), 36 if size == PHONE else 24)
             for theme in ("light", "dark"):
                 show_as(self.driver, theme)
-                count, faint = pale(self.driver)
-                self.assertGreater(count, 40)
-                self.assertEqual(faint, [], theme)
+                with self.subTest(size=size, theme=theme):
+                    can_be_read(self, self.driver, size, 40)
 
 
 class Wire(InRoom):

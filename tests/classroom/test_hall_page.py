@@ -12,9 +12,9 @@ from classroom.core import lab as labs
 from classroom.core.class_state import ClassState, NetworkState
 from classroom.core.networks import Links, family
 from classroom.pages import hall
-from tests.classroom.browser import browser, is_ready, pale, show_as, until
+from tests.classroom.browser import browser, is_ready, show_as, until
 from tests.classroom.help import a_port
-from tests.classroom.test_shown import LETTERS, PHONE, SMALLEST, SMALLEST_ON_PHONE, WINDOWS, resize
+from tests.classroom.test_shown import WINDOWS, can_be_read, resize
 
 DOWN = "its server was killed; resume 2 goes on with it, end 2 gives it up"
 NODES = """
@@ -67,7 +67,7 @@ class Page(unittest.TestCase):
         self.state = ClassState("maths, 2026-11-28", [
             NetworkState(number, f"maths-{number}", "AB"[number // 3], 4710 + number, f"http://127.0.0.1:9/{number}/", 15, 4,
                          "down" if number == 2 else "runs", DOWN if number == 2 else "", states[number - 1]) for number in range(1, 5)
-        ], ["maths-1: configuration 3: 5 (Zoë M.) update"])
+        ], [f"maths-1: configuration {number}: 5 (Zoë M.) update" for number in range(1, 9)])
         self.hall = hall.opened(a_port(), self.state.title, lambda line: None, self.state, None,
                                 lambda: [hall.view(Path(room.name), lab) for lab, _ in self.labs])
         self.addCleanup(self.hall.close)
@@ -112,12 +112,7 @@ class Page(unittest.TestCase):
                     show_as(self.driver, theme)
                     self.open(address)
                     with self.subTest(size=size, theme=theme):
-                        texts = self.driver.execute_script(LETTERS)
-                        self.assertGreater(len(texts), 40)
-                        least = SMALLEST_ON_PHONE if size == PHONE else SMALLEST
-                        self.assertEqual([text for text in texts if text[0] < least - 0.01], [])
-                        self.assertEqual(pale(self.driver)[1], [])
-                        self.assertLessEqual(self.driver.execute_script("return document.documentElement.scrollWidth"), size[0])
+                        can_be_read(self, self.driver, size, 40)
                         for root, discs in self.driver.execute_script(BOXES):
                             for left, top, right, bottom in discs:
                                 self.assertTrue(root[0] <= left and root[1] <= top and right <= root[2] and bottom <= root[3])

@@ -1,11 +1,11 @@
-"""The page of the largest run: it opens and steps in time, counted by the browser."""
+"""The page of the largest run: it opens and steps in time, counted by the browser. And that of the longest: it isn't large."""
 from __future__ import annotations
 
 import unittest
 from pathlib import Path
 
 from tests.classroom.browser import Played, is_ready, shown, until
-from tests.classroom.runs import largest_run
+from tests.classroom.runs import largest_run, long_run
 
 # The limits are for the machine on which LOAD takes so many milliseconds if nothing else runs. A slower one has as much
 # more time as it is slower. There the page opens in 400 and steps in 56, so that a limit is met beside other work too;
@@ -94,6 +94,20 @@ class Large(Played):
         for place in range(2, 1001):
             if kinds[place - 1] in ("grant", "release") and kinds[place - 2] in ("grant", "release"):
                 self.assertLess(touched[place - 1], 10, place)
+
+
+class Long(Played):
+    """A run of 20,000 events."""
+
+    def test_its_page_has_less_than_a_megabyte_more_than_its_journal(self) -> None:
+        lab, journal = long_run(self.room, 20_000)
+        page = self.page(lab, journal)
+        size, most = page.stat().st_size, journal.stat().st_size + 1_000_000
+        self.assertLess(size, most)
+        self.open(page, "#p=20000")
+        self.assertEqual(shown(self.driver)[0]["place"], "20000")
+        place, _, last = journal.read_text().splitlines()[-1].split(" ", 2)
+        self.assertEqual(self.driver.find_element("id", "event").text, f"{place}: {last}")
 
 
 if __name__ == "__main__":

@@ -40,6 +40,8 @@ class Play(Played):
                 self.press(Keys.END)
                 self.press(Keys.ARROW_LEFT)
                 self.assertEqual(shown(self.driver), run[-2])
+                self.press(Keys.HOME)
+                self.assertEqual(shown(self.driver), run[0])
 
     def test_a_link_to_a_place(self) -> None:
         lab, journal = edited_run(self.room)

@@ -12,7 +12,7 @@ from classroom.client import Client, Denied
 from classroom.core.lab import read
 from tests.classroom.browser import Played, browser, is_ready, pale, press, show_as, until
 from tests.classroom.help import CYCLE, Going, InRoom, a_port, words
-from tests.classroom.runs import edited_run
+from tests.classroom.runs import EXAMPLES, journal_of
 
 PHONE, LAPTOP, WIDER, PROJECTOR = WINDOWS = (390, 844), (1280, 720), (1366, 768), (1920, 1080)
 SMALLEST, SMALLEST_ON_PHONE = 12, 11  # pixels of a text
@@ -90,6 +90,16 @@ def counted(count: int, word: str) -> str:
 def meet(a: list[float], b: list[float]) -> bool:
     """Returns whether two boxes run into each other by more than a hair."""
     return min(a[2], b[2]) - max(a[0], b[0]) > 1 and min(a[3], b[3]) - max(a[1], b[1]) > 1
+
+
+def can_be_read(test: unittest.TestCase, driver: Any, size: tuple[int, int], count: int = 25) -> None:
+    """Wants more than so many texts in a window of that size, none too small or too faint, and a page that is no wider."""
+    least = SMALLEST_ON_PHONE if size == PHONE else SMALLEST
+    texts = driver.execute_script(LETTERS)
+    test.assertGreater(len(texts), count)
+    test.assertEqual([text for text in texts if text[0] < least - 0.01], [])
+    test.assertEqual(pale(driver)[1], [])
+    test.assertLessEqual(driver.execute_script("return document.documentElement.scrollWidth"), size[0])
 
 
 class Told(InRoom):
@@ -242,8 +252,10 @@ class Sizes(Played):
                     self.assertEqual(upon, [])
 
     def test_every_text_can_be_read_and_the_step_is_on_the_screen(self) -> None:
-        """In four windows, light and dark: no small or faint text, nothing to scroll to the side."""
-        lab, journal = edited_run(self.room)
+        """In four windows, light and dark: no small or faint text, nothing to scroll to the side. The run has more events than
+        the list shows."""
+        lab = EXAMPLES / "grid.toml"
+        journal = journal_of(lab, EXAMPLES / "grid-run.script", self.room / "grid.journal")
         self.addCleanup(show_as, self.driver)
         self.open(self.page(lab, journal))
         last = len(journal.read_text().splitlines())
@@ -254,18 +266,9 @@ class Sizes(Played):
                 for place in (0, last // 2, last):
                     self.driver.execute_script("player.goTo(arguments[0])", place)
                     with self.subTest(size=size, theme=theme, place=place):
-                        self.can_be_read(size)
+                        can_be_read(self, self.driver, size)
                         top, bottom, above, below, high = self.driver.execute_script(CURRENT)
-                        self.assertTrue(0 <= above <= top < bottom <= below <= high)
-
-    def can_be_read(self, size: tuple[int, int]) -> None:
-        """Whether no text is too small or too faint, and the page is no wider than its window."""
-        least = SMALLEST_ON_PHONE if size == PHONE else SMALLEST
-        texts = self.driver.execute_script(LETTERS)
-        self.assertGreater(len(texts), 25)
-        self.assertEqual([text for text in texts if text[0] < least - 0.01], [])
-        self.assertEqual(pale(self.driver)[1], [])
-        self.assertLessEqual(self.driver.execute_script("return document.documentElement.scrollWidth"), size[0])
+                        self.assertTrue(0 <= above <= top + 1 < bottom <= below + 1 and below <= high)
 
     def test_on_phone_laptop_and_projector(self) -> None:
         lab = self.lab(1, "--family", "random:14:22")
@@ -293,17 +296,22 @@ class Sizes(Played):
         found = self.sized(PHONE)
         self.assertLessEqual((found["wide"], found["high"]), PHONE)
         self.assertGreater(found["scale"], 0.8)
-        self.can_be_read(PHONE)
         for size in (LAPTOP, WIDER, PROJECTOR):
             found = self.sized(size)
             self.assertLessEqual((found["wide"], found["high"]), size)
-            self.can_be_read(size)
             for name in ("legend", "picture", "controls", "chart"):
                 left, top, right, bottom = found[name]
                 self.assertTrue(0 <= left < right <= size[0] and 0 <= top < bottom <= size[1], (size, name, found))
             self.assertLessEqual(found["hidden"], 1, (size, found))
         self.assertGreaterEqual(found["scale"], 1.3)
         self.assertLess(found["controls"][3] - found["controls"][1], 130 if has_controls else 70)
+        for size in WINDOWS:
+            self.sized(size)
+            for theme in ("light", "dark"):
+                show_as(self.driver, theme)
+                with self.subTest(size=size, theme=theme):
+                    can_be_read(self, self.driver, size)
+        show_as(self.driver)
 
     def sized(self, size: tuple[int, int]) -> dict[str, Any]:
         """Returns what is where in a window of that size, once the picture that is meant for it is shown."""

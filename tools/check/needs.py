@@ -71,6 +71,7 @@ def can_be_fetched() -> bool:
 
 
 BROWSER = ("chromium", "chromium-driver", "python3-selenium")
+NOTEBOOK = ("jupyter-nbconvert", "python3-ipykernel")
 TYPES = ("mypy", "flake8", "python3-selenium")
 RELEASE = ("python3", "stunnel4", "openssl", "openssh-client", "systemd")
 NEEDS = {
@@ -84,6 +85,7 @@ NEEDS = {
     "man": Need("the command man, which warns of pages", on_path("man"), ("man-db",)),
     "browser": Need("a browser with its driver", installed(*BROWSER), BROWSER),
     "pictures": Need("the command rsvg-convert", on_path("rsvg-convert"), ("librsvg2-bin",)),
+    "jupyter-nbconvert": Need("the command jupyter-nbconvert, with a kernel", on_path("jupyter-nbconvert"), NOTEBOOK),
     "java": Need("the command java", on_path("java"), ("default-jdk-headless",)),
     "node": Need("the command node", on_path("node"), ("nodejs",)),
     "cc": Need("a compiler of C, as cc", on_path("cc"), ("gcc", "libc6-dev")),

@@ -50,6 +50,7 @@ def cases(*names: str, python: str = "python3") -> tuple[str, ...]:
 
 BUILT = ("programs",)
 LANGUAGES = ("java", "node", "cc", "rustc")
+LIKED = (*LANGUAGES, "jupyter-nbconvert")
 PROVED = "[ps]*/**/*.*t"  # a crate's src/, specs/ and proofs/
 EDITS = "wrong/*.edit"
 STANDS = r"^rt: (\w+) (?:proved$|is kept: )"  # a crate whose library is written
@@ -63,7 +64,7 @@ def classroom() -> Iterator[Part]:
     for it in sorted((TOP / "tests/classroom").glob("test_*.py")):
         text = it.read_text(encoding="utf-8")
         needs = (*BUILT, "python3", *["browser"] * ("tests.classroom.browser" in text), *["pictures"] * ('"rsvg-convert"' in text))
-        likes = tuple(it for it in LANGUAGES if f'"{it}"' in text)
+        likes = tuple(it for it in LIKED if f'"{it}"' in text)
         name = it.stem.replace("test_", "class-")
         yield Part(name, cases(f"classroom.{it.stem}", python="/usr/bin/python3"), 0.2, 0.4, 0.5, needs, likes)
 

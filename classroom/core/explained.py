@@ -1,0 +1,29 @@
+"""Explanations of denied moves by the plain model (`model/`), which decides nothing. Without the model there are none."""
+from __future__ import annotations
+
+import subprocess
+import sys
+import tempfile
+from pathlib import Path
+
+from classroom.core import lab as labs
+from classroom.core.processes import run
+from classroom.core.program import TOP
+
+MARK = "the plain model, which decides nothing, adds: "
+LIMIT = 60.0  # seconds after which there is no explanation
+
+
+def lines_of(made: labs.Lab, script: bytes) -> list[list[str]]:
+    """Returns what the model says of a script over a lab: for each denied move the number of its line, its node and a text, and
+    for each node that could move at the end `now`, the node and a text. There is nothing if the model can't be asked."""
+    with tempfile.TemporaryDirectory() as room:
+        lab, lines = Path(room, "lab.toml"), Path(room, "script")
+        lab.write_text(labs.text(made), encoding="utf-8")
+        lines.write_bytes(script)
+        call: list[str | Path] = [sys.executable, "-B", "-m", "model.explain", lab, lines]
+        try:
+            done = run(call, seconds=LIMIT, cwd=TOP)
+        except (OSError, subprocess.TimeoutExpired):
+            return []
+    return [line.split(" ", 2) for line in done.stdout.decode(errors="replace").splitlines()]

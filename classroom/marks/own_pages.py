@@ -1,0 +1,49 @@
+"""The pages of all students' own runs, which a run leaves in its folder."""
+from __future__ import annotations
+
+from collections.abc import Callable
+from pathlib import Path
+
+from classroom.core import folders
+from classroom.core import lab as labs
+from classroom.core.journal import events
+from classroom.core.program import CLASS
+from classroom.marks.history import Row, guarded_rows, hider_of, rows_of, section, sessions_of, with_steps
+from classroom.marks.reasons import reasons
+from classroom.marks.vouched import vouched
+from classroom.pages.frames import frames_of
+from classroom.pages.page import Played
+
+FOLDER = "students"
+MOST = 64 << 20  # bytes of all pages
+
+
+def sent(folder: Path, lab: labs.Lab) -> tuple[list[str], dict[str, list[Row]]]:
+    """Returns what the records of a run's folder come to, and what each student sent. There is nothing of a record that isn't
+    vouched for."""
+    with vouched(folder) as parts:
+        if any(part.status for part in parts):
+            return [], {}
+        every, hider = sessions_of(parts), hider_of(parts, lab)
+        found = {name: rows_of(every, name, hider) for name in lab.students}
+        return [part.told() for part in parts], {name: rows for name, rows in found.items() if rows}
+
+
+def keep(folder: Path, tell: Callable[[str], None]) -> None:
+    """Writes a page for each student who sent something, beside which each denial is at its moment. If they would take too much
+    room, a line says how to make one."""
+    lab_file, journal = folder / "lab.toml", folder / "journal"
+    lab = labs.read(lab_file)
+    told, every = sent(folder, lab)
+    if not every:
+        return
+    happened = events(journal.read_text(encoding="ascii"))
+    played = Played(*frames_of(lab_file, journal))
+    if len(played.data) * len(every) > MOST:
+        return tell(f"the students' own pages aren't kept, since they are large: {CLASS} history {folder} NAME -o NAME.html makes one")
+    why = reasons(lab, happened, [each for rows in every.values() for each in guarded_rows(rows)])
+    (folder / FOLDER).mkdir(0o700, exist_ok=True)
+    for name, lines in every.items():
+        more = section(f"What {name} sent", told, with_steps(lab, happened, name, lines), why)
+        page = played.page(f"{name}: {folders.title(lab_file, journal)}", more)
+        (folder / FOLDER / f"{name}.html").write_text(page, encoding="utf-8")

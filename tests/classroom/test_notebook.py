@@ -1,0 +1,69 @@
+"""The notebook of lesson 6: its cells run over a table of `experiment`, by themselves and by nbconvert."""
+from __future__ import annotations
+
+import contextlib
+import io
+import json
+import os
+import shutil
+import subprocess
+import unittest
+import unittest.mock
+from pathlib import Path
+from typing import Any
+
+from classroom.core.program import TOP
+from tests.classroom.help import LIMIT, InRoom
+
+NOTEBOOK = TOP / "course/how-long.ipynb"
+HEADS = "family,nodes,links,daemon,start,seed,moves,closes,rounds,stable\n"
+ROWS = ("crowd,4,4,central,worst,1,12,12,6,true", "crowd,4,4,central,worst,2,14,14,5,true", "crowd,8,16,central,worst,1,26,26,7,true",
+        "random:6:9,6,9,synchronous,random,1,16,7,6,true")
+WANTED = ("4 runs of crowd, random", "crowd      central            4     2      13       14     20", "moves grow about as n to the power of 1.0",
+          "crowd of 4 nodes, central, seed 2: 14 moves, 70% of the bound")
+
+
+class Notebook(InRoom):
+    """Over a small table."""
+
+    def setUp(self) -> None:
+        super().setUp()
+        self.table = self.file("runs.csv", HEADS + "".join(f"{row}\n" for row in ROWS))
+        self.cells: list[dict[str, Any]] = json.loads(NOTEBOOK.read_text(encoding="utf-8"))["cells"]
+
+    def done(self, table: Path) -> str:
+        """What its cells print over a table."""
+        printed, names = io.StringIO(), dict[str, Any]()
+        with unittest.mock.patch.dict(os.environ, RUNS=str(table)), contextlib.redirect_stdout(printed):
+            for cell in self.cells:
+                if cell["cell_type"] == "code":
+                    exec("".join(cell["source"]), names)  # What a kernel does with it.
+        return printed.getvalue()
+
+    def test_its_cells_count_what_the_table_has(self) -> None:
+        told = self.done(self.table)
+        for line in WANTED:
+            self.assertIn(line, told)
+
+    def test_a_run_above_a_bound_is_news(self) -> None:
+        for moves, rounds in ((21, 6), (12, 9)):
+            table = self.file("news.csv", f"{HEADS}crowd,4,4,central,worst,1,{moves},12,{rounds},true\n")
+            with self.assertRaisesRegex(AssertionError, "would be news"):
+                self.done(table)
+
+    def test_no_outputs_are_kept(self) -> None:
+        self.assertEqual([cell for cell in self.cells if cell.get("outputs") or cell.get("execution_count")], [])
+
+    def test_nbconvert_runs_it(self) -> None:
+        if shutil.which("jupyter-nbconvert") is None:
+            self.skipTest("not tried: no jupyter-nbconvert (Debian's jupyter-nbconvert and python3-ipykernel)")
+        done = subprocess.run(["jupyter-nbconvert", "--to", "html", "--execute", NOTEBOOK, "--output-dir", self.room], capture_output=True, text=True,
+                              check=False, timeout=LIMIT, env={**os.environ, "RUNS": str(self.table), "HOME": str(self.room)})
+        self.assertEqual(done.returncode, 0, done.stderr)
+        page = (self.room / "how-long.html").read_text(encoding="utf-8")
+        for line in WANTED:
+            self.assertIn(line, page)
+
+
+if __name__ == "__main__":
+    unittest.main()

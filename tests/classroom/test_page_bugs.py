@@ -1,0 +1,66 @@
+"""Bugs of the player that were planted: each is seen by the test that is named beside it, which passes without it."""
+from __future__ import annotations
+
+import unittest
+from pathlib import Path
+
+from tests.classroom import test_play, test_shown, test_spoken
+from tests.classroom.browser import Played
+
+CONFIGURATIONS = (test_play.Play, "test_each_configuration_by_keys")
+READ = (test_shown.Sizes, "test_every_text_can_be_read_and_the_step_is_on_the_screen")
+SAID, STILL = ((test_spoken.Spoken, test) for test in ("test_a_new_state_is_said_once", "test_nothing_moves_if_that_is_asked_for"))
+# What the bug is, the text in the page and what is planted for it, and the test that sees it.
+PLANTS = (
+    ("the count of nodes that can move never falls", "this.privileged += (rule > 0) - (this.rule[node] > 0);", "this.privileged += Number(rule > 0);",
+     CONFIGURATIONS),
+    ("a move that was chosen stays chosen after its step", "row.chosen || []) this.chosen[node] = rule;",
+     "row.chosen || []) this.chosen[node] = rule || this.chosen[node];", CONFIGURATIONS),
+    ("going back leaves what came later", "this.state = this.snapshots[kept].copy();", "this.state = this.snapshots[kept];", CONFIGURATIONS),
+    ("a pair counts twice", 'String(state.paired / 2)', "String(state.paired)", CONFIGURATIONS),
+    ("the step at hand is off the screen", "if (row) list.scrollTop = ", "if (!row) list.scrollTop = ", READ),
+    ("a text is too small for a laptop", ".cap { font-size: var(--small);", ".cap { font-size: 0.7em;", READ),
+    ("a text is too faint in the dark", "--quiet: #a9b2bd;", "--quiet: #59616b;", READ),
+    ("each step of a run that is played is said", "said\", text), 300)", "said\", text), 0), this.say(\"said\", text)", SAID),
+    ("arrows grow though less motion is asked for", "this.grown.length > 0 && !isStill()", "this.grown.length > 0", STILL),
+)
+
+
+def planted(of: type[Played], test: str, old: str, new: str) -> unittest.TestResult:
+    """Runs a test over pages in which a text is replaced by another one."""
+
+    class Buggy(of):  # type: ignore[valid-type, misc]
+        """The same tests over other pages."""
+
+        def page(self, lab: Path, journal: Path) -> Path:
+            """A page with the bug."""
+            made: Path = super().page(lab, journal)
+            text = made.read_text(encoding="utf-8")
+            self.assertEqual(text.count(old), 1, old)
+            made.write_text(text.replace(old, new), encoding="utf-8")
+            return made
+
+    found = unittest.TestResult()
+    Buggy(test).run(found)
+    return found
+
+
+class Bugs(unittest.TestCase):
+    """Each by itself."""
+
+    def test_each_bug_is_seen(self) -> None:
+        for bug, old, new, (of, test) in PLANTS:
+            with self.subTest(bug):
+                found = planted(of, test, old, new)
+                self.assertEqual([trace for _, trace in found.errors], [])
+                self.assertGreater(len(found.failures), 0, f"not seen by {test}")
+
+    def test_without_a_bug_they_pass(self) -> None:
+        for of, test in {plant[3] for plant in PLANTS}:
+            with self.subTest(test):
+                found = planted(of, test, "<body class=\"player\">", "<body class=\"player\" data-planted=\"none\">")
+                self.assertEqual([trace for _, trace in (*found.errors, *found.failures)], [])
+
+
+if __name__ == "__main__":
+    unittest.main()

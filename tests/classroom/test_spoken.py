@@ -1,0 +1,92 @@
+"""What a screen reader is given to say of a run, and that nothing moves if the reader asks for that."""
+from __future__ import annotations
+
+import unittest
+from typing import Any
+
+from selenium.webdriver.common.keys import Keys
+
+from tests.classroom.browser import Played, shown, until
+from tests.classroom.runs import examples
+
+# Each new text of the live regions, in its order.
+LISTEN = """
+window.heard = [];
+for (const region of document.querySelectorAll('[aria-live], [role=status]')) {
+  new MutationObserver((changes) => {
+    for (const change of changes) for (const node of change.addedNodes) window.heard.push(node.textContent);
+  }).observe(region, {childList: true, subtree: true, characterData: true});
+}
+"""
+# Goes through all events at once, as a run that is played as quickly as can be.
+ALL = "for (let at = 0; at <= player.last; at += 1) player.goTo(at, true);"
+# The arrows after a step by which pointers turn, at once and when they have grown, and whether discs change little by little.
+GROWN = """
+const {drawing} = player, at = player.run.frames.findIndex((row, index) => index > 0 && row.kind === 'close' && (row.registers || []).some(([, p]) => p >= 0));
+player.goTo(at - 1);
+player.goTo(at, true);
+const arrows = () => drawing.arrows.map((path) => path.getAttribute('d')).join('|'), now = arrows();
+drawing.finish();
+return [now, arrows(), getComputedStyle(document.querySelector('#drawing .disc')).transitionDuration];
+"""
+
+
+class Spoken(Played):
+    """The page of a run."""
+
+    def setUp(self) -> None:
+        super().setUp()
+        self.addCleanup(self.ask_for)
+
+    def ask_for(self, motion: str = "no-preference") -> None:
+        """Shows pages as for a reader who has asked for less motion, or hasn't."""
+        self.driver.execute_cdp_cmd("Emulation.setEmulatedMedia", {"features": [{"name": "prefers-reduced-motion", "value": motion}]})
+
+    def heard(self, count: int) -> list[str]:
+        """The texts that were said, once they are so many."""
+        until(self.driver, lambda driver: len(driver.execute_script("return window.heard")) >= count)
+        found: list[str] = self.driver.execute_script("return window.heard")
+        return found
+
+    def told(self) -> str:
+        """What is to be said of the step that is shown."""
+        root = shown(self.driver)[0]
+        state = self.driver.find_element("id", "told").text
+        pairs = int(root["pairs"])
+        return f"step {root['number']}: {state}, {pairs} pair{'' if pairs == 1 else 's'}"
+
+    def test_a_new_state_is_said_once(self) -> None:
+        """A run that is played is said when it pauses, and what doesn't change isn't said again."""
+        lab, journal = next(each for each in examples(self.room) if each[0].stem == "grid")
+        self.open(self.page(lab, journal))
+        first = self.told()
+        until(self.driver, lambda driver: driver.find_element("id", "said").get_attribute("textContent") == first)
+        self.driver.execute_script(LISTEN)
+        self.driver.execute_script(ALL)
+        said = [self.told()]
+        self.assertEqual(self.heard(1), said)
+        self.driver.execute_script("player.goTo(player.last - 1); player.goTo(player.last)")
+        self.press(Keys.HOME)
+        said.append(self.told())
+        self.assertEqual(self.heard(2), said)
+        self.press(Keys.ARROW_DOWN)
+        said.append(self.told())
+        self.assertEqual(self.heard(3), said)
+        self.assertEqual(len(set(said)), 3)
+
+    def test_nothing_moves_if_that_is_asked_for(self) -> None:
+        lab, journal = next(each for each in examples(self.room) if each[0].stem == "grid")
+        page = self.page(lab, journal)
+        moved: dict[str, Any] = {}
+        for motion in ("no-preference", "reduce"):
+            self.ask_for(motion)
+            self.open(page)
+            moved[motion] = self.driver.execute_script(GROWN)
+        now, later, changes = moved["no-preference"]
+        self.assertNotEqual(now, later)
+        self.assertNotEqual(changes, "0s")
+        self.assertEqual(moved["reduce"], [later, later, "0s"])
+
+
+if __name__ == "__main__":
+    unittest.main()
