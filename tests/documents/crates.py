@@ -22,6 +22,7 @@ FOLDERS = {
     "mml_stable": ["scripts"],
     "mml_audit": ["journals"],
     "mml_record": ["record"],
+    "mml_class": ["record", "tally"],
     "mml_recording": ["record"],
     "mml_resuming": ["resume"],
     "mml_same_lab": ["resume"],

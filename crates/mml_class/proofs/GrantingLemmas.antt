@@ -1,0 +1,114 @@
+-- Places that are marked one after another.
+use Rattle.std.proofs.Common.{◌≡◌, ◌⊎◌, ◌+◌, ◌≤◌, ◌<◌, ◌==◌, nat_lt, nat_le, ◌++◌, [], ◌∷◌, ℕ, List, Bool, true, false, cond, ap, subst, refl, sym, ◌∙◌, suc, zero, get_or, length, take, drop, arith, Option, None, Some, ⊎_elim}
+use Rattle.std.proofs.lemmas.Bool.Decides.{nat_tests}
+use Rattle.std.proofs.lemmas.List.{take_more, drop_more, take_all, take-append-drop}
+use Rattle.mml_window.specs.Tallies.{times, once_from}
+use Rattle.mml_class.specs.declared.granting.Misgranted.{Misgranted}
+use Rattle.mml_class.specs.declared.granting.Misgranted.TheVariants.{Early, Twice, Nowhere}
+use Rattle.mml_class.specs.Granting.{IsFound, ComesAfter, AreGranted}
+use Rattle.mml_class.specs.inside.Marking.{has_mark, marked, IsMarked, IsUnmarked}
+
+-- one place more, with no mark
+pub unmarked_more : (marks : List Bool) (p : ℕ) → marked (marks ++ false ∷ []) p ≡ marked marks p
+unmarked_more [] zero = refl
+unmarked_more [] (suc p) = refl
+unmarked_more (b ∷ marks) zero = refl
+unmarked_more (b ∷ marks) (suc p) = unmarked_more marks p
+
+pub times_append : (p : ℕ) (xs ys : List ℕ) → times p (xs ++ ys) ≡ times p xs + times p ys
+times_append p [] ys = omega arith
+times_append p (x ∷ xs) ys = grind (arith, nat_tests, times_append p xs ys)
+
+-- the places before index i, the one there, and those after it
+split_at : (i : ℕ) (ps : List ℕ) → i < length ps → ps ≡ take i ps ++ get_or ps i 0 ∷ drop (i + 1) ps
+split_at i ps in' = sym (take-append-drop i ps) ∙ ap (λ (xs : List ℕ). take i ps ++ xs) (drop_more ps i 0 in')
+
+-- one place more was marked
+pub times_more : (i : ℕ) (ps : List ℕ) (q : ℕ) → i < length ps → times q (take (i + 1) ps) ≡ times q (take i ps) + times q (get_or ps i 0 ∷ [])
+times_more i ps q in' = ap (times q) (take_more ps i 0 in') ∙ times_append q (take i ps) (get_or ps i 0 ∷ [])
+
+once_early : (begun count p : ℕ) → p ≤ begun → once_from begun count p ≡ 0
+once_early begun count p le = grind (arith, nat_tests)
+
+once_past : (begun count p : ℕ) → count < p → once_from begun count p ≡ 0
+once_past begun count p lt = grind (arith, nat_tests)
+
+once_there : (begun count p : ℕ) → begun < p → p ≤ count → once_from begun count p ≡ 1
+once_there begun count p lt le = grind (arith, nat_tests)
+
+marked_once : (marks : List Bool) (p : ℕ) → marked marks p ≤ 1
+marked_once marks p = one (has_mark marks p)
+  where
+    one : (b : Bool) → cond {A = ℕ} b 1 0 ≤ 1
+    one true = omega arith
+    one false = omega arith
+
+first_at : (i : ℕ) (ps : List ℕ) (q begun count : ℕ) → i < length ps → q ≡ get_or ps i 0 → AreGranted begun count (take i ps) → ComesAfter begun count ps (take i ps) q
+first_at i ps q begun count in' is fine = record {
+  after = drop (i + 1) ps;
+  split = split_at i ps in' ∙ ap (λ x. take i ps ++ x ∷ drop (i + 1) ps) (sym is);
+  granted = fine;
+}
+
+-- something is amiss with the place at index i, if those before it were marked
+pub found_first : (begun count i : ℕ) (whole : Bool) (ps : List ℕ) (old new : List Bool) (r : Misgranted) → i < length ps
+    → length old ≡ count + 1 → ((q : ℕ) → marked old q ≡ times q (take i ps)) → ((q : ℕ) → marked old q ≤ once_from begun count q)
+    → IsMarked begun (get_or ps i 0) old new (Some r) → IsFound begun count whole ps (Some r)
+found_first begun count i whole ps old new (Early q) in' many counted fine amiss = (
+  take i ps,
+  first_at i ps q begun count in' (amiss.0) (λ t. omega (arith, counted t, fine t)),
+  ⊎_elim (λ (l : get_or ps i 0 ≤ begun). once_early begun count q (omega (arith, amiss.0, l)))
+      (λ (l : length old ≤ get_or ps i 0). once_past begun count q (omega (arith, amiss.0, l, many))) amiss.1,
+)
+found_first begun count i whole ps old new (Twice q) in' many counted fine amiss = (
+  take i ps,
+  first_at i ps q begun count in' (amiss.0) (λ t. omega (arith, counted t, fine t)),
+  ap (λ t. times t (take i ps)) amiss.0 ∙ sym (counted (get_or ps i 0)) ∙ ap (λ (b : Bool). cond {A = ℕ} b 1 0) amiss.1,
+)
+found_first begun count i whole ps old new (Nowhere q) in' many counted fine amiss = absurd amiss
+
+-- if a place was marked as well, each mark is one of the places, and none is amiss
+pub fine_more : (begun count p : ℕ) (old new : List Bool) → length old ≡ count + 1 → ((q : ℕ) → marked old q ≤ once_from begun count q)
+    → IsMarked begun p old new None → (q : ℕ) → marked new q ≤ once_from begun count q
+fine_more begun count p old new many fine m q = one (q == p) refl
+  where
+    one : (b : Bool) → (q == p) ≡ b → marked new q ≤ once_from begun count q
+    one true is = let e : q ≡ p = grind (arith, nat_tests) in
+        omega (arith, marked_once new q, once_there begun count q (omega (arith, e, m.0)) (omega (arith, e, m.1, many)))
+    one false is = let e : times q (p ∷ []) ≡ 0 = ap (λ (b : Bool). cond {A = ℕ} b 1 0) is in omega (arith, m.3 q, fine q, e)
+
+-- if a place has a mark if it is one after `begun` and up to `count`
+each_counted : (begun count : ℕ) (ps : List ℕ) (marks : List Bool) (q : ℕ) → marked marks q ≡ times q ps → marked marks q ≤ once_from begun count q
+    → (begun < q → q ≤ count → has_mark marks q ≡ true) → times q ps ≡ once_from begun count q
+each_counted begun count ps marks q counted fine has = one (nat_lt begun q) (nat_le q count) refl refl
+  where
+    one : (above below : Bool) → nat_lt begun q ≡ above → nat_le q count ≡ below → times q ps ≡ once_from begun count q
+    one true true a b =
+        let lt : begun < q = grind (arith, nat_tests) in
+        let le : q ≤ count = grind (arith, nat_tests) in
+        let e : marked marks q ≡ 1 = ap (λ (b : Bool). cond {A = ℕ} b 1 0) (has lt le) in
+        omega (arith, e, counted, once_there begun count q lt le)
+    one true false a b = let lt : count < q = grind (arith, nat_tests) in omega (arith, counted, fine, once_past begun count q lt)
+    one false below a b = let le : q ≤ begun = grind (arith, nat_tests) in omega (arith, counted, fine, once_early begun count q le)
+
+-- if all places are marked
+found_unmarked : (begun count : ℕ) (ps : List ℕ) (marks : List Bool) (r : Option Misgranted) → length marks ≡ count + 1
+    → ((q : ℕ) → marked marks q ≡ times q ps) → ((q : ℕ) → marked marks q ≤ once_from begun count q) → IsUnmarked begun marks r → IsFound begun count true ps r
+found_unmarked begun count ps marks None many counted fine all = (λ q. omega (arith, counted q, fine q), λ t q. each_counted begun count ps marks q (counted q) (fine q) (λ above below. all q above (omega (arith, many, below))))
+found_unmarked begun count ps marks (Some (Early q)) many counted fine h = absurd h
+found_unmarked begun count ps marks (Some (Twice q)) many counted fine h = absurd h
+found_unmarked begun count ps marks (Some (Nowhere p)) many counted fine h = (
+  refl,
+  λ q. omega (arith, counted q, fine q),
+  once_there begun count p h.0 (omega (arith, h.1, many)),
+  sym (counted p) ∙ ap (λ (b : Bool). cond {A = ℕ} b 1 0) h.2,
+  λ q less. each_counted begun count ps marks q (counted q) (fine q) (λ above below. h.3 q above less),
+)
+
+-- the same, if the first n places are all of them
+pub found_at_end : (begun count n : ℕ) (whole : Bool) (ps : List ℕ) (marks seen : List Bool) (r : Option Misgranted) → whole ≡ true → length ps ≤ n → seen ≡ marks
+    → length marks ≡ count + 1 → ((q : ℕ) → marked marks q ≡ times q (take n ps)) → ((q : ℕ) → marked marks q ≤ once_from begun count q)
+    → IsUnmarked begun seen r → IsFound begun count whole ps r
+found_at_end begun count n whole ps marks seen r is_whole le same many counted fine h =
+    subst (λ (b : Bool). IsFound begun count b ps r) (sym is_whole)
+    (found_unmarked begun count ps marks r many (λ q. counted q ∙ ap (times q) (take_all n ps le)) fine (subst (λ (m : List Bool). IsUnmarked begun m r) same h))

@@ -1,0 +1,4 @@
+pub mod GrantingLemmas
+pub mod BegunLemmas
+pub mod UnionLemmas
+pub mod ClassLemmas

@@ -1,0 +1,29 @@
+-- Two sets in one.
+use Rattle.std.proofs.Common.{◌≡◌, ℕ, Bool, true, false, ◌&&◌, not, eqb, ap, ◌∙◌, arith}
+use Rattle.std.specs.Prelude.{◌||◌}
+use Rattle.std.specs.Ordering.{nat_cmp}
+use Rattle.std.specs.FinSet as sets
+use Rattle.std.specs.FinSet.{FinSet}
+use Rattle.mml_ids.specs.inside.WordsLemmas.{has_empty, has_insert, has_remove}
+use Rattle.std.proofs.lemmas.Bool.Decides.{nat_tests}
+
+moved : (b s t both : Bool) → (b ≡ true → t ≡ true) → (s || t) ≡ both → ((b || s) || (not b && t)) ≡ both
+moved true s t both there h = grind (arith, nat_tests)
+moved false s t both there h = grind (arith, nat_tests)
+
+is_there : (t : FinSet nat_cmp) (r q : ℕ) → sets.contains t r ≡ true → eqb q r ≡ true → sets.contains t q ≡ true
+is_there t r q there same = grind (arith, nat_tests)
+
+-- a rank that goes from one set to another is in either as before
+pub one_moved : (s t s' t' : FinSet nat_cmp) (r q : ℕ) (both : Bool) → s' ≡ sets.insert s r → t' ≡ sets.remove t r → sets.contains t r ≡ true
+    → (sets.contains s q || sets.contains t q) ≡ both → (sets.contains s' q || sets.contains t' q) ≡ both
+one_moved s t s' t' r q both put taken there h =
+    ap (λ (x : FinSet nat_cmp). sets.contains x q || sets.contains t' q) put
+    ∙ ap (λ (x : FinSet nat_cmp). sets.contains (sets.insert s r) q || sets.contains x q) taken
+    ∙ ap (λ (b : Bool). b || sets.contains (sets.remove t r) q) (has_insert s r q)
+    ∙ ap (λ (b : Bool). (eqb q r || sets.contains s q) || b) (has_remove t r q)
+    ∙ moved (eqb q r) (sets.contains s q) (sets.contains t q) both (is_there t r q there) h
+
+-- if nothing is left, all is in the one
+pub all_moved : (s t : FinSet nat_cmp) (q : ℕ) (both : Bool) → t ≡ sets.empty → (sets.contains s q || sets.contains t q) ≡ both → sets.contains s q ≡ both
+all_moved s t q both none h = grind (arith, nat_tests, has_empty)

@@ -1,0 +1,96 @@
+-- The record of a class: a text for each seat, beside one list of events, and how many of these came before.
+use Rattle.std.specs.Prelude.{◌≡◌, ◌≤◌, ◌+◌, ◌-◌, ◌^◌, min, ℕ, suc, Bool, true, List, [], ◌∷◌, ◌++◌, length, Option, None, Some}
+use Rattle.std.specs.List.{list_all, list_any, sum_by, flat_map}
+use Rattle.mml_lab.specs.declared.who.Who.{Who}
+use Rattle.mml_lab.specs.Labs.{LabValue}
+use Rattle.mml_lab.specs.Rosters.{RosterValue}
+use Rattle.mml_board.specs.declared.event.Event.{Event}
+use Rattle.mml_window.specs.Tallies.{IsEachOnceFrom}
+use Rattle.mml_tally.specs.declared.ask.Ask.{Ask}
+use Rattle.mml_tally.specs.declared.record_text.Findings.{Findings}
+use Rattle.mml_tally.specs.Lacking.{lacks}
+use Rattle.mml_record.specs.declared.kept_entry.Entry.{Entry}
+use Rattle.mml_class.specs.declared.class_record.ClassRecord.{ClassRecord}
+use Rattle.mml_class.specs.declared.class_record.ClassFault.{ClassFault}
+use Rattle.mml_class.specs.declared.class_record.ClassFault.TheVariants as fault
+use Rattle.mml_class.specs.declared.granting.Misgranted.{Misgranted}
+use Rattle.mml_record.specs.declared.verdict.BadEntry.{BadEntry}
+use Rattle.mml_record.specs.Entries.{record_text, sessions_in, lines_in, are_whole}
+use Rattle.mml_record.specs.Losses.{are_paused_for, are_cut}
+use Rattle.mml_record.specs.Certified.{IsRecordOf}
+use Rattle.mml_record.specs.Asks.{asks_in}
+use Rattle.mml_record.specs.Verdicts.{IsFirstBad}
+use Rattle.mml_class.specs.Begun.{begun_in}
+use Rattle.mml_class.specs.Granting.{AreGranted, IsFound}
+
+-- ---- the seats' texts
+
+-- what says how many events came before has these bytes, and the record of each seat has these
+abbrev pub Tell : Option (List ℕ) → (ℕ → Option (List ℕ)) → List ℕ → (ℕ → List ℕ) → Type 0
+Tell begun text start texts = (begun ≡ Some start) × ((n : ℕ) → text n ≡ Some (texts n))
+
+-- the texts of the seats from the number `first` on are those of these records, one a seat, in which these places were granted, in the order
+-- of seats
+abbrev pub AreRecordsOf : LabValue → List Event → (ℕ → List ℕ) → ℕ → List (List Entry) → List ℕ → Type 0
+AreRecordsOf lab l texts first [] places = places ≡ []
+AreRecordsOf lab l texts first (es ∷ ess) places =
+    (own : List ℕ) × (more : List ℕ) × (places ≡ own ++ more) × IsRecordOf lab l es own × (texts first ≡ record_text first es)
+    × AreRecordsOf lab l texts (suc first) ess more
+
+-- ---- what they come to
+
+-- a count as a number of 64 bits has it: the greatest, if it is more
+abbrev pub counted : ℕ → ℕ
+counted n = min n (2 ^ 64 - 1)
+
+-- the records of several seats come to this: so many sessions ended, so many lines were answered, whether all are whole, whether anything
+-- may be missing in one, and for whom recording paused in one
+abbrev pub ComeTo : RosterValue → Findings → List (List Entry) → Type 0
+ComeTo roster f ess =
+    (f.sessions ≡ counted (sum_by sessions_in ess)) × (f.lines ≡ counted (sum_by lines_in ess)) × (f.whole ≡ list_all are_whole ess)
+    × (f.is_cut ≡ list_any are_cut ess) × ((who : Who) → lacks f who ≡ list_any (λ es. are_paused_for roster None es who) ess)
+
+-- what the lines of several seats asked, in the order of seats
+abbrev pub all_asks : RosterValue → List (List Entry) → List Ask
+all_asks roster ess = flat_map (asks_in roster) ess
+
+-- ---- a class
+
+-- the texts are the record of a class, which comes to this: each is that of a record of its seat beside one list of events. Each place that
+-- they grant is that of an event after the first `begun`, and is granted once; and if all are whole, each such event is granted. If it is
+-- wanted, `asks` are what their lines asked
+pub record IsClassRecord (lab : LabValue) (l : List Event) (with_asks : Bool) (start : List ℕ) (texts : ℕ → List ℕ) (c : ClassRecord) : Type 0 where
+  pub begun : begun_in start ≡ Some c.begun
+  pub entries : List (List Entry)
+  pub places : List ℕ
+  pub seats : length entries ≡ lab.sessions
+  pub records : AreRecordsOf lab l texts 1 entries places
+  pub comes : ComeTo lab.roster c.findings entries
+  pub granted : AreGranted c.begun (length l) places
+  pub once : list_all are_whole entries ≡ true → IsEachOnceFrom c.begun (length l) places
+  pub asked : with_asks ≡ true → c.asks.items ≡ all_asks lab.roster entries
+
+-- the texts of all seats before this one are those of records, and its own goes on with this entry, which can't be
+pub record IsBadSeat (lab : LabValue) (l : List Event) (texts : ℕ → List ℕ) (seat : ℕ) (entry : BadEntry) : Type 0 where
+  pub entries : List (List Entry)
+  pub places : List ℕ
+  pub before : seat ≡ suc (length entries)
+  pub few : seat ≤ lab.sessions
+  pub records : AreRecordsOf lab l texts 1 entries places
+  pub bad : IsFirstBad lab l seat (texts seat) entry
+
+-- the texts of all seats are those of records, and this is what is first found amiss with the places that they grant
+pub record AreMisgranted (lab : LabValue) (l : List Event) (start : List ℕ) (texts : ℕ → List ℕ) (amiss : Misgranted) : Type 0 where
+  pub begun : ℕ
+  pub entries : List (List Entry)
+  pub places : List ℕ
+  pub starts : begun_in start ≡ Some begun
+  pub seats : length entries ≡ lab.sessions
+  pub records : AreRecordsOf lab l texts 1 entries places
+  pub found : IsFound begun (length l) (list_all are_whole entries) places (Some amiss)
+
+-- why the texts are no record of a class; of what couldn't be read nothing is said
+abbrev pub IsClassRefused : LabValue → List Event → List ℕ → (ℕ → List ℕ) → ClassFault → Type 0
+IsClassRefused lab l start texts (fault.Entry seat bad) = IsBadSeat lab l texts seat bad
+IsClassRefused lab l start texts (fault.Places amiss) = AreMisgranted lab l start texts amiss
+IsClassRefused lab l start texts (fault.Unread why) = Unit {0}

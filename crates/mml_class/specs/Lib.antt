@@ -1,0 +1,4 @@
+pub mod Begun
+pub mod Granting
+pub mod Classes
+pub mod inside

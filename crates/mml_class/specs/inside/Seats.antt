@@ -1,0 +1,57 @@
+-- The records of seats, one after another.
+use Rattle.std.specs.Prelude.{◌≡◌, ◌+◌, ◌&&◌, ◌||◌, ℕ, Bool, true, false, List, ◌++◌, length}
+use Rattle.std.specs.FinSet as set
+use Rattle.mml_lab.specs.declared.who.Who.{Who}
+use Rattle.mml_lab.specs.Labs.{LabValue}
+use Rattle.mml_board.specs.declared.event.Event.{Event}
+use Rattle.mml_tally.specs.declared.ask.Ask.{Ask}
+use Rattle.mml_tally.specs.declared.record_text.Findings.{Findings}
+use Rattle.mml_tally.specs.Lacking.{lacks}
+use Rattle.mml_record.specs.declared.kept_entry.Entry.{Entry}
+use Rattle.mml_class.specs.declared.class_record.ClassFault.{ClassFault}
+use Rattle.mml_class.specs.declared.class_record.ClassFault.TheVariants as fault
+use Rattle.mml_record.specs.declared.verdict.Verdict.{Verdict}
+use Rattle.mml_record.specs.declared.verdict.Verdict.TheVariants.{Passed, Refused}
+use Rattle.mml_record.specs.Entries.{record_text}
+use Rattle.mml_record.specs.Certified.{IsRecordOf}
+use Rattle.mml_record.specs.Asks.{asks_in}
+use Rattle.mml_record.specs.Verdicts.{ComesTo, IsFirstBad}
+use Rattle.mml_class.specs.Classes.{counted, AreRecordsOf, ComeTo, all_asks}
+
+-- what is found of no records
+abbrev pub no_findings : Findings
+no_findings = record { sessions = 0; lines = 0; whole = true; is_cut = false; lacks_teacher = false; lacking = set.empty }
+
+-- two findings come to this together
+abbrev pub IsTogether : Findings → Findings → Findings → Type 0
+IsTogether a b c =
+    (c.sessions ≡ counted (a.sessions + b.sessions)) × (c.lines ≡ counted (a.lines + b.lines)) × (c.whole ≡ (a.whole && b.whole))
+    × (c.is_cut ≡ (a.is_cut || b.is_cut)) × ((who : Who) → lacks c who ≡ (lacks a who || lacks b who))
+
+-- the text of a seat is that of a record, which comes to this; the places that it grants go after `granted`, and if it is wanted, what its
+-- lines asked goes after `asks`. Or it goes on with this entry, which can't be
+abbrev pub IsSeatRead : LabValue → List Event → ℕ → Bool → List ℕ → List ℕ → List ℕ → List Ask → List Ask → Verdict → Type 0
+IsSeatRead lab l number with_asks text granted granted' asks asks' (Passed f) =
+    (es : List Entry) × (own : List ℕ) × IsRecordOf lab l es own × (text ≡ record_text number es) × ComesTo lab.roster f es
+    × (granted' ≡ granted ++ own) × (with_asks ≡ true → asks' ≡ asks ++ asks_in lab.roster es)
+IsSeatRead lab l number with_asks text granted granted' asks asks' (Refused bad) = IsFirstBad lab l number text bad
+
+-- the text of a seat is that of a record, with which the findings come to these
+pub record AddsSeat (lab : LabValue) (l : List Event) (number : ℕ) (with_asks : Bool) (text granted granted' : List ℕ) (asks asks' : List Ask) (old new : Findings) : Type 0 where
+  pub found : Findings
+  pub read : IsSeatRead lab l number with_asks text granted granted' asks asks' (Passed found)
+  pub together : IsTogether old found new
+
+-- why a seat's text is no record
+abbrev pub IsSeatRefused : LabValue → List Event → ℕ → List ℕ → ClassFault → Type 0
+IsSeatRefused lab l number text (fault.Entry seat bad) = (seat ≡ number) × IsFirstBad lab l number text bad
+IsSeatRefused lab l number text (fault.Places amiss) = ⊥
+IsSeatRefused lab l number text (fault.Unread why) = Unit {0}
+
+-- the texts of the first n seats are those of records that come to this, in which these places were granted
+pub record AreReadSoFar (lab : LabValue) (l : List Event) (with_asks : Bool) (texts : ℕ → List ℕ) (n : ℕ) (f : Findings) (places : List ℕ) (asks : List Ask) : Type 0 where
+  pub entries : List (List Entry)
+  pub seats : length entries ≡ n
+  pub records : AreRecordsOf lab l texts 1 entries places
+  pub comes : ComeTo lab.roster f entries
+  pub asked : with_asks ≡ true → asks ≡ all_asks lab.roster entries

@@ -1,0 +1,54 @@
+//! What the parts of a record come to together.
+ghost use Rattle.std.specs.Prelude.{◌≡◌, ◌+◌, ◌&&◌, ◌||◌, ℕ};
+ghost use Rattle.std.specs.FinSet as set;
+ghost use Rattle.mml_lab.specs.declared.who.Who.{Who};
+ghost use Rattle.mml_tally.specs.Lacking.{lacks};
+ghost use Rattle.mml_class.specs.Classes.{counted};
+ghost use Rattle.mml_class.specs.inside.Seats.{no_findings};
+
+use mml_ids::NodeSet;
+use mml_tally::Findings;
+
+/// Returns what nothing comes to: no session and no line, and nothing left out.
+pub(crate) fn no_findings() -> Findings
+    ensures { result ≡ no_findings }
+{
+    Findings {
+        sessions: 0,
+        lines: 0,
+        whole: true,
+        is_cut: false,
+        lacks_teacher: false,
+        lacking: NodeSet::empty(),
+    }
+}
+
+/// Returns what two parts of a record come to together. Its sums stop at the greatest number of 64 bits.
+pub(crate) fn together(a: &Findings, b: &Findings) -> Findings
+    ensures sessions { result.sessions ≡ counted (a.now.sessions + b.now.sessions) }
+    ensures lines { result.lines ≡ counted (a.now.lines + b.now.lines) }
+    ensures whole { result.whole ≡ (a.now.whole && b.now.whole) }
+    ensures cut { result.is_cut ≡ (a.now.is_cut || b.now.is_cut) }
+    ensures lacks { (who : Who) → lacks result who ≡ (lacks a.now who || lacks b.now who) }
+{
+    Findings {
+        sessions: a.sessions.saturating_add(b.sessions),
+        lines: a.lines.saturating_add(b.lines),
+        whole: a.whole && b.whole,
+        is_cut: a.is_cut || b.is_cut,
+        lacks_teacher: a.lacks_teacher || b.lacks_teacher,
+        lacking: union(a.lacking, b.lacking),
+    }
+}
+
+// Returns the ranks that are in either set.
+fn union(a: NodeSet, b: NodeSet) -> NodeSet
+    ensures { (q : ℕ) → set.contains result q ≡ (set.contains a q || set.contains b q) }
+{
+    let mut all = a;
+    let mut left = b;
+    'ranks: while let Some(rank) = left.take_least() {
+        all = all.with(rank);
+    }
+    all
+}

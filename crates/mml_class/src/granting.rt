@@ -1,0 +1,83 @@
+//! Whether the records of all seats grant each event once.
+ghost use Rattle.std.specs.Prelude.{◌≡◌, ◌+◌, ℕ, IfOk, length, suc};
+ghost use Rattle.mml_class.specs.Granting.{IsFound};
+ghost use Rattle.mml_class.specs.inside.Marking.{IsMarked, IsUnmarked, marked};
+
+use mml_ids::Memory;
+use std::alloc::Global;
+
+/// What is amiss with the places that records grant.
+#[derive(Clone, Copy, Debug, PartialEq, Eq, Drop)]
+pub enum Misgranted {
+    /// The event at this place happened before the record began; or there is no event at this place.
+    Early(u64),
+    /// The event at this place is granted again.
+    Twice(u64),
+    /// The event at this place is granted nowhere.
+    Nowhere(u64),
+}
+
+// Returns a mark for each place from 0 to `count`, none of which is set.
+fn no_marks(alloc: Global, count: u64) -> Result<Vec<bool>, Memory>
+    ensures length { IfOk result (λ marks. length marks.items ≡ count + 1) }
+    ensures unset { IfOk result (λ marks. (p : ℕ) → marked marks.items p ≡ 0) }
+{
+    let mut marks = Vec::new(alloc);
+    marks.push(false)?;
+    'places: for _ in 0..count {
+        marks.push(false)?;
+    }
+    Ok(marks)
+}
+
+// Marks a place after `begun` that has no mark yet, or returns what is amiss with the place.
+fn mark(marks: &mut Vec<bool>, begun: u64, place: u64) -> Option<Misgranted>
+    ensures { IsMarked begun place marks.old.items marks.new.items result }
+{
+    let at = place as usize;
+    if place <= begun || at >= marks.len() {
+        return Some(Misgranted::Early(place));
+    }
+    if marks[at] {
+        return Some(Misgranted::Twice(place));
+    }
+    marks[at] = true;
+    None
+}
+
+// Returns the first place after `begun` that has no mark, which is granted nowhere then; `None` if each has one.
+fn first_unmarked(marks: &[bool], begun: u64) -> Option<Misgranted>
+    ensures { IsUnmarked begun marks.now result }
+{
+    'places: for at in 0..marks.len() {
+        let place = at as u64;
+        if place > begun && !marks[at] {
+            return Some(Misgranted::Nowhere(place));
+        }
+    }
+    None
+}
+
+/// Returns what is first found amiss with the places that records grant; `None` if nothing is. Each of `places` has to
+/// be one from `begun` + 1 to `count`, and none may be there twice. If the records are `whole`, each number from
+/// `begun` + 1 to `count` has to be there. The error is that memory ran out.
+pub fn find_misgranted(
+    alloc: Global,
+    places: &[u64],
+    begun: u64,
+    count: u64,
+    whole: bool,
+) -> Result<Option<Misgranted>, Memory>
+    ensures { IfOk result (IsFound begun count whole places.now) }
+{
+    let mut marks = no_marks(alloc, count)?;
+    'places: for place in places {
+        if let Some(amiss) = mark(&mut marks, begun, *place) {
+            return Ok(Some(amiss));
+        }
+    }
+    if whole {
+        return Ok(first_unmarked(&marks, begun));
+    }
+    Ok(None)
+}

@@ -1,0 +1,12 @@
+//! The record of a class: the texts of all its seats, beside the list of events of its journal.
+#![tactic(auto)]
+
+mod begun;
+mod class_record;
+mod findings;
+mod granting;
+mod seats;
+
+pub use class_record::{ClassFault, ClassRecord, MAX_RECORD, read_class};
+pub use granting::{Misgranted, find_misgranted};
+pub use seats::{SeatFault, Seats};

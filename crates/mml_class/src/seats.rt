@@ -1,0 +1,37 @@
+ghost use Rattle.std.specs.Prelude.{◌≡◌, ℕ, List, Option, Some, IfOk, IfSome};
+
+use mml_ids::Memory;
+use std::io::Read;
+
+/// Why a text of a class's record couldn't be read.
+#[derive(Clone, Copy, Debug, PartialEq, Eq)]
+pub enum SeatFault {
+    /// It can't be opened, a read failed, it is too long, or it doesn't say how many events came before.
+    Read,
+    /// Memory ran out.
+    Memory,
+}
+
+impl From<Memory> for SeatFault {
+    // Returns the fault of a growth that was refused.
+    fn from(_memory: Memory) -> SeatFault {
+        SeatFault::Memory
+    }
+}
+
+/// The texts of a class's record, which can be opened.
+pub trait Seats<R: Read> {
+    // The bytes that say how many events came before, if they are known.
+    ghost begun: { Self → Option (List ℕ) };
+
+    // The bytes of the record of the seat with a number, if they are known.
+    ghost text: { Self → ℕ → Option (List ℕ) };
+
+    /// Opens the text that says how many events came before.
+    fn open_begun(&self) -> Result<R, SeatFault>
+        ensures { IfOk result (λ reader. IfSome (begun self.now) (λ bytes. R.remaining reader ≡ Some bytes)) };
+
+    /// Opens the record of the seat with this number.
+    fn open_seat(&self, number: u8) -> Result<R, SeatFault>
+        ensures { IfOk result (λ reader. IfSome (text self.now number) (λ bytes. R.remaining reader ≡ Some bytes)) };
+}
