@@ -693,7 +693,7 @@ class ByHand:
                 with self.log.open("a", encoding="utf-8", errors="surrogateescape") as it:
                     it.write(f"{time.strftime('%H:%M:%S')} {line}\n")
         except OSError as error:
-            self.note(f"{self.log}: {error.strerror}: no more is kept there")
+            self.note(f"{self.log}: {error.strerror}: nothing more is written to it")
             self.log = None
 
     def note(self, text: str) -> None:

@@ -83,7 +83,7 @@ def granted(trial: Attempt, node: int, what: str) -> None:
 def fault(trial: Attempt) -> None:
     """Hurts a node of the bot's."""
     node = hurt(trial)
-    trial.until_stable(f"a fault at {node} isn't taken up")
+    trial.until_stable(f"a fault at {node} isn't handled")
 
 
 def cut(trial: Attempt) -> None:
@@ -92,7 +92,7 @@ def cut(trial: Attempt) -> None:
     trial.playing.relay.cut()
     trial.comes_again(before, "its connection was closed")
     node = hurt(trial)
-    trial.until_stable(f"after its connection was closed a fault at {node} isn't taken up")
+    trial.until_stable(f"after its connection was closed a fault at {node} isn't handled")
 
 
 def rest(trial: Attempt) -> None:
@@ -100,7 +100,7 @@ def rest(trial: Attempt) -> None:
     trial.doing = f", after the class was at rest for some seconds{ON}"
     rests(trial, LONG_REST)
     node = hurt(trial)
-    trial.until_stable(f"after {LONG_REST:g} seconds at rest a fault at {node} isn't taken up")
+    trial.until_stable(f"after {LONG_REST:g} seconds at rest a fault at {node} isn't handled")
     trial.doing = ON
 
 
@@ -112,7 +112,7 @@ def open_step(trial: Attempt) -> None:
     trial.doing = f", while the step stayed open after a grant (the teacher closes it, maybe much later){ON}"
     trial.watch(LONG_OPEN)
     trial.playing.is_held, trial.doing = False, ON
-    trial.until_stable(f"a fault at {node}, after which the step stayed open for long, isn't taken up")
+    trial.until_stable(f"a fault at {node}, after which the step stayed open for long, isn't handled")
 
 
 def release(trial: Attempt) -> None:
@@ -126,7 +126,7 @@ def release(trial: Attempt) -> None:
     granted(trial, node, f"the teacher took its move of {node} back under {playing.report['at']}, and it didn't ask again (after a grant look "
                          "again a little later: the number stays the same)")
     playing.is_held = False
-    trial.until_stable(f"a fault at {node}, where the teacher took a move back, isn't taken up")
+    trial.until_stable(f"a fault at {node}, where the teacher took a move back, isn't handled")
 
 
 def overtake(trial: Attempt) -> None:
@@ -135,7 +135,7 @@ def overtake(trial: Attempt) -> None:
     trial.playing.overtakes = OVERTAKES
     for _ in range(ROUNDS):
         node = hurt(trial)
-        trial.until_stable(f"a fault at {node}, with a step closed between look and move, isn't taken up")
+        trial.until_stable(f"a fault at {node}, with a step closed between look and move, isn't handled")
         if not trial.playing.overtakes:
             break
     trial.playing.overtakes, trial.doing = 0, ON
@@ -152,7 +152,7 @@ def taken(trial: Attempt) -> None:
     trial.until_stable("after another owner moved a node it isn't stable")
     playing.forestalls = True
     node = hurt(trial, shared)
-    trial.until_stable(f"a fault at {node}, which another owner moved first, isn't taken up")
+    trial.until_stable(f"a fault at {node}, which another owner moved first, isn't handled")
     playing.forestalls, trial.doing = False, ON
 
 
@@ -178,7 +178,7 @@ def lost(trial: Attempt) -> None:
         raise Fault(f"port {playing.relay.port}: {error.strerror}", 4) from None
     trial.comes_again(before, "its server was gone for a moment, and went on")
     playing.is_held = playing.loses = playing.has_lost = False
-    trial.until_stable(f"after its server was gone for a moment a fault at {node} isn't taken up")
+    trial.until_stable(f"after its server was gone for a moment a fault at {node} isn't handled")
 
 
 def turned_away(trial: Attempt) -> None:
@@ -243,7 +243,7 @@ def rules(trial: Attempt) -> None:
             trial.turn()
         trial.watch(LOOKED)
     playing.is_held = False
-    trial.until_stable(f"faults at {node} and its neighbours aren't taken up")
+    trial.until_stable(f"faults at {node} and its neighbours aren't handled")
 
 
 EACH: dict[str, Callable[[Attempt], None]] = {

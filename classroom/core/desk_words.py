@@ -94,7 +94,7 @@ WORDS = {
     "stop": Word("NAME", "leave them to the student again", Action.STOP),
     "every": Word("SECONDS", "close a step every so many seconds", Action.CLOSE_BY,
                   (Button("every", "by the clock", "every #seconds", "every so many seconds"),)),
-    "when-idle": Word("SECONDS", "close a step when nothing came for so long", Action.CLOSE_BY,
+    "when-idle": Word("SECONDS", "close a step when nothing came for that long", Action.CLOSE_BY,
                       (Button("when-idle", "when idle", "when-idle #seconds", "so many seconds after the last move"),)),
     "by-hand": Word("", "close no step by itself", Action.CLOSE_BY, (Button("by-hand", "by hand", "by-hand"),)),
     "daemon": Word("WORD", "close steps as central, synchronous, random:P, schedule, adversary, when-idle:SECONDS, every:SECONDS, by-hand", Action.DAEMON),

@@ -107,7 +107,7 @@ def read(text: str) -> Tally:
 
 
 def by_owner(words: list[str]) -> dict[str, Counter[str]]:
-    """Returns how many moves of each rule, by owner: for each a name, and four numbers."""
+    """Returns the number of moves of each rule, by owner. The words are a name and four numbers for each owner."""
     return {words[at]: by_rule(words[at + 1 : at + 5]) for at in range(0, len(words), 5)}
 
 
@@ -118,7 +118,7 @@ def marks(words: list[str]) -> Marks:
 
 
 def by_rule(words: list[str]) -> Counter[str]:
-    """Returns how many moves of each rule: four numbers in the rules' order."""
+    """Returns the number of moves of each rule, from four numbers in the rules' order."""
     return Counter(dict(zip(RULES, map(int, words), strict=True)))
 
 

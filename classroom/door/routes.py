@@ -66,7 +66,7 @@ class Kept:
             return None
 
     def write(self, folder: Path) -> None:
-        """Keeps this in a folder."""
+        """Writes the door's data into its folder."""
         put(folder / DOOR, asdict(self))
 
 

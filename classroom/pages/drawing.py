@@ -53,7 +53,7 @@ class Drawing:
         return self.view.layout.radius < labels.LEAST_FRAMED
 
     def svg(self, state: State, event: Event | None) -> str:
-        """Returns the whole element of a state; `event` is the one that led to it."""
+        """Returns the SVG element of a state. `event` is the one that led to it."""
         open_links = state.open if len(state.open) <= OPEN_MOST else []
         sizes, field = self.measures, self.view.layout.field
         return "\n".join([

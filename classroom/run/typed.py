@@ -68,7 +68,7 @@ class Terminal:
         return f"\r\x1b[K{line}{self.prompt}{self.readline.get_line_buffer()}" if self.reads else line
 
     def read(self, put: Callable[[str], None]) -> None:
-        """Puts each line that is typed, until the terminal goes away."""
+        """Calls `put` with each typed line, until the terminal goes away."""
         while True:
             self.reads = True
             try:

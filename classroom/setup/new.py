@@ -183,7 +183,7 @@ def next_words(words: argparse.Namespace, made: list[Made], merge: Path) -> str:
 
 
 def tell_seats(made: labs.Lab, everybody: int, words: argparse.Namespace) -> None:
-    """Says if not all students of the lab can have a seat at once, and how many labs would give each one."""
+    """Prints a note if not all students of the lab can have a seat at once, with the number of labs that would be enough."""
     students = len(made.without_house().students)
     if made.sessions < students + 1 and words.groups_by:
         print(f"note: {made.sessions} sessions for {students} students and a teacher: more --groups give all a seat")
@@ -193,7 +193,7 @@ def tell_seats(made: labs.Lab, everybody: int, words: argparse.Namespace) -> Non
 
 
 def tell_few(made: labs.Lab) -> None:
-    """Says if the lab may be full before it comes to rest. The most events that a lab may have suffice for each
+    """Prints a note if the lab may be full before it comes to rest. The most events that a lab may have suffice for each
     network."""
     if made.events == labs.MOST_EVENTS:
         return

@@ -129,7 +129,7 @@ class AtDoor(InRoom):
         return run
 
     def record(self, run: Path, students: int, page: int | None = None, play: int | None = None) -> None:
-        """What a run keeps of its ports."""
+        """Writes the ports of a run into its folder, as a run does."""
         me = Process.of(os.getpid())
         Record("lab.toml", students, 1, page, "by-hand", None, me, me, play, looks="look-token").write(run)
 

@@ -30,11 +30,11 @@ class Listened(InRoom):
             it.write(text)
 
     def say(self, seat: int, place: int, line: str, reply: str, times: int = 1) -> None:
-        """Entries of a line and its reply."""
+        """Appends the entries of a line and its reply to a seat's file."""
         self.put(seat, f"{seat} {place} > {line}\n{seat} {place} < {reply}\n" * times)
 
     def greet(self, seat: int, name: str) -> None:
-        """A granted hello."""
+        """Appends a granted hello to a seat's file."""
         self.say(seat, 0, HELLO % (name, "some-key"), f'{{"ok":"hello","who":"{name}"}}')
 
     def news(self, step: int = 0, seconds: float = 1.0) -> list[str]:

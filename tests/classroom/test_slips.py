@@ -351,7 +351,7 @@ class Talking(Cycle):
         self.assertIn("the server has closed the connection: a line has at most 4096 bytes", said.stdout)
         said = call(*BY_HAND, self.slip(going.port, "gus"), "--log", "/dev/full", typed='{"do":"bye"}\n')
         self.assertEqual((said.returncode, said.stdout.splitlines()[-1]), (0, '{"ok":"bye"}'))
-        self.assertEqual(said.stderr, "client: /dev/full: No space left on device: no more is kept there\n")
+        self.assertEqual(said.stderr, "client: /dev/full: No space left on device: nothing more is written to it\n")
         done = subprocess.run([*BY_HAND, self.slip(going.port, "gus")], input=b'{"do":"bye\xff"}\n{"do":"bye"}\n', capture_output=True,
                               check=False, timeout=LIMIT)
         self.assertEqual(done.stdout.splitlines()[1:], [b'{"refuse":"malformed"}', b'{"ok":"bye"}'])

@@ -24,7 +24,7 @@ RIGHT = sorted((TOP / "tests/classroom/right_bots").glob("[a-z]*.py"))
 AT_ONCE = 8  # mostly they wait
 SECONDS = 12.0
 GUARD = r"denied as guard, clause 4: .*; the plain model, which decides nothing, adds: {part}; a right bot would send "
-HANGS = r"(isn't stable after|didn't ask for \w+ at \d+, which is privileged,|isn't taken up after).* {rule}"
+HANGS = r"(isn't stable after|didn't ask for \w+ at \d+, which is privileged,|isn't handled after).* {rule}"
 # Of each bot the case of `small` that finds its mistake, and what is said of it.
 FOUND = {
     "never-updates": ("complete-4", HANGS.format(rule="update") + '.*a right bot would send {"at":\\d+,"do":"move","node":\\d+,"rule":"update"}'),

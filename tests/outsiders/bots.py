@@ -162,7 +162,7 @@ class Class:
             it.caller.close()
 
     def teach(self, seconds: float) -> None:
-        """The teacher closes steps, and disturbs a node now and then for so long."""
+        """Closes steps as the teacher, and disturbs a node now and then, for so long."""
         draw, end = random.Random(0), time.monotonic() + seconds
         while time.monotonic() < end:
             it = Honest(self.host.desk, hello("tess"), self.waits)

@@ -115,7 +115,7 @@ def registers(rng: Random, nodes: list[int], links: list[Link]) -> Registers:
 
 
 def size(rng: Random) -> int:
-    """Returns how many nodes: mostly few."""
+    """Returns a drawn number of nodes, mostly a small one."""
     if rng.random() < 0.02:
         return rng.choice([64, 65, 255, 256])
     return rng.choice([1, 2, 2, 3, 3, 3, 4, 4, 5, 6, 8, 12, 20])

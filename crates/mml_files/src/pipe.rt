@@ -13,8 +13,8 @@ const LOOKS: u32 = 50;
 // How many milliseconds pass between two checks.
 const PAUSE: i32 = 20;
 
-/// Opens the pipe to append to it, and refuses one that nobody reads within a second. Opening it only for writing would
-/// wait for a reader, so it is kept open for reading too until the other open is done.
+/// Opens the pipe to append to it, and refuses one that nobody reads within a second. Opening a pipe only for writing
+/// would wait for a reader. So the pipe is opened for reading and writing first, until it is open for writing, too.
 pub fn open_pipe<R: Files<File = File>>(rt: &R, path: &str) -> Result<File, FileFault> {
     let both = appending().read(true).open(rt, path)?;
     let file = appending().open(rt, path)?;

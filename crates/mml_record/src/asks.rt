@@ -83,8 +83,8 @@ fn clause_first(members: &[u8]) -> Option<u8>
     }
 }
 
-// Returns the number of a clause, if the member `clause` stands after the first comma of a reply's text after the `{`,
-// or `None` if it doesn't, or has no value.
+// Returns the number of the clause if `clause` is the second member of a reply, or `None` if it isn't, or has no value.
+// `members` is the reply's text after the `{`.
 #[tactic(auto, unfolding(crate::specs::Asks::clause_second))]
 fn clause_second(members: &[u8]) -> Option<u8>
     ensures { result ≡ clause_second members.now }
@@ -94,8 +94,8 @@ fn clause_second(members: &[u8]) -> Option<u8>
     clause_first(rest)
 }
 
-// Returns the number of a clause, if the member `clause` is the first in a reply's text after the `{`, or the second,
-// after `at`. Returns `None` if it is neither.
+// Returns the number of the clause if `clause` is the first member of a reply, or the second, after `at`. Returns
+// `None` if it is neither. `members` is the reply's text after the `{`.
 #[tactic(auto, unfolding(crate::specs::Asks::clause_member))]
 fn clause_member(members: &[u8]) -> Option<u8>
     ensures { result ≡ clause_member members.now }

@@ -144,8 +144,8 @@ fn fault_of_class<R: Threads + Wait + Sync>(
     Ok((fault, out.is_empty()))
 }
 
-/// Of a class that goes on from `OLD`: whether ana and whether tess is answered as she should be, whether the journal
-/// is ana's move and a close, and whether the class itself prints `TOLD`; an error if it doesn't go on.
+/// Returns, for a class that goes on from `OLD`, whether ana and whether tess is answered as she should be, whether the
+/// journal is ana's move and a close, and whether the class itself prints `TOLD`. Fails if it doesn't go on.
 fn told_of_a_class<R: Threads + Wait + Sync>(rt: &R, alloc: Global) -> Result<[bool; 4], Fail> {
     let mut out = Vec::new(alloc);
     match resume(rt, alloc, 100, OLD, &mut out)? {

@@ -82,8 +82,8 @@ const STEP: &str = lines!(hello("tess", "chalk"), close);
 
 const STEP_REPLIES: &str = lines!(welcome("tess"), closed);
 
-/// Of two clients the second closes a step once the first one's move was answered: whether they are served well, and
-/// whether the first and the second are answered as they should be.
+/// Serves two clients, the second of which closes a step once the first one's move was answered. Returns whether they
+/// are served well, and whether the first and the second are answered as they should be.
 fn told_of_two<
     R: Net<Listener = TcpListener, Stream = TcpStream> + Threads + Wait + Sync + AllocGlobal,
 >(rt: &R) -> Result<(bool, bool, bool), Fail> {

@@ -240,7 +240,7 @@ fn line_by_bytes(alloc: Global, text: &[u8]) -> Result<(bool, usize), Fail> {
     Ok((is_line && is_whole && is_end, reader.reads))
 }
 
-/// Of many short lines: how many came, what ended them, and how many bytes were left. Of a long one: whether it came
+/// For many short lines: how many came, what ended them, and how many bytes were left. For a long one: whether it came
 /// whole, and how many reads there were.
 type Counts = ((u32, Step, usize), (bool, usize));
 

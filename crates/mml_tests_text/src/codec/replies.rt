@@ -22,7 +22,7 @@ fn line_of(alloc: Global, lab: &Lab, reply: &Reply) -> Result<String, Fail>
 }
 
 /// Returns the line of a see's reply that shows the node 65535, with m and a pointer to the node 7 (none if the lab
-/// lacks that), in the configuration with the greatest number; no text if the lab lacks the node 65535.
+/// lacks that), in the configuration with the greatest number. Returns an empty text if the lab lacks the node 65535.
 fn sight(alloc: Global, lab: &Lab) -> Result<String, Fail> {
     let p = lab.ids().rank_of(7);
     let Some(node) = lab.ids().rank_of(65535) else {
@@ -42,8 +42,8 @@ fn is_reported(alloc: Global, board: &Board, told: &Report) -> Result<bool, Fail
     }
 }
 
-/// Returns the line of the report on the board at the beginning of a lab's run; no text if that isn't of the lab's
-/// size, or `reply_of` gives a report with another number or stability.
+/// Returns the line of the report on the board at the beginning of a lab's run. Returns an empty text if the board
+/// isn't of the lab's size, or `reply_of` returns a report with another number or stability.
 fn report_line(alloc: Global, lab: &Lab) -> Result<String, Fail> {
     let board = &*boxed_board(alloc, lab)?;
     if lab.ids().len() != board.size() {
@@ -72,16 +72,16 @@ fn rooms(alloc: Global, lab: &Lab) -> Result<[usize; 3], Fail> {
     Ok([first, second, third])
 }
 
-/// Of a lab: the line of a see's reply, the line of its report, and whether a vector with room for a reply keeps its
-/// capacity when one is written.
+/// Returns, for a lab, the line of a see's reply, the line of its report, and whether a vector with room for a reply
+/// keeps its capacity when one is written.
 fn replies_of_lab(alloc: Global, lab: &Lab) -> Result<(String, String, bool), Fail> {
     let rooms = rooms(alloc, lab)?;
     let stays = rooms[1] == rooms[0] && rooms[2] == rooms[0];
     Ok((sight(alloc, lab)?, report_line(alloc, lab)?, stays))
 }
 
-/// Of the lab with two nodes far apart: the line of a see's reply, the line of its report, and whether a vector with
-/// room for a reply keeps its capacity when one is written.
+/// Returns, for the lab with two nodes far apart, the line of a see's reply, the line of its report, and whether a
+/// vector with room for a reply keeps its capacity when one is written.
 fn replies_far_apart(alloc: Global) -> Result<(String, String, bool), Fail> {
     let lab = boxed_lab(alloc, FAR_APART)?;
     replies_of_lab(alloc, &lab)
