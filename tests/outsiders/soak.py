@@ -83,10 +83,11 @@ class Class:
             env={**os.environ, "MML_HOST": str(HOST), "MML_PROGRAM": str(PROGRAM)},
         )
         self.lines: list[str] = []
+        self.is_ending, self.cut = False, list[str]()
         threading.Thread(target=self.read, daemon=True).start()
         self.until(lambda: any(line.startswith("words: ") for line in self.lines))
         text = "\n".join(self.lines)
-        self.port, self.desk = (int(re.findall(rf"(?m)^{word} (\d+)(?:,|$)", text)[0]) for word in ("port", "desk"))  # not one in use
+        self.port, self.desk = (int(re.findall(rf"(?m)^{word} (\d+)(?:,|$)", text)[0]) for word in ("port", "desk"))
 
     def read(self) -> None:
         """Reads what the class prints."""
@@ -114,14 +115,18 @@ class Class:
         return subprocess.Popen([sys.executable, TOP / "examples/bot.py", slip], stdout=subprocess.DEVNULL, stderr=subprocess.PIPE, text=True)
 
     def comes_and_goes(self, node: int) -> None:
-        """A student's program that plays for a moment, says bye, and comes again, until the class is over."""
-        with contextlib.suppress(Over, ConnectionError):
+        """Runs a student's program that plays for a moment, says bye, and comes again, until the class is over."""
+        with contextlib.suppress(Over):
             while self.process.poll() is None:
                 me = self.greeted(node)
-                for _ in range(LOOKS):
-                    self.plays(me, node)
-                    time.sleep(0.1)
-                me.bye()
+                try:
+                    for _ in range(LOOKS):
+                        self.plays(me, node)
+                        time.sleep(0.1)
+                    me.bye()
+                except (ConnectionError, Closed) as error:
+                    if not self.is_ending:
+                        self.cut.append(f"s-{node}: {error!r}")
                 me.hang_up()
 
     def greeted(self, node: int) -> Client:
@@ -134,7 +139,7 @@ class Class:
                 return me
             except Over:
                 raise
-            except (Closed, Refused):
+            except (Closed, Refused, ConnectionError):
                 if self.process.poll() is not None:
                     raise Over("the class has ended") from None
 
@@ -161,6 +166,7 @@ class Class:
             before = len(self.lines)
             self.type("shake 1")
             self.until(lambda: any("; stable, " in line for line in self.lines[before:]))
+            self.is_ending = True
             self.type("end\nend")
             statuses = [bot.wait(LIMIT) for bot in bots]
             for each in coming:
@@ -170,6 +176,8 @@ class Class:
         errors = "".join(bot.stderr.read() for bot in bots if bot.stderr)
         if status not in (0, 5) or any(statuses):
             fail(f"soak: the class ends with {status}, its bots with {statuses} {errors}: {self.lines[-8:]}")
+        if self.cut:
+            fail(f"soak: cut off after a hello: {self.cut}")
         return f"{steps} configurations, {len(bots)} bots and {len(coming)} that come and go played to the end"
 
 
