@@ -4,3 +4,4 @@ pub mod ResumedInside
 pub mod Cursors
 pub mod Readers
 pub mod Keeping
+pub mod Seats

@@ -13,6 +13,7 @@ ghost use Rattle.mml_window.specs.Windows.{window, window_with, IsWindow, SeesOn
 ghost use Rattle.mml_window.specs.Views.{AnswersView, TellsNumber};
 ghost use Rattle.mml_window.specs.Tallies.{times};
 ghost use Rattle.mml_window.specs.inside.Cursors.{IsStuck};
+ghost use Rattle.mml_window.specs.inside.Seats.{IsSeat};
 ghost use Rattle.mml_window.specs.inside.Keeping.{IsNextPlace, Keeps};
 
 use crate::answer::Answer;
@@ -58,18 +59,25 @@ impl<H: House> Model for Window<H> {
         × (arc_value w.lab ≡ H.lab) × (H.lab.events ≤ vec_capacity w.places) };
 }
 
+/// What a window is made of: the lab, and room for the places that the window may be granted.
+#[derive(Drop)]
+pub(crate) struct Seat {
+    pub lab: Arc<Lab>,
+    pub places: Vec<u64>,
+}
+
 impl<H: House> Window<H> {
-    /// Returns a window that has seen nothing and has no reader yet. `places` has room for the places that it may be
-    /// granted.
-    pub(crate) fn new(lab: Arc<Lab>, places: Vec<u64>) -> Window<H>
+    /// A window that has seen nothing. It takes a reader's slot at what is published, if one is free.
+    pub(crate) fn over(press: &Press<H>, seat: Seat) -> Window<H>
         requires lawful { IsLab H.lab }
-        requires lab { arc_value lab ≡ H.lab }
-        requires places { places.items ≡ [] }
-        requires room { H.lab.events ≤ vec_capacity places }
+        requires seat { IsSeat H.lab seat }
         ensures { result ≡ window [] [] }
     {
+        let Seat { lab, places } = seat;
+        let mut reader = None;
+        take_slot(press, &mut reader);
         Window {
-            reader: None,
+            reader,
             lab,
             places,
             refused: None,
@@ -77,14 +85,7 @@ impl<H: House> Window<H> {
         }
     }
 
-    /// Takes a reader's slot at what is published, if it has none yet and one is free.
-    pub(crate) fn take_slot(&mut self, press: &Press<H>)
-        ensures { self.new ≡ self.old }
-    {
-        take_slot(press, &mut self.reader);
-    }
-
-    /// Returns how many events it has seen.
+    /// How many events it has seen.
     pub fn seen_count(&self) -> u64
         ensures { result ≡ length self.now.seen }
     {
