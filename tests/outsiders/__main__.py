@@ -159,7 +159,7 @@ def words_at_the_end(room: Path) -> None:
         ends(host, let_in(host.desk, hello("tess"))[0])
         # On a slow machine ten seconds may have passed for who hasn't greeted.
         if (told := greeted.line()) != OVER or (told := silent.line()) not in (OVER, LATE):
-            fail(f"outsiders: of the class's end is answered {told!r}")
+            fail(f"outsiders: the class's end is answered {told!r}")
 
 
 def three_hellos(room: Path) -> None:
