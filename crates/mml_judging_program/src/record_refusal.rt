@@ -1,5 +1,5 @@
 //! Why a record is none.
-use crate::granting::Misgranted;
+use mml_class::Misgranted;
 use mml_record::{BadEntry, Why};
 use thiserror::Error;
 
