@@ -1,2 +1,2 @@
 pub mod TallyLemmas
-pub mod UnionLemmas
+pub mod ClassLemmas

@@ -1,16 +1,11 @@
 -- The lines that are printed of a record.
 use Rattle.std.specs.Prelude.{ℕ, Bool, true, false, List, [], ◌∷◌, ◌++◌, codes, decimal}
 use Rattle.std.specs.List.{concat}
-use Rattle.std.specs.FinSet as set
 use Rattle.mml_lab.specs.Labs.{LabValue}
 use Rattle.mml_tally.specs.declared.record_text.Findings.{Findings}
 use Rattle.mml_tally.specs.Lacking.{recorded_line}
 
--- the findings if there are no records
-abbrev pub no_findings : Findings
-no_findings = record { sessions = 0; lines = 0; whole = true; is_cut = false; lacks_teacher = false; lacking = set.empty }
-
--- what stands after the number of events, by whether a record is whole
+-- what stands behind the number of events, by whether a record is whole
 abbrev pub end_of : Bool → List ℕ
 end_of true = codes " events\n"
 end_of false = codes " events, not whole\n"

@@ -3,8 +3,10 @@
 #![tactic(auto)]
 
 mod answering;
+mod class_error;
+mod class_writing;
 mod fault;
-mod granting;
+mod folder;
 mod record_refusal;
 mod recorded;
 mod tally;
@@ -13,11 +15,11 @@ mod verifying;
 mod words;
 
 pub use answering::answer;
+pub use class_error::ClassError;
 pub use fault::Fault;
-pub use granting::{Misgranted, find_misgranted};
 pub use record_refusal::RecordRefusal;
-pub use recorded::write_recorded;
+pub use recorded::tally_class;
 pub use tally::write_tally;
 pub use task::run;
-pub use verifying::{MAX_RECORD, write_verified};
+pub use verifying::verify_class;
 pub use words::{TallyTask, Task, VerifyTask, read_words};

@@ -1,5 +1,5 @@
-//! Why a record is refused.
-use crate::granting::Misgranted;
+//! Why a record is none.
+use mml_class::Misgranted;
 use mml_record::{BadEntry, Why};
 use thiserror::Error;
 

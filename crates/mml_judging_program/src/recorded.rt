@@ -1,138 +1,128 @@
-//! The tally of a journal with a record of its lines.
-ghost use Rattle.std.specs.Prelude.{◌≡◌, true, IfOk, OnOk};
-ghost use Rattle.std.specs.Io.KnownBytes.{Appends};
-ghost use Rattle.mml_board.specs.Lists.{is_legal_in};
+//! The tally of a journal and of the record beside it.
+ghost use Rattle.std.specs.Prelude.{◌≡◌, ℕ, List, true, IfErr, IfOk, OnOk};
+ghost use Rattle.mml_board.specs.Lists.{is_legal_in, world_in};
+ghost use Rattle.mml_audit.specs.AuditMeaning.{IsJournalOf};
 ghost use Rattle.mml_tally.specs.RecordTexts.{recorded_text};
+ghost use Rattle.mml_class.specs.Classes.{Tell};
+ghost use Rattle.mml_judging_program.specs.Classes.{IsTallied, IsUntold, IsUnwritten, IsWritten};
 
+use crate::class_error::ClassError;
+use crate::class_writing::{audit_class, write_class};
 use crate::fault::Fault;
-use crate::record_refusal::RecordRefusal;
-use crate::tally::write_text;
-use crate::verifying::{granted_once, no_findings, read_begun, read_seat, together};
+use crate::folder::Folder;
 use crate::words::VerifyTask;
-use mml_audit::{Audited, audit_events};
 use mml_board::{Board, Event};
+use mml_class::{Seats, read_class};
 use mml_ends::Retrying;
 use mml_lab::Lab;
-use mml_program::{Fault as ProgramFault, lab_of, memory_if_lacked, read_journal};
-use mml_record::{Verdict, read_asks, read_record};
+use mml_program::{lab_of, memory_if_lacked, read_journal};
 use mml_tally::{Ask, Findings, put_recorded_tally};
 use std::alloc::Global;
 use std::fs::File;
 use std::io;
-use std::io::Write;
+use std::io::{Read, Write};
 use std::rt::Files;
 
-/// Prints the tally of a journal's file with that of its record, which is verified first. Returns an error if lab,
-/// journal or record doesn't pass or can't be read, a write fails, or memory runs out.
+/// Prints the tally of a journal's file and of the record beside it, which is verified first. The error is why lab,
+/// journal or record doesn't pass, or can't be read, or that a write failed, or that memory ran out.
 pub fn tally_recorded<R: Files<File = File> + Print + AllocGlobal>(
     rt: &R,
     task: VerifyTask<'_>,
 ) -> Result<(), Fault> {
     let lab = lab_of(rt, task.lab)?;
     let journal = read_journal(rt, task.journal)?;
-    let audited = audited_of(rt.alloc(), &lab, journal.as_slice())?;
-    let events = audited.events.as_slice();
-    let mut asks = Vec::new(rt.alloc());
-    let mut findings = no_findings();
-    read_seats(rt, &lab, events, task.record, &mut asks, &mut findings)?;
+    let seats = Folder {
+        rt,
+        path: task.record,
+    };
     let mut writer = Retrying::new(io::writer(rt));
-    let alloc = rt.alloc();
-    match write_recorded(
-        alloc,
-        &lab,
-        &audited.board,
-        events,
-        &findings,
-        asks.as_slice(),
-        &mut writer,
-    ) {
+    match tally_class(rt.alloc(), &lab, journal, &seats, &mut writer) {
         Ok(()) => Ok(()),
-        Err(fault) => Err(memory_if_lacked(Fault::from(fault), writer.lacked_memory)),
+        Err(error) => Err(memory_if_lacked(Fault::from(error), writer.lacked_memory)),
     }
 }
 
-// Audits the text of a journal of the lab, and returns its events and the board that they lead to. Returns the audit's
-// error if it doesn't pass.
-fn audited_of(alloc: Global, lab: &Lab, text: &[u8]) -> Result<Audited, ProgramFault>
-    ensures { IfOk result (λ audited. is_legal_in lab.now audited.events.items ≡ true) }
-{
-    Ok(audit_events(alloc, lab, text)?)
-}
-
-// Adds the summaries of the records of all seats in the folder to `all`, and appends what their lines asked to `asks`.
-// Returns an error if one is no record or can't be read, the places that they grant are wrong, or memory runs out.
-fn read_seats<R: Files<File = File> + AllocGlobal>(
-    rt: &R,
-    lab: &Lab,
-    events: &[Event],
-    folder: &str,
-    asks: &mut Vec<Ask>,
-    all: &mut Findings,
-) -> Result<(), Fault>
-    requires { is_legal_in lab.now events.now ≡ true }
-{
-    let begun = read_begun(rt, folder)?;
-    let mut granted = Vec::new(rt.alloc());
-    for seat in 0..lab.sessions() {
-        let text = read_seat(rt, folder, seat + 1)?;
-        let text = text.as_slice();
-        read_lines(
-            rt.alloc(),
-            lab,
-            events,
-            seat + 1,
-            text,
-            &mut granted,
-            asks,
-            all,
-        )?;
-    }
-    let count = events.len() as u64;
-    granted_once(rt.alloc(), all.whole, granted.as_slice(), begun, count)
-}
-
-// Adds the summary of a text as the record of a seat to `all`, or returns why it is none. The places that the record
-// grants are appended to `granted`, and what its lines asked to `asks`.
-fn read_lines(
+/// Audits a journal, reads the seats' texts as the record of its class, and writes the tally of both. Nothing is
+/// written if the journal doesn't pass or the record is none.
+pub fn tally_class<R: Read + Drop, S: Seats<R>, W: Write>(
     alloc: Global,
     lab: &Lab,
-    events: &[Event],
-    seat: u8,
-    text: &[u8],
-    granted: &mut Vec<u64>,
-    asks: &mut Vec<Ask>,
-    all: &mut Findings,
-) -> Result<(), Fault>
-    requires { is_legal_in lab.now events.now ≡ true }
+    journal: Vec<u8>,
+    seats: &S,
+    writer: &mut W,
+) -> Result<(), ClassError>
+    ensures written { (start : List ℕ) (texts : ℕ → List ℕ) →
+        Tell (S.begun seats.now) (S.text seats.now) start texts →
+        OnOk result (IsWritten (IsTallied lab.now journal.items start texts)
+        (W.contents writer.old) (W.contents writer.new)) }
+    ensures unwritten { (start : List ℕ) (texts : ℕ → List ℕ) →
+        Tell (S.begun seats.now) (S.text seats.now) start texts →
+        IfErr result (IsUnwritten lab.now journal.items start texts (IsTallied lab.now journal.items start texts)
+        (W.contents writer.old) (W.contents writer.new)) }
 {
-    match read_record(alloc, lab, events, seat, text, granted)? {
-        Verdict::Passed(found) => {
-            read_asks(alloc, lab, events, seat, text, asks)?;
-            let sum = together(all, &found);
-            *all = sum;
-            Ok(())
-        }
-        Verdict::Refused(bad) => Err(Fault::Record(RecordRefusal::of(seat, bad))),
+    let text = tallied_text(alloc, lab, journal, seats)?;
+    write_class(&text, writer)
+}
+
+// Returns the tally of a journal and of the record beside it.
+fn tallied_text<R: Read + Drop, S: Seats<R>>(
+    alloc: Global,
+    lab: &Lab,
+    journal: Vec<u8>,
+    seats: &S,
+) -> Result<Vec<u8>, ClassError>
+    ensures told { (start : List ℕ) (texts : ℕ → List ℕ) →
+        Tell (S.begun seats.now) (S.text seats.now) start texts →
+        IfOk result (λ text. IsTallied lab.now journal.items start texts text.items) }
+    ensures untold { (start : List ℕ) (texts : ℕ → List ℕ) →
+        Tell (S.begun seats.now) (S.text seats.now) start texts →
+        IfErr result (IsUntold lab.now journal.items start texts) }
+{
+    match audit_class(alloc, lab, journal) {
+        Ok(audited) => text_beside(alloc, lab, &audited.board, audited.events.as_slice(), seats),
+        Err(why) => Err(ClassError::Audit(why)),
     }
 }
 
-/// Writes the tally of the events that led to the board, with the summary of a record and what its lines asked. Returns
-/// an error if the write fails, or memory runs out.
-pub fn write_recorded<W: Write>(
+// Returns the tally of events, which led to the board, and of the record of a class beside them.
+fn text_beside<R: Read + Drop, S: Seats<R>>(
+    alloc: Global,
+    lab: &Lab,
+    board: &Board,
+    events: &[Event],
+    seats: &S,
+) -> Result<Vec<u8>, ClassError>
+    requires legal { is_legal_in lab.now events.now ≡ true }
+    requires board { board.now ≡ world_in lab.now events.now }
+    ensures told { (bytes start : List ℕ) (texts : ℕ → List ℕ) →
+        IsJournalOf lab.now events.now bytes → Tell (S.begun seats.now) (S.text seats.now) start texts →
+        IfOk result (λ text. IsTallied lab.now bytes start texts text.items) }
+    ensures untold { (bytes start : List ℕ) (texts : ℕ → List ℕ) →
+        IsJournalOf lab.now events.now bytes → Tell (S.begun seats.now) (S.text seats.now) start texts →
+        IfErr result (IsUntold lab.now bytes start texts) }
+{
+    match read_class(alloc, lab, events, true, seats) {
+        Ok(class) => text_of(alloc, lab, board, events, &class.findings, &class.asks),
+        Err(why) => Err(ClassError::Record(why)),
+    }
+}
+
+// Returns the tally of events, which led to the board, with what a record comes to and what its lines asked.
+fn text_of(
     alloc: Global,
     lab: &Lab,
     board: &Board,
     events: &[Event],
     findings: &Findings,
     asks: &[Ask],
-    writer: &mut W,
-) -> Result<(), ProgramFault>
-    ensures { OnOk result (Appends (W.contents writer.old) (W.contents writer.new)
-        (recorded_text lab.now board.now events.now findings.now asks.now)) }
+) -> Result<Vec<u8>, ClassError>
+    ensures text { IfOk result (λ text.
+        text.items ≡ recorded_text lab.now board.now events.now findings.now asks.now) }
+    ensures memory { IfErr result (λ error. error ≡ ClassError.Memory) }
 {
     let mut text = Vec::new(alloc);
     match put_recorded_tally(&mut text, alloc, lab, board, events, findings, asks) {
-        Ok(()) => write_text(&text, writer),
-        Err(_) => Err(ProgramFault::Memory),
+        Ok(()) => Ok(text),
+        Err(_) => Err(ClassError::Memory),
     }
 }

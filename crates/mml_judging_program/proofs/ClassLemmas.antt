@@ -1,0 +1,63 @@
+-- What is written of a class.
+use Rattle.std.proofs.Common.{◌≡◌, ◌<◌, ℕ, List, true, false, ap, subst, sym, ◌∙◌, length, take, Option, Result, Ok, Err}
+use Rattle.std.specs.Prelude.{OnOk, IfOk, IfErr}
+use Rattle.std.specs.Io.KnownBytes.{Appends}
+use Rattle.mml_lab.specs.Labs.{LabValue}
+use Rattle.mml_board.specs.declared.event.Event.{Event}
+use Rattle.mml_board.specs.World.{World}
+use Rattle.mml_board.specs.Lists.{world_in}
+use Rattle.mml_audit.specs.AuditMeaning.{IsJournalOf}
+use Rattle.mml_tally.specs.declared.ask.Ask.{Ask}
+use Rattle.mml_tally.specs.RecordTexts.{recorded_text}
+use Rattle.mml_class.specs.declared.class_record.ClassRecord.{ClassRecord}
+use Rattle.mml_class.specs.Classes.{IsClassRecord}
+use Rattle.mml_judging_program.specs.declared.class_error.ClassError.{ClassError}
+use Rattle.mml_judging_program.specs.declared.class_error.ClassError.TheVariants as error
+use Rattle.mml_judging_program.specs.Verifying.{verified_text}
+use Rattle.mml_judging_program.specs.Classes.{IsVerified, IsTallied, IsUntold, IsWritten, IsUnwritten}
+
+pub weaker_ok : {X E : Type 0} (r : Result X E) (P Q : X → Type 0) → ((x : X) → P x → Q x) → IfOk r P → IfOk r Q
+weaker_ok (Ok x) P Q weaker holds = weaker x holds
+weaker_ok (Err e) P Q weaker holds = tt
+
+module _ (lab : LabValue) (bytes start : List ℕ) (texts : ℕ → List ℕ) (P : List ℕ → Type 0) (wrote wrote' : Option (List ℕ)) where
+  -- a text of which P holds went out, or not all of it
+  pub all_written : (r : Result (Unit {0}) ClassError) (text now : List ℕ) → P text → now ≡ text → OnOk r (Appends wrote wrote' now) → OnOk r (IsWritten P wrote wrote')
+  all_written (Ok x) text now holds same all = (text, holds, subst (λ t. Appends wrote wrote' t) same all)
+  all_written (Err e) text now holds same all = tt
+
+  pub part_written : (r : Result (Unit {0}) ClassError) (text now : List ℕ) → P text → now ≡ text
+      → IfErr r (λ e. (e ≡ error.Write) × ((n : ℕ) × (n < length now) × Appends wrote wrote' (take n now)))
+      → IfErr r (IsUnwritten lab bytes start texts P wrote wrote')
+  part_written (Ok x) text now holds same part = tt
+  part_written (Err e) text now holds same part =
+      subst (IsUnwritten lab bytes start texts P wrote wrote') (sym part.0) (
+        text,
+        part.1.0,
+        holds,
+        subst (λ (t : List ℕ). part.1.0 < length t) same part.1.1,
+        subst (λ (t : List ℕ). Appends wrote wrote' (take part.1.0 t)) same part.1.2,
+      )
+
+  -- there was nothing to write
+  pub none_written : (e : ClassError) → wrote' ≡ wrote → IsUntold lab bytes start texts e → IsUnwritten lab bytes start texts P wrote wrote' e
+  none_written (error.Audit why) same untold = (same, untold)
+  none_written (error.Record why) same untold = (same, untold)
+  none_written error.Memory same untold = same
+  none_written error.Write same untold = absurd untold
+
+module _ (lab : LabValue) (bytes start : List ℕ) (texts : ℕ → List ℕ) where
+  pub verified : (events : List Event) (class : ClassRecord) (text : List ℕ) → IsJournalOf lab events bytes → IsClassRecord lab events false start texts class
+      → text ≡ verified_text lab class.findings (length events) class.begun → IsVerified lab bytes start texts text
+  verified events class text journal is told = record { events = events; class = class; journal = journal; record_of = is; told = told }
+
+  pub tallied : (events : List Event) (class : ClassRecord) (w : World) (asks : List Ask) (text : List ℕ) → IsJournalOf lab events bytes → w ≡ world_in lab events
+      → asks ≡ class.asks.items → IsClassRecord lab events true start texts class → text ≡ recorded_text lab w events class.findings asks
+      → IsTallied lab bytes start texts text
+  tallied events class w asks text journal leads same is told = record {
+    events = events;
+    class = class;
+    journal = journal;
+    record_of = is;
+    told = told ∙ ap (λ (x : World). recorded_text lab x events class.findings asks) leads ∙ ap (recorded_text lab (world_in lab events) events class.findings) same;
+  }

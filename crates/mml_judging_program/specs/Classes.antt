@@ -1,0 +1,61 @@
+-- What is written of a class: of its journal, and of the record beside it.
+use Rattle.std.specs.Prelude.{◌≡◌, ◌<◌, ℕ, true, false, List, length, take, Option, Err, MatchBool}
+use Rattle.std.specs.Io.KnownBytes.{Appends}
+use Rattle.mml_lab.specs.Labs.{LabValue}
+use Rattle.mml_board.specs.declared.event.Event.{Event}
+use Rattle.mml_board.specs.Lists.{world_in}
+use Rattle.mml_audit.specs.Audit.{audited, is_audit_memory}
+use Rattle.mml_audit.specs.AuditMeaning.{IsJournalOf}
+use Rattle.mml_tally.specs.RecordTexts.{recorded_text}
+use Rattle.mml_class.specs.declared.class_record.ClassRecord.{ClassRecord}
+use Rattle.mml_class.specs.declared.class_record.ClassFault.{ClassFault}
+use Rattle.mml_class.specs.Classes.{IsClassRecord, IsClassRefused}
+use Rattle.mml_judging_program.specs.declared.class_error.ClassError.{ClassError}
+use Rattle.mml_judging_program.specs.declared.class_error.ClassError.TheVariants as error
+use Rattle.mml_judging_program.specs.Verifying.{verified_text}
+
+-- the bytes are the journal of a legal list of the lab's, the seats' texts are the record of a class beside that list, and the text says what
+-- it comes to
+pub record IsVerified (lab : LabValue) (bytes start : List ℕ) (texts : ℕ → List ℕ) (text : List ℕ) : Type 0 where
+  pub events : List Event
+  pub class : ClassRecord
+  pub journal : IsJournalOf lab events bytes
+  pub record_of : IsClassRecord lab events false start texts class
+  pub told : text ≡ verified_text lab class.findings (length events) class.begun
+
+-- the bytes are the journal of a legal list of the lab's, the seats' texts are the record of a class beside that list, and the text is the
+-- tally of the list, of what the record comes to and of what its lines asked
+pub record IsTallied (lab : LabValue) (bytes start : List ℕ) (texts : ℕ → List ℕ) (text : List ℕ) : Type 0 where
+  pub events : List Event
+  pub class : ClassRecord
+  pub journal : IsJournalOf lab events bytes
+  pub record_of : IsClassRecord lab events true start texts class
+  pub told : text ≡ recorded_text lab (world_in lab events) events class.findings class.asks.items
+
+-- the texts are no record of a class beside the list whose journal the bytes are
+pub record IsRefused (lab : LabValue) (bytes start : List ℕ) (texts : ℕ → List ℕ) (why : ClassFault) : Type 0 where
+  pub events : List Event
+  pub journal : IsJournalOf lab events bytes
+  pub refused : IsClassRefused lab events start texts why
+
+-- why there is nothing to write: the journal doesn't pass the audit, or the texts are no record beside it; of memory nothing is said
+abbrev pub IsUntold : LabValue → List ℕ → List ℕ → (ℕ → List ℕ) → ClassError → Type 0
+IsUntold lab bytes start texts (error.Audit why) = MatchBool (is_audit_memory why) (Unit {0}) (audited lab bytes ≡ Err why)
+IsUntold lab bytes start texts (error.Record why) = IsRefused lab bytes start texts why
+IsUntold lab bytes start texts error.Memory = Unit {0}
+IsUntold lab bytes start texts error.Write = ⊥
+
+-- a text of which P holds was written
+abbrev pub IsWritten : (List ℕ → Type 0) → Option (List ℕ) → Option (List ℕ) → Type 0
+IsWritten P wrote wrote' = (text : List ℕ) × P text × Appends wrote wrote' text
+
+-- a front of a text of which P holds was written, and not all of it
+abbrev pub IsPartWritten : (List ℕ → Type 0) → Option (List ℕ) → Option (List ℕ) → Type 0
+IsPartWritten P wrote wrote' = (text : List ℕ) × (n : ℕ) × P text × (n < length text) × Appends wrote wrote' (take n text)
+
+-- why a text of which P holds wasn't written whole: a write failed, after a front of it; or there was nothing to write
+abbrev pub IsUnwritten : LabValue → List ℕ → List ℕ → (ℕ → List ℕ) → (List ℕ → Type 0) → Option (List ℕ) → Option (List ℕ) → ClassError → Type 0
+IsUnwritten lab bytes start texts P wrote wrote' error.Write = IsPartWritten P wrote wrote'
+IsUnwritten lab bytes start texts P wrote wrote' (error.Audit why) = (wrote' ≡ wrote) × IsUntold lab bytes start texts (error.Audit why)
+IsUnwritten lab bytes start texts P wrote wrote' (error.Record why) = (wrote' ≡ wrote) × IsUntold lab bytes start texts (error.Record why)
+IsUnwritten lab bytes start texts P wrote wrote' error.Memory = wrote' ≡ wrote

@@ -1,0 +1,41 @@
+//! Why nothing is written of a class, or not all.
+use crate::fault::Fault;
+use crate::record_refusal::RecordRefusal;
+use mml_audit::AuditFault;
+use mml_class::{ClassFault, SeatFault};
+use mml_program::Fault as ProgramFault;
+
+/// Why nothing was written of a class, or not all.
+#[derive(Debug)]
+pub enum ClassError {
+    /// The journal doesn't pass the audit.
+    Audit(AuditFault),
+    /// The seats' texts are no record beside the journal, or can't be read.
+    Record(ClassFault),
+    /// Memory ran out before anything was written.
+    Memory,
+    /// A write failed.
+    Write,
+}
+
+impl From<ClassError> for Fault {
+    // Tells the error in the words of the program.
+    fn from(error: ClassError) -> Fault {
+        match error {
+            ClassError::Audit(why) => Fault::Common(ProgramFault::from(why)),
+            ClassError::Record(why) => record_fault(why),
+            ClassError::Memory => Fault::Common(ProgramFault::Memory),
+            ClassError::Write => Fault::Common(ProgramFault::Write),
+        }
+    }
+}
+
+// Tells in the words of the program why texts are no record of a class.
+fn record_fault(why: ClassFault) -> Fault {
+    match why {
+        ClassFault::Entry { seat, bad } => Fault::Record(RecordRefusal::of(seat, bad)),
+        ClassFault::Places(amiss) => Fault::Record(RecordRefusal::of_places(amiss)),
+        ClassFault::Unread(SeatFault::Read) => Fault::ReadRecord,
+        ClassFault::Unread(SeatFault::Memory) => Fault::Common(ProgramFault::Memory),
+    }
+}

@@ -1,0 +1,73 @@
+//! A record's folder.
+use mml_class::{SeatFault, Seats};
+use mml_ids::Memory;
+use mml_program::{Fault as ProgramFault, memory_or};
+use std::alloc::Global;
+use std::fs::File;
+use std::rt::Files;
+use std::{fs, io};
+
+/// A folder with a file for each seat's record, and one that says how many events came before.
+#[derive(Drop)]
+pub struct Folder<'a, R> {
+    pub rt: &'a R,
+    pub path: &'a str,
+}
+
+impl<'a, R: Files<File = File> + AllocGlobal> Seats<File> for Folder<'a, R> {
+    ghost use Rattle.std.specs.Prelude.{None};
+
+    ghost begun = { λ _. None };
+
+    ghost text = { λ _ _. None };
+
+    // Opens the file `begun`.
+    fn open_begun(&self) -> Result<File, SeatFault> {
+        let path = begun_path(self.rt.alloc(), self.path)?;
+        open_part(self.rt, path.as_str())
+    }
+
+    // Opens the file of a seat's record.
+    fn open_seat(&self, number: u8) -> Result<File, SeatFault> {
+        let path = record_path(self.rt.alloc(), self.path, number)?;
+        open_part(self.rt, path.as_str())
+    }
+}
+
+// Returns the path of the file in a record's folder that says how many events the journal had before the record began.
+fn begun_path(alloc: Global, folder: &str) -> Result<String, Memory> {
+    match format!(in alloc; "{folder}/begun") {
+        Ok(path) => Ok(path),
+        Err(_) => Err(Memory),
+    }
+}
+
+// Returns the path of the file of a seat's record in a record's folder.
+fn record_path(alloc: Global, folder: &str, seat: u8) -> Result<String, Memory> {
+    match format!(in alloc; "{folder}/{seat}.record") {
+        Ok(path) => Ok(path),
+        Err(_) => Err(Memory),
+    }
+}
+
+// Opens a plain file of the record. It is a read fault if that fails, or if a folder, a pipe or a device is there.
+fn open_part<R: Files<File = File> + AllocGlobal>(rt: &R, path: &str) -> Result<File, SeatFault> {
+    match open_plain(rt, path) {
+        Ok(Some(file)) => Ok(file),
+        Ok(None) => Err(SeatFault::Read),
+        Err(error) => match memory_or(&error, ProgramFault::ReadJournal) {
+            ProgramFault::Memory => Err(SeatFault::Memory),
+            _ => Err(SeatFault::Read),
+        },
+    }
+}
+
+// Opens a plain file; none where another file is there. It is looked at first, since the opening of a pipe waits for
+// one who writes to it.
+fn open_plain<R: Files<File = File>>(rt: &R, path: &str) -> io::Result<Option<File>> {
+    if fs::metadata(rt, path)?.is_file() {
+        Ok(Some(fs::open(rt, path)?))
+    } else {
+        Ok(None)
+    }
+}
