@@ -12,3 +12,5 @@ pub mod ServedLemmas
 pub mod WordsLemmas
 pub mod WitnessesLemmas
 pub mod RunClosesLemmas
+mod JournalWordsLemmas
+mod SameLabsLemmas

@@ -7,3 +7,4 @@ pub mod Told
 pub mod Served
 pub mod Words
 pub mod Witnesses
+pub mod JournalWords

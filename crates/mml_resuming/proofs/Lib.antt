@@ -1,1 +1,2 @@
 pub mod GoingOnLemmas
+mod TailsLemmas

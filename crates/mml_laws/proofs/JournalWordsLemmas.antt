@@ -1,0 +1,38 @@
+-- The line of an event has the words that its reader has.
+use Rattle.std.proofs.Common.{◌≡◌, ℕ, Bool, true, false, List, ◌∷◌, decimal, Option, None, Some, option_map, refl, ap, arith}
+use Rattle.mml_ids.specs.Pieces.{truth_text}
+use Rattle.mml_rules.specs.declared.rule.Rule.{Rule}
+use Rattle.mml_rules.specs.declared.rule.Rule.TheVariants as rule
+use Rattle.mml_lab.specs.Rosters.{RosterValue}
+use Rattle.mml_board.specs.declared.event.Event.{Event}
+use Rattle.mml_board.specs.declared.event.Event.TheVariants as event
+use Rattle.mml_journal.specs.Words.{spaced}
+use Rattle.mml_journal.specs.EventWords.{line_text, register_word}
+use Rattle.mml_journal.specs.EventWords as written
+use Rattle.mml_journal.specs.EventLines.{event_line, id_at, named_rule}
+use Rattle.mml_laws.specs.JournalWords.{words_of, rule_words, pointer_word, truth_word}
+
+pointer_so : (ids : List ℕ) (p : Option ℕ) → register_word (option_map (id_at ids) p) ≡ pointer_word ids p
+pointer_so ids None = refl
+pointer_so ids (Some j) = refl
+
+truth_so : (m : Bool) → truth_text m ≡ truth_word m
+truth_so true = refl
+truth_so false = refl
+
+rule_so : (ids : List ℕ) (q : Rule) → written.rule_words (named_rule ids q) ≡ rule_words ids q
+rule_so ids rule.Update = refl
+rule_so ids (rule.Marriage j) = refl
+rule_so ids rule.Seduction = refl
+rule_so ids rule.Abandonment = refl
+
+-- the line of each event, word by word
+pub line_words : (ids : List ℕ) (r : RosterValue) (place before : ℕ) (e : Event)
+    → event_line ids r place before e ≡ spaced (decimal place ∷ decimal before ∷ words_of ids r e)
+unfolding line_text
+line_words ids r place before (event.Grant s i q) = rw (rule_so ids q) refl
+line_words ids r place before (event.Release i) = refl
+line_words ids r place before event.Close = refl
+line_words ids r place before (event.Fault i registers) = rw (pointer_so ids registers.p, truth_so registers.m) refl
+line_words ids r place before (event.Link a b) = refl
+line_words ids r place before (event.Cut a b) = refl

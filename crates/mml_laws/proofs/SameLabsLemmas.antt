@@ -1,0 +1,133 @@
+-- Two labs that are the same in all that a journal names.
+use Rattle.std.proofs.Common.{◌≡◌, ◌∙◌, ℕ, suc, ◌+◌, ◌<◌, ◌≤◌, cond, not, nat_lt, Bool, true, false, List, [], ◌∷◌, length, slice_index_or, Option, Some, None, option_map, Result, Ok, ok_or, inl, inr, refl, ap, sym, arith, bytes_eq}
+use Rattle.std.specs.List.{prefix_len}
+use Rattle.std.specs.FinSet as set
+use Rattle.std.proofs.lemmas.List.{same_lists, get_or_default}
+use Rattle.std.proofs.lemmas.Bool.{cases_lt, false_from_ne_true}
+use Rattle.mml_ids.specs.Gives as steps
+use Rattle.mml_ids.specs.inside.WordsLemmas.{same_ranks}
+use Rattle.mml_rules.specs.Network.{Network, IsNetwork, neighbours_at, registers_at, configuration_of}
+use Rattle.mml_rules.specs.Network.{no_regs}
+use Rattle.mml_lab.specs.Shape.{Account}
+use Rattle.mml_lab.specs.declared.who.Who.{Who}
+use Rattle.mml_lab.specs.declared.who.Who.TheVariants as who
+use Rattle.mml_lab.specs.Rosters.{RosterValue, IsPrincipal, name_of, owns, has_name, no_account, student_named}
+use Rattle.mml_lab.specs.Labs.{LabValue, IsLab}
+use Rattle.mml_board.specs.declared.event.Event.{Event}
+use Rattle.mml_board.specs.declared.event.Event.TheVariants as event
+use Rattle.mml_board.specs.World.{opening_of}
+use Rattle.mml_board.specs.Runs.{world_of}
+use Rattle.mml_board.specs.Lists.{world_in}
+use Rattle.mml_journal.specs.declared.journal_fault.JournalFault.{JournalFault}
+use Rattle.mml_journal.specs.declared.journal_fault.JournalFault.TheVariants as fault
+use Rattle.mml_journal.specs.EventWords.{EventWords, LineWords, line_of}
+use Rattle.mml_journal.specs.EventWords as words
+use Rattle.mml_journal.specs.EventLines.{said_by, event_line, event_named, IsEventOf}
+use Rattle.mml_same_lab.specs.Sameness.{IsSameLab}
+
+-- ---- lines
+
+-- a test that fails at the accounts without the name
+abbrev lacks : List ℕ → Account → Bool
+lacks name x = not (has_name name x)
+
+-- accounts with the same names, one by one, have a name at the same index
+names_alike : (name : List ℕ) (xs ys : List Account) → length xs ≡ length ys
+    → ((k : ℕ) → k < length xs → (slice_index_or xs k no_account).name ≡ (slice_index_or ys k no_account).name)
+    → prefix_len (lacks name) xs ≡ prefix_len (lacks name) ys
+names_alike name [] [] long same = refl
+names_alike name [] (y ∷ ys) long same = grind arith
+names_alike name (x ∷ xs) [] long same = grind arith
+names_alike name (x ∷ xs) (y ∷ ys) long same =
+    ap (λ (n : List ℕ). cond {A = ℕ} (not (bytes_eq name n)) (1 + prefix_len (lacks name) xs) 0) (same 0 (omega arith))
+    ∙ ap (λ (m : ℕ). cond {A = ℕ} (not (bytes_eq name y.name)) (1 + m) 0)
+    (names_alike name xs ys (omega (arith, long)) (λ k below. same (suc k) (omega (arith, below))))
+
+students_alike : (a b : LabValue) → IsSameLab a b → (name : List ℕ) → student_named a.roster name ≡ student_named b.roster name
+students_alike a b is name =
+    let at = names_alike name a.roster.students b.roster.students is.names.1 is.names.2 in
+    ap (λ (m : ℕ). cond {A = Option ℕ} (nat_lt m (length a.roster.students)) (Some m) None) at
+    ∙ ap (λ (n : ℕ). cond {A = Option ℕ} (nat_lt (prefix_len (lacks name) b.roster.students) n) (Some (prefix_len (lacks name) b.roster.students)) None) is.names.1
+
+module _ (ids : List ℕ) (r q : RosterValue) (alike : (name : List ℕ) → student_named r name ≡ student_named q name) where
+  -- words name the same event by rosters that have each student's name at the same index
+  named_alike : (w : EventWords) → event_named ids r w ≡ event_named ids q w
+  unfolding event_named
+  named_alike (words.grant name i rule) = rw (alike name) refl
+  named_alike (words.release i) = refl
+  named_alike words.close = refl
+  named_alike (words.fault i p m) = refl
+  named_alike (words.link a b) = refl
+  named_alike (words.cut a b) = refl
+
+  -- what a line says of which these words were found
+  abbrev said_in : RosterValue → Option LineWords → Result (ℕ × ℕ × Event) JournalFault
+  said_in r line = steps.◌>>=◌ (ok_or line fault.Shape) (λ l. steps.◌>>=◌ (ok_or (event_named ids r l.event) fault.Unknown) (λ e. Ok (l.place, l.before, e)))
+
+  in_alike : (line : Option LineWords) → said_in r line ≡ said_in q line
+  in_alike None = refl
+  in_alike (Some l) = rw (named_alike l.event) refl
+
+-- each line says the same
+pub said_alike : (a b : LabValue) (bytes : List ℕ) → IsSameLab a b → said_by a.ids a.roster bytes ≡ said_by b.ids b.roster bytes
+said_alike a b bytes is =
+    ap (λ ids. said_by ids a.roster bytes) is.ids ∙ in_alike b.ids a.roster b.roster (students_alike a b is) (line_of bytes)
+
+-- a name is the same
+pub name_alike : (a b : LabValue) (w : Who) → IsSameLab a b → IsPrincipal a.roster w → name_of a.roster w ≡ name_of b.roster w
+name_alike a b who.Teacher is here = is.names.0
+name_alike a b (who.Student s) is here = is.names.2 s here
+
+roster_line : (ids : List ℕ) (a b : LabValue) (place before : ℕ) (e : Event) → IsSameLab a b → IsEventOf a.ids a.roster e
+    → event_line ids a.roster place before e ≡ event_line ids b.roster place before e
+roster_line ids a b place before (event.Grant s i rule) is of = rw (is.names.2 s of.0) refl
+roster_line ids a b place before (event.Release i) is of = refl
+roster_line ids a b place before event.Close is of = refl
+roster_line ids a b place before (event.Fault i registers) is of = refl
+roster_line ids a b place before (event.Link i j) is of = refl
+roster_line ids a b place before (event.Cut i j) is of = refl
+
+-- each event of the lab has the same line
+pub line_alike : (a b : LabValue) (place before : ℕ) (e : Event) → IsSameLab a b → IsEventOf a.ids a.roster e
+    → event_line a.ids a.roster place before e ≡ event_line b.ids b.roster place before e
+line_alike a b place before e is of = roster_line a.ids a b place before e is of ∙ ap (λ ids. event_line ids b.roster place before e) is.ids
+
+-- ---- worlds
+
+-- a link leads to a node
+no_link_past : (n : Network) (i q : ℕ) → IsNetwork n → length n.registers ≤ q → set.contains (neighbours_at n.neighbours i) q ≡ false
+no_link_past n i q is past = false_from_ne_true _ (λ linked. absurd (omega (arith, past, (is.lawful.in_range i q linked).1)))
+
+module _ (a b : LabValue) (la : IsLab a) (lb : IsLab b) (is : IsSameLab a b) where
+  nodes_alike : length a.network.registers ≡ length b.network.registers
+  nodes_alike = la.nodes ∙ ap (λ (ids : List ℕ). length ids) is.ids ∙ sym lb.nodes
+
+  links_alike : (i : ℕ) → i < length a.ids → neighbours_at a.network.neighbours i ≡ neighbours_at b.network.neighbours i
+  links_alike i here = same_ranks _ _ (λ q. elim (cases_lt q (length a.ids)) [
+    | inl within ↦ (is.nodes i here).links q within
+    | inr past ↦ no_link_past a.network i q la.network (omega (arith, past, la.nodes)) ∙ sym (no_link_past b.network i q lb.network (omega (arith, past, la.nodes, nodes_alike)))
+  ])
+
+  rows_alike : a.network.neighbours ≡ b.network.neighbours
+  rows_alike =
+      same_lists _ _ (la.network.rows ∙ nodes_alike ∙ sym lb.network.rows) (λ k d below.
+      get_or_default a.network.neighbours k d set.empty below ∙ links_alike k (omega (arith, below, la.network.rows, la.nodes))
+      ∙ get_or_default b.network.neighbours k set.empty d (omega (arith, below, la.network.rows, nodes_alike, lb.network.rows)))
+
+  registers_alike : a.network.registers ≡ b.network.registers
+  registers_alike =
+      same_lists _ _ nodes_alike (λ k d below.
+      get_or_default a.network.registers k d no_regs below ∙ (is.nodes k (omega (arith, below, la.nodes))).registers
+      ∙ get_or_default b.network.registers k no_regs d (omega (arith, below, nodes_alike)))
+
+  networks_alike : a.network ≡ b.network
+  networks_alike t = record { neighbours = rows_alike t; registers = registers_alike t }
+
+-- events lead to the same world
+pub world_alike : (a b : LabValue) (l : List Event) → IsLab a → IsLab b → IsSameLab a b → world_in a l ≡ world_in b l
+world_alike a b l la lb is = ap (λ n. world_of (opening_of n) l) (networks_alike a b la lb is)
+
+-- who owns a node owns it in both
+pub owner_alike : (a b : LabValue) (w : Who) (i : ℕ) → IsSameLab a b → IsPrincipal a.roster w → i < length a.ids → owns a.roster w i ≡ owns b.roster w i
+owner_alike a b who.Teacher i is here node = refl
+owner_alike a b (who.Student s) i is here node = (is.nodes i node).owners s here

@@ -1,0 +1,28 @@
+//! What the columns of a tally say. Each law is the clause of a function that does nothing.
+ghost use Rattle.std.specs.Prelude.{◌≡◌, ◌==◌, ◌++◌, ◌∷◌, [], ℕ, List, codes};
+ghost use Rattle.mml_board.specs.World.{World, configuration, privileged_count};
+ghost use Rattle.mml_tally.specs.declared.bounds.Bounds.{Bounds};
+ghost use Rattle.mml_tally.specs.declared.marks.ByRule.{ByRule};
+ghost use Rattle.mml_tally.specs.declared.marks.Marks.{Marks};
+ghost use Rattle.mml_tally.specs.declared.run.Run.{Run};
+ghost use Rattle.mml_tally.specs.Texts.{numbers_text, place_text, stable_text, student_line, owner_text, bounds_line, run_line};
+
+/// The columns of a tally's lines, in their order. A student's line has the granted moves by rule, the applied moves by
+/// rule, the closes that applied one, the places of the first and the last grant, and the applied moves at shared
+/// nodes.
+pub fn tallies_have_these_columns()
+    ensures student { (name : List ℕ) (m : Marks) → student_line name m ≡ codes "student " ++ (name
+        ++ ((numbers_text (m.granted.update ∷ m.granted.marriage ∷ m.granted.seduction ∷ m.granted.abandonment ∷ [])
+        ++ (numbers_text (m.applied.update ∷ m.applied.marriage ∷ m.applied.seduction ∷ m.applied.abandonment ∷ [])
+        ++ (numbers_text (m.closes ∷ []) ++ (place_text m.first ++ (place_text m.last ++ numbers_text (m.shared ∷ []))))))
+        ++ codes "\n")) }
+    ensures owner { (name : List ℕ) (n : ByRule) → owner_text name n ≡ codes " " ++ (name
+        ++ numbers_text (n.update ∷ n.marriage ∷ n.seduction ∷ n.abandonment ∷ [])) }
+    ensures bounds { (b : Bounds) → bounds_line b ≡ codes "bounds"
+        ++ (numbers_text (b.moves ∷ b.rounds ∷ b.events ∷ []) ++ codes "\n") }
+    ensures run { (w : World) (r : Run) → run_line w r ≡ codes "run"
+        ++ (numbers_text (w.place ∷ w.number ∷ [])
+        ++ (stable_text (privileged_count (configuration w) == 0)
+        ++ (numbers_text (r.closes ∷ r.faults ∷ r.links ∷ r.cuts ∷ r.moves ∷ r.moves_since ∷ r.closes_since ∷ [])
+        ++ codes "\n"))) }
+{}

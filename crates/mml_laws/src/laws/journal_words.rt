@@ -1,0 +1,15 @@
+//! The words of the journal. Each law is the clause of a function that does nothing.
+ghost use Rattle.std.specs.Prelude.{◌≡◌, ◌∷◌, ℕ, List, decimal};
+ghost use Rattle.mml_lab.specs.Rosters.{RosterValue};
+ghost use Rattle.mml_board.specs.declared.event.Event.{Event};
+ghost use Rattle.mml_journal.specs.Words.{spaced};
+ghost use Rattle.mml_journal.specs.EventLines.{event_line};
+ghost use Rattle.mml_laws.specs.JournalWords.{words_of};
+
+/// The line of an event is its place, the number of the configuration before it, and the words that `words_of` lists
+/// for the event, with one space between them.
+pub fn journals_have_these_words()
+    ensures { (ids : List ℕ) (roster : RosterValue) (place before : ℕ) (e : Event) →
+        event_line ids roster place before e
+        ≡ spaced (decimal place ∷ decimal before ∷ words_of ids roster e) }
+{}

@@ -1,0 +1,27 @@
+//! What labs have in common that are the same in all that a journal names. Each law is the clause of a function that
+//! does nothing.
+ghost use Rattle.std.specs.Prelude.{◌≡◌, ◌<◌, ℕ, List, length};
+ghost use Rattle.mml_lab.specs.declared.who.Who.{Who};
+ghost use Rattle.mml_lab.specs.Rosters.{IsPrincipal, name_of, owns};
+ghost use Rattle.mml_lab.specs.Labs.{LabValue, IsLab};
+ghost use Rattle.mml_board.specs.declared.event.Event.{Event};
+ghost use Rattle.mml_board.specs.Lists.{world_in};
+ghost use Rattle.mml_journal.specs.EventLines.{said_by, event_line, IsEventOf};
+ghost use Rattle.mml_same_lab.specs.Sameness.{IsSameLab};
+
+/// Labs that are the same read each journal alike. A line says the same event in both, or has the same fault, and an
+/// event has the same line. Events lead to the same world. All who take part have the same names, and own the same
+/// nodes.
+pub fn same_labs_read_alike()
+    ensures read { (a b : LabValue) (bytes : List ℕ) → IsSameLab a b →
+        said_by a.ids a.roster bytes ≡ said_by b.ids b.roster bytes }
+    ensures written { (a b : LabValue) (place before : ℕ) (e : Event) → IsSameLab a b →
+        IsEventOf a.ids a.roster e →
+        event_line a.ids a.roster place before e ≡ event_line b.ids b.roster place before e }
+    ensures worlds { (a b : LabValue) (l : List Event) → IsLab a → IsLab b → IsSameLab a b →
+        world_in a l ≡ world_in b l }
+    ensures names { (a b : LabValue) (who : Who) → IsSameLab a b → IsPrincipal a.roster who →
+        name_of a.roster who ≡ name_of b.roster who }
+    ensures owners { (a b : LabValue) (who : Who) (i : ℕ) → IsSameLab a b →
+        IsPrincipal a.roster who → i < length a.ids → owns a.roster who i ≡ owns b.roster who i }
+{}
