@@ -52,8 +52,6 @@ def held_again(words: argparse.Namespace, folder: Path) -> int:
     assert kept is not None
     free(folder, kept)
     starts, again = hasattr(words, "resume"), getattr(words, "again", False)
-    if starts:
-        words.port = None  # Each run keeps its own.
     records = [Record.read(folder / network.name) for network in kept.networks]
     if all(record is not None and record.ended and not record.goes_on() for record in records) and not again:
         raise Fault(f"{folder}: each run of this class was ended; run --resume FOLDER --again opens them again")

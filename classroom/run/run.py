@@ -3,6 +3,7 @@ from __future__ import annotations
 
 import argparse
 import shutil
+from collections.abc import Sequence
 from pathlib import Path
 
 from classroom.client import NoSlip, port_of
@@ -17,9 +18,9 @@ from classroom.run.daemons import FORMS
 from classroom.run.holding import Running, to_the_end
 from classroom.run.several import side_by_side
 from classroom.run.teller import Teller
-from classroom.setup.slips import page_of
+from classroom.setup.slips import FIRST_PAGE, FIRST_PORT, Way, page_of
 
-PLAY = 4790  # the port of the page to play by
+PLAY = FIRST_PAGE  # the port of the page to play by
 CLOSING = closing.closing("when-idle:2")
 
 
@@ -59,7 +60,7 @@ def add_words(words: argparse.ArgumentParser) -> None:
     words.add_argument("--resume", metavar="FOLDER", help="go on with the run or the class of a folder, whose server has ended")
     words.add_argument("--again", action="store_true",
                        help="with --resume: open a run again that was ended, too; its audit, page and marks are made anew")
-    words.add_argument("--port", type=port, default=4711, help="the students' port, or else the next that is free (4711)")
+    words.add_argument("--port", type=port, help="the students' port, or else the next that is free (that of the slips, or 4711)")
     words.add_argument("--into", default="runs", help="where the run's folder is made (runs)")
     words.add_argument("--serve", action="store_true",
                        help="no host: a server for so many connections in all as the lab has sessions")
@@ -85,7 +86,7 @@ def one(words: argparse.Namespace) -> int:
                   words.play, by_number=words.serve, stand_in=words.stand_in, ends=ends, anonymous=words.anonymous)
     try:
         with letting.door(words, [lab_file], run.tell) as run.door:
-            return to_the_end(run, lambda: begin(run, words.port))
+            return to_the_end(run, lambda: begin(run, words.ports[0]))
     except Fault:
         if not (folder / "journal").exists() or (folder / "journal").stat().st_size == 0:
             shutil.rmtree(folder)
@@ -106,7 +107,7 @@ def resumed(words: argparse.Namespace) -> int:
     if is_class(folder):
         return class_again.held_again(words, folder)
     lab_file, _ = of_folder(folder)
-    record = Record.read(folder) or Record.lacking(folder, words.port)
+    record = Record.read(folder) or Record.lacking(folder, words.port or FIRST_PORT)
     if record.goes_on():
         raise Fault(f"{folder}: its run goes on: {CLASS} attach {folder}")
     if record.ended and not words.again:
@@ -154,6 +155,15 @@ def begin(run: Running, port_asked: int, record: Record | None = None) -> server
     return it
 
 
+def as_on_slips(asked: int | None, default: int, known: Sequence[int | None]) -> list[int]:
+    """Returns the ports of labs: from one on that is asked for; else those of the slips, or if they lack one or share one from
+    the default on."""
+    ports = [port for port in known if port is not None]
+    if asked is None and len(set(ports)) == len(known):
+        return ports
+    return [(asked or default) + index for index in range(len(known))]
+
+
 def run(words: argparse.Namespace) -> int:
     """Runs a lab, or several side by side, or goes on with a run."""
     if bool(words.labs) == bool(words.resume):
@@ -166,4 +176,8 @@ def run(words: argparse.Namespace) -> int:
         words.play = PLAY  # The slips lead there.
     if words.resume:
         return resumed(words)
+    ways = [Way.read(Path(lab)) for lab in words.labs]
+    words.ports = as_on_slips(words.port, FIRST_PORT, [way.port if way else None for way in ways])
+    words.plays = as_on_slips(None if words.play == PLAY else words.play, PLAY, [way.page if way else None for way in ways])
+    words.play = None if words.play is None else words.plays[0]
     return one(words) if len(words.labs) == 1 else side_by_side(words)

@@ -280,12 +280,12 @@ def desk_words(words: argparse.Namespace) -> list[str]:
 
 
 def words_of(words: argparse.Namespace, index: int) -> list[str]:
-    """Returns the words of a network's run: its ports follow those of the network before it."""
-    more = desk_words(words)
-    more += ["--port", str(words.port + index)] if getattr(words, "port", None) is not None else []
+    """Returns the words of a network's run. One that goes on keeps its port, and that of its page to play by where it had one."""
+    more, plays = desk_words(words), getattr(words, "plays", None)
+    more += ["--port", str(words.ports[index])] if hasattr(words, "ports") else []
     more += ["--serve"] if getattr(words, "serve", False) else []
     more += ["--page", str(words.page + 1 + index)] if words.page is not None else []
-    more += ["--play", str(words.play + index)] if words.play is not None else []
+    more += ["--play", str(plays[index] if plays else words.play + index)] if words.play is not None else []
     return more
 
 
@@ -322,7 +322,7 @@ def room_of(lab: str) -> str:
 
 def wants_ports(words: argparse.Namespace, count: int) -> None:
     """Raises a fault if there aren't as many ports as networks."""
-    if max(words.port, words.page or 0, words.play or 0) + count + 1 > 65536:
+    if max(*words.ports, *words.plays, (words.page or 0) + count) > 65535:
         raise Fault(f"{count} labs need a port each, up to 65535")
 
 

@@ -12,7 +12,9 @@ from classroom.client import Client, Closed, NoServer, Refused, Slip
 from classroom.core.folders import Record
 from classroom.core.program import host
 from classroom.door.routes import Kept
+from classroom.run.run import as_on_slips
 from tests.classroom.help import LIMIT, Going, InRoom, a_port, wait_until, words
+from tests.classroom.several import GoingClass
 
 
 @unittest.skipUnless(host(), "not tried: no host is built")
@@ -119,6 +121,31 @@ class Doors(InRoom):
             client.look(self.slip.nodes[0])
         self.assertEqual(going.ended(), 0, going.lines)
         self.assertEqual(words("run", self.lab, "--into", self.room / "runs", "--door", str(self.port), "--certificate", self.lab).returncode, 4)
+
+
+class Ports(InRoom):
+    """The ports of labs, which their slips have."""
+
+    def test_those_of_the_slips(self) -> None:
+        self.assertEqual(as_on_slips(None, 4711, [4711, 4720, 4712]), [4711, 4720, 4712])
+        self.assertEqual(as_on_slips(5000, 4711, [4711, 4720]), [5000, 5001])
+        for known in ([4711, 4711], [None, 4720], [None, None]):
+            self.assertEqual(as_on_slips(None, 4711, known), [4711, 4712])
+
+    @unittest.skipUnless(host(), "not tried: no host is built")
+    def test_labs_in_another_order(self) -> None:
+        students, first = self.file("names", "".join(f"Student {number}\n" for number in range(6))), a_port()
+        done = words("new", self.room / "maths.toml", "--students", students, "--groups", "2", "--port", str(first), "--page-port", str(first + 100))
+        self.assertEqual(done.returncode, 0, done.stderr)
+        desk = GoingClass(self, "run", self.room / "maths-2.toml", self.room / "maths-1.toml", "--into", self.room / "runs", "--play")
+        for index, name in enumerate(("maths-1", "maths-2")):
+            record = desk.record(name)
+            self.assertEqual((record.port, record.play), (first + index, first + 100 + index))
+        desk.type("end all\nend")
+        self.assertEqual(desk.ends(), 0, desk.lines)
+        going = Going(self, None, "run", self.room / "maths-2.toml", "--into", self.room / "alone")
+        self.assertEqual(going.port, first + 1)
+        self.assertEqual(going.ended(), 0, going.lines)
 
 
 if __name__ == "__main__":

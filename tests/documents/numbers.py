@@ -13,6 +13,7 @@ from classroom.bots import suites
 from classroom.client import LOST, MOST, STOPS
 from classroom.core import lab, statuses
 from classroom.run.run import CLOSING
+from classroom.setup.slips import FIRST_PORT
 from classroom.words import parser
 from tools.build.__main__ import progress_of
 from tools.build.crates import needed
@@ -69,7 +70,7 @@ def classes() -> Iterator[tuple[str, str]]:
     yield STUDENT, f"`grade` tries {small} cases, each in an empty folder"
     yield COURSE, f"`small` has {small} cases, `full` {len(suites.FULL)}, over {families} families of networks"
     yield TEACHER, f"A lab has {lab.MOST_SESSIONS} seats, one of them yours"
-    yield TEACHER, f"starts the server at {default('run', 'port')} or the next free port"
+    yield TEACHER, f"starts the server at the port of the slips ({FIRST_PORT} for the first network) or the next free one"
     yield TEACHER, f"when nothing came for {WORDS[int(CLOSING.value)]} seconds, or as `--daemon` says"
     yield TEACHER, (f"A word's status is 0 for done, {statuses.USAGE} wrong words, {statuses.LAB} the lab or {statuses.JOURNAL} "
                     f"the journal is refused, {statuses.FAILED} failed, {statuses.WARNED} done with warnings.")

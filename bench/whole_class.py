@@ -1,0 +1,184 @@
+"""Measures a class of many networks on this machine, with a bot for each student.
+
+    python3 -B -m bench.whole_class [--networks 20] [--each 15] [--seconds 30] [--door]
+
+Each bot has a connection of its own, in one of eight processes. It looks at its node ten times a second, as the students'
+bot does, and asks for what is enabled. Steps are closed each second, and all registers are drawn anew every ten seconds.
+Printed are how long a hello and a move take, and what memory (a page that several processes share counts in parts) and
+processor the class takes while it goes on. With `--door` each bot comes through a door, from an address of its own.
+"""
+import argparse
+import csv
+import json
+import multiprocessing
+import os
+import re
+import socket
+import subprocess
+import sys
+import tempfile
+import threading
+import time
+from dataclasses import replace
+from pathlib import Path
+from statistics import quantiles
+
+from bench.clients import free_port
+from bench.common import TOP, refuse
+from classroom.client import Client, Closed, Denied, Refused, Slip, connected, door_of, tls
+from classroom.core.folders import Record
+
+PROCESSES = 8
+LOOKS, SHAKES = 0.1, 10.0  # seconds between two
+LIMIT = 600.0  # seconds in which everybody is greeted
+TICKS = os.sysconf("SC_CLK_TCK")
+Times = list[tuple[str, float]]
+
+
+def way_in(slip: Slip, number: int) -> socket.socket:
+    """Returns a connection to a slip's port, or through its door from an address that no other bot has."""
+    if not slip.door:
+        return connected(slip.port, LIMIT)
+    plain = socket.create_connection(door_of(slip.door), LIMIT, (f"127.1.{number // 250}.{number % 250 + 1}", 0))
+    it: socket.socket = tls().wrap_socket(plain, server_hostname=slip.network)
+    return it
+
+
+def greeted(slip: Slip, number: int) -> Client:
+    """Returns a connection that has said hello; if there is no room, it tries again a second later, as bots do."""
+    while True:
+        try:
+            return Client(slip.port, slip.name, slip.key, limit=LIMIT, connection=way_in(slip, number))
+        except (Refused, Closed, OSError):
+            time.sleep(1)
+
+
+def play(slip: Slip, number: int, times: Times) -> None:
+    """Plays until the class is over, and notes how many seconds each hello and each move takes."""
+    begun = time.perf_counter()
+    me = greeted(slip, number)
+    times.append(("hello", time.perf_counter() - begun))
+    try:
+        while True:
+            look = me.look(slip.nodes[0])
+            if look.rule and not look.chosen:
+                begun = time.perf_counter()
+                try:
+                    me.move(look)
+                except Denied:  # A step was closed in between.
+                    pass
+                times.append(("move", time.perf_counter() - begun))
+            time.sleep(LOOKS)
+    except Closed:
+        pass
+
+
+def crowd(slips: list[tuple[int, Slip]], every: "multiprocessing.Queue[int]", results: "multiprocessing.Queue[Times]") -> None:
+    """Plays for some students, a thread for each."""
+    times: Times = []
+    threads = [threading.Thread(target=play, args=(slip, number, times)) for number, slip in slips]
+    for thread in threads:
+        thread.start()
+    while sum(what == "hello" for what, _ in [*times]) < len(slips):
+        time.sleep(0.05)
+    every.put(len(slips))
+    for thread in threads:
+        thread.join()
+    results.put(times)
+
+
+def used(process: int) -> tuple[float, float]:
+    """Returns the megabytes that a process has, and the seconds of processor that it took."""
+    folder = Path(f"/proc/{process}")
+    shared = re.search(r"(?m)^Pss: +(\d+) kB$", (folder / "smaps_rollup").read_text(encoding="ascii"))
+    times = (folder / "stat").read_text(encoding="utf-8").rpartition(") ")[2].split()[11:13]
+    return (int(shared[1]) / 1024 if shared else 0.0), sum(map(int, times)) / TICKS
+
+
+def processes(folder: Path) -> dict[str, list[int]]:
+    """Returns the processes of a class, by what they are."""
+    kept = json.loads((folder / "class.json").read_text(encoding="utf-8"))
+    records = [record for run in sorted(folder.iterdir()) if (record := Record.read(run)) is not None]
+    found = {"servers": [it.server.number for it in records], "desks": [it.run.number for it in records], "the class's desk": [kept["desk"]["number"]]}
+    if kept["door"]:
+        found["the door"] = [json.loads(Path(kept["door"], "door.json").read_text(encoding="utf-8"))["process"]["number"]]
+    return found
+
+
+def made(room: Path, networks: int, each: int, door: str) -> tuple[list[Path], list[tuple[int, Slip]]]:
+    """Makes the labs of a class, and returns them with all slips, which have a number each."""
+    (room / "names.txt").write_text("".join(f"Student {number}\n" for number in range(networks * each)), encoding="ascii")
+    words = ["--groups", str(networks), "--start", "hurt", *(["--door", door] if door else [])]
+    subprocess.run([sys.executable, TOP / "class", "new", room / "big.toml", "--students", room / "names.txt", *words], check=True, stdout=subprocess.DEVNULL)
+    with (room / "big-slips.csv").open(encoding="utf-8", newline="") as it:
+        slips = [Slip.read(row["file"]) for row in csv.DictReader(it)]
+    return [room / f"big-{number}.toml" for number in range(1, networks + 1)], [*enumerate(slips)]
+
+
+def measured(desk: "subprocess.Popen[str]", folder: Path, seconds: float) -> None:
+    """Lets the class go on for so many seconds, and prints what its processes took."""
+    assert desk.stdin is not None
+    every = processes(folder)
+    before = {name: sum(used(it)[1] for it in numbers) for name, numbers in every.items()}
+    begun = time.monotonic()
+    while time.monotonic() - begun < seconds:
+        desk.stdin.write("shake all\n")
+        desk.stdin.flush()
+        time.sleep(min(SHAKES, seconds))
+    taken = time.monotonic() - begun
+    for name, numbers in every.items():
+        memory, processor = (sum(values) for values in zip(*map(used, numbers)))
+        print(f"{name}: {len(numbers)}, {memory:.0f} MB, {100 * (processor - before[name]) / taken:.1f} % of a processor", flush=True)
+
+
+def main() -> None:
+    """Runs the class, and measures it."""
+    parser = argparse.ArgumentParser(prog="bench.whole_class")
+    parser.add_argument("--networks", type=int, default=20)
+    parser.add_argument("--each", type=int, default=15)
+    parser.add_argument("--seconds", type=float, default=30.0)
+    parser.add_argument("--door", action="store_true")
+    words = parser.parse_args()
+    if words.networks < 2:
+        refuse("a class has two networks or more")
+    with tempfile.TemporaryDirectory() as name:
+        room, port = Path(name), free_port()
+        labs, slips = made(room, words.networks, words.each, f"127.0.0.1:{port}" if words.door else "")
+        more = ["--door", str(port)] if words.door else []
+        with (room / "prints").open("w", encoding="utf-8") as prints:
+            desk = subprocess.Popen([sys.executable, TOP / "class", "run", *labs, "--into", room / "runs", "--page", "--close", "every:1",
+                                     "--typed", *more], stdin=subprocess.PIPE, stdout=prints, stderr=prints, text=True)
+        try:
+            served(desk, room, slips, words.seconds)
+        finally:
+            desk.terminate()
+            desk.wait()
+
+
+def served(desk: "subprocess.Popen[str]", room: Path, slips: list[tuple[int, Slip]], seconds: float) -> None:
+    """Has all bots come, measures, ends the class, and prints how long hellos and moves took."""
+    begun = time.monotonic()
+    while "\nwords: " not in (room / "prints").read_text(encoding="utf-8"):
+        if desk.poll() is not None:
+            refuse((room / "prints").read_text(encoding="utf-8"))
+        time.sleep(0.1)
+    print(f"all networks serve after {time.monotonic() - begun:.1f} seconds", flush=True)
+    folder, = (file.parent for file in (room / "runs").glob("*/class.json"))
+    ports = {run.name: record.port for run in folder.iterdir() if (record := Record.read(run)) is not None}  # another program may have a slip's
+    slips = [(number, replace(slip, port=ports[slip.network])) for number, slip in slips]
+    every: "multiprocessing.Queue[int]" = multiprocessing.Queue()
+    results: "multiprocessing.Queue[Times]" = multiprocessing.Queue()
+    crowds = [multiprocessing.Process(target=crowd, args=(slips[at::PROCESSES], every, results)) for at in range(PROCESSES)]
+    for each in crowds:
+        each.start()
+    print(f"{sum(every.get(timeout=LIMIT) for _ in crowds)} bots are greeted", flush=True)
+    measured(desk, folder, seconds)
+    desk.terminate()
+    times = [row for _ in crowds for row in results.get(timeout=LIMIT)]
+    for what in ("hello", "move"):
+        cuts = quantiles([1000 * taken for kind, taken in times if kind == what], n=100)
+        print(f"{what}: {sum(kind == what for kind, _ in times)}, half of them within {cuts[49]:.1f} ms, 99 of 100 within {cuts[98]:.1f} ms")
+
+
+if __name__ == "__main__":
+    main()
