@@ -100,7 +100,7 @@ class Playing:
         the enabled rule."""
         self.lab, self.programs, self.daemon = lab, programs, daemon
         self.chance, self.pace_chance = random.Random(f"{seed} daemon"), random.Random(f"{seed} house")
-        self.adversary = Adversary(seed)
+        self.adversary = Adversary(seed, max)
         self.heard = {name: Heard() for name in programs}
         self.hider = Hider({*lab.students.values(), lab.teacher[1]}, [*lab.students, lab.teacher[0]])
         self.names: dict[int, str] = {}

@@ -14,6 +14,7 @@ ORDER = {"abandonment": 0, "update": 1, "seduction": 2, "marriage": 3}
 HIGHEST = ("seduction", "marriage")  # rules of which the highest node is next, and of the others the lowest
 FIRST = 7  # of the nodes that may move, how many are tried
 STEPS = 32_000  # that are tried for a choice, all ways and nodes of the network together
+Partner = Callable[[Sequence[int]], int]
 USED = labs.MOST_EVENTS // 2  # events of a program, after which another one is begun
 
 
@@ -25,8 +26,10 @@ def scheduled(rules: Mapping[int, str], nodes: Sequence[int]) -> int:
 class Adversary:
     """Searches for the moves by which a run gets long, over a program of its own."""
 
-    def __init__(self, seed: str) -> None:
-        self.chance = random.Random(f"{seed} adversary")
+    def __init__(self, seed: str, partner_of: Partner = min) -> None:
+        """`partner_of` takes who is married of those who point at a node: the lowest makes runs longest, and a student's client
+        takes the highest."""
+        self.chance, self.partner_of = random.Random(f"{seed} adversary"), partner_of
         self.bench: Bench | None = None
         self.registers: dict[int, tuple[int | None, bool]] = {}
 
@@ -70,13 +73,13 @@ class Adversary:
         """Returns how much it is worth that these nodes move now, and one by the schedule in each further step, up to the end
         or for so many steps: all moves, and how many nodes are privileged then. It is counted by the program's reports. Then
         all is undone, but for the number of the configuration."""
-        after, moves, moved = bench.step(report, nodes, min), len(nodes), {*nodes}
+        after, moves, moved = bench.step(report, nodes, self.partner_of), len(nodes), {*nodes}
         for _ in range(steps - 1):
             rules = {node: rule for node, rule in after["privileged"]}
             if not rules:
                 break
             node = scheduled(rules, [*rules])
-            after, moves = bench.step(after, [node], min), moves + 1
+            after, moves = bench.step(after, [node], self.partner_of), moves + 1
             moved.add(node)
         undone = [{"do": "fault", "node": node, "p": p, "m": m} for node, (p, m) in self.registers.items() if node in moved]
         report["at"] = bench.asked(TEACHER, undone)[-1]["at"]

@@ -18,7 +18,7 @@ class Striker:
     """Closes steps at a desk as its daemon says."""
 
     def __init__(self, seed: int = 1) -> None:
-        self.chance, self.adversary = random.Random(seed), Adversary(str(seed))
+        self.chance, self.adversary = random.Random(seed), Adversary(str(seed), max)
         self.how: Closing | None = None
         self.closed = 0.0
 
