@@ -12,7 +12,7 @@ use Rattle.mml_board.specs.declared.event.Event.{Event}
 use Rattle.mml_board.specs.declared.event.Event.TheVariants as event
 use Rattle.mml_board.specs.World.{World}
 use Rattle.mml_board.specs.Events.{after, is_possible}
-use Rattle.mml_board.proofs.RunsLemmas.{legal-possible}
+use Rattle.mml_board.proofs.ClausesLemmas.{legal_possible}
 use Rattle.mml_policy.specs.declared.command.Command.{Command}
 use Rattle.mml_policy.specs.declared.verdict.Leave.{Leave}
 use Rattle.mml_policy.specs.declared.verdict.Leave.TheVariants.{Grant}
@@ -23,7 +23,7 @@ use Rattle.mml_policy.proofs.AlikeLemmas.{same_ruling}
 use Rattle.mml_policy.proofs.RulingsLemmas.{legal_event}
 use Rattle.std.specs.Option.{option_map_or}
 use Rattle.std.specs.Prelude.{decimal}
-use Rattle.mml_policy.specs.declared.denial.Denial.{Denial}
+use Rattle.mml_board.specs.declared.denial.Denial.{Denial}
 use Rattle.mml_codec.specs.declared.request.LineFault.{LineFault}
 use Rattle.mml_codec.specs.declared.request.Request.{Request}
 use Rattle.mml_codec.specs.Greetings.{greeting, admitted}
@@ -78,7 +78,7 @@ module _ (ids : List ℕ) (r : RosterValue) (limit : ℕ) (h : Bool) (w v : Worl
       let g = ruling ids r limit h w (who.Student s) k in
       subst (λ x. Alike r t (after_ruling w g) (after_ruling v x)) (same_ruling ids r limit h w v s k in_w in_v a)
       (after_move t b (event_of g) (ruled_move limit h w _ (moves_at_most ids r w s k))
-      (λ e is. legal-possible r w e (legal_event ids r limit h w (who.Student s) k e in_w.nodes is).0))
+      (λ e is. legal_possible r w e (legal_event ids r limit h w (who.Student s) k e in_w.nodes is).0))
 
 -- ---- a turn of student s, for student t
 
