@@ -8,10 +8,9 @@ use Rattle.mml_ids.specs.Gives as steps
 use Rattle.mml_ids.specs.inside.WordsLemmas.{same_ranks}
 use Rattle.mml_rules.specs.Network.{Network, IsNetwork, neighbours_at, registers_at, configuration_of}
 use Rattle.mml_rules.specs.Network.{no_regs}
-use Rattle.mml_lab.specs.Shape.{Account}
 use Rattle.mml_lab.specs.declared.who.Who.{Who}
 use Rattle.mml_lab.specs.declared.who.Who.TheVariants as who
-use Rattle.mml_lab.specs.Rosters.{RosterValue, IsPrincipal, name_of, owns, has_name, no_account, student_named}
+use Rattle.mml_lab.specs.Rosters.{Account, RosterValue, IsPrincipal, name_of, owns, has_name, no_account, student_named}
 use Rattle.mml_lab.specs.Labs.{LabValue, IsLab}
 use Rattle.mml_board.specs.declared.event.Event.{Event}
 use Rattle.mml_board.specs.declared.event.Event.TheVariants as event
