@@ -129,7 +129,8 @@ class Ports(InRoom):
     def test_those_of_the_slips(self) -> None:
         self.assertEqual(as_on_slips(None, 4711, [4711, 4720, 4712]), [4711, 4720, 4712])
         self.assertEqual(as_on_slips(5000, 4711, [4711, 4720]), [5000, 5001])
-        for known in ([4711, 4711], [None, 4720], [None, None]):
+        shared_or_lacking: list[list[int | None]] = [[4711, 4711], [None, 4720], [None, None]]
+        for known in shared_or_lacking:
             self.assertEqual(as_on_slips(None, 4711, known), [4711, 4712])
 
     @unittest.skipUnless(host(), "not tried: no host is built")
