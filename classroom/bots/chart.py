@@ -63,12 +63,12 @@ def tick_distance(high: int, parts: int = 5) -> int:
         step *= 10
 
 
-def line(points: Sequence[tuple[float, float]], kind: str, colour: str = "") -> str:
-    """Returns the path through points; a short line through a single point."""
+def line(points: Sequence[tuple[float, float]], kind: str, colour: str = "", theme: str = colours.LIGHT) -> str:
+    """The path through points; a short line through a single point."""
     if len(points) == 1:
         points = [(points[0][0] - 8, points[0][1]), (points[0][0] + 8, points[0][1])]
     path = " ".join(f"{'M' if index == 0 else 'L'}{x:.1f} {y:.1f}" for index, (x, y) in enumerate(points))
-    style = f' style="stroke: {colours.value(colour)}"' if colour else ""
+    style = f' style="stroke: {colours.value(colour, theme)}"' if colour else ""
     return f'<path class="{kind}" d="{path}"{style}/>'
 
 
@@ -86,9 +86,9 @@ def axes(scale: Scale) -> list[str]:
     return parts
 
 
-def panel(title: str, rows: list[Row]) -> str:
-    """Returns the drawing of one family under one daemon: the bounds, and of each measure the runs, the greatest and
-    the median."""
+def panel(title: str, rows: list[Row], theme: str) -> str:
+    """The drawing of one family under one daemon: the bounds, and of each measure the runs, the greatest and the
+    median."""
     sizes = sorted({row.nodes for row in rows})
     links = {size: max(row.links for row in rows if row.nodes == size) for size in sizes}
     most = {size: bounds.of(size, links[size]) for size in sizes}
@@ -100,10 +100,10 @@ def panel(title: str, rows: list[Row]) -> str:
     parts.append(line([(scale.x(size), scale.y(most[size].rounds)) for size in sizes], "bound least"))
     for name, colour, of in MEASURES:
         seen = sorted({(row.nodes, of(row)) for row in rows})
-        parts += [f'<circle cx="{scale.x(size):.1f}" cy="{scale.y(count):.1f}" r="2" style="fill: {colours.value(colour)}"/>' for size, count in seen]
+        parts += [f'<circle cx="{scale.x(size):.1f}" cy="{scale.y(count):.1f}" r="2" style="fill: {colours.value(colour, theme)}"/>' for size, count in seen]
         by_size = {size: [of(row) for row in rows if row.nodes == size] for size in sizes}
-        parts.append(line([(scale.x(size), scale.y(max(by_size[size]))) for size in sizes], f"most {name}", colour))
-        parts.append(line([(scale.x(size), scale.y(statistics.median(by_size[size]))) for size in sizes], f"median {name}", colour))
+        parts.append(line([(scale.x(size), scale.y(max(by_size[size]))) for size in sizes], f"most {name}", colour, theme))
+        parts.append(line([(scale.x(size), scale.y(statistics.median(by_size[size]))) for size in sizes], f"median {name}", colour, theme))
     for name, row, count, bound in worst(rows):
         parts.append(f'<circle class="worst" cx="{scale.x(row.nodes):.1f}" cy="{scale.y(count):.1f}" r="5"><title>{count} of {bound} {name}</title></circle>')
     last = sizes[-1]
@@ -125,12 +125,12 @@ def told_worst(rows: list[Row]) -> list[str]:
     return [f'<text x="{WIDE / 2}" y="{18 + LINE * number}">{text}</text>' for number, text in enumerate([f"closest: {texts[0]}", *texts[1:]], 1)]
 
 
-def key(runs: int) -> str:
-    """Returns what the lines and points of all panels stand for, to be drawn below them."""
+def key(runs: int, theme: str) -> str:
+    """What the lines and points of all panels stand for, to be drawn below them."""
     parts = []
     for column, (name, colour, _) in enumerate(MEASURES):
         x = 12 + 84 * column
-        parts.append(line([(x, 14), (x + 22, 14)], "median", colour) + f'<text class="left" x="{x + 28}" y="18">{name}</text>')
+        parts.append(line([(x, 14), (x + 22, 14)], "median", colour, theme) + f'<text class="left" x="{x + 28}" y="18">{name}</text>')
     parts.append(f'<text class="left" x="270" y="18">{runs} runs</text>')
     parts.append('<text class="left" x="12" y="36">points: runs; thick: median; thin: greatest; ring: closest to its bound</text>')
     parts.append(line([(12, 46), (34, 46)], "bound") + '<text class="left" x="40" y="50">' + f"{MOVES} moves: proved</text>")
@@ -139,8 +139,8 @@ def key(runs: int) -> str:
     return "".join(parts)
 
 
-def chart(rows: list[Row]) -> str:
-    """Returns a panel for each family and daemon: families side by side, daemons below each other."""
+def chart(rows: list[Row], theme: str = colours.LIGHT) -> str:
+    """A panel for each family and daemon: families side by side, daemons below each other."""
     families = list(dict.fromkeys(row.family.partition(":")[0] for row in rows))
     daemons = list(dict.fromkeys(row.daemon for row in rows))
     wide, high = max(WIDE * len(families), WIDE), HIGH * len(daemons) + KEY + 8
@@ -149,9 +149,9 @@ def chart(rows: list[Row]) -> str:
         for across, family in enumerate(families):
             own = [row for row in rows if row.daemon == daemon and row.family.partition(":")[0] == family]
             if own:
-                parts.append(f'<g transform="translate({across * WIDE} {down * HIGH})">{panel(f"{family}, {daemon}", own)}</g>')
-    style = colours.style(OWN)
+                parts.append(f'<g transform="translate({across * WIDE} {down * HIGH})">{panel(f"{family}, {daemon}", own, theme)}</g>')
+    style = colours.style(OWN, theme)
     return (f'<?xml version="1.0" encoding="UTF-8"?>\n<svg xmlns="http://www.w3.org/2000/svg" viewBox="0 0 {wide} {high}" '
             f'width="{wide}" height="{high}" role="img" aria-label="moves, closes and rounds to stability">{style}'
             f'<rect class="ground" width="100%" height="100%"/>{"".join(parts)}'
-            f'<g transform="translate(0 {HIGH * len(daemons)})">{key(len(rows))}</g></svg>\n')
+            f'<g transform="translate(0 {HIGH * len(daemons)})">{key(len(rows), theme)}</g></svg>\n')

@@ -27,6 +27,7 @@ from classroom.core.bounds import MOVES
 from classroom.core.counts import positive
 from classroom.core.program import Fault
 from classroom.core.statuses import FAILED, WARNED
+from classroom.pages import colours
 from classroom.run.daemons import Daemon, daemons
 
 COLUMNS = [each.name for each in fields(Row)]
@@ -58,6 +59,7 @@ def add_words(words: argparse.ArgumentParser) -> None:
     words.add_argument("--seed", type=int, default=1, help="the first run's; each further run has the next (1)")
     words.add_argument("--csv", default="experiment.csv", metavar="FILE", help="a row a run; one that is there already is gone on with")
     words.add_argument("--plot", metavar="FILE.svg", help="the chart")
+    words.add_argument("--dark", action="store_true", help="the chart in the colours of a dark page")
     parts.add_words(words, "runs", "tables")
     words.add_argument("--at-once", type=positive, help="how many processes (as many as processors)")
     words.set_defaults(work=experiment)
@@ -256,7 +258,7 @@ def told(own: list[Row], asked: int, words: argparse.Namespace, broken: list[Pat
           f"{len(own)} of {asked} runs, all within what is proved; table: {words.csv}")
     if own and words.plot:
         with named(words.plot, "--plot names another file, and the same words draw what is in the table"):
-            Path(words.plot).write_text(chart.chart(own), encoding="utf-8")
+            Path(words.plot).write_text(chart.chart(own, colours.DARK if words.dark else colours.LIGHT), encoding="utf-8")
         print(f"chart: {words.plot}")
 
 

@@ -17,6 +17,8 @@ PLANTS = (
     ("a move that was chosen stays chosen after its step", "row.chosen || []) this.chosen[node] = rule;",
      "row.chosen || []) this.chosen[node] = rule || this.chosen[node];", CONFIGURATIONS),
     ("going back leaves what came later", "this.state = this.snapshots[kept].copy();", "this.state = this.snapshots[kept];", CONFIGURATIONS),
+    ("the header keeps the number of the step before", 'this.say("number", String(row.number));', 'this.say("number", String(row.number - (row.number > 0)));',
+     CONFIGURATIONS),
     ("a pair counts twice", 'String(state.paired / 2)', "String(state.paired)", CONFIGURATIONS),
     ("the step at hand is off the screen", "if (row) list.scrollTop = ", "if (!row) list.scrollTop = ", READ),
     ("a text is too small for a laptop", ".cap { font-size: var(--small);", ".cap { font-size: 0.7em;", READ),

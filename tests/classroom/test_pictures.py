@@ -109,9 +109,10 @@ class Pictures(InRoom):
 
     def test_a_chart(self) -> None:
         plot = self.room / "runs.svg"
-        done = words("experiment", *TINY, "--csv", self.room / "runs.csv", "--plot", plot)
-        self.assertEqual(done.returncode, 0, done.stdout + done.stderr)
-        self.has(plot, "--can", "--wed", "--point", "--hit", "--quiet")
+        for theme, more in ((colours.LIGHT, ()), (colours.DARK, ("--dark",))):
+            done = words("experiment", *TINY, "--csv", self.room / "runs.csv", "--plot", plot, *more)
+            self.assertEqual(done.returncode, 0, done.stdout + done.stderr)
+            self.has(plot, "--can", "--wed", "--point", "--hit", "--quiet", theme=theme)
 
     def test_colours_are_those_of_a_page(self) -> None:
         """What a style sets and a picture has is the same, whichever rule is looked at."""

@@ -10,10 +10,22 @@ from typing import Any
 
 from selenium.webdriver.common.keys import Keys
 
-from classroom.pages.frames import frames_of
+from classroom.pages.frames import State, frames_of
 from classroom.pages.play import picture
 from tests.classroom.browser import Played, shown, told, until
 from tests.classroom.runs import BUILT_IN, EXAMPLES, TOP, edited_run, examples, journal_of
+
+
+# What the header says: the state, pairs, the step's number, and the moves since the last fault, link or cut.
+NAMES = ("told", "pairs", "number", "since")
+HEADER = "return arguments[0].map((name) => document.getElementById(name).textContent)"
+
+
+def header(state: State) -> list[str]:
+    """What a page's header has to say of a state, which is as the program's report has it."""
+    can, pairs = len(state.privileged), len(state.pairs)
+    told_state = "At rest" if state.stable else f"{can} node{'' if can == 1 else 's'} can move"
+    return [told_state, f"{pairs} pair{'' if pairs == 1 else 's'}", str(state.number), str(state.since)]
 
 
 class Play(Played):
@@ -22,11 +34,13 @@ class Play(Played):
     def test_each_configuration_by_keys(self) -> None:
         for lab, journal in (edited_run(self.room), *examples(self.room)):
             _, frames = frames_of(lab, journal)
-            run = [told(frame.state, frame) for frame in frames]
+            both = [(told(frame.state, frame), header(frame.state)) for frame in frames]
+            run = [each for each, _ in both]
             self.open(self.page(lab, journal))
             with self.subTest(lab=lab.name):
                 for place in range(len(run)):
                     self.assertEqual(shown(self.driver), run[place])
+                    self.assertEqual(self.driver.execute_script(HEADER, NAMES), both[place][1])
                     self.press(Keys.ARROW_RIGHT)
                 self.press(Keys.HOME)
                 self.assertEqual(shown(self.driver), run[0])
