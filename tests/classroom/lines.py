@@ -19,7 +19,7 @@ TABLE = Path(__file__).parent / "kept" / "lines.txt"
 # The sources of all lines, and those of them whose texts are no lines.
 SOURCES = (
     "classroom/**/*.py", "classroom/pages/*.html", "classroom/pages/*.js", "examples/*.py", "examples/bot.*", "examples/Bot.java",
-    "student/*.py", "crates/mml_policy/src/denial.rt", "crates/mml_program/src/*.rt", "crates/mml_host_program/src/*.rt",
+    "student/*.py", "crates/mml_board/src/denial.rt", "crates/mml_program/src/*.rt", "crates/mml_host_program/src/*.rt",
     "crates/mml_judging_program/src/*.rt", "crates/mml_ports/src/*.rt", "crates/mml_recording/src/*.rt", "crates/mml_serving/src/*.rt",
 )
 NO_SOURCES = ("classroom/setup/word_list.py", "crates/mml_program/src/built_in.rt")

@@ -29,7 +29,7 @@ class Lines(unittest.TestCase):
             "classroom/run/announcing: nothing more is granted: {}", "classroom/run/clock: the lesson ends at {}, in {}",
             "classroom/run/wording: fault at node {}: p {}, m {}", "classroom/run/heard: a flood: {} lines a second of {}",
             "classroom/client: node {}: {} granted in configuration {}, as event {}",
-            "crates/mml_program/src/fault.rt: command line: not understood", "crates/mml_policy/src/denial.rt: this node is not shown to you",
+            "crates/mml_program/src/fault.rt: command line: not understood", "crates/mml_board/src/denial.rt: this node is not shown to you",
             "crates/mml_host_program/src/journal_watch.rt: host: {}: nothing more is granted", "classroom/setup/check: warning: {}",
             "classroom/bots/attempt: it ended by itself, status {}", "examples/bot.c: the connection was lost: start again",
             "examples/Bot.java: the run is over", "examples/bot.js: the run is over", "examples/bot.rs: the run is over",
