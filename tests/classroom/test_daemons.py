@@ -82,6 +82,10 @@ class Beside:
         self.known, self.announcer = self, unittest.mock.Mock(over="")
         self.done: list[object] = []
 
+    def seen(self) -> None:
+        """The network, for which this daemon doesn't ask."""
+        raise AssertionError("a central daemon searches nothing")
+
     def release(self, node: int) -> None:
         """A move is taken back."""
         self.done.append(node)
