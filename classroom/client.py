@@ -42,8 +42,7 @@ STOPS = {  # why a program stops, with its exit status; 0 is the run's end, 1 wr
     "not-teacher": (3, "this is the teacher's alone"),
     "malformed": (3, "the server takes a line for no request: correct the program"),
     "busy": (5, "all seats were taken for a minute: come again later"),
-    "full": (6, "nothing is granted any longer: tell your teacher"),
-    "journal": (6, "nothing is granted any longer: tell your teacher"),
+    **dict.fromkeys(("full", "journal"), (6, "nothing is granted any longer: tell your teacher")),
 }
 NODE, OPTIONS, TOLD = "a number", ("--log", "--tunnel"), "; --help tells the words"
 KEYS: dict[str, dict[str, str]] = {  # of each request, with what they have to be
@@ -52,9 +51,7 @@ KEYS: dict[str, dict[str, str]] = {  # of each request, with what they have to b
     "fault": {"node": NODE, "p": "a number or null", "m": "true or false"}, "link": {"a": NODE, "b": NODE}, "cut": {"a": NODE, "b": NODE},
 }
 RULES = ("update", "marriage", "seduction", "abandonment")
-MOST, DEEPEST = 4096, 127  # bytes of a line; objects and lists in one another
-DEEP = f"nested deeper than {DEEPEST}"
-# Words that are often written for those of JSON.
+MOST, DEEPEST, DEEP = 4096, 127, "nested deeper than 127"  # bytes of a line; objects and lists in one another
 INSTEAD = {"none": "null", "nil": "null", "null": "null", "undefined": "null", "true": "true", "yes": "true", "false": "false", "no": "false"}
 
 
@@ -516,8 +513,7 @@ def run(program: Callable[[list[str]], None], usage: str) -> None:
     """Runs a program with the command line's words, or prints the usage. An error ends it with a line and an exit status."""
     words = sys.argv[1:]
     if not words or words[0] in ("-h", "--help"):
-        print(usage, file=sys.stdout if words else sys.stderr)
-        sys.exit(0 if words else 1)
+        sys.exit(usage)
     try:
         program(words)
     except (Denied, Refused, Closed, NoSlip) as error:
@@ -798,4 +794,7 @@ def by_hand(words: list[str]) -> None:
 
 
 if __name__ == "__main__":
-    run(by_hand, (__doc__ or "").strip())
+    if sys.argv[1:2] in (["-h"], ["--help"]):
+        print((__doc__ or "").strip())
+    else:
+        run(by_hand, (__doc__ or "").strip())
