@@ -65,7 +65,7 @@ class Practise(InRoom):
 
     def test_a_page_to_play_by(self) -> None:
         """The page's server asks what a program would, and gets the same answers. The class ends when the page played it to its end."""
-        self.assertIn("--page is for who plays by hand", self.practises(EXAMPLES / "bot.py", "--page").stderr)
+        self.assertIn("--page is for playing by hand", self.practises(EXAMPLES / "bot.py", "--page").stderr)
         going = subprocess.Popen(
             [sys.executable, TOP / "class", "practise", "--page", "--family", "path", "--nodes", "2", "--node", "1,2", "--start", "clean",
              "--into", self.room / "runs"], stdout=subprocess.PIPE, text=True)
