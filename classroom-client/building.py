@@ -9,6 +9,8 @@ from pathlib import Path
 
 HERE = Path(__file__).parent
 TAG = "py3-none-any"
+# An archive has the client beside this file, a clone in its own folder alone.
+CLIENTS = (HERE / "client.py", HERE.parent / "classroom/client.py")
 
 
 def metadata() -> dict[str, str]:
@@ -22,7 +24,7 @@ def build_wheel(wheel_directory: str, config_settings: object = None, metadata_d
     name = f"{told['name'].replace('-', '_')}-{told['version']}"
     head = f"Metadata-Version: 2.1\nName: {told['name']}\nVersion: {told['version']}\nSummary: {told['description']}\n"
     files = {
-        "client.py": (HERE / "client.py").read_bytes(),
+        "client.py": next(path for path in CLIENTS if path.is_file()).read_bytes(),
         f"{name}.dist-info/METADATA": f"{head}License: MIT\nRequires-Python: {told['requires-python']}\n".encode(),
         f"{name}.dist-info/WHEEL": f"Wheel-Version: 1.0\nGenerator: cenduwa\nRoot-Is-Purelib: true\nTag: {TAG}\n".encode(),
     }

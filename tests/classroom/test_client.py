@@ -228,6 +228,7 @@ class Installed(InRoom):
         super().setUp()
         self.source = self.room / "classroom-client"
         shutil.copytree(TOP / "classroom-client", self.source, ignore=shutil.ignore_patterns("__pycache__"))
+        shutil.copy(TOP / "classroom/client.py", self.source)
 
     def test_a_wheel_is_the_client_with_its_metadata(self) -> None:
         call = [sys.executable, "-B", "-c", "import building; print(building.build_wheel('.'))"]
@@ -243,6 +244,11 @@ class Installed(InRoom):
         for file, digest, size in rows[:-1]:
             wanted = base64.urlsafe_b64encode(hashlib.sha256(files[file]).digest()).decode().rstrip("=")
             self.assertEqual((digest, size), (f"sha256={wanted}", str(len(files[file]))))
+
+    def test_in_a_clone_the_client_stands_in_its_own_folder(self) -> None:
+        (self.room / "classroom").mkdir()
+        shutil.move(self.source / "client.py", self.room / "classroom/client.py")
+        self.test_a_wheel_is_the_client_with_its_metadata()
 
     def test_pip_installs_it_without_a_network(self) -> None:
         pip = [sys.executable, "-m", "pip"]

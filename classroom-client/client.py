@@ -1,1 +1,0 @@
-../classroom/client.py
