@@ -10,7 +10,7 @@ import time
 from pathlib import Path
 
 sys.path.append(str(Path(__file__).resolve().parent.parent / "classroom"))  # in a clone; else client.py is beside this file
-from client import Client, Closed, Denied, Look, Rule, Slip, again, enter, run  # noqa: E402
+from client import Client, Closed, Denied, Look, Refused, Rule, Slip, again, enter, run  # noqa: E402
 
 
 def rule_of(look: Look) -> Rule | None:
@@ -45,7 +45,9 @@ def main(words: list[str]) -> None:
     while True:
         try:
             play(me, slip.nodes)
-        except Closed as lost:
+        except (Closed, Refused) as lost:
+            if isinstance(lost, Refused) and lost.word != "busy":  # `busy`: the seat went to a newcomer.
+                raise
             me = again(slip, lost)
 
 

@@ -226,6 +226,26 @@ class Broken(Cycle):
             self.assertEqual(refused.exception.word, "busy")
             away.join()
 
+    def test_bots_come_back_if_their_seat_goes_to_a_newcomer(self) -> None:
+        for bot in (EXAMPLES.parent / "student/bot.py", EXAMPLES / "bot.py"):
+            with self.subTest(bot=bot.name), socket.create_server(("127.0.0.1", 0)) as port:
+                ends = [b'{"refuse":"busy"}\n', b'{"refuse":"over"}\n']
+
+                def serve() -> None:
+                    for last in ends:
+                        connection, _ = port.accept()
+                        with connection, connection.makefile("rb") as lines:
+                            lines.readline()
+                            connection.sendall(b'{"ok":"hello","who":"gus"}\n')
+                            lines.readline()
+                            connection.sendall(last)
+
+                threading.Thread(target=serve, daemon=True).start()
+                slip = self.file("gus.slip", f"port {port.getsockname()[1]}\nname gus\nkey heron-31\nnodes 1\n")
+                said = subprocess.run([sys.executable, bot, slip], env={**os.environ, "PYTHONPATH": str(EXAMPLES.parent / "classroom")}, capture_output=True,
+                                      text=True, timeout=LIMIT, check=False)
+                self.assertEqual((said.returncode, said.stderr), (0, "bot.py: the run is over\n"))
+
     def test_programs_of_the_examples_tell_their_words(self) -> None:
         for name in ("bot.py", "teacher.py"):
             said = subprocess.run([sys.executable, EXAMPLES / name, "--help"], capture_output=True, text=True, timeout=LIMIT, check=False)
