@@ -6,10 +6,9 @@ pub mod ReadBackLemmas
 pub mod FieldsLemmas
 pub mod CanonicalLemmas
 pub mod SeparatedLemmas
-pub mod ReportLemmas
 pub mod AboutLemmas
 pub mod RulingsLemmas
-pub mod PartsLemmas
+pub mod TableLemmas
 pub mod ReplyTextLemmas
 pub mod ReplyValuesLemmas
 pub mod GreetingsLemmas

@@ -1,3 +1,3 @@
 pub mod FieldViews
-pub mod Puts
 pub mod Reading
+pub mod Tables

@@ -3,15 +3,19 @@
 
 mod greeting;
 pub mod laws;
+mod list_rows;
+mod list_writing;
 mod listed;
 mod object;
 mod reply;
+mod reply_rows;
 mod reply_writing;
-mod report_writing;
 mod request;
 mod request_reading;
 mod request_writing;
 mod ruling_reply;
+mod table;
+mod told;
 
 pub use greeting::{Greeted, Greeting, greet, greet_into};
 pub use mml_plain::LineScratch;

@@ -1,12 +1,12 @@
 //! Lists of nodes and links in replies.
-ghost use Rattle.std.specs.Prelude.{codes, ◌+◌, ◌≡◌, ◌≤◌, ◌<◌, ◌++◌, ℕ, List, All, length, map, OnOk, IfOk, MatchResult, vec_capacity};
+ghost use Rattle.std.specs.Prelude.{codes, ◌+◌, ◌≡◌, ◌≤◌, ◌<◌, ◌++◌, ℕ, List, All, length, map, OnOk, IfOk, IfSome, MatchResult, vec_capacity};
 ghost use Rattle.mml_policy.specs.About.{IsNear};
 ghost use Rattle.mml_stable.specs.Reports.{IsPairOf, IsOpenLinkOf};
 ghost use Rattle.mml_ids.specs.Pieces.{truth_text};
 ghost use Rattle.serde_json.specs.Written.{comma_if};
-ghost use Rattle.mml_codec.specs.Facts.{node_text, near_text, pair_text, privileged_text, open_link_text, separated};
+ghost use Rattle.mml_codec.specs.Facts.{node_text, pointer_text, near_text, pair_text, privileged_text, open_link_text, separated};
 
-use crate::reply_writing::{with_kind, with_node, with_pointer_at_end};
+use crate::told::{with_kind, with_node};
 use mml_ids::{IdTable, Memory, Rank, make_room, taken, with_text};
 use mml_rules::{Kind, Regs};
 use mml_stable::OpenLink;
@@ -142,6 +142,21 @@ fn with_first_m_then_node(line: Vec<u8>, m: bool) -> Vec<u8>
         with_text(line, "{\"m\":true,\"node\":")
     } else {
         with_text(line, "{\"m\":false,\"node\":")
+    }
+}
+
+// Returns the text with what a register points at appended, an identifier or null, and the end of the object.
+#[inline(always)]
+fn with_pointer_at_end(text: Vec<u8>, ids: &IdTable, p: Option<Rank>) -> Vec<u8>
+    requires node { IfSome p (λ j. j < length ids.now) }
+    requires room { length text.items + 6 ≤ vec_capacity text }
+    ensures text { result.items ≡ text.items ++ (pointer_text ids.now p ++ codes "}") }
+    ensures capacity { vec_capacity result ≡ vec_capacity text }
+    ensures grows { length result.items ≤ length text.items + 6 }
+{
+    match p {
+        Some(node) => with_text(with_node(text, ids, node), "}"),
+        None => with_text(text, "null}"),
     }
 }
 

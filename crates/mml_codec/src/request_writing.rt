@@ -1,9 +1,9 @@
 //! The text of requests. An error means that memory ran out.
-ghost use Rattle.std.specs.Prelude.{◌≡◌, [], ◌∷◌, codes, Ok, IfOk, OnOk, OnErr};
+ghost use Rattle.std.specs.Prelude.{◌≡◌, [], Ok, IfOk, OnOk, OnErr};
 ghost use Rattle.serde_json.specs.Written.{compact_text};
 ghost use Rattle.mml_policy.specs.declared.command.Command.TheVariants as command;
 ghost use Rattle.mml_codec.specs.Canonical.{canonical, IsWritable};
-ghost use Rattle.mml_codec.specs.Requests.{register, command_fields};
+ghost use Rattle.mml_codec.specs.Requests.{register, rule_word, command_fields};
 ghost use Rattle.mml_codec.specs.Fields.{number, word, object_of, AreWritable};
 ghost use Rattle.mml_codec.specs.inside.FieldViews.{field_view};
 ghost use Rattle.mml_codec.specs.Lines.{request_in};
@@ -56,95 +56,66 @@ fn command_text(alloc: Global, command: Command) -> Result<Vec<u8>, AllocError>
         compact_text (object_of (command_fields command))) }
 {
     match command {
-        Command::See { node } => node_text(alloc, "see", node),
-        Command::Look { node } => node_text(alloc, "look", node),
+        Command::See { node } => object_text(alloc, &[("do", Word("see")), ("node", Number(node))]),
+        Command::Look { node } => {
+            object_text(alloc, &[("do", Word("look")), ("node", Number(node))])
+        }
         Command::Move { node, rule, at } => move_text(alloc, node, rule, at),
         Command::Close => object_text(alloc, &[("do", Word("close"))]),
-        Command::Fault { node, p, m } => fault_text(alloc, node, p, m),
-        Command::Link { a, b } => ends_text(alloc, "link", a, b),
-        Command::Cut { a, b } => ends_text(alloc, "cut", a, b),
-        Command::Release { node } => node_text(alloc, "release", node),
+        Command::Fault { node, p, m } => object_text(
+            alloc,
+            &[
+                ("do", Word("fault")),
+                ("m", Truth(m)),
+                ("node", Number(node)),
+                ("p", register(p)),
+            ],
+        ),
+        Command::Link { a, b } => object_text(
+            alloc,
+            &[("a", Number(a)), ("b", Number(b)), ("do", Word("link"))],
+        ),
+        Command::Cut { a, b } => object_text(
+            alloc,
+            &[("a", Number(a)), ("b", Number(b)), ("do", Word("cut"))],
+        ),
+        Command::Release { node } => {
+            object_text(alloc, &[("do", Word("release")), ("node", Number(node))])
+        }
         Command::Report => object_text(alloc, &[("do", Word("report"))]),
     }
 }
 
-// Returns the text of the request for a command that names one node, by its word.
-fn node_text(alloc: Global, verb: &'static str, node: u64) -> Result<Vec<u8>, AllocError>
-    ensures { IfOk result (λ text. text.items ≡ compact_text (object_of
-        ((codes "do", word verb.now) ∷ (codes "node", number node) ∷ []))) }
-{
-    object_text(alloc, &[("do", Word(verb)), ("node", Number(node))])
-}
-
-// Returns the text of the request for a command that names two nodes, by its word.
-fn ends_text(alloc: Global, verb: &'static str, a: u64, b: u64) -> Result<Vec<u8>, AllocError>
-    ensures { IfOk result (λ text. text.items ≡ compact_text (object_of
-        ((codes "a", number a) ∷ (codes "b", number b) ∷ (codes "do", word verb.now) ∷ []))) }
-{
-    object_text(
-        alloc,
-        &[("a", Number(a)), ("b", Number(b)), ("do", Word(verb))],
-    )
-}
-
-// Returns the text of the request for a move.
+// Returns the text of the request for a move. Only a marriage names a partner.
 fn move_text(alloc: Global, node: u64, rule: Asked, at: u64) -> Result<Vec<u8>, AllocError>
     ensures { IfOk result (λ text. text.items ≡ compact_text (object_of
         (command_fields (command.Move node rule at)))) }
 {
+    let asks = [
+        ("at", Number(at)),
+        ("do", Word("move")),
+        ("node", Number(node)),
+        ("rule", Word(rule_word(rule))),
+    ];
     match rule {
-        Asked::Update => plain_move_text(alloc, "update", node, at),
         Asked::Marriage(with) => object_text(
             alloc,
-            &[
-                ("at", Number(at)),
-                ("do", Word("move")),
-                ("node", Number(node)),
-                ("rule", Word("marriage")),
-                ("with", Number(with)),
-            ],
+            &[asks[0], asks[1], asks[2], asks[3], ("with", Number(with))],
         ),
-        Asked::Seduction => plain_move_text(alloc, "seduction", node, at),
-        Asked::Abandonment => plain_move_text(alloc, "abandonment", node, at),
+        _ => object_text(alloc, &asks),
     }
 }
 
-// Returns the text of the request for a move whose rule names no partner, by the word of the rule.
-fn plain_move_text(
-    alloc: Global,
-    rule: &'static str,
-    node: u64,
-    at: u64,
-) -> Result<Vec<u8>, AllocError>
-    ensures { IfOk result (λ text. text.items ≡ compact_text (object_of
-        ((codes "at", number at) ∷ (codes "do", word (codes "move")) ∷ (codes "node", number node)
-        ∷ (codes "rule", word rule.now) ∷ []))) }
+// Returns the word by which a rule is asked for.
+fn rule_word(rule: Asked) -> &'static str
+    ensures { result.now ≡ rule_word rule }
 {
-    object_text(
-        alloc,
-        &[
-            ("at", Number(at)),
-            ("do", Word("move")),
-            ("node", Number(node)),
-            ("rule", Word(rule)),
-        ],
-    )
-}
-
-// Returns the text of the request for a fault.
-fn fault_text(alloc: Global, node: u64, p: Option<u64>, m: bool) -> Result<Vec<u8>, AllocError>
-    ensures { IfOk result (λ text. text.items ≡ compact_text (object_of
-        (command_fields (command.Fault node p m)))) }
-{
-    object_text(
-        alloc,
-        &[
-            ("do", Word("fault")),
-            ("m", Truth(m)),
-            ("node", Number(node)),
-            ("p", register(p)),
-        ],
-    )
+    match rule {
+        Asked::Update => "update",
+        Asked::Marriage(_) => "marriage",
+        Asked::Seduction => "seduction",
+        Asked::Abandonment => "abandonment",
+    }
 }
 
 // Returns the value of the key `p` in the request for a fault: the identifier that the register shall point at, or

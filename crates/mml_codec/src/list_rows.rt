@@ -1,0 +1,107 @@
+//! The tables of fields of a look and a report. The error `Memory` means that memory ran out.
+ghost use Rattle.std.specs.Prelude.{◌≡◌, ◌≤◌, ◌<◌, ◌^◌, ◌++◌, length, OnOk, vec_capacity};
+ghost use Rattle.mml_policy.specs.About.{IsLookedAt};
+ghost use Rattle.mml_stable.specs.Reports.{NamesNodes};
+ghost use Rattle.mml_codec.specs.Facts.{object_text};
+ghost use Rattle.mml_codec.specs.Replies.{look_fields, report_fields};
+
+use crate::list_writing::{ListRow, Listing, Opening, Rest};
+use crate::table::{End, Row};
+use crate::told::Word;
+use mml_ids::{IdTable, Memory};
+use mml_policy::Look;
+use mml_stable::Report;
+
+/// Appends the reply to a granted look.
+#[tactic(auto, unfolding(crate::specs::Facts::object_text))]
+pub(crate) fn put_look(ids: &IdTable, look: &Look, out: &mut Vec<u8>) -> Result<(), Memory>
+    requires { IsLookedAt ids.now look.now }
+    ensures text { OnOk result
+        (out.new.items ≡ out.old.items ++ object_text ids.now (look_fields look.now)) }
+    ensures capacity { vec_capacity out.old ≤ vec_capacity out.new }
+    ensures count { look.now.at < 2 ^ 64 }
+{
+    // By its type the number fits 64 bits, as the contract says.
+    let _at = look.at;
+    let fields = ListRow {
+        before: Row {
+            key: "at",
+            value: look.at,
+            rest: Row {
+                key: "chosen",
+                value: look.chosen,
+                rest: Row {
+                    key: "m",
+                    value: look.regs.m,
+                    rest: Opening { key: "near" },
+                },
+            },
+        },
+        items: &look.near,
+        rest: Rest {
+            fields: Row {
+                key: "node",
+                value: look.node,
+                rest: Row {
+                    key: "ok",
+                    value: Word("look"),
+                    rest: Row {
+                        key: "p",
+                        value: look.regs.p,
+                        rest: Row {
+                            key: "rule",
+                            value: look.enabled,
+                            rest: End,
+                        },
+                    },
+                },
+            },
+        },
+    };
+    fields.put_fields(ids, "{", out)
+}
+
+/// Appends a report.
+#[tactic(auto, unfolding(crate::specs::Facts::object_text))]
+pub(crate) fn put_report(ids: &IdTable, report: &Report, out: &mut Vec<u8>) -> Result<(), Memory>
+    requires { NamesNodes (length ids.now) report.now }
+    ensures text { OnOk result
+        (out.new.items ≡ out.old.items ++ object_text ids.now (report_fields report.now)) }
+    ensures capacity { vec_capacity out.old ≤ vec_capacity out.new }
+    ensures count { report.now.at < 2 ^ 64 }
+{
+    // By its type the number fits 64 bits, as the contract says.
+    let _at = report.at;
+    let fields = ListRow {
+        before: Row {
+            key: "at",
+            value: report.at,
+            rest: Opening { key: "free" },
+        },
+        items: &report.free,
+        rest: ListRow {
+            before: Row {
+                key: "ok",
+                value: Word("report"),
+                rest: Opening { key: "open" },
+            },
+            items: &report.open_links,
+            rest: ListRow {
+                before: Opening { key: "pairs" },
+                items: &report.pairs,
+                rest: ListRow {
+                    before: Opening { key: "privileged" },
+                    items: &report.privileged,
+                    rest: Rest {
+                        fields: Row {
+                            key: "stable",
+                            value: report.stable,
+                            rest: End,
+                        },
+                    },
+                },
+            },
+        },
+    };
+    fields.put_fields(ids, "{", out)
+}

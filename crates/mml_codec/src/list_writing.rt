@@ -1,0 +1,94 @@
+//! Tables with lists of nodes or links. The error `Memory` means that memory ran out.
+ghost use Rattle.std.specs.Prelude.{codes, ◌≡◌, ◌≤◌, ◌+◌, ◌++◌, ℕ, List, [], All, length, map, OnOk, vec_capacity};
+ghost use Rattle.mml_codec.specs.Facts.{separated};
+ghost use Rattle.mml_codec.specs.declared.list_writing.TheConstants.{FRONT_ROOM};
+
+use crate::listed::{Listed, put_list};
+use crate::table::Table;
+use mml_ids::{IdTable, Items, Memory, make_room, taken, with_text};
+
+// Enough bytes for the fields before a list, or after the last one.
+const FRONT_ROOM: usize = 128;
+
+/// Fields of which some are lists.
+pub(crate) trait Listing {
+    // The fields name nodes that have identifiers.
+    ghost names: { List ℕ → Self → Type 0 };
+
+    // The text of the fields in a lab with these identifiers, and the end of the object: the second list is what stands
+    // before the first field.
+    ghost text: { List ℕ → List ℕ → Self → List ℕ };
+
+    // Appends the fields. `first` stands before the first field. If memory runs out, a front of them is appended.
+    fn put_fields(&self, ids: &IdTable, first: &str, out: &mut Vec<u8>) -> Result<(), Memory>
+        requires names { names ids.now self.now }
+        requires first { length first.now ≤ 2 }
+        ensures text { OnOk result
+            (out.new.items ≡ out.old.items ++ text ids.now first.now self.now) }
+        ensures capacity { vec_capacity out.old ≤ vec_capacity out.new };
+}
+
+/// The key of a list, and the bracket with which the list begins.
+#[derive(Clone, Copy)]
+pub(crate) struct Opening {
+    pub(crate) key: &'static str,
+}
+
+impl Table for Opening {
+    ghost names = { λ _ _. Unit {0} };
+
+    ghost text = { λ _ first o rest. first ++ (codes "\"" ++ (o.key.now ++ (codes "\":[" ++ rest))) };
+
+    ghost most = { λ o. 4 + length o.key.now };
+
+    #[inline(always)]
+    fn with_fields(&self, line: Vec<u8>, _ids: &IdTable, first: &str) -> Vec<u8> {
+        let line = with_text(line, first);
+        let line = with_text(line, "\"");
+        let line = with_text(line, self.key);
+        with_text(line, "\":[")
+    }
+}
+
+/// Fields up to the key of a list, the list, and the fields after it.
+#[derive(Clone, Copy)]
+pub(crate) struct ListRow<'a, B, L, R> {
+    pub(crate) before: B,
+    pub(crate) items: &'a Items<L>,
+    pub(crate) rest: R,
+}
+
+impl<'a, B: Table, L: Listed, R: Listing> Listing for ListRow<'a, B, L, R> {
+    ghost names = { λ ids r. (B.names ids r.before × (2 + B.most r.before ≤ FRONT_ROOM))
+        × (All (L.names ids) r.items.now × R.names ids r.rest) };
+
+    ghost text = { λ ids first r. B.text ids first r.before
+        (separated (map (L.text ids) r.items.now) ++ R.text ids (codes "],") r.rest) };
+
+    #[inline(always)]
+    fn put_fields(&self, ids: &IdTable, first: &str, out: &mut Vec<u8>) -> Result<(), Memory> {
+        make_room(out, FRONT_ROOM)?;
+        *out = self.before.with_fields(taken(out), ids, first);
+        put_list(ids, self.items.as_slice(), out)?;
+        self.rest.put_fields(ids, "],", out)
+    }
+}
+
+/// The fields after the last list.
+#[derive(Clone, Copy)]
+pub(crate) struct Rest<T> {
+    pub(crate) fields: T,
+}
+
+impl<T: Table> Listing for Rest<T> {
+    ghost names = { λ ids r. T.names ids r.fields × (2 + T.most r.fields ≤ FRONT_ROOM) };
+
+    ghost text = { λ ids first r. T.text ids first r.fields [] };
+
+    #[inline(always)]
+    fn put_fields(&self, ids: &IdTable, first: &str, out: &mut Vec<u8>) -> Result<(), Memory> {
+        make_room(out, FRONT_ROOM)?;
+        *out = self.fields.with_fields(taken(out), ids, first);
+        Ok(())
+    }
+}

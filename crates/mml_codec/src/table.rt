@@ -1,0 +1,93 @@
+//! Tables of fields: the keys of a reply in byte order, and what each holds.
+ghost use Rattle.std.specs.Prelude.{codes, ◌≡◌, ◌≤◌, ◌+◌, ◌++◌, ℕ, List, [], length, vec_capacity};
+ghost use Rattle.mml_ids.specs.Pieces.{Puts};
+ghost use Rattle.mml_codec.specs.Facts.{fact_then};
+
+use crate::told::Told;
+use mml_ids::{IdTable, Memory, make_room, taken, with_text};
+
+/// Enough bytes for the text of each reply but a look and a report.
+pub(crate) const TEXT_ROOM: usize = 2000;
+
+/// Fields in a static table. Text, greatest length and facts follow from it.
+pub(crate) trait Table {
+    // The fields name nodes that have identifiers.
+    ghost names: { List ℕ → Self → Type 0 };
+
+    // The text of the fields in a lab with these identifiers, before what follows: the second list is what stands
+    // before the first field.
+    ghost text: { List ℕ → List ℕ → Self → List ℕ → List ℕ };
+
+    // The most bytes of the fields.
+    ghost most: { Self → ℕ };
+
+    // Returns the line with the fields appended. `first` stands before the first field.
+    fn with_fields(&self, line: Vec<u8>, ids: &IdTable, first: &str) -> Vec<u8>
+        requires names { names ids.now self.now }
+        requires room { length line.items + (length first.now + most self.now) ≤ vec_capacity line }
+        ensures text { (rest : List ℕ) →
+            result.items ++ rest ≡ line.items ++ text ids.now first.now self.now rest }
+        ensures capacity { vec_capacity result ≡ vec_capacity line }
+        ensures grows { length result.items ≤
+            length line.items + (length first.now + most self.now) };
+}
+
+/// A key with what it holds, before the other fields.
+#[derive(Clone, Copy)]
+pub(crate) struct Row<V, T> {
+    pub(crate) key: &'static str,
+    pub(crate) value: V,
+    pub(crate) rest: T,
+}
+
+impl<V: Told, T: Table> Table for Row<V, T> {
+    ghost names = { λ ids r. V.names ids r.value × T.names ids r.rest };
+
+    ghost text = { λ ids first r rest. first ++ (codes "\"" ++ (r.key.now ++ (codes "\":"
+        ++ fact_then ids (V.fact r.value) (T.text ids (codes ",") r.rest rest)))) };
+
+    ghost most = { λ r. 4 + (length r.key.now + (V.most r.value + T.most r.rest)) };
+
+    #[inline(always)]
+    fn with_fields(&self, line: Vec<u8>, ids: &IdTable, first: &str) -> Vec<u8> {
+        let line = with_text(line, first);
+        let line = with_text(line, "\"");
+        let line = with_text(line, self.key);
+        let line = with_text(line, "\":");
+        let line = self.value.with_told(line, ids);
+        self.rest.with_fields(line, ids, ",")
+    }
+}
+
+/// The end of an object.
+#[derive(Clone, Copy)]
+pub(crate) struct End;
+
+impl Table for End {
+    ghost names = { λ _ _. Unit {0} };
+
+    ghost text = { λ _ _ _ rest. codes "}" ++ rest };
+
+    ghost most = { λ _. 1 };
+
+    #[inline(always)]
+    fn with_fields(&self, line: Vec<u8>, _ids: &IdTable, _first: &str) -> Vec<u8> {
+        with_text(line, "}")
+    }
+}
+
+/// Appends the object with these fields.
+#[inline(always)]
+pub(crate) fn put_object<T: Table>(
+    ids: &IdTable,
+    fields: &T,
+    out: &mut Vec<u8>,
+) -> Result<(), Memory>
+    requires names { T.names ids.now fields.now }
+    requires most { 1 + T.most fields.now ≤ TEXT_ROOM }
+    ensures { Puts (T.text ids.now (codes "{") fields.now []) TEXT_ROOM out.old out.new result }
+{
+    make_room(out, TEXT_ROOM)?;
+    *out = fields.with_fields(taken(out), ids, "{");
+    Ok(())
+}

@@ -1,0 +1,283 @@
+//! What a key of a reply holds.
+ghost use Rattle.std.specs.Prelude.{decimal, ◌≡◌, ◌≤◌, ◌<◌, ◌+◌, ◌++◌, ℕ, List, length, map, refl, IfSome, vec_capacity};
+ghost use Rattle.mml_ids.specs.Pieces.{truth_text};
+ghost use Rattle.mml_codec.specs.Facts as fact;
+ghost use Rattle.mml_codec.specs.Facts.{Fact, fact_then, node_text, pointer_text, kind_text, kind_or_null, members, separated};
+ghost use Rattle.mml_codec.specs.inside.Tables.{quoted, bracketed, quoted_tells, bracketed_tells};
+
+use crate::listed::with_comma;
+use mml_ids::{IdTable, NodeSet, Rank, with_number, with_short_number, with_text};
+use mml_rules::Kind;
+
+/// What a key of a reply holds, if its text has a greatest length.
+pub(crate) trait Told {
+    // The fact that it is.
+    ghost fact: { Self → Fact };
+
+    // It names nodes that have identifiers.
+    ghost names: { List ℕ → Self → Type 0 };
+
+    // Its text, in a lab with these identifiers.
+    ghost text: { List ℕ → Self → List ℕ };
+
+    // The most bytes of its text.
+    ghost most: { Self → ℕ };
+
+    // Returns the line with the text appended.
+    fn with_told(&self, line: Vec<u8>, ids: &IdTable) -> Vec<u8>
+        requires names { names ids.now self.now }
+        requires room { length line.items + most self.now ≤ vec_capacity line }
+        ensures text { result.items ≡ line.items ++ text ids.now self.now }
+        ensures capacity { vec_capacity result ≡ vec_capacity line }
+        ensures grows { length result.items ≤ length line.items + most self.now };
+
+    // The text is that of the fact.
+    ghost tells: { (ids : List ℕ) (told : Self) (rest : List ℕ) →
+        fact_then ids (fact told) rest ≡ text ids told ++ rest };
+}
+
+// A count, or the number of a configuration or of an event.
+impl Told for u64 {
+    ghost fact = { fact.count };
+
+    ghost names = { λ _ _. Unit {0} };
+
+    ghost text = { λ _ n. decimal n };
+
+    ghost most = { λ _. 20 };
+
+    #[inline(always)]
+    fn with_told(&self, line: Vec<u8>, _ids: &IdTable) -> Vec<u8> {
+        with_number(line, *self)
+    }
+
+    ghost tells = { λ _ _ _. refl };
+}
+
+// A count of nodes.
+impl Told for u16 {
+    ghost fact = { fact.count };
+
+    ghost names = { λ _ _. Unit {0} };
+
+    ghost text = { λ _ n. decimal n };
+
+    ghost most = { λ _. 5 };
+
+    #[inline(always)]
+    fn with_told(&self, line: Vec<u8>, _ids: &IdTable) -> Vec<u8> {
+        with_short_number(line, u64::from(*self))
+    }
+
+    ghost tells = { λ _ _ _. refl };
+}
+
+// The number of a clause.
+impl Told for u8 {
+    ghost fact = { fact.clause };
+
+    ghost names = { λ _ _. Unit {0} };
+
+    ghost text = { λ _ n. decimal n };
+
+    ghost most = { λ _. 5 };
+
+    #[inline(always)]
+    fn with_told(&self, line: Vec<u8>, _ids: &IdTable) -> Vec<u8> {
+        with_short_number(line, u64::from(*self))
+    }
+
+    ghost tells = { λ _ _ _. refl };
+}
+
+/// A word, of which no byte is escaped.
+#[derive(Clone, Copy)]
+pub(crate) struct Word<'a>(pub(crate) &'a str);
+
+impl<'a> Told for Word<'a> {
+    ghost fact = { λ w. fact.word w.0.now };
+
+    ghost names = { λ _ _. Unit {0} };
+
+    ghost text = { λ _ w. quoted w.0.now };
+
+    ghost most = { λ w. 2 + length w.0.now };
+
+    #[inline(always)]
+    fn with_told(&self, line: Vec<u8>, _ids: &IdTable) -> Vec<u8> {
+        let line = with_text(line, "\"");
+        let line = with_text(line, self.0);
+        with_text(line, "\"")
+    }
+
+    ghost tells = { λ _ w rest. quoted_tells w.0.now rest };
+}
+
+// A truth value.
+impl Told for bool {
+    ghost fact = { fact.truth };
+
+    ghost names = { λ _ _. Unit {0} };
+
+    ghost text = { λ _ m. truth_text m };
+
+    ghost most = { λ _. 5 };
+
+    #[inline(always)]
+    fn with_told(&self, line: Vec<u8>, _ids: &IdTable) -> Vec<u8> {
+        if *self {
+            with_text(line, "true")
+        } else {
+            with_text(line, "false")
+        }
+    }
+
+    ghost tells = { λ _ _ _. refl };
+}
+
+// A node, by its identifier.
+impl Told for Rank {
+    ghost fact = { fact.node };
+
+    ghost names = { λ ids i. i < length ids };
+
+    ghost text = { node_text };
+
+    ghost most = { λ _. 5 };
+
+    #[inline(always)]
+    fn with_told(&self, line: Vec<u8>, ids: &IdTable) -> Vec<u8> {
+        with_node(line, ids, *self)
+    }
+
+    ghost tells = { λ _ _ _. refl };
+}
+
+// The node that a register points at, by its identifier, or null.
+impl Told for Option<Rank> {
+    ghost fact = { fact.pointer };
+
+    ghost names = { λ ids p. IfSome p (λ j. j < length ids) };
+
+    ghost text = { pointer_text };
+
+    ghost most = { λ _. 5 };
+
+    #[inline(always)]
+    fn with_told(&self, line: Vec<u8>, ids: &IdTable) -> Vec<u8> {
+        match *self {
+            Some(node) => with_node(line, ids, node),
+            None => with_text(line, "null"),
+        }
+    }
+
+    ghost tells = { λ _ _ _. refl };
+}
+
+// A kind of rule, by its word.
+impl Told for Kind {
+    ghost fact = { fact.rule };
+
+    ghost names = { λ _ _. Unit {0} };
+
+    ghost text = { λ _ k. kind_text k };
+
+    ghost most = { λ _. 13 };
+
+    #[inline(always)]
+    fn with_told(&self, line: Vec<u8>, _ids: &IdTable) -> Vec<u8> {
+        with_kind(line, *self)
+    }
+
+    ghost tells = { λ _ _ _. refl };
+}
+
+// A kind of rule, by its word, or null.
+impl Told for Option<Kind> {
+    ghost fact = { fact.rule_or_null };
+
+    ghost names = { λ _ _. Unit {0} };
+
+    ghost text = { λ _ k. kind_or_null k };
+
+    ghost most = { λ _. 13 };
+
+    #[inline(always)]
+    fn with_told(&self, line: Vec<u8>, _ids: &IdTable) -> Vec<u8> {
+        match *self {
+            Some(kind) => with_kind(line, kind),
+            None => with_text(line, "null"),
+        }
+    }
+
+    ghost tells = { λ _ _ _. refl };
+}
+
+// The nodes that moved, as an array of at most 256 identifiers of 6 bytes.
+impl Told for NodeSet {
+    ghost fact = { fact.moved };
+
+    ghost names = { λ _ _. Unit {0} };
+
+    ghost text = { λ ids s. bracketed (map (node_text ids) (members (length ids) s)) };
+
+    ghost most = { λ _. 1538 };
+
+    #[inline(always)]
+    fn with_told(&self, line: Vec<u8>, ids: &IdTable) -> Vec<u8> {
+        let line = with_text(line, "[");
+        let line = with_members(line, ids, *self);
+        with_text(line, "]")
+    }
+
+    ghost tells = { λ ids s rest. bracketed_tells (map (node_text ids) (members (length ids) s)) rest };
+}
+
+// Returns the text with the identifiers of a set's nodes appended, rising, with commas between: at most 256 of 6 bytes.
+#[inline(always)]
+fn with_members(text: Vec<u8>, ids: &IdTable, moved: NodeSet) -> Vec<u8>
+    requires room { length text.items + 1536 ≤ vec_capacity text }
+    ensures text { result.items ≡ text.items
+        ++ separated (map (node_text ids.now) (members (length ids.now) moved)) }
+    ensures capacity { vec_capacity result ≡ vec_capacity text }
+    ensures grows { length result.items ≤ length text.items + 1536 }
+{
+    let mut line = text;
+    let mut later = false;
+    for index in 0..ids.len() {
+        let node = Rank::at(index);
+        if moved.has(node) {
+            line = with_node(with_comma(line, later), ids, node);
+            later = true;
+        }
+    }
+    line
+}
+
+/// Returns the text with the identifier of a node appended.
+#[inline(always)]
+pub(crate) fn with_node(text: Vec<u8>, ids: &IdTable, node: Rank) -> Vec<u8>
+    requires node { node < length ids.now }
+    requires room { length text.items + 5 ≤ vec_capacity text }
+    ensures text { result.items ≡ text.items ++ node_text ids.now node }
+    ensures capacity { vec_capacity result ≡ vec_capacity text }
+    ensures grows { length result.items ≤ length text.items + 5 }
+{
+    with_short_number(text, ids.id_of(node))
+}
+
+/// Returns the text with the quoted word of a kind of rule appended.
+#[inline(always)]
+pub(crate) fn with_kind(text: Vec<u8>, kind: Kind) -> Vec<u8>
+    requires room { length text.items + 13 ≤ vec_capacity text }
+    ensures text { result.items ≡ text.items ++ kind_text kind }
+    ensures capacity { vec_capacity result ≡ vec_capacity text }
+    ensures grows { length result.items ≤ length text.items + 13 }
+{
+    match kind {
+        Kind::Update => with_text(text, "\"update\""),
+        Kind::Marriage => with_text(text, "\"marriage\""),
+        Kind::Seduction => with_text(text, "\"seduction\""),
+        Kind::Abandonment => with_text(text, "\"abandonment\""),
+    }
+}
