@@ -1,5 +1,5 @@
 -- What is written of a class.
-use Rattle.std.proofs.Common.{◌≡◌, ◌<◌, ℕ, List, true, false, ap, subst, sym, ◌∙◌, length, take, Option, Result, Ok, Err}
+use Rattle.std.proofs.Common.{◌≡◌, ◌<◌, ◌++◌, ℕ, List, true, false, subst, sym, ◌∙◌, length, take, Option, Result, Ok, Err}
 use Rattle.std.specs.Prelude.{OnOk, IfOk, IfErr}
 use Rattle.std.specs.Io.KnownBytes.{Appends}
 use Rattle.mml_lab.specs.Labs.{LabValue}
@@ -9,6 +9,7 @@ use Rattle.mml_board.specs.Lists.{world_in}
 use Rattle.mml_audit.specs.AuditMeaning.{IsJournalOf}
 use Rattle.mml_tally.specs.declared.ask.Ask.{Ask}
 use Rattle.mml_tally.specs.RecordTexts.{recorded_text}
+use Rattle.mml_tally.specs.Rounds.{rounds_line}
 use Rattle.mml_class.specs.declared.class_record.ClassRecord.{ClassRecord}
 use Rattle.mml_class.specs.Classes.{IsClassRecord}
 use Rattle.mml_judging_program.specs.declared.class_error.ClassError.{ClassError}
@@ -52,12 +53,12 @@ module _ (lab : LabValue) (bytes start : List ℕ) (texts : ℕ → List ℕ) wh
   verified events class text journal is told = record { events = events; class = class; journal = journal; record_of = is; told = told }
 
   pub tallied : (events : List Event) (class : ClassRecord) (w : World) (asks : List Ask) (text : List ℕ) → IsJournalOf lab events bytes → w ≡ world_in lab events
-      → asks ≡ class.asks.items → IsClassRecord lab events true start texts class → text ≡ recorded_text lab w events class.findings asks
+      → asks ≡ class.asks.items → IsClassRecord lab events true start texts class → text ≡ recorded_text lab w events class.findings asks ++ rounds_line lab events
       → IsTallied lab bytes start texts text
   tallied events class w asks text journal leads same is told = record {
     events = events;
     class = class;
     journal = journal;
     record_of = is;
-    told = told ∙ ap (λ (x : World). recorded_text lab x events class.findings asks) leads ∙ ap (recorded_text lab (world_in lab events) events class.findings) same;
+    told = told ∙ (λ k. recorded_text lab (leads k) events class.findings (same k) ++ rounds_line lab events);
   }

@@ -8,15 +8,16 @@ use Rattle.mml_board.specs.World.{World}
 use Rattle.mml_board.specs.Lists.{world_in}
 use Rattle.mml_audit.specs.AuditMeaning.{IsJournalOf}
 use Rattle.mml_tally.specs.Texts.{tally_text}
+use Rattle.mml_tally.specs.Rounds.{rounds_line}
 use Rattle.mml_judging_program.specs.Tallies.{IsTally, TellsTally}
 
 -- the text of the events that an audit returned, and of the world that they led to
 pub tally_of : (lab : LabValue) (es slice : List Event) (bytes first text : List ℕ) (w : World) → IsJournalOf lab es bytes
-    → text ≡ first ++ tally_text lab w slice → first ≡ [] → slice ≡ es → w ≡ world_in lab es → IsTally lab bytes text
+    → text ≡ first ++ (tally_text lab w slice ++ rounds_line lab slice) → first ≡ [] → slice ≡ es → w ≡ world_in lab es → IsTally lab bytes text
 tally_of lab es slice bytes first text w journal told empty same leads = record {
   events = es;
   journal = journal;
-  told = told ∙ ap (λ f. f ++ tally_text lab w slice) empty ∙ (λ k. tally_text lab (leads k) (same k));
+  told = told ∙ ap (λ f. f ++ (tally_text lab w slice ++ rounds_line lab slice)) empty ∙ (λ k. tally_text lab (leads k) (same k) ++ rounds_line lab (same k));
 }
 
 -- a text that was written is the tally if it was that before

@@ -1,5 +1,5 @@
 -- What is written of a class: of its journal, and of the record beside it.
-use Rattle.std.specs.Prelude.{◌≡◌, ◌<◌, ℕ, true, false, List, length, take, Option, Err, MatchBool}
+use Rattle.std.specs.Prelude.{◌≡◌, ◌<◌, ◌++◌, ℕ, true, false, List, length, take, Option, Err, MatchBool}
 use Rattle.std.specs.Io.KnownBytes.{Appends}
 use Rattle.mml_lab.specs.Labs.{LabValue}
 use Rattle.mml_board.specs.declared.event.Event.{Event}
@@ -7,6 +7,7 @@ use Rattle.mml_board.specs.Lists.{world_in}
 use Rattle.mml_audit.specs.Audit.{audited, is_audit_memory}
 use Rattle.mml_audit.specs.AuditMeaning.{IsJournalOf}
 use Rattle.mml_tally.specs.RecordTexts.{recorded_text}
+use Rattle.mml_tally.specs.Rounds.{rounds_line}
 use Rattle.mml_class.specs.declared.class_record.ClassRecord.{ClassRecord}
 use Rattle.mml_class.specs.declared.class_record.ClassFault.{ClassFault}
 use Rattle.mml_class.specs.Classes.{IsClassRecord, IsClassRefused}
@@ -24,13 +25,13 @@ pub record IsVerified (lab : LabValue) (bytes start : List ℕ) (texts : ℕ →
   pub told : text ≡ verified_text lab class.findings (length events) class.begun
 
 -- the bytes are the journal of a legal list of the lab's, the seats' texts are the record of a class beside that list, and the text is the
--- tally of the list, of what the record comes to and of what its lines asked
+-- tally of the list, of what the record comes to and of what its lines asked, with the line of the list's rounds
 pub record IsTallied (lab : LabValue) (bytes start : List ℕ) (texts : ℕ → List ℕ) (text : List ℕ) : Type 0 where
   pub events : List Event
   pub class : ClassRecord
   pub journal : IsJournalOf lab events bytes
   pub record_of : IsClassRecord lab events true start texts class
-  pub told : text ≡ recorded_text lab (world_in lab events) events class.findings class.asks.items
+  pub told : text ≡ recorded_text lab (world_in lab events) events class.findings class.asks.items ++ rounds_line lab events
 
 -- the texts are no record of a class beside the list whose journal the bytes are
 pub record IsRefused (lab : LabValue) (bytes start : List ℕ) (texts : ℕ → List ℕ) (why : ClassFault) : Type 0 where

@@ -19,7 +19,7 @@ pub enum ClassError {
 }
 
 impl From<ClassError> for Fault {
-    // Tells the error in the words of the program.
+    // Turns the reason why a class wasn't written into the program's error.
     fn from(error: ClassError) -> Fault {
         match error {
             ClassError::Audit(why) => Fault::Common(ProgramFault::from(why)),
@@ -30,7 +30,7 @@ impl From<ClassError> for Fault {
     }
 }
 
-// Tells in the words of the program why texts are no record of a class.
+// Returns the program's error for texts that are no record of a class, or can't be read.
 fn record_fault(why: ClassFault) -> Fault {
     match why {
         ClassFault::Entry { seat, bad } => Fault::Record(RecordRefusal::of(seat, bad)),

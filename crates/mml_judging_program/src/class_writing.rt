@@ -12,7 +12,8 @@ use mml_lines::put_all;
 use std::alloc::Global;
 use std::io::Write;
 
-/// Audits the text of a journal, which isn't kept.
+/// Audits the text of a journal, and drops it. Returns its events and the board that they lead to, or why the text
+/// doesn't pass.
 pub(crate) fn audit_class(alloc: Global, lab: &Lab, journal: Vec<u8>) -> Result<Audited, AuditFault>
     ensures journal { IfOk result (λ a. IsJournalOf lab.now a.events.items journal.items) }
     ensures legal { IfOk result (λ a. is_legal_in lab.now a.events.items ≡ true) }
@@ -23,7 +24,7 @@ pub(crate) fn audit_class(alloc: Global, lab: &Lab, journal: Vec<u8>) -> Result<
     audit_events(alloc, lab, &journal)
 }
 
-/// Writes a text until all of it is out or a write fails.
+/// Writes a text. Returns `Write` if a write fails: what was written then is a beginning of the text.
 pub(crate) fn write_class<W: Write>(text: &[u8], writer: &mut W) -> Result<(), ClassError>
     ensures all { OnOk result (Appends (W.contents writer.old) (W.contents writer.new) text.now) }
     ensures part { IfErr result (λ error. (error ≡ ClassError.Write) × ((n : ℕ) × (n < length text.now)

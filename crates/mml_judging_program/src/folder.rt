@@ -21,13 +21,13 @@ impl<'a, R: Files<File = File> + AllocGlobal> Seats<File> for Folder<'a, R> {
 
     ghost text = { λ _ _. None };
 
-    // Opens the file `begun`.
+    // Opens the file `begun`, which says how many events came before the record. Returns an error if that fails.
     fn open_begun(&self) -> Result<File, SeatFault> {
         let path = begun_path(self.rt.alloc(), self.path)?;
         open_part(self.rt, path.as_str())
     }
 
-    // Opens the file of a seat's record.
+    // Opens the file of the record of the seat with this number. Returns an error if that fails.
     fn open_seat(&self, number: u8) -> Result<File, SeatFault> {
         let path = record_path(self.rt.alloc(), self.path, number)?;
         open_part(self.rt, path.as_str())
@@ -50,7 +50,8 @@ fn record_path(alloc: Global, folder: &str, seat: u8) -> Result<String, Memory> 
     }
 }
 
-// Opens a plain file of the record. It is a read fault if that fails, or if a folder, a pipe or a device is there.
+// Opens a plain file of the record. Returns `Memory` if memory runs out, or `Read` if the file can't be opened, or a
+// folder, a pipe or a device is there.
 fn open_part<R: Files<File = File> + AllocGlobal>(rt: &R, path: &str) -> Result<File, SeatFault> {
     match open_plain(rt, path) {
         Ok(Some(file)) => Ok(file),
@@ -62,8 +63,8 @@ fn open_part<R: Files<File = File> + AllocGlobal>(rt: &R, path: &str) -> Result<
     }
 }
 
-// Opens a plain file; none where another file is there. It is looked at first, since the opening of a pipe waits for
-// one who writes to it.
+// Opens a plain file. Returns `None` if another kind of file is there. Checks that first, because the opening of a pipe
+// waits for a writer. Returns the system's error if the check or the opening fails.
 fn open_plain<R: Files<File = File>>(rt: &R, path: &str) -> io::Result<Option<File>> {
     if fs::metadata(rt, path)?.is_file() {
         Ok(Some(fs::open(rt, path)?))

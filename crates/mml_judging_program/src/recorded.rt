@@ -1,8 +1,9 @@
 //! The tally of a journal and of the record beside it.
-ghost use Rattle.std.specs.Prelude.{◌≡◌, ℕ, List, true, IfErr, IfOk, OnOk};
+ghost use Rattle.std.specs.Prelude.{◌≡◌, ◌++◌, ℕ, List, true, IfErr, IfOk, OnOk};
 ghost use Rattle.mml_board.specs.Lists.{is_legal_in, world_in};
 ghost use Rattle.mml_audit.specs.AuditMeaning.{IsJournalOf};
 ghost use Rattle.mml_tally.specs.RecordTexts.{recorded_text};
+ghost use Rattle.mml_tally.specs.Rounds.{rounds_line};
 ghost use Rattle.mml_class.specs.Classes.{Tell};
 ghost use Rattle.mml_judging_program.specs.Classes.{IsTallied, IsUntold, IsUnwritten, IsWritten};
 
@@ -14,17 +15,18 @@ use crate::words::VerifyTask;
 use mml_board::{Board, Event};
 use mml_class::{Seats, read_class};
 use mml_ends::Retrying;
+use mml_ids::Memory;
 use mml_lab::Lab;
 use mml_program::{lab_of, memory_if_lacked, read_journal};
-use mml_tally::{Ask, Findings, put_recorded_tally};
+use mml_tally::{Ask, Findings, put_recorded_tally, put_rounds};
 use std::alloc::Global;
 use std::fs::File;
 use std::io;
 use std::io::{Read, Write};
 use std::rt::Files;
 
-/// Prints the tally of a journal's file and of the record beside it, which is verified first. The error is why lab,
-/// journal or record doesn't pass, or can't be read, or that a write failed, or that memory ran out.
+/// Verifies the record beside a journal's file, and prints the tally of both. Returns why lab, journal or record
+/// doesn't pass or can't be read, or that a write failed or memory ran out.
 pub fn tally_recorded<R: Files<File = File> + Print + AllocGlobal>(
     rt: &R,
     task: VerifyTask<'_>,
@@ -42,8 +44,8 @@ pub fn tally_recorded<R: Files<File = File> + Print + AllocGlobal>(
     }
 }
 
-/// Audits a journal, reads the seats' texts as the record of its class, and writes the tally of both. Nothing is
-/// written if the journal doesn't pass or the record is none.
+/// Audits a journal, reads the seats' texts as the record of its class, and writes the tally of both. If the journal
+/// doesn't pass or the record is none, writes nothing and returns why.
 pub fn tally_class<R: Read + Drop, S: Seats<R>, W: Write>(
     alloc: Global,
     lab: &Lab,
@@ -64,7 +66,7 @@ pub fn tally_class<R: Read + Drop, S: Seats<R>, W: Write>(
     write_class(&text, writer)
 }
 
-// Returns the tally of a journal and of the record beside it.
+// Audits a journal and reads the record of its class. Returns the tally of both, or why one of them doesn't pass.
 fn tallied_text<R: Read + Drop, S: Seats<R>>(
     alloc: Global,
     lab: &Lab,
@@ -84,7 +86,8 @@ fn tallied_text<R: Read + Drop, S: Seats<R>>(
     }
 }
 
-// Returns the tally of events, which led to the board, and of the record of a class beside them.
+// Reads the record of a class beside the events of its journal, which led to the board. Returns the tally of both, or
+// why the texts are no record or can't be read.
 fn text_beside<R: Read + Drop, S: Seats<R>>(
     alloc: Global,
     lab: &Lab,
@@ -107,7 +110,8 @@ fn text_beside<R: Read + Drop, S: Seats<R>>(
     }
 }
 
-// Returns the tally of events, which led to the board, with what a record comes to and what its lines asked.
+// Returns the tally of events, which led to the board, with the findings of a record and what its lines asked. Returns
+// `Memory` if memory runs out.
 fn text_of(
     alloc: Global,
     lab: &Lab,
@@ -116,13 +120,35 @@ fn text_of(
     findings: &Findings,
     asks: &[Ask],
 ) -> Result<Vec<u8>, ClassError>
-    ensures text { IfOk result (λ text.
-        text.items ≡ recorded_text lab.now board.now events.now findings.now asks.now) }
+    requires { is_legal_in lab.now events.now ≡ true }
+    ensures text { IfOk result (λ text. text.items
+        ≡ recorded_text lab.now board.now events.now findings.now asks.now
+        ++ rounds_line lab.now events.now) }
     ensures memory { IfErr result (λ error. error ≡ ClassError.Memory) }
 {
     let mut text = Vec::new(alloc);
-    match put_recorded_tally(&mut text, alloc, lab, board, events, findings, asks) {
+    match put_lines(&mut text, alloc, lab, board, events, findings, asks) {
         Ok(()) => Ok(text),
         Err(_) => Err(ClassError::Memory),
     }
+}
+
+// Appends the tally of events, which led to the board, with the findings of a record and what its lines asked, and then
+// the line of the rounds. Returns `Memory` if memory runs out.
+fn put_lines(
+    out: &mut Vec<u8>,
+    alloc: Global,
+    lab: &Lab,
+    board: &Board,
+    events: &[Event],
+    findings: &Findings,
+    asks: &[Ask],
+) -> Result<(), Memory>
+    requires { is_legal_in lab.now events.now ≡ true }
+    ensures { OnOk result (out.new.items ≡ out.old.items
+        ++ (recorded_text lab.now board.now events.now findings.now asks.now
+        ++ rounds_line lab.now events.now)) }
+{
+    put_recorded_tally(out, alloc, lab, board, events, findings, asks)?;
+    put_rounds(out, alloc, lab, events)
 }

@@ -1,14 +1,19 @@
 //! The tally of a journal's run, for a program to read.
-ghost use Rattle.std.specs.Prelude.{IfOk, OnOk};
+ghost use Rattle.std.specs.Prelude.{◌≡◌, ◌++◌, true, IfOk, OnOk};
 ghost use Rattle.std.specs.Io.KnownBytes.{Appends};
+ghost use Rattle.mml_board.specs.Lists.{is_legal_in};
+ghost use Rattle.mml_tally.specs.Rounds.{rounds_line};
+ghost use Rattle.mml_tally.specs.Texts.{tally_text};
 ghost use Rattle.mml_judging_program.specs.Tallies.{IsTally, TellsTally};
 
 use crate::words::TallyTask;
 use mml_audit::audit_events;
+use mml_board::{Board, Event};
 use mml_ends::Retrying;
+use mml_ids::Memory;
 use mml_lab::Lab;
 use mml_program::{Fault as ProgramFault, lab_of, memory_if_lacked, memory_or, read_journal};
-use mml_tally::put_tally;
+use mml_tally::{put_rounds, put_tally};
 use std::alloc::Global;
 use std::io;
 use std::io::Write;
@@ -50,7 +55,7 @@ fn text_of(alloc: Global, lab: &Lab, journal: &[u8]) -> Result<Vec<u8>, ProgramF
 {
     let audited = audit_events(alloc, lab, journal)?;
     let mut text = Vec::new(alloc);
-    match put_tally(
+    match put_lines(
         &mut text,
         alloc,
         lab,
@@ -60,6 +65,23 @@ fn text_of(alloc: Global, lab: &Lab, journal: &[u8]) -> Result<Vec<u8>, ProgramF
         Ok(()) => Ok(text),
         Err(_) => Err(ProgramFault::Memory),
     }
+}
+
+// Appends the tally of events, which led to the board, and then the line of their rounds. Returns `Memory` if memory
+// runs out.
+fn put_lines(
+    out: &mut Vec<u8>,
+    alloc: Global,
+    lab: &Lab,
+    board: &Board,
+    events: &[Event],
+) -> Result<(), Memory>
+    requires { is_legal_in lab.now events.now ≡ true }
+    ensures { OnOk result (out.new.items ≡ out.old.items
+        ++ (tally_text lab.now board.now events.now ++ rounds_line lab.now events.now)) }
+{
+    put_tally(out, alloc, lab, board, events)?;
+    put_rounds(out, alloc, lab, events)
 }
 
 // Writes a text in one go. Returns a write fault if that fails, or `Memory` if memory runs out.

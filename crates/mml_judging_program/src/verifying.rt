@@ -24,8 +24,8 @@ use std::io;
 use std::io::{Read, Write};
 use std::rt::Files;
 
-/// Verifies the record of a class, after its journal was audited, and prints what it comes to. The error is why lab,
-/// journal or record doesn't pass, or can't be read, or that a write failed, or that memory ran out.
+/// Verifies the record of a class beside its audited journal, and prints what was found. Returns why lab, journal or
+/// record doesn't pass or can't be read, or that a write failed or memory ran out.
 pub fn verify<R: Files<File = File> + Print + AllocGlobal>(
     rt: &R,
     task: VerifyTask<'_>,
@@ -43,8 +43,8 @@ pub fn verify<R: Files<File = File> + Print + AllocGlobal>(
     }
 }
 
-/// Audits a journal, reads the seats' texts as the record of its class, and writes what that comes to. Nothing is
-/// written if the journal doesn't pass or the record is none.
+/// Audits a journal, reads the seats' texts as the record of its class, and writes what was found. If the journal
+/// doesn't pass or the record is none, writes nothing and returns why.
 pub fn verify_class<R: Read + Drop, S: Seats<R>, W: Write>(
     alloc: Global,
     lab: &Lab,
@@ -65,7 +65,8 @@ pub fn verify_class<R: Read + Drop, S: Seats<R>, W: Write>(
     write_class(&text, writer)
 }
 
-// Returns the lines of what the record of a class comes to.
+// Audits a journal and reads the record of its class. Returns the lines that say what was found, or why the journal or
+// the record doesn't pass.
 fn verified_text<R: Read + Drop, S: Seats<R>>(
     alloc: Global,
     lab: &Lab,
@@ -85,7 +86,8 @@ fn verified_text<R: Read + Drop, S: Seats<R>>(
     }
 }
 
-// Returns the lines of what the record of a class comes to beside the events of its journal.
+// Reads the record of a class beside the events of its journal. Returns the lines that say what was found, or why the
+// texts are no record or can't be read.
 fn text_beside<R: Read + Drop, S: Seats<R>>(
     alloc: Global,
     lab: &Lab,
@@ -106,7 +108,8 @@ fn text_beside<R: Read + Drop, S: Seats<R>>(
     }
 }
 
-// Returns the lines of what the record of a class comes to, whose journal has so many events.
+// Returns the lines that say what was found in the record of a class whose journal has this many events. Returns
+// `Memory` if memory runs out.
 fn text_of(
     alloc: Global,
     lab: &Lab,
@@ -124,7 +127,7 @@ fn text_of(
     }
 }
 
-// Appends how many events came before the record.
+// Appends the line that says how many events came before the record. Returns `Memory` if memory runs out.
 fn put_begun(text: &mut Vec<u8>, begun: u64) -> Result<(), Memory>
     ensures { OnOk result (text.new.items ≡ text.old.items ++ begun_line begun) }
 {
@@ -136,7 +139,8 @@ fn put_begun(text: &mut Vec<u8>, begun: u64) -> Result<(), Memory>
     put(text, &pieces)
 }
 
-// Appends the lines of a record that passed.
+// Appends the lines of a record that passed: its sessions, lines and events, what was found, and how many events came
+// before it. Returns `Memory` if memory runs out.
 fn put_verified(
     text: &mut Vec<u8>,
     lab: &Lab,
@@ -162,7 +166,7 @@ fn put_verified(
     put_begun(text, begun)
 }
 
-// Returns the text after the number of events, by whether a record is whole.
+// Returns the end of the first line, after the number of events: it says so if the record isn't whole.
 fn end_of(is_whole: bool) -> &'static str
     ensures { result.now ≡ end_of is_whole }
 {

@@ -41,7 +41,7 @@ pub fn read_words<'a>(alloc: Global, words: &'a [String]) -> Result<Task<'a>, Pr
     }
 }
 
-// Returns the whole command line of the subcommands that serve nobody, of which there are three.
+// Returns the whole command line of the three subcommands that serve nobody. Returns an error if memory runs out.
 fn command_line<'a>(alloc: Global) -> Result<Command<'a>, AllocError> {
     subcommand_of(alloc, "mml_host", &[])?
         .subcommand(subcommand_of(alloc, "answer", &["lab"])?)?

@@ -29,7 +29,7 @@ module _ (lab : LabValue) (st : hall.State) (k : ℕ) where
   denied_so d x e = λ j. record { reply = reply.Deny d; state = same_known x e j }
 
   module _ (line : List ℕ) where
-    plain_so : (q : Request) (g : Greeting) → request_in line ≡ Ok q → greeting lab.roster (hall.known_on st k) q ≡ g → hall.plain_turn lab st k line ≡ hall.settled lab st k g
+    pub plain_so : (q : Request) (g : Greeting) → request_in line ≡ Ok q → greeting lab.roster (hall.known_on st k) q ≡ g → hall.plain_turn lab st k line ≡ hall.settled lab st k g
     unfolding hall.plain_turn
     plain_so q g asked e = ap (hall.answer_to lab st k) asked ∙ ap (hall.settled lab st k) e
 

@@ -1,5 +1,5 @@
 -- The line of an event has the words that its reader has.
-use Rattle.std.proofs.Common.{◌≡◌, ℕ, Bool, true, false, List, ◌∷◌, decimal, Option, None, Some, option_map, refl, ap, arith}
+use Rattle.std.proofs.Common.{◌≡◌, ℕ, Bool, true, false, List, ◌∷◌, decimal, Option, None, Some, option_map, refl}
 use Rattle.mml_ids.specs.Pieces.{truth_text}
 use Rattle.mml_rules.specs.declared.rule.Rule.{Rule}
 use Rattle.mml_rules.specs.declared.rule.Rule.TheVariants as rule

@@ -14,3 +14,9 @@ pub mod WitnessesLemmas
 pub mod RunClosesLemmas
 mod JournalWordsLemmas
 mod SameLabsLemmas
+mod AskingLinesLemmas
+mod FinishesLemmas
+mod ClassesLemmas
+mod HaltingLemmas
+mod SameAuditsLemmas
+mod ListsLemmas

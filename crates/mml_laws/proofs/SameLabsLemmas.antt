@@ -1,12 +1,12 @@
 -- Two labs that are the same in all that a journal names.
-use Rattle.std.proofs.Common.{◌≡◌, ◌∙◌, ℕ, suc, ◌+◌, ◌<◌, ◌≤◌, cond, not, nat_lt, Bool, true, false, List, [], ◌∷◌, length, slice_index_or, Option, Some, None, option_map, Result, Ok, ok_or, inl, inr, refl, ap, sym, arith, bytes_eq}
+use Rattle.std.proofs.Common.{◌≡◌, ◌∙◌, ℕ, suc, ◌+◌, ◌<◌, ◌≤◌, cond, not, nat_lt, Bool, false, List, [], ◌∷◌, length, slice_index_or, Option, Some, None, Result, Ok, ok_or, inl, inr, refl, ap, sym, arith, bytes_eq}
 use Rattle.std.specs.List.{prefix_len}
 use Rattle.std.specs.FinSet as set
 use Rattle.std.proofs.lemmas.List.{same_lists, get_or_default}
 use Rattle.std.proofs.lemmas.Bool.{cases_lt, false_from_ne_true}
 use Rattle.mml_ids.specs.Gives as steps
 use Rattle.mml_ids.specs.inside.WordsLemmas.{same_ranks}
-use Rattle.mml_rules.specs.Network.{Network, IsNetwork, neighbours_at, registers_at, configuration_of}
+use Rattle.mml_rules.specs.Network.{Network, IsNetwork, neighbours_at}
 use Rattle.mml_rules.specs.Network.{no_regs}
 use Rattle.mml_lab.specs.declared.who.Who.{Who}
 use Rattle.mml_lab.specs.declared.who.Who.TheVariants as who
@@ -119,7 +119,7 @@ module _ (a b : LabValue) (la : IsLab a) (lb : IsLab b) (is : IsSameLab a b) whe
       get_or_default a.network.registers k d no_regs below ∙ (is.nodes k (omega (arith, below, la.nodes))).registers
       ∙ get_or_default b.network.registers k no_regs d (omega (arith, below, nodes_alike)))
 
-  networks_alike : a.network ≡ b.network
+  pub networks_alike : a.network ≡ b.network
   networks_alike t = record { neighbours = rows_alike t; registers = registers_alike t }
 
 -- events lead to the same world

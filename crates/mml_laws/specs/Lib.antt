@@ -8,3 +8,7 @@ pub mod Served
 pub mod Words
 pub mod Witnesses
 pub mod JournalWords
+pub mod Finishes
+pub mod Classes
+pub mod Halting
+pub mod Lists

@@ -1,10 +1,13 @@
 //! Laws of the chain, by their subjects. Each is the contract of a function that does nothing.
 
 pub mod choices;
+pub mod classes;
 pub mod columns;
 pub mod ends;
 pub mod files;
+pub mod finishes;
 pub mod greetings;
+pub mod halting;
 pub mod journal_words;
 pub mod journals;
 pub mod looks;

@@ -6,8 +6,10 @@ use Rattle.std.proofs.lemmas.Bool.{cases_eq, ne_eqb}
 use Rattle.std.proofs.lemmas.Bool.Decides.{nat_tests}
 use Rattle.mml_convergence.specs.Potential.{sum_below}
 use Rattle.mml_convergence.proofs.SumsLemmas.{sum_zero, sum_split, sum_of_tests}
+use Rattle.mml_policy.specs.declared.refusal.Refusal.{Refusal}
 use Rattle.mml_tally.specs.declared.ask.Ask.{Ask}
 use Rattle.mml_tally.specs.declared.ask.Line.{Line}
+use Rattle.mml_tally.specs.declared.student_denials.StudentDenial.{StudentDenial}
 use Rattle.mml_tally.specs.Asks.{is_student, asks_by, is_clause, denials_in, denials_of}
 use Rattle.mml_tally.specs.AskMeaning.{asks_of_others, is_denied, total_denied, is_numbered, IsKnownOf, AreAsksOf, asked_under}
 use Rattle.mml_tally.proofs.CountsLemmas.{one, more}
@@ -64,14 +66,14 @@ denied_sum n asks h =
 
 -- ---- other names change nothing
 
-abbrev told : Option ℕ → Line → Option ℕ → Ask
-told w l d = record { who = w; line = l; denied = d }
+abbrev told : Option ℕ → Line → Option ℕ → Option StudentDenial → Option Refusal → Ask
+told w l d n q = record { who = w; line = l; denied = d; named = n; refused = q }
 
 module _ (f : ℕ → ℕ) (s : ℕ) (same : (t : ℕ) → (f t ≡ s) ↔ (t ≡ s)) where
-  under : (w : Option ℕ) (l : Line) (d : Option ℕ) (xs ys : List Ask) → xs ≡ ys
-      → cond (is_student s (option_map f w)) (told (option_map f w) l d ∷ xs) xs ≡ cond (is_student s w) (told w l d ∷ ys) ys
-  under w l d xs ys e = grind (arith, nat_tests, cases_eq, ne_eqb)
+  under : (w : Option ℕ) (l : Line) (d : Option ℕ) (n : Option StudentDenial) (q : Option Refusal) (xs ys : List Ask) → xs ≡ ys
+      → cond (is_student s (option_map f w)) (told (option_map f w) l d n q ∷ xs) xs ≡ cond (is_student s w) (told w l d n q ∷ ys) ys
+  under w l d n q xs ys e = grind (arith, nat_tests, cases_eq, ne_eqb)
 
   pub asks_under : (asks : List Ask) → asks_by s (map (asked_under f) asks) ≡ asks_by s asks
   asks_under [] = refl
-  asks_under (a ∷ asks) = under a.who a.line a.denied (asks_by s (map (asked_under f) asks)) (asks_by s asks) (asks_under asks)
+  asks_under (a ∷ asks) = under a.who a.line a.denied a.named a.refused (asks_by s (map (asked_under f) asks)) (asks_by s asks) (asks_under asks)

@@ -5,6 +5,13 @@ pub mod TextsLemmas
 pub mod AppliedLemmas
 pub mod MarksLemmas
 pub mod AsksLemmas
+pub mod RefusalsLemmas
+pub mod StudentDenialsLemmas
 pub mod FatesLemmas
 pub mod StudentsLemmas
 pub mod NumbersLemmas
+pub mod SinceLemmas
+pub mod WaitingLemmas
+pub mod ReplayLemmas
+pub mod RoundsLemmas
+pub mod MostRoundsLemmas

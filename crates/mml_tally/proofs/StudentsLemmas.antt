@@ -1,10 +1,9 @@
 -- Each asker in a legal list is a student of the lab, so all their marks together are the list's.
-use Rattle.std.proofs.Common.{◌≡◌, ℕ, ◌+◌, true, List, [], ◌∷◌, None, ◌∙◌, arith, length}
+use Rattle.std.proofs.Common.{◌≡◌, ℕ, ◌+◌, true, List, [], ◌∷◌, ◌∙◌, arith, length}
 use Rattle.std.specs.Prelude.{count_by}
 use Rattle.std.proofs.lemmas.Bool.{and_parts}
-use Rattle.mml_lab.specs.declared.who.Who.TheVariants as who
 use Rattle.mml_lab.specs.Labs.{LabValue, IsLab}
-use Rattle.mml_lab.specs.Rosters.{RosterValue, IsRoster, owns}
+use Rattle.mml_lab.specs.Rosters.{RosterValue, IsRoster}
 use Rattle.mml_lab.proofs.RosterMeaningLemmas.{owner_there}
 use Rattle.mml_board.specs.declared.event.Event.{Event}
 use Rattle.mml_board.specs.declared.event.Event.TheVariants as event
@@ -30,7 +29,7 @@ askers_there r w q (event.Grant s i rule ∷ es) known legal =
     (owner_there r s i known (right_owner r w e here.0), askers_there r (after w e) (q + 1) es known here.1)
 askers_there r w q (_ ∷ es) known legal = askers_there r _ (q + 1) es known (and_parts _ _ legal).1
 
-opening-world : (lab : LabValue) → IsLab lab → IsWorld (opening_of lab.network)
+pub opening-world : (lab : LabValue) → IsLab lab → IsWorld (opening_of lab.network)
 opening-world lab known = grind (arith, nat_tests, length-none, hold-none)
 
 pub run_applies : (lab : LabValue) (es : List Event) → IsLab lab → is_legal_list lab.roster (opening_of lab.network) es ≡ true

@@ -33,4 +33,4 @@ AreAsksOf n (a ∷ asks) = IsKnownOf n a.who a.denied × AreAsksOf n asks
 
 -- the same line under another name
 abbrev pub asked_under : (ℕ → ℕ) → Ask → Ask
-asked_under f a = record { who = option_map f a.who; line = a.line; denied = a.denied }
+asked_under f a = record { who = option_map f a.who; line = a.line; denied = a.denied; named = a.named; refused = a.refused }

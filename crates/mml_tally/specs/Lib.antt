@@ -6,7 +6,10 @@ pub mod Runs
 pub mod inside
 pub mod Texts
 pub mod Lacking
+pub mod Refusals
+pub mod StudentDenials
 pub mod RecordTexts
 pub mod Meaning
 pub mod AskMeaning
 pub mod Bounds
+pub mod Rounds

@@ -12,6 +12,8 @@ use Rattle.mml_tally.specs.declared.record_text.Findings.{Findings}
 use Rattle.mml_tally.specs.Lacking.{recorded_line}
 use Rattle.mml_tally.specs.Owners.{owners_in_order, is_shared}
 use Rattle.mml_tally.specs.Asks.{denials_of, moves_asked_by}
+use Rattle.mml_tally.specs.Refusals.{refused_text}
+use Rattle.mml_tally.specs.StudentDenials.{denials_text}
 use Rattle.mml_tally.specs.Texts.{numbers_text, owner_text, students_text, nodes_text, ends_text}
 
 -- the line of a student: how many lines each of the first four clauses denied, and how many were malformed
@@ -54,6 +56,11 @@ abbrev pub recorded_run_text : LabValue → World → List Event → Findings �
 recorded_run_text lab w es f asks =
     students_text lab es (length lab.roster.students) ++ (nodes_text lab es (length lab.ids) ++ (record_text lab f asks ++ ends_text w es))
 
--- the tally of a run with a record: these lines, and that of those whose lines are all recorded
+-- for each student what was refused, and for each student what was denied by name
+abbrev pub turned_down_text : LabValue → List Ask → List ℕ
+turned_down_text lab asks = refused_text lab asks (length lab.roster.students) ++ denials_text lab asks (length lab.roster.students)
+
+-- the tally of a run with a record: these lines, that of those whose lines are all recorded, and those of what was refused
+-- and denied by name
 abbrev pub recorded_text : LabValue → World → List Event → Findings → List Ask → List ℕ
-recorded_text lab w es f asks = recorded_run_text lab w es f asks ++ recorded_line lab f
+recorded_text lab w es f asks = recorded_run_text lab w es f asks ++ (recorded_line lab f ++ turned_down_text lab asks)

@@ -3,8 +3,10 @@ ghost use Rattle.mml_tally.specs.Marks.{is_kind};
 ghost use Rattle.mml_tally.specs.Asks.{is_student, asks_by, is_clause, is_malformed, is_move, denials_in, moves_asked, denials_of, moves_asked_by};
 
 use crate::marks::{ByRule, is_kind};
+use crate::student_denials::StudentDenial;
 use mml_ids::Memory;
 use mml_lab::Student;
+use mml_policy::Refusal;
 use mml_rules::Kind;
 use std::alloc::Global;
 use std::slice;
@@ -14,9 +16,14 @@ use std::slice;
 pub struct Ask {
     /// The student who was known when the line came, if one was.
     pub who: Option<Student>,
+    /// What the line asked.
     pub line: Line,
     /// The number of the clause that denied the line, if one did.
     pub denied: Option<u8>,
+    /// The denial of the line, if it was denied, and a student who is known can get that denial.
+    pub named: Option<StudentDenial>,
+    /// Why the line was refused, if it was. A line that is no request is refused for no such reason.
+    pub refused: Option<Refusal>,
 }
 
 /// What a line asks, as far as the tally distinguishes lines.
@@ -49,8 +56,8 @@ pub fn push_ask(asks: &mut Vec<Ask>, ask: &Ask) -> Result<(), Memory>
     Ok(())
 }
 
-/// Returns the lines that came while the student was known, in order.
-fn asks_by(alloc: Global, asks: &[Ask], student: Student) -> Result<Vec<Ask>, Memory>
+/// Returns the lines that came while the student was known, in order. Returns `Memory` if memory runs out.
+pub(crate) fn asks_by(alloc: Global, asks: &[Ask], student: Student) -> Result<Vec<Ask>, Memory>
     ensures { IfOk result (λ own. own.items ≡ asks_by student asks.now) }
 {
     let own = asks
@@ -60,15 +67,15 @@ fn asks_by(alloc: Global, asks: &[Ask], student: Student) -> Result<Vec<Ask>, Me
     Ok(own.collect(alloc)?)
 }
 
-/// Returns whether `who`, the student who was known when a line came, is this student. Returns `false` if no student
-/// was known.
+/// Returns whether a line came while this student was known. `who` is the student who was known, or `None` if none was.
 fn is_student(student: Student, who: Option<Student>) -> bool
     ensures { result ≡ is_student student who }
 {
     who == Some(student)
 }
 
-/// Returns how many of a student's lines each clause denied, and how many were no request.
+/// Returns how many of a student's lines each clause denied, and how many were no request. Returns `Memory` if memory
+/// runs out.
 pub fn denials_of(alloc: Global, asks: &[Ask], student: Student) -> Result<Denials, Memory>
     ensures { IfOk result (λ denied. denied ≡ denials_of asks.now student) }
 {
@@ -76,7 +83,8 @@ pub fn denials_of(alloc: Global, asks: &[Ask], student: Student) -> Result<Denia
     Ok(denials_in(&own))
 }
 
-/// Returns how many moves of each rule a student asked for at the node with this identifier.
+/// Returns how many moves of each rule a student asked for at the node with this identifier. Returns `Memory` if memory
+/// runs out.
 pub fn moves_asked_by(
     alloc: Global,
     asks: &[Ask],
@@ -111,8 +119,8 @@ fn count_clause(own: &[Ask], clause: u8) -> u64
         .count() as u64
 }
 
-/// Returns whether `denied`, the number of the clause that denied a line, is that of this clause. Returns `false` if
-/// none denied it.
+/// Returns whether a line was denied by the clause with this number. `denied` is the number of the clause that denied
+/// it, or `None` if none did.
 fn is_clause(clause: u8, denied: Option<u8>) -> bool
     ensures { result ≡ is_clause clause denied }
 {

@@ -15,8 +15,11 @@ pub struct Move {
     pub place: u64,
     /// The student who asked for it.
     pub who: Student,
+    /// The node at which it was granted.
     pub node: Rank,
+    /// The kind of its rule.
     pub kind: Kind,
+    /// What happened to it.
     pub fate: Fate,
 }
 

@@ -1,18 +1,27 @@
 //! Laws of the tally. Each is the contract of a function that does nothing.
-ghost use Rattle.std.specs.Prelude.{◌≡◌, ◌↔◌, ◌+◌, ℕ, true, List, length, map, count_by};
+ghost use Rattle.std.specs.Prelude.{◌≡◌, ◌↔◌, ◌≤◌, ◌+◌, ℕ, true, List, length, map, count_by};
+ghost use Rattle.std.specs.List.{list_all};
+ghost use Rattle.mml_rules.specs.Matching.{IsStable};
 ghost use Rattle.mml_lab.specs.Labs.{LabValue, IsLab};
 ghost use Rattle.mml_lab.specs.Rosters.{RosterValue};
 ghost use Rattle.mml_board.specs.declared.event.Event.{Event};
-ghost use Rattle.mml_board.specs.World.{World, opening_of};
+ghost use Rattle.mml_board.specs.World.{World, IsWorld, configuration, opening_of};
 ghost use Rattle.mml_board.specs.Runs.{is_legal_list, world_of};
 ghost use Rattle.mml_convergence.specs.Potential.{sum_below};
+ghost use Rattle.mml_convergence.specs.Runs.{is_of_step};
 ghost use Rattle.mml_convergence.specs.Moves.{applied_over};
+ghost use Rattle.mml_convergence.specs.Rounds.{Rounds};
 ghost use Rattle.mml_tally.specs.declared.fate.Fate.{Fate};
 ghost use Rattle.mml_tally.specs.Moves.{fate_of, moves};
 ghost use Rattle.mml_tally.specs.Marks.{moves_by, marks_of};
 ghost use Rattle.mml_tally.specs.Runs.{run_of};
+ghost use Rattle.mml_tally.specs.Bounds.{bounds_of};
+ghost use Rattle.mml_tally.specs.Rounds.{rounds_in, rounds_since};
 ghost use Rattle.mml_tally.specs.declared.ask.Ask.{Ask};
 ghost use Rattle.mml_tally.specs.Asks.{denials_of, moves_asked_by, is_malformed};
+ghost use Rattle.mml_policy.specs.declared.refusal.Refusal.{Refusal};
+ghost use Rattle.mml_tally.specs.Refusals.{is_refused, refusals_of};
+ghost use Rattle.mml_tally.specs.StudentDenials.{named_of, AreNamed, AreSums};
 ghost use Rattle.mml_tally.specs.AskMeaning.{asks_of_others, is_denied, total_denied, AreAsksOf, asked_under};
 ghost use Rattle.mml_tally.specs.Meaning.{IsNextClose, total, is_released, is_dropped, is_left, asked_as};
 
@@ -33,6 +42,41 @@ pub fn students_apply_all_moves()
     ensures run { (lab : LabValue) (es : List Event) → IsLab lab →
         is_legal_list lab.roster (opening_of lab.network) es ≡ true →
         (run_of es).moves ≡ applied_over (opening_of lab.network) es }
+{}
+
+/// The line of a run never has more moves since the last fault, link or cut than the line of the most that may follow
+/// has moves. If it has as many, no node is privileged.
+pub fn moves_since_are_within_the_most()
+    ensures within { (lab : LabValue) (es : List Event) → IsLab lab →
+        is_legal_list lab.roster (opening_of lab.network) es ≡ true →
+        (run_of es).moves_since ≤ (bounds_of (world_of (opening_of lab.network) es)).moves }
+    ensures stable { (lab : LabValue) (es : List Event) → IsLab lab →
+        is_legal_list lab.roster (opening_of lab.network) es ≡ true →
+        (bounds_of (world_of (opening_of lab.network) es)).moves ≤ (run_of es).moves_since →
+        IsStable (configuration (world_of (opening_of lab.network) es)) }
+{}
+
+/// The line of the rounds since the last fault, link or cut never has more of them than the line of the most that may
+/// follow. If it has as many, no node is privileged.
+pub fn rounds_since_are_within_the_most()
+    ensures within { (lab : LabValue) (es : List Event) → IsLab lab →
+        is_legal_list lab.roster (opening_of lab.network) es ≡ true →
+        rounds_since (opening_of lab.network) es
+        ≤ (bounds_of (world_of (opening_of lab.network) es)).rounds }
+    ensures stable { (lab : LabValue) (es : List Event) → IsLab lab →
+        is_legal_list lab.roster (opening_of lab.network) es ≡ true →
+        (bounds_of (world_of (opening_of lab.network) es)).rounds
+        ≤ rounds_since (opening_of lab.network) es →
+        IsStable (configuration (world_of (opening_of lab.network) es)) }
+{}
+
+/// The events of any list have as many rounds, one after another, as are counted in it. A legal list of grants,
+/// releases and closes that ends with a privileged node has no more.
+pub fn as_many_rounds_are_counted_as_there_are()
+    ensures there { (w : World) (es : List Event) → Rounds (rounds_in w es) w es }
+    ensures most { (r : RosterValue) (w : World) (es : List Event) (k : ℕ) → IsWorld w →
+        is_legal_list r w es ≡ true → list_all is_of_step es ≡ true → Rounds k w es →
+        ¬ IsStable (configuration (world_of w es)) → k ≤ rounds_in w es }
 {}
 
 /// A run leads through as many configurations as it has closes, faults, links and cuts: the number of the configuration
@@ -76,10 +120,38 @@ pub fn denials_are_of_one_student()
         ≡ count_by (λ a. is_malformed a.line) asks }
 {}
 
-/// What was denied to a student, and what the student asked for at a node, doesn't depend on who asked the other lines.
+/// Each line that was refused is counted under its reason for one student, or came while the teacher was known, or
+/// nobody.
+pub fn refusals_are_of_one_student()
+    ensures journal { (n : ℕ) (asks : List Ask) → AreAsksOf n asks →
+        sum_below n (λ s. (refusals_of asks s).journal)
+        + count_by (λ a. is_refused Refusal.Journal a.refused) (asks_of_others asks)
+        ≡ count_by (λ a. is_refused Refusal.Journal a.refused) asks }
+    ensures memory { (n : ℕ) (asks : List Ask) → AreAsksOf n asks →
+        sum_below n (λ s. (refusals_of asks s).memory)
+        + count_by (λ a. is_refused Refusal.Memory a.refused) (asks_of_others asks)
+        ≡ count_by (λ a. is_refused Refusal.Memory a.refused) asks }
+    ensures full { (n : ℕ) (asks : List Ask) → AreAsksOf n asks →
+        sum_below n (λ s. (refusals_of asks s).full)
+        + count_by (λ a. is_refused Refusal.Full a.refused) (asks_of_others asks)
+        ≡ count_by (λ a. is_refused Refusal.Full a.refused) asks }
+{}
+
+/// If each line of a student is denied exactly by the clause of the denial that is named, the number of lines that a
+/// clause denied to a student is the sum over the clause's denials.
+pub fn columns_are_sums_of_denials()
+    ensures { (asks : List Ask) (s : ℕ) → AreNamed asks → AreSums (denials_of asks s) (named_of asks s) }
+{}
+
+/// What was denied and refused to a student, and what the student asked for at a node, doesn't depend on who asked the
+/// other lines.
 pub fn asks_depend_on_no_other_name()
     ensures denied { (asks : List Ask) (s : ℕ) (f : ℕ → ℕ) → ((t : ℕ) → (f t ≡ s) ↔ (t ≡ s)) →
         denials_of (map (asked_under f) asks) s ≡ denials_of asks s }
+    ensures refused { (asks : List Ask) (s : ℕ) (f : ℕ → ℕ) → ((t : ℕ) → (f t ≡ s) ↔ (t ≡ s)) →
+        refusals_of (map (asked_under f) asks) s ≡ refusals_of asks s }
+    ensures named { (asks : List Ask) (s : ℕ) (f : ℕ → ℕ) → ((t : ℕ) → (f t ≡ s) ↔ (t ≡ s)) →
+        named_of (map (asked_under f) asks) s ≡ named_of asks s }
     ensures asked { (asks : List Ask) (id s : ℕ) (f : ℕ → ℕ) → ((t : ℕ) → (f t ≡ s) ↔ (t ≡ s)) →
         moves_asked_by (map (asked_under f) asks) id s ≡ moves_asked_by asks id s }
 {}

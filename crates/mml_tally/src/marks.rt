@@ -38,7 +38,8 @@ pub struct Marks {
     pub shared: u64,
 }
 
-/// Returns the marks of a student. `all` has the moves that the run's events grant.
+/// Returns the marks of a student. `all` has the moves that the run's events grant. Returns `Memory` if memory runs
+/// out.
 pub fn marks_of(
     alloc: Global,
     roster: &Roster,
@@ -94,7 +95,7 @@ pub fn is_applied(granted: &Move) -> bool
     }
 }
 
-/// Returns the number of moves of each rule.
+/// Returns how many of the moves are of each rule.
 pub fn by_rule(all: &[Move]) -> ByRule
     ensures { result ≡ by_rule all.now }
 {
@@ -139,7 +140,8 @@ fn count_applying_closes(own: &[Move]) -> u64
     closes
 }
 
-/// Returns the place of the close that applied a move. If none did, returns `last`, that of the last close so far.
+/// Returns the place of the close that applied a move with this fate, or `last`, that of the last such close before it,
+/// if none did.
 fn close_of(last: u64, fate: Fate) -> u64
     ensures { result ≡ close_of last fate }
 {
@@ -165,7 +167,7 @@ fn last_place(all: &[Move]) -> Option<u64>
     Some(last.place)
 }
 
-/// Returns how many of the moves are at nodes that several own.
+/// Returns how many of the moves are at nodes that several students own.
 fn count_shared(roster: &Roster, all: &[Move]) -> u64
     ensures { result ≡ count_shared roster.now all.now }
 {

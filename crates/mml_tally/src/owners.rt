@@ -7,7 +7,7 @@ use mml_ids::{Memory, Rank};
 use mml_lab::{Roster, Student, Who};
 use std::alloc::Global;
 
-/// Returns the students who own a node, in the lab's order.
+/// Returns the students who own a node, in the lab's order. Returns `Memory` if memory runs out.
 pub fn owners_of(alloc: Global, roster: &Roster, node: Rank) -> Result<Vec<Student>, Memory>
     ensures exact { IfOk result (λ owners. owners.items ≡ owners_in_order roster.now node) }
     ensures members { IfOk result

@@ -1,10 +1,12 @@
 ghost use Rattle.std.specs.Prelude.{◌≡◌, ◌<◌, ◌++◌, All, length, OnOk};
-ghost use Rattle.mml_tally.specs.RecordTexts.{denied_line, denied_text, askers_text, asked_line, asked_text, whole_text, record_line, record_text, recorded_run_text, recorded_text};
+ghost use Rattle.mml_tally.specs.RecordTexts.{denied_line, denied_text, askers_text, asked_line, asked_text, whole_text, record_line, record_text, recorded_run_text, recorded_text, turned_down_text};
 
 use crate::ask::{Ask, Denials, denials_of, moves_asked_by};
 use crate::granted_move::moves_of;
 use crate::lacking::put_recorded;
 use crate::owners::{is_shared, owners_of};
+use crate::refusals::put_refused;
+use crate::student_denials::put_named;
 use crate::text::{put_ends, put_granted, put_numbers, put_owner};
 use mml_board::{Board, Event};
 use mml_ids::{Memory, NodeSet, Piece, Rank, put};
@@ -30,8 +32,8 @@ pub struct Findings {
 }
 
 /// Appends the tally of a run that was recorded: the lines that any run has, before the last two of them those of the
-/// record, and at the end the line of those whose lines are all recorded. The board is the world after the events. The
-/// asks are what the record's lines asked.
+/// record, then the line of those whose lines are all recorded, and at the end what was refused to each student and
+/// denied by name. The board is the world after the events. The asks are what the record's lines asked.
 pub fn put_recorded_tally(
     out: &mut Vec<u8>,
     alloc: Global,
@@ -45,10 +47,19 @@ pub fn put_recorded_tally(
         ≡ out.old.items ++ recorded_text lab.now board.now events.now findings.now asks.now) }
 {
     put_recorded_run(out, alloc, lab, board, events, findings, asks)?;
-    put_recorded(out, lab, findings)
+    put_recorded(out, lab, findings)?;
+    put_turned_down(out, alloc, lab, asks)
 }
 
-/// Appends the lines that any run has, and before the last two of them those of the record.
+/// Appends how many lines of each student were refused for each reason, and then how many were denied by each denial.
+fn put_turned_down(out: &mut Vec<u8>, alloc: Global, lab: &Lab, asks: &[Ask]) -> Result<(), Memory>
+    ensures { OnOk result (out.new.items ≡ out.old.items ++ turned_down_text lab.now asks.now) }
+{
+    put_refused(out, alloc, lab, asks)?;
+    put_named(out, alloc, lab, asks)
+}
+
+/// Appends the lines that the tally of any run has, and before the last two of them the lines of the record.
 fn put_recorded_run(
     out: &mut Vec<u8>,
     alloc: Global,
@@ -178,7 +189,7 @@ fn put_findings(out: &mut Vec<u8>, findings: &Findings) -> Result<(), Memory>
     put(out, &[Piece::Text(whole_text(findings.whole))])
 }
 
-/// Returns the word for a record that leaves nothing out, or for one that was cut short, with its space and newline.
+/// Returns the word for a record that leaves nothing out, or for one that is cut, with its space and newline.
 fn whole_text(is_whole: bool) -> &'static str
     ensures { result.now ≡ whole_text is_whole }
 {

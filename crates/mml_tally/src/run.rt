@@ -62,7 +62,7 @@ fn count_faults(events: &[Event]) -> u64
         .count() as u64
 }
 
-/// Returns how many links are made among the events.
+/// Returns how many links there are among the events.
 fn count_links(events: &[Event]) -> u64
     ensures { result ≡ count_by is_link events.now }
 {
@@ -93,7 +93,7 @@ fn is_change(event: &Event) -> bool
 }
 
 /// Returns the place of the last fault, link or cut, or 0 if there is none.
-fn last_change(events: &[Event]) -> usize
+pub(crate) fn last_change(events: &[Event]) -> usize
     ensures exact { result ≡ last_change 0 1 events.now }
     ensures within { result ≤ length events.now }
 {
@@ -106,14 +106,14 @@ fn last_change(events: &[Event]) -> usize
     last
 }
 
-/// Returns how many of the moves a close applied.
+/// Returns how many of the moves were applied by a close.
 fn count_applied(moves: &[Move]) -> u64
     ensures { result ≡ count_by is_applied moves.now }
 {
     moves.iter().filter(|granted| is_applied(granted)).count() as u64
 }
 
-/// Returns whether a close after this place applied the move.
+/// Returns whether the move was applied by a close whose place is greater than `since`.
 fn is_applied_after(granted: &Move, since: u64) -> bool
     ensures { result ≡ is_applied_after since granted.now }
 {
@@ -123,7 +123,7 @@ fn is_applied_after(granted: &Move, since: u64) -> bool
     }
 }
 
-/// Returns how many of the moves a close after this place applied.
+/// Returns how many of the moves were applied by a close whose place is greater than `since`.
 fn count_applied_after(moves: &[Move], since: u64) -> u64
     ensures { result ≡ count_by (is_applied_after since) moves.now }
 {

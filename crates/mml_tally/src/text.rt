@@ -48,7 +48,8 @@ pub(crate) fn put_granted(
     put_nodes(out, alloc, lab, all)
 }
 
-/// Appends the last two lines of a tally: the most that may follow, and the run.
+/// Appends the last two lines of a tally: the most moves, rounds and events that may follow, and the counts of the run.
+/// `all` has the moves that the run's events grant.
 pub(crate) fn put_ends(
     out: &mut Vec<u8>,
     board: &Board,
@@ -194,7 +195,7 @@ pub(crate) fn put_owner(out: &mut Vec<u8>, name: &str, counts: &ByRule) -> Resul
     put_rules(out, counts)
 }
 
-/// Appends the line of the most moves, rounds and events that may follow.
+/// Appends the line with the most moves, rounds and events that may follow.
 fn put_bounds(out: &mut Vec<u8>, bounds: &Bounds) -> Result<(), Memory>
     ensures { OnOk result (out.new.items ≡ out.old.items ++ bounds_line bounds.now) }
 {
@@ -223,7 +224,7 @@ fn put_run(out: &mut Vec<u8>, board: &Board, run: &Run) -> Result<(), Memory>
     put(out, &[Piece::Text("\n")])
 }
 
-/// Returns the word for a configuration without privileged nodes, or for one with some, with a space before it.
+/// Returns the word `stable` if the board has no privileged node, and else `unstable`, with a space before it.
 fn stable_text(board: &Board) -> &'static str
     ensures { result.now ≡ stable_text (privileged_count (configuration board.now) == 0) }
 {

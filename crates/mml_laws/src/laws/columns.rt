@@ -5,11 +5,16 @@ ghost use Rattle.mml_tally.specs.declared.bounds.Bounds.{Bounds};
 ghost use Rattle.mml_tally.specs.declared.marks.ByRule.{ByRule};
 ghost use Rattle.mml_tally.specs.declared.marks.Marks.{Marks};
 ghost use Rattle.mml_tally.specs.declared.run.Run.{Run};
+ghost use Rattle.mml_tally.specs.declared.refusals.Refusals.{Refusals};
 ghost use Rattle.mml_tally.specs.Texts.{numbers_text, place_text, stable_text, student_line, owner_text, bounds_line, run_line};
+ghost use Rattle.mml_tally.specs.Refusals.{refused_line};
+ghost use Rattle.mml_tally.specs.declared.student_denials.NamedDenials.{NamedDenials};
+ghost use Rattle.mml_tally.specs.StudentDenials.{denials_line};
 
 /// The columns of a tally's lines, in their order. A student's line has the granted moves by rule, the applied moves by
 /// rule, the closes that applied one, the places of the first and the last grant, and the applied moves at shared
-/// nodes.
+/// nodes. The line of what was refused to a student has the refusals `journal`, `memory` and `full`. The line of what
+/// was denied by name has the denials of clause 1, and then those of clause 2, 3 and 4.
 pub fn tallies_have_these_columns()
     ensures student { (name : List ℕ) (m : Marks) → student_line name m ≡ codes "student " ++ (name
         ++ ((numbers_text (m.granted.update ∷ m.granted.marriage ∷ m.granted.seduction ∷ m.granted.abandonment ∷ [])
@@ -25,4 +30,9 @@ pub fn tallies_have_these_columns()
         ++ (stable_text (privileged_count (configuration w) == 0)
         ++ (numbers_text (r.closes ∷ r.faults ∷ r.links ∷ r.cuts ∷ r.moves ∷ r.moves_since ∷ r.closes_since ∷ [])
         ++ codes "\n"))) }
+    ensures refused { (name : List ℕ) (n : Refusals) → refused_line name n ≡ codes "refused " ++ (name
+        ++ (numbers_text (n.journal ∷ n.memory ∷ n.full ∷ []) ++ codes "\n")) }
+    ensures denials { (name : List ℕ) (n : NamedDenials) → denials_line name n ≡ codes "denials " ++ (name
+        ++ (numbers_text (n.greeted ∷ n.hidden ∷ n.not_owner ∷ n.not_teacher ∷ n.stale ∷ n.chosen ∷ n.guard ∷ [])
+        ++ codes "\n")) }
 {}

@@ -5,7 +5,10 @@ ghost use Rattle.mml_lab.specs.declared.who.Who.{Who};
 ghost use Rattle.mml_lab.specs.Rosters.{IsPrincipal, name_of, owns};
 ghost use Rattle.mml_lab.specs.Labs.{LabValue, IsLab};
 ghost use Rattle.mml_board.specs.declared.event.Event.{Event};
+ghost use Rattle.mml_board.specs.Events.{is_legal};
 ghost use Rattle.mml_board.specs.Lists.{world_in};
+ghost use Rattle.mml_board.specs.World.{World};
+ghost use Rattle.mml_audit.specs.Audit.{audited};
 ghost use Rattle.mml_journal.specs.EventLines.{said_by, event_line, IsEventOf};
 ghost use Rattle.mml_same_lab.specs.Sameness.{IsSameLab};
 
@@ -24,4 +27,13 @@ pub fn same_labs_read_alike()
         name_of a.roster who ≡ name_of b.roster who }
     ensures owners { (a b : LabValue) (who : Who) (i : ℕ) → IsSameLab a b →
         IsPrincipal a.roster who → i < length a.ids → owns a.roster who i ≡ owns b.roster who i }
+{}
+
+/// Labs that are the same, and allow as many events, audit alike: the same bytes pass in both, and leave the same world,
+/// or have the same fault in the same line. An event is legal in both or in neither, in each world.
+pub fn same_labs_audit_alike()
+    ensures audit { (a b : LabValue) (bytes : List ℕ) → IsLab a → IsLab b → IsSameLab a b →
+        a.events ≡ b.events → audited a bytes ≡ audited b bytes }
+    ensures legal { (a b : LabValue) (w : World) (e : Event) → IsLab a → IsLab b → IsSameLab a b →
+        is_legal a.roster w e ≡ is_legal b.roster w e }
 {}

@@ -13,6 +13,7 @@ ghost use Rattle.mml_codec.specs.Replies as written;
 ghost use Rattle.mml_codec.specs.Replies.{IsAbout};
 ghost use Rattle.mml_codec.specs.ReplyValues.{AreWritableCounts};
 ghost use Rattle.mml_codec.specs.Requests.{request};
+ghost use Rattle.mml_laws.specs.Lists.{HasLists, listed};
 ghost use Rattle.mml_laws.specs.Words.{IsDenial, asked_fields, found_fields, tells_registers, is_view};
 
 /// Each denial has the number of its clause, the name and the text that stand beside it in this list.
@@ -54,4 +55,12 @@ pub fn replies_are_read_by_these_words()
 pub fn only_views_tell_registers()
     ensures { (roster : RosterValue) (r : Reply) → is_view r ≡ false →
         list_any (λ f. tells_registers f.1) (written.fields_of roster r) ≡ false }
+{}
+
+/// A reader finds in a reply the lists that `listed` has, each under its key: in a look the neighbours, in a report the
+/// free nodes, the open links, the pairs and the privileged nodes, and in a close the nodes that moved.
+pub fn replies_have_these_lists()
+    ensures { (ids : List ℕ) (roster : RosterValue) (r : Reply) (d : Data) →
+        IsTable ids → IsRoster roster → IsAbout ids roster r → AreWritableCounts roster r →
+        read (written.text ids roster r) ≡ Some d → HasLists d (listed ids r) }
 {}

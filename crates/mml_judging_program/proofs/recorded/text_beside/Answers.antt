@@ -1,12 +1,13 @@
-use Rattle.std.proofs.Common.{◌≡◌}
+use Rattle.std.proofs.Common.{◌≡◌, ◌++◌}
 use Rattle.mml_tally.specs.RecordTexts.{recorded_text}
+use Rattle.mml_tally.specs.Rounds.{rounds_line}
 use Rattle.mml_judging_program.specs.Classes.{IsTallied}
 use Rattle.mml_judging_program.proofs.ClassLemmas.{weaker_ok, tallied}
 use Rattle.mml_judging_program.proofs.recorded.text_beside.Goals as goal
 
 pub returns-in-Ok-clause-told : goal.returns-in-Ok-clause-told
 returns-in-Ok-clause-told g c = λ bytes start texts journal tell.
-    weaker_ok c.text_of.result (λ text. text.items ≡ recorded_text c.args.lab.now c.args.board.now c.args.events.now c.in-Ok.class.findings c.deref.result.now)
+    weaker_ok c.text_of.result (λ text. text.items ≡ recorded_text c.args.lab.now c.args.board.now c.args.events.now c.in-Ok.class.findings c.deref.result.now ++ rounds_line c.args.lab.now c.args.events.now)
     (λ text. IsTallied c.args.lab.now bytes start texts text.items)
     (λ text told. tallied c.args.lab.now bytes start texts c.args.events.now c.in-Ok.class c.args.board.now c.deref.result.now text.items journal c.requires.board
     c.deref.ensures.value (c.in-Ok.ensures.passes start texts tell) told)

@@ -1,0 +1,229 @@
+-- The lines that ask for grants and closes, and the hellos before them, are read as script lines.
+use Rattle.std.proofs.Common.{◌≡◌, ◌≢◌, ℕ, ◌<◌, ◌≤◌, ◌+◌, ◌*◌, ◌^◌, ◌/◌, ◌%◌, nat_lt, Bool, true, false, cond, List, [], ◌∷◌, ◌++◌, codes, decimal, length, refl, sym, subst, arith}
+use Rattle.std.proofs.Common.{length-append, get_or, inl, inr}
+use Rattle.std.specs.List.{All}
+use Rattle.std.proofs.lemmas.Bool.{and_parts, cases_lt, false≢true}
+use Rattle.std.proofs.lemmas.Fmt.{length-decimal-le}
+use Rattle.std.proofs.lemmas.Str.{IsUtf8-from_ascii}
+use Rattle.std.specs.Char.{digit_char}
+use Rattle.std.specs.Int.{IsInRange}
+use Rattle.json.specs.Print.{escape_byte, escape, escape_letter, quoted}
+use Rattle.mml_ids.specs.Lines.{IsUnbroken}
+use Rattle.mml_lab.specs.declared.who.Who.{Who}
+use Rattle.mml_lab.specs.Labs.{LabValue, IsLab}
+use Rattle.mml_lab.specs.Rosters.{IsPrincipal, name_of, key_of, is_name, is_key}
+use Rattle.mml_lab.specs.RosterMeaning.{IsKey}
+use Rattle.mml_lab.proofs.FormLemmas.{name-means, key-means}
+use Rattle.mml_rules.specs.declared.rule.Rule.{Rule}
+use Rattle.mml_rules.specs.declared.rule.Rule.TheVariants as rules
+use Rattle.mml_board.specs.declared.event.Event.{Event}
+use Rattle.mml_board.specs.declared.event.Event.TheVariants as event
+use Rattle.mml_board.specs.World.{World}
+use Rattle.mml_policy.specs.declared.command.Asked.TheVariants as asked
+use Rattle.mml_policy.specs.declared.command.Command.TheVariants as command
+use Rattle.mml_policy.specs.Asking.{id_of, command_of}
+use Rattle.mml_journal.specs.EventLines.{IsEventOf}
+use Rattle.mml_journal.proofs.NameLemmas.{name_is_utf8}
+use Rattle.mml_convergence.specs.Rest.{is_grant_or_close}
+use Rattle.mml_codec.specs.declared.TheConstants.{MAX_REQUEST}
+use Rattle.mml_codec.specs.declared.request.Request.{Request}
+use Rattle.mml_codec.specs.declared.request.Request.TheVariants as requests
+use Rattle.mml_codec.specs.Canonical.{canonical, IsWritable}
+use Rattle.mml_codec.proofs.CanonicalLemmas.{canonical_line}
+use Rattle.mml_hall.specs.ScriptLines.{IsScriptLine}
+use Rattle.mml_laws.specs.Finishes.{line_for, hello_of}
+use Rattle.std.proofs.lemmas.List.{get_or_default, get_or_past}
+
+abbrev IsShort : Request → Type 0
+IsShort q = length (canonical q) ≤ MAX_REQUEST
+
+-- ---- texts and their lengths
+
+digits : (n : ℕ) → n < 2 ^ 64 → length (decimal n) ≤ 20
+digits n small = length-decimal-le 20 n (omega arith) (omega arith) small
+
+-- pieces and two numbers
+two_numbers : (a b c : List ℕ) (x y : ℕ) → x < 2 ^ 64 → y < 2 ^ 64 → length a + length b + length c ≤ 4056
+    → length (a ++ (decimal x ++ (b ++ (decimal y ++ c)))) ≤ MAX_REQUEST
+two_numbers a b c x y small small' pieces =
+    omega (
+      arith,
+      digits x small,
+      digits y small',
+      length-append a (decimal x ++ (b ++ (decimal y ++ c))),
+      length-append (decimal x) (b ++ (decimal y ++ c)),
+      length-append b (decimal y ++ c),
+      length-append (decimal y) c,
+      pieces,
+    )
+
+-- pieces and three numbers
+three_numbers : (a b c d : List ℕ) (x y z : ℕ) → x < 2 ^ 64 → y < 2 ^ 64 → z < 2 ^ 64 → length a + length b + length c + length d ≤ 4036
+    → length (a ++ (decimal x ++ (b ++ (decimal y ++ (c ++ (decimal z ++ d)))))) ≤ MAX_REQUEST
+three_numbers a b c d x y z small small' small'' pieces =
+    omega (
+      arith,
+      digits x small,
+      digits y small',
+      digits z small'',
+      length-append a (decimal x ++ (b ++ (decimal y ++ (c ++ (decimal z ++ d))))),
+      length-append (decimal x) (b ++ (decimal y ++ (c ++ (decimal z ++ d)))),
+      length-append b (decimal y ++ (c ++ (decimal z ++ d))),
+      length-append (decimal y) (c ++ (decimal z ++ d)),
+      length-append c (decimal z ++ d),
+      length-append (decimal z) d,
+      pieces,
+    )
+
+update_text : (n at : ℕ) → canonical (requests.Do (command.Move n asked.Update at))
+    ≡ codes "{\"at\":" ++ (decimal at ++ (codes ",\"do\":\"move\",\"node\":" ++ (decimal n ++ codes ",\"rule\":\"update\"}")))
+unfolding canonical escape_byte
+update_text n at = refl
+
+seduction_text : (n at : ℕ) → canonical (requests.Do (command.Move n asked.Seduction at))
+    ≡ codes "{\"at\":" ++ (decimal at ++ (codes ",\"do\":\"move\",\"node\":" ++ (decimal n ++ codes ",\"rule\":\"seduction\"}")))
+unfolding canonical escape_byte
+seduction_text n at = refl
+
+abandonment_text : (n at : ℕ) → canonical (requests.Do (command.Move n asked.Abandonment at))
+    ≡ codes "{\"at\":" ++ (decimal at ++ (codes ",\"do\":\"move\",\"node\":" ++ (decimal n ++ codes ",\"rule\":\"abandonment\"}")))
+unfolding canonical escape_byte
+abandonment_text n at = refl
+
+marriage_text : (n at partner : ℕ) → canonical (requests.Do (command.Move n (asked.Marriage partner) at))
+    ≡ codes "{\"at\":" ++ (decimal at ++ (codes ",\"do\":\"move\",\"node\":" ++ (decimal n ++ (codes ",\"rule\":\"marriage\",\"with\":" ++ (decimal partner ++ codes "}")))))
+unfolding canonical escape_byte
+marriage_text n at partner = refl
+
+close_text : canonical (requests.Do command.Close) ≡ codes "{\"do\":\"close\"}"
+unfolding canonical escape_byte
+close_text = refl
+
+bye_text : canonical requests.Bye ≡ codes "{\"do\":\"bye\"}"
+unfolding canonical escape_byte
+bye_text = refl
+
+hello_text : (name key : List ℕ) → canonical (requests.Hello name key)
+    ≡ codes "{\"do\":\"hello\",\"key\":" ++ (quoted key ++ (codes ",\"name\":" ++ (quoted name ++ codes "}")))
+unfolding canonical escape_byte
+hello_text name key = refl
+
+one_of_three : (b c : Bool) (p q r : List ℕ) → length p ≤ 6 → length q ≤ 6 → length r ≤ 6 → length (cond b p (cond c q r)) ≤ 6
+one_of_three true c p q r hp hq hr = hp
+one_of_three false true p q r hp hq hr = hq
+one_of_three false false p q r hp hq hr = hr
+
+escape_byte_short : (x : ℕ) → length (escape_byte x) ≤ 6
+unfolding escape_byte
+escape_byte_short x =
+    one_of_three (nat_lt 0 (escape_letter x)) (nat_lt x 32) (92 ∷ escape_letter x ∷ []) (92 ∷ 117 ∷ 48 ∷ 48 ∷ digit_char (x / 16) ∷ digit_char (x % 16) ∷ [])
+    (x ∷ []) (omega arith) (omega arith) (omega arith)
+
+escape_short : (s : List ℕ) → length (escape s) ≤ 6 * length s
+escape_short [] = omega arith
+escape_short (x ∷ xs) = omega (arith, length-append (escape_byte x) (escape xs), escape_byte_short x, escape_short xs)
+
+quoted_short : (s : List ℕ) → length (quoted s) ≤ 6 * length s + 2
+quoted_short s = omega (arith, escape_short s, length-append (escape s) (34 ∷ []))
+
+hello_short : (name key : List ℕ) → length name ≤ 32 → length key ≤ 64 → IsShort (requests.Hello name key)
+hello_short name key short short' =
+    let all : length (codes "{\"do\":\"hello\",\"key\":" ++ (quoted key ++ (codes ",\"name\":" ++ (quoted name ++ codes "}")))) ≤ MAX_REQUEST =
+    omega (
+      arith,
+      length-append (codes "{\"do\":\"hello\",\"key\":") (quoted key ++ (codes ",\"name\":" ++ (quoted name ++ codes "}"))),
+      length-append (quoted key) (codes ",\"name\":" ++ (quoted name ++ codes "}")),
+      length-append (codes ",\"name\":") (quoted name ++ codes "}"),
+      length-append (quoted name) (codes "}"),
+      quoted_short key,
+      quoted_short name,
+      short,
+      short',
+    ) in
+    subst (λ (x : List ℕ). length x ≤ MAX_REQUEST) (sym (hello_text name key)) all
+
+-- ---- a request on the first connection
+
+unbroken_all : (bs : List ℕ) → All (λ b. b ≢ 10) bs → IsUnbroken bs
+unbroken_all bs h = λ i k. h i 0 k
+
+on_first : (sessions : ℕ) (q : Request) → 0 < sessions → IsWritable q → IsShort q → IsScriptLine sessions (line_for q)
+on_first sessions q some can short = record {
+  some = omega arith;
+  known = omega (arith, some);
+  request = (unbroken_all (canonical q) (canonical_line q can), short);
+  whole = let one : length (decimal 1) ≤ 1 = length-decimal-le 1 1 (omega arith) (omega arith) (omega arith) in omega (arith, one, short, length-append (decimal 1) (32 ∷ canonical q));
+}
+
+module _ (lab : LabValue) (is : IsLab lab) where
+  pub bye_comes : IsScriptLine lab.sessions (line_for requests.Bye)
+  bye_comes = on_first lab.sessions requests.Bye is.some_sessions (tt, tt) (subst (λ (x : List ℕ). length x ≤ MAX_REQUEST) (sym bye_text) (omega arith))
+
+  -- the name and key of a participant have their forms
+  formed : (who : Who) → IsPrincipal lab.roster who → (is_name (name_of lab.roster who) ≡ true) × (is_key (key_of lab.roster who) ≡ true)
+  formed who member = and_parts (is_name (name_of lab.roster who)) (is_key (key_of lab.roster who)) (is.roster.formed who member)
+
+  key_ascii : (key : List ℕ) → IsKey key → (i : ℕ) → get_or key i 0 < 128
+  key_ascii key k i = elim (cases_lt i (length key)) [
+    | inl within ↦ let range : IsInRange 33 126 (get_or key i 0) = k.bytes i 0 within in omega (arith, range.1)
+    | inr past ↦ omega (arith, get_or_past key i 0 past)
+  ]
+
+  pub hello_can : (who : Who) → IsPrincipal lab.roster who → IsWritable (hello_of lab who)
+  hello_can who member =
+      let f = formed who member in
+      (tt, (IsUtf8-from_ascii (key_of lab.roster who) (key_ascii (key_of lab.roster who) ((key-means (key_of lab.roster who)).0 f.1)), (name_is_utf8 (name_of lab.roster who) f.0, tt)))
+
+  pub hello_comes : (who : Who) → IsPrincipal lab.roster who → IsScriptLine lab.sessions (line_for (hello_of lab who))
+  hello_comes who member =
+      let f = formed who member in
+      on_first lab.sessions (hello_of lab who) is.some_sessions (hello_can who member)
+      (hello_short (name_of lab.roster who) (key_of lab.roster who) ((name-means (name_of lab.roster who)).0 f.0).short ((key-means (key_of lab.roster who)).0 f.1).short)
+
+  id_small : (i : ℕ) → i < length lab.ids → id_of lab.ids i < 2 ^ 64
+  id_small i there = omega (arith, is.ids.within i there, get_or_default lab.ids i 0 (id_of lab.ids i) there)
+
+  short_by : (q : Request) (text : List ℕ) → canonical q ≡ text → length text ≤ MAX_REQUEST → IsShort q
+  short_by q text is_text short = subst (λ (x : List ℕ). length x ≤ MAX_REQUEST) (sym is_text) short
+
+  grant_comes : (w : World) (s i : ℕ) (q : Rule) → w.number < 2 ^ 64 → IsEventOf lab.ids lab.roster (event.Grant s i q)
+      → IsWritable (requests.Do (command_of lab.ids w (event.Grant s i q))) × IsShort (requests.Do (command_of lab.ids w (event.Grant s i q)))
+  grant_comes w s i rules.Update number of =
+      let small = id_small i of.1 in (
+        (number, (tt, (small, (tt, tt)))),
+        short_by _ _ (update_text (id_of lab.ids i) w.number)
+            (two_numbers (codes "{\"at\":") (codes ",\"do\":\"move\",\"node\":") (codes ",\"rule\":\"update\"}") w.number (id_of lab.ids i) number small (omega arith)),
+      )
+  grant_comes w s i rules.Seduction number of =
+      let small = id_small i of.1 in (
+        (number, (tt, (small, (tt, tt)))),
+        short_by _ _ (seduction_text (id_of lab.ids i) w.number)
+            (two_numbers (codes "{\"at\":") (codes ",\"do\":\"move\",\"node\":") (codes ",\"rule\":\"seduction\"}") w.number (id_of lab.ids i) number small (omega arith)),
+      )
+  grant_comes w s i rules.Abandonment number of =
+      let small = id_small i of.1 in (
+        (number, (tt, (small, (tt, tt)))),
+        short_by _ _ (abandonment_text (id_of lab.ids i) w.number)
+            (two_numbers (codes "{\"at\":") (codes ",\"do\":\"move\",\"node\":") (codes ",\"rule\":\"abandonment\"}") w.number (id_of lab.ids i) number small (omega arith)),
+      )
+  grant_comes w s i (rules.Marriage j) number of =
+      let small = id_small i of.1 in
+      let partner = id_small j of.2 in (
+        (number, (tt, (small, (tt, (partner, tt))))),
+        short_by _ _ (marriage_text (id_of lab.ids i) w.number (id_of lab.ids j))
+            (three_numbers (codes "{\"at\":") (codes ",\"do\":\"move\",\"node\":") (codes ",\"rule\":\"marriage\",\"with\":") (codes "}")
+            w.number (id_of lab.ids i) (id_of lab.ids j) number small partner (omega arith)),
+      )
+
+  -- the command that asks for a grant or a close can be written, and its line may come
+  pub command_comes : (w : World) (e : Event) → w.number < 2 ^ 64 → IsEventOf lab.ids lab.roster e → is_grant_or_close e ≡ true
+      → IsWritable (requests.Do (command_of lab.ids w e)) × IsScriptLine lab.sessions (line_for (requests.Do (command_of lab.ids w e)))
+  command_comes w (event.Grant s i q) number of forward =
+      let g = grant_comes w s i q number of in
+      (g.0, on_first lab.sessions (requests.Do (command_of lab.ids w (event.Grant s i q))) is.some_sessions g.0 g.1)
+  command_comes w event.Close number of forward =
+      ((tt, tt), on_first lab.sessions (requests.Do command.Close) is.some_sessions (tt, tt) (short_by (requests.Do command.Close) _ close_text (omega arith)))
+  command_comes w (event.Release i) number of forward = absurd (false≢true forward)
+  command_comes w (event.Fault i registers) number of forward = absurd (false≢true forward)
+  command_comes w (event.Link a b) number of forward = absurd (false≢true forward)
+  command_comes w (event.Cut a b) number of forward = absurd (false≢true forward)

@@ -1,0 +1,202 @@
+-- What a host says of a class gives what the laws on houses and on records begin with.
+use Rattle.std.proofs.Common.{◌≡◌, ◌<◌, ◌≤◌, ◌+◌, ◌&&◌, ℕ, zero, suc, cond, nat_lt, nat_le, List, [], ◌∷◌, ◌++◌, map, length, All, Option, None, Some, refl, sym, ap, ◌∙◌, subst, arith, inl, inr}
+use Rattle.std.proofs.lemmas.Bool.{cases_Bool, cases_eq, and_parts, and_from, ltb-true, leb-true, lt-ltb, le-leb, eq-eqb, ne_eqb}
+use Rattle.std.proofs.lemmas.List.{Sums.sum_by-cons, Elements.All-head, Elements.All-tail}
+use Rattle.std.specs.List.{AllByRecursion, AllZip, range_with_len, sum_by}
+use Rattle.std.specs.Option.{unwrap_or}
+use mathlib.Core.List.{IsPrefix}
+use Rattle.mml_lab.specs.Labs.{LabValue}
+use Rattle.mml_board.specs.declared.event.Event.{Event}
+use Rattle.mml_lines.specs.Runs.{Chain}
+use Rattle.mml_codec.specs.declared.reply.Reply.{Reply}
+use Rattle.mml_window.specs.{Logs.IsLogFrom, Tallies.IsEachOnceFrom, Windows.WindowValue, Windows.window}
+use Rattle.mml_session.specs.Records.{Kept, Stand, stand, Adds, EndedRecorded}
+use Rattle.mml_hosting.specs.declared.hosted.Hosted.{Hosted}
+use Rattle.mml_hosting.specs.declared.seat.{SeatRecord.SeatRecord, ServedSession.ServedSession}
+use Rattle.mml_hosting.specs.{Hosting.HostsFrom, Ports.numbers_of, Seats.Led, Seats.Leads, Seats.Terms, Seats.terms, Seats.kept_from, Seats.sessions_of}
+use Rattle.mml_record.specs.RecordedSeats.{Held, RecordedSeat, IsResumedSeat, IsRecordText, fresh}
+use Rattle.mml_record.proofs.RecordLemmas.{is_record_from}
+use Rattle.mml_laws.specs.Classes.{seat_of, seats_of}
+use Rattle.mml_laws.specs.Served.{replies_in, AreSessions, AreServed, named_by}
+use Rattle.mml_laws.proofs.ServedLemmas.{house_once}
+
+zip_append : {A B : Type 0} (P : A → B → Type 0) (xs us : List A) (ys vs : List B) → AllZip P xs ys → AllZip P us vs → AllZip P (xs ++ us) (ys ++ vs)
+zip_append P [] us [] vs p q = q
+zip_append P [] us (y ∷ ys) vs p q = absurd p
+zip_append P (x ∷ xs) us [] vs p q = absurd p
+zip_append P (x ∷ xs) us (y ∷ ys) vs p q = (p.0, zip_append P xs us ys vs p.1 q)
+
+module _ {K C R W : Type 0} (t : Terms K C R W) where
+  -- ---- the sessions of a house
+
+  talked : (n : ℕ) (ss : List (ServedSession R W)) (a b : Stand) → Chain (Leads t n) a ss b
+      → (rs : List (List Reply)) × AreSessions t.lab a.window rs b.window
+  talked n [] a b led = ([], ap (λ (s : Stand). s.window) led)
+  talked n (s ∷ ss) a b led =
+      let next : Stand = led.0 in
+      let ended = led.1.0 in
+      let rest = talked n ss led.0 b led.2 in
+      let said = replies_in s.ending.end t.lab a.window led.0.window (t.remaining s.came.value.0) (t.remaining s.reader) (t.contents s.came.value.1) (t.contents s.writer) led.1.0 in (
+        replies_in s.ending.end t.lab a.window led.0.window (t.remaining s.came.value.0) (t.remaining s.reader) (t.contents s.came.value.1) (t.contents s.writer) led.1.0
+            ∷ rest.0,
+        (
+          led.0.window,
+          record {
+            end = s.ending.end;
+            input = t.remaining s.came.value.0;
+            left = t.remaining s.reader;
+            wrote = t.contents s.came.value.1;
+            wrote' = t.contents s.writer;
+            ended = led.1.0;
+            all = refl;
+          },
+          rest.1,
+        ),
+      )
+
+  served : (rs : List (SeatRecord K C)) (ws : List WindowValue) → AllZip (Led t) rs ws → (ss : List (List (List Reply))) × AreServed t.lab t.begun ss ws
+  served [] [] led = ([], tt)
+  served [] (w ∷ ws) led = absurd led
+  served (r ∷ rs) [] led = absurd led
+  served (r ∷ rs) (w ∷ ws) led =
+      let one = talked r.number (sessions_of t.shows r) (stand (window t.begun []) (t.given r.number)) (stand w (t.recorded r.recorder)) led.0 in
+      let rest = served rs ws led.1 in
+      (one.0 ∷ rest.0, (one.1, rest.1))
+
+  -- ---- the seats of a record
+
+  still_kept : (old new : Option Kept) (k : Kept) (bytes : List ℕ) → old ≡ Some k → Adds old new bytes → (k' : Kept) × (new ≡ Some k')
+  still_kept None new k bytes e adds = absurd cc
+  still_kept (Some k₁) None k bytes e adds = absurd adds
+  still_kept (Some k₁) (Some k') k bytes e adds = (k', refl)
+
+  -- the sessions of a seat whose recorder has kept something before, as its record has them
+  held : (n : ℕ) (ss : List (ServedSession R W)) (a b : Stand) (k : Kept) → a.kept ≡ Some k → Chain (Leads t n) a ss b
+      → (k' : Kept) × (b.kept ≡ Some k') × Chain (Held t.lab n) (stand a.window (Some k)) (map (λ s. s.ending.end) ss) (stand b.window (Some k'))
+  held n [] a b k e led = (
+    k,
+    ap (λ (s : Stand). s.kept) led ∙ e,
+    ap (λ (s : Stand). stand s.window (Some k)) led,
+  )
+  held n (s ∷ ss) a b k e led =
+      let more = still_kept a.kept led.0.kept k _ e led.1.2 in
+      let rest = held n ss led.0 b more.0 more.1 led.2 in
+      let from : EndedRecorded s.ending.end s.ending.who n t.lab a.window led.0.window (t.remaining s.came.value.0) (t.remaining s.reader)
+      (t.contents s.came.value.1) (t.contents s.writer) (Some k) led.0.kept =
+      subst (λ (x : Option Kept). EndedRecorded s.ending.end s.ending.who n t.lab a.window led.0.window (t.remaining s.came.value.0) (t.remaining s.reader)
+      (t.contents s.came.value.1) (t.contents s.writer) x led.0.kept) e led.1 in
+      let both : EndedRecorded s.ending.end s.ending.who n t.lab a.window led.0.window (t.remaining s.came.value.0) (t.remaining s.reader)
+      (t.contents s.came.value.1) (t.contents s.writer) (Some k) (Some more.0) =
+      subst (λ (x : Option Kept). EndedRecorded s.ending.end s.ending.who n t.lab a.window led.0.window (t.remaining s.came.value.0) (t.remaining s.reader)
+      (t.contents s.came.value.1) (t.contents s.writer) (Some k) x) more.1 from in (
+        rest.0,
+        rest.1,
+        (
+          stand led.0.window (Some more.0),
+          record {
+            who = s.ending.who;
+            input = t.remaining s.came.value.0;
+            left = t.remaining s.reader;
+            wrote = t.contents s.came.value.1;
+            wrote' = t.contents s.writer;
+            ended = both;
+          },
+          rest.2,
+        ),
+      )
+
+  resumed_seat : (r : SeatRecord K C) (w : WindowValue) → t.given r.number ≡ Some fresh → Led t r w
+      → IsResumedSeat t.lab t.begun (seat_of t.recorded t.shows r) w
+  resumed_seat r w empty led =
+      let h = held r.number (sessions_of t.shows r) (stand (window t.begun []) (t.given r.number)) (stand w (t.recorded r.recorder)) fresh empty led in
+      let kept : unwrap_or (t.recorded r.recorder) fresh ≡ h.0 = ap (λ (o : Option Kept). unwrap_or o fresh) h.1 in
+      subst (λ (k : Kept). Chain (Held t.lab r.number) (stand (window t.begun []) (Some fresh)) (map (λ s. s.ending.end) (sessions_of t.shows r)) (stand w (Some k)))
+      (sym kept) h.2
+
+  resumed_seats : (rs : List (SeatRecord K C)) (ws : List WindowValue) → AllByRecursion (λ r. t.given r.number ≡ Some fresh) rs → AllZip (Led t) rs ws
+      → AllZip (IsResumedSeat t.lab t.begun) (map (seat_of t.recorded t.shows) rs) ws
+  resumed_seats [] [] empty led = tt
+  resumed_seats [] (w ∷ ws) empty led = absurd led
+  resumed_seats (r ∷ rs) [] empty led = absurd led
+  resumed_seats (r ∷ rs) (w ∷ ws) empty led = (resumed_seat r w empty.0 led.0, resumed_seats rs ws empty.1 led.1)
+
+record_texts : (lab : LabValue) (l begun : List Event) (ps : List RecordedSeat) (ws : List WindowValue) → All (λ w. IsPrefix w.seen l) ws
+    → AllZip (IsResumedSeat lab begun) ps ws → AllZip (λ p w. IsRecordText lab l p.number p.kept w.places) ps ws
+record_texts lab l begun [] [] seen held = tt
+record_texts lab l begun [] (w ∷ ws) seen held = absurd held
+record_texts lab l begun (p ∷ ps) [] seen held = absurd held
+record_texts lab l begun (p ∷ ps) (w ∷ ws) seen held = (
+  is_record_from lab l begun p w held.0 (All-head (λ w. IsPrefix w.seen l) w ws seen),
+  record_texts lab l begun ps ws (All-tail (λ w. IsPrefix w.seen l) w ws seen) held.1,
+)
+
+-- ---- the numbers of the seats
+
+-- 0 for a number from 1 to the most, else 1
+out_of : ℕ → ℕ → ℕ
+out_of most n = cond {A = ℕ} (nat_lt 0 n && nat_le n most) 0 1
+
+within_none : (most n : ℕ) → 0 < n → n ≤ most → out_of most n ≡ 0
+unfolding out_of
+within_none most n some le = ap (λ b. cond {A = ℕ} b 0 1) (and_from (nat_lt 0 n) (nat_le n most) (lt-ltb 0 n some) (le-leb n most le))
+
+none_within : (most n : ℕ) → out_of most n ≡ 0 → (0 < n) × (n ≤ most)
+unfolding out_of
+none_within most n e = elim (cases_Bool (nat_lt 0 n && nat_le n most)) [
+  | inl on ↦ let both = and_parts (nat_lt 0 n) (nat_le n most) on in (ltb-true 0 n both.0, leb-true n most both.1)
+  | inr off ↦ let one : out_of most n ≡ 1 = ap (λ b. cond {A = ℕ} b 0 1) off in absurd (omega (arith, one, e))
+]
+
+range_within : (most a k : ℕ) → 0 < a → a + k ≤ most + 1 → sum_by (out_of most) (range_with_len a k) ≡ 0
+range_within most a zero some le = refl
+range_within most a (suc k) some le =
+    omega (
+      arith,
+      sum_by-cons (out_of most) a (range_with_len (a + 1) k),
+      within_none most a some (omega (arith, le)),
+      range_within most (a + 1) k (omega arith) (omega (arith, le)),
+    )
+
+module _ {K C : Type 0} (most : ℕ) (given : ℕ → Option Kept) (empty : (n : ℕ) → 0 < n → n ≤ most → given n ≡ Some fresh) where
+  are_empty : (rs : List (SeatRecord K C)) → sum_by (out_of most) (numbers_of rs) ≡ 0 → AllByRecursion (λ r. given r.number ≡ Some fresh) rs
+  are_empty [] none = tt
+  are_empty (r ∷ rs) none =
+      let sum = sum_by-cons (out_of most) r.number (numbers_of rs) in
+      let here = none_within most r.number (omega (arith, sum, none)) in
+      (empty r.number here.0 here.1, are_empty rs (omega (arith, sum, none)))
+
+-- ---- classes
+
+module _ {S K C R W : Type 0} (begun : List Event) (given : ℕ → Option Kept) (lab : LabValue) (sink : S → Option (List ℕ)) (remaining : R → Option (List ℕ))
+    (contents : W → Option (List ℕ)) (recorded : C → Option Kept) (shows : K → ServedSession R W) (to_desk to_come : Option (List (R × W))) (house : Hosted S K C)
+    (h : HostsFrom begun given lab sink remaining contents recorded shows to_desk to_come house) where
+  all_led : AllZip (Led (terms lab begun given remaining contents recorded shows)) (house.at_desk.items ++ house.others.items) (h.desk_windows ++ h.windows)
+  all_led =
+      zip_append (Led (terms lab begun given remaining contents recorded shows)) house.at_desk.items house.others.items h.desk_windows h.windows h.at_desk h.elsewhere
+
+  pub class_house : (sessions : List (List (List Reply))) × AreServed lab begun sessions (h.desk_windows ++ h.windows)
+      × IsLogFrom (length begun) lab sink (h.desk_windows ++ h.windows) house.log
+      × IsEachOnceFrom (length begun) (length house.log.events) (named_by sessions)
+  class_house =
+      let all = served (terms lab begun given remaining contents recorded shows) (house.at_desk.items ++ house.others.items) (h.desk_windows ++ h.windows) all_led in
+      (all.0, all.1, h.kept, house_once lab begun (length house.log.events) all.0 (h.desk_windows ++ h.windows) all.1 h.kept.places)
+
+  pub class_seats : ((n : ℕ) → 0 < n → n ≤ lab.sessions → given n ≡ Some fresh)
+      → AllZip (IsResumedSeat lab begun) (seats_of recorded shows house) (h.desk_windows ++ h.windows)
+      × AllZip (λ p w. IsRecordText lab house.log.events p.number p.kept w.places) (seats_of recorded shows house) (h.desk_windows ++ h.windows)
+  class_seats empty =
+      let none : sum_by (out_of lab.sessions) (numbers_of (house.at_desk.items ++ house.others.items)) ≡ 0 =
+      sym (h.numbers (out_of lab.sessions)) ∙ range_within lab.sessions 1 lab.sessions (omega arith) (omega arith) in
+      let seats = resumed_seats (terms lab begun given remaining contents recorded shows) (house.at_desk.items ++ house.others.items) (h.desk_windows ++ h.windows)
+      (are_empty lab.sessions given empty (house.at_desk.items ++ house.others.items) none) all_led in
+      (seats, record_texts lab house.log.events begun (seats_of recorded shows house) (h.desk_windows ++ h.windows) h.kept.seen seats)
+
+pub kept_fresh : {C : Type 0} (recorded : C → Option Kept) (cs : List C) (first n : ℕ) → AllByRecursion (λ c. recorded c ≡ Some fresh) cs → first ≤ n
+    → n < first + length cs → kept_from recorded first cs n ≡ Some fresh
+kept_fresh recorded [] first n each some within = absurd (omega (arith, some, within))
+kept_fresh recorded (c ∷ cs) first n each some within = elim (cases_eq n first) [
+  | inl here ↦ ap (λ b. cond b (recorded c) (kept_from recorded (first + 1) cs n)) (eq-eqb n first here) ∙ each.0
+  | inr other ↦
+      ap (λ b. cond b (recorded c) (kept_from recorded (first + 1) cs n)) (ne_eqb n first other)
+      ∙ kept_fresh recorded cs (first + 1) n each.1 (omega (arith, some, other)) (omega (arith, within))
+]

@@ -1,0 +1,66 @@
+-- A book that is halted stays as it is, and grants nothing.
+use Rattle.std.proofs.Common.{◌≡◌, ◌⊎◌, ◌<◌, ℕ, true, true≢false, List, [], ◌∷◌, Option, inl, inr, refl, sym, ap, ◌∙◌}
+use Rattle.std.specs.List.{AllByRecursion}
+use Rattle.mml_lab.specs.declared.who.Who.{Who}
+use Rattle.mml_lab.specs.Labs.{LabValue}
+use Rattle.mml_policy.specs.declared.command.Command.{Command}
+use Rattle.mml_policy.specs.declared.refusal.Refusal.TheVariants.{Full, Journal, Memory}
+use Rattle.mml_window.specs.declared.answer.Answer.{Answer}
+use Rattle.mml_window.specs.declared.answer.Answer.TheVariants.{Granted, Denied, Refused}
+use Rattle.mml_window.specs.{Answers.Decides, Answers.AnswersAtPresent, Books.BookValue, Windows.WindowValue}
+use Rattle.mml_laws.specs.Halting.{Act, DecidesEach, IsNoGrant}
+
+module _ {S : Type 0} (lab : LabValue) (failures : S → ℕ) where
+  halted : (old new : BookValue S) (who : Who) (command : Command) → Decides lab failures old who command (Refused Journal) new
+      → (new.halted ≡ true) × (new.events ≡ old.events)
+  halted old new who command d = elim d.1 [
+    | inl was ↦ (ap (λ (b : BookValue S). b.halted) was.1 ∙ was.0, ap (λ (b : BookValue S). b.events) was.1)
+    | inr halts ↦ (halts.halted, halts.events)
+  ]
+
+  one_stays : (old new : BookValue S) (who : Who) (command : Command) (answer : Answer) → old.halted ≡ true → Decides lab failures old who command answer new
+      → (new ≡ old) × IsNoGrant answer
+  one_stays old new who command (Denied d) was decides = (decides.1, tt)
+  one_stays old new who command (Refused Full) was decides = (decides.2, tt)
+  one_stays old new who command (Refused Journal) was decides = elim decides.1 [
+    | inl same ↦ (same.1, tt)
+    | inr halts ↦ absurd (true≢false (sym was ∙ halts.running))
+  ]
+  one_stays old new who command (Refused Memory) was decides = (decides.2, tt)
+  one_stays old new who command (Granted place number done) was decides = absurd (true≢false (sym was ∙ decides.2.running))
+
+  pub all_stay : (old new : BookValue S) (acts : List Act) (answers : List Answer) → old.halted ≡ true → DecidesEach lab failures old acts answers new
+      → (new ≡ old) × AllByRecursion IsNoGrant answers
+  all_stay old new [] [] was each = (each, tt)
+  all_stay old new [] (a ∷ more) was each = absurd each
+  all_stay old new (act ∷ acts) [] was each = absurd each
+  all_stay old new (act ∷ acts) (a ∷ more) was each =
+      let one = one_stays old each.0 act.who act.command a was each.1 in
+      let rest = all_stay each.0 new acts more (ap (λ (b : BookValue S). b.halted) one.0 ∙ was) each.2 in
+      (rest.0 ∙ one.0, (one.1, rest.1))
+
+  pub for_good : (old new last : BookValue S) (who : Who) (command : Command) (acts : List Act) (answers : List Answer)
+      → Decides lab failures old who command (Refused Journal) new → DecidesEach lab failures new acts answers last
+      → (new.halted ≡ true) × (last ≡ new) × AllByRecursion IsNoGrant answers
+  for_good old new last who command acts answers d each =
+      let is = (halted old new who command d).0 in
+      let rest = all_stay new last acts answers is each in
+      (is, rest.0, rest.1)
+
+  same_halted : {P : Type 0} (old new : BookValue S) → new ≡ old → new.halted ≡ true → (old.halted ≡ true) ⊎ P
+  same_halted old new same is = inl (ap (λ (b : BookValue S). b.halted) (sym same) ∙ is)
+
+  pub only_journal : (old new : BookValue S) (who : Who) (command : Command) (answer : Answer) → Decides lab failures old who command answer new
+      → new.halted ≡ true → (old.halted ≡ true) ⊎ ((answer ≡ Refused Journal) × (failures old.sink < failures new.sink))
+  only_journal old new who command (Denied d) decides is = same_halted old new decides.1 is
+  only_journal old new who command (Refused Full) decides is = same_halted old new decides.2 is
+  only_journal old new who command (Refused Journal) decides is = elim decides.1 [
+    | inl same ↦ inl same.0
+    | inr halts ↦ inr (refl, halts.failed)
+  ]
+  only_journal old new who command (Refused Memory) decides is = same_halted old new decides.2 is
+  only_journal old new who command (Granted place number done) decides is = absurd (true≢false (sym is ∙ decides.2.halted))
+
+  pub at_present : (contents : S → Option (List ℕ)) (old new : WindowValue) (who : Who) (command : Command)
+      (a : AnswersAtPresent lab contents failures old who command (Refused Journal) new) → (a.after.halted ≡ true) × (a.after.events ≡ a.before.events)
+  at_present contents old new who command a = halted a.before a.after who command a.decides

@@ -1,0 +1,79 @@
+-- Two labs that are the same in all that a journal names, and allow as many events, audit alike.
+use Rattle.std.proofs.Common.{◌≡◌, ◌∙◌, ℕ, ◌+◌, ◌≤◌, ◌==◌, ◌&&◌, nat_lt, not, Bool, false, List, [], ◌∷◌, length, Result, Ok, inl, inr, refl, ap, sym, arith}
+use Rattle.std.proofs.lemmas.Bool.{cases_lt, false_from_ne_true}
+use Rattle.std.specs.Result.{is_ok}
+use Rattle.mml_ids.specs.Gives.{◌>>=◌, ◌>>◌, need}
+use Rattle.mml_lab.specs.declared.who.Who.{Who}
+use Rattle.mml_lab.specs.declared.who.Who.TheVariants as who
+use Rattle.mml_lab.specs.Rosters.{RosterValue, IsRoster, owns}
+use Rattle.mml_lab.specs.Labs.{LabValue, IsLab}
+use Rattle.mml_lab.proofs.RosterMeaningLemmas.{owner_there}
+use Rattle.mml_board.specs.declared.event.Event.{Event}
+use Rattle.mml_board.specs.{World.World, World.opening_of, Events.is_legal, Events.after, Clauses.check, Clauses.asker, Clauses.act_of}
+use Rattle.mml_lines.specs.LinesOf.{lines_of}
+use Rattle.mml_journal.specs.EventLines.{said_by}
+use Rattle.mml_journal.specs.declared.journal_fault.JournalFault.{JournalFault}
+use Rattle.mml_audit.specs.declared.auditing.AuditFault.{AuditFault}
+use Rattle.mml_audit.specs.declared.auditing.AuditFault.TheVariants as fault
+use Rattle.mml_audit.specs.Audit.{or_else, allowed, event_in, after_line, after_lines, audited, audited_from, is_torn}
+use Rattle.mml_record.proofs.RiseLemmas.{owned_within}
+use Rattle.mml_same_lab.specs.Sameness.{IsSameLab}
+use Rattle.mml_laws.proofs.SameLabsLemmas.{said_alike, networks_alike}
+
+-- whether each one owns a node, as what the event of a line depends on
+abbrev event_by : Result (ℕ × ℕ × Event) JournalFault → (Who → ℕ → Bool) → ℕ → World → Result Event AuditFault
+event_by said owner limit w = do
+  said ← or_else said (fault.Shape (w.place + 1))
+  need (said.0 == w.place + 1 && said.1 == w.number) (fault.Place (w.place + 1))
+  allowed (w.place + 1) (check owner w (asker said.2) (act_of w said.2))
+  need (nat_lt w.place limit) (fault.Full (w.place + 1))
+  Ok said.2
+
+module _ (a b : LabValue) (la : IsLab a) (lb : IsLab b) (is : IsSameLab a b) where
+  student_owns : (s i : ℕ) → owns a.roster (who.Student s) i ≡ owns b.roster (who.Student s) i
+  student_owns s i = elim (cases_lt i (length a.ids)) [
+    | inl node ↦ elim (cases_lt s (length a.roster.students)) [
+      | inl student ↦ (is.nodes i node).owners s student
+      | inr none ↦
+          nobody a.roster la.roster none ∙ sym (nobody b.roster lb.roster (omega (arith, none, is.names.1)))
+    ]
+    | inr past ↦ nowhere a.roster (omega (arith, past, la.owned)) ∙ sym (nowhere b.roster (let same = ap (λ (ids : List ℕ). length ids) is.ids in omega (arith, past, lb.owned, same)))
+  ]
+    where
+      nobody : (r : RosterValue) → IsRoster r → length r.students ≤ s → owns r (who.Student s) i ≡ false
+      nobody r roster none = false_from_ne_true _ (λ own. absurd (omega (arith, none, owner_there r s i roster own)))
+
+      nowhere : (r : RosterValue) → length r.owners ≤ i → owns r (who.Student s) i ≡ false
+      nowhere r past = false_from_ne_true _ (λ own. absurd (omega (arith, past, owned_within r (who.Student s) i own)))
+
+  each_owns : (x : Who) (i : ℕ) → owns a.roster x i ≡ owns b.roster x i
+  each_owns who.Teacher i = refl
+  each_owns (who.Student s) i = student_owns s i
+
+  -- the same ones own the same nodes
+  owns_alike : owns a.roster ≡ owns b.roster
+  owns_alike t = λ x i. each_owns x i t
+
+  -- an event is as legal
+  pub legal_alike : (w : World) (e : Event) → is_legal a.roster w e ≡ is_legal b.roster w e
+  unfolding is_legal
+  legal_alike w e = ap (λ (owner : Who → ℕ → Bool). is_ok (check owner w (asker e) (act_of w e))) owns_alike
+
+  module _ (limit : a.events ≡ b.events) where
+    event_alike : (w : World) (line : List ℕ) → event_in a w line ≡ event_in b w line
+    event_alike w line =
+        ap (λ (said : Result (ℕ × ℕ × Event) JournalFault). event_by said (owns a.roster) a.events w) (said_alike a b line is)
+        ∙ ap (λ (owner : Who → ℕ → Bool). event_by (said_by b.ids b.roster line) owner a.events w) owns_alike
+        ∙ ap (λ (n : ℕ). event_by (said_by b.ids b.roster line) (owns b.roster) n w) limit
+
+    lines_alike : (lines : List (List ℕ)) (w : World) → after_lines a w lines ≡ after_lines b w lines
+    lines_alike [] w = refl
+    lines_alike (line ∷ lines) w =
+        ap (λ (r : Result Event AuditFault). (r >>= (λ e. Ok (after w e))) >>= (λ next. after_lines a next lines)) (event_alike w line)
+        ∙ (λ t. after_line b w line >>= (λ next. lines_alike lines next t))
+
+    -- bytes pass in both, and leave the same world, or have the same fault
+    pub audits_alike : (bytes : List ℕ) → audited a bytes ≡ audited b bytes
+    audits_alike bytes =
+        ap (λ n. audited_from a (opening_of n) bytes) (networks_alike a b la lb is)
+        ∙ ap (λ (r : Result World AuditFault). r >>= (λ end. need (not (is_torn bytes)) (fault.Torn (end.place + 1)) >> Ok end)) (lines_alike (lines_of bytes) (opening_of b.network))

@@ -1,0 +1,37 @@
+-- The lists in replies, as their reader has them.
+use Rattle.std.specs.Prelude.{◌≡◌, ℕ, List, [], ◌∷◌, map, filter, length, codes, slice_index, Some}
+use Rattle.std.specs.List.{AllByRecursion, range_with_len}
+use Rattle.std.specs.FinSet as set
+use Rattle.serde_json.specs.Data.{Data, boolean, number, unsigned, string, array}
+use Rattle.serde_json.specs.Find.{get}
+use Rattle.mml_board.specs.Vocabulary.{rule_name}
+use Rattle.mml_codec.specs.declared.reply.Reply.{Reply}
+use Rattle.mml_codec.specs.declared.reply.Reply.TheVariants as reply
+use Rattle.mml_codec.specs.Facts.{pointer_value}
+use Rattle.mml_codec.specs.Objects.{items_with, object_with}
+
+-- an array of these values
+abbrev pub values : List Data → Data
+values ds = array (items_with ds)
+
+-- the identifier of a node
+abbrev pub id_value : List ℕ → ℕ → Data
+id_value ids i = number (unsigned (slice_index ids i))
+
+-- the keys of a reply that have lists, and the lists: the neighbours of the node in a look with their registers; the
+-- free nodes, the open links with witness and rule, the pairs and the privileged nodes with their rules in a report; and
+-- the nodes that a close moved, in rising order
+abbrev pub listed : List ℕ → Reply → List (List ℕ × Data)
+listed ids (reply.Look l) =
+    (codes "near", values (map (λ n. object_with ((codes "m", boolean n.1.m) ∷ (codes "node", id_value ids n.0) ∷ (codes "p", pointer_value ids n.1.p) ∷ [])) l.near)) ∷ []
+listed ids (reply.Report r) =
+    (codes "free", values (map (id_value ids) r.free))
+    ∷ (codes "open", values (map (λ o. values (id_value ids o.a ∷ id_value ids o.b ∷ id_value ids o.node ∷ string (rule_name o.kind) ∷ [])) r.open_links))
+    ∷ (codes "pairs", values (map (λ p. values (id_value ids p.0 ∷ id_value ids p.1 ∷ [])) r.pairs))
+    ∷ (codes "privileged", values (map (λ n. values (id_value ids n.0 ∷ string (rule_name n.1) ∷ [])) r.privileged)) ∷ []
+listed ids (reply.Close at place moved) = (codes "moved", values (map (id_value ids) (filter (set.contains moved) (range_with_len 0 (length ids))))) ∷ []
+listed ids _ = []
+
+-- the value has each of the keys, with its list
+abbrev pub HasLists : Data → List (List ℕ × Data) → Type 0
+HasLists d fs = AllByRecursion (λ f. get f.0 d ≡ Some f.1) fs

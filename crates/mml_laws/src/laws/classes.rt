@@ -1,0 +1,59 @@
+//! Classes as houses. Each law is the contract of a function that does nothing.
+ghost use Rattle.std.specs.Prelude.{◌≡◌, ◌<◌, ◌≤◌, ◌++◌, ℕ, List, length, Option, Some};
+ghost use Rattle.std.specs.List.{AllByRecursion, AllZip};
+ghost use Rattle.mml_lab.specs.Labs.{LabValue};
+ghost use Rattle.mml_board.specs.declared.event.Event.{Event};
+ghost use Rattle.mml_codec.specs.declared.reply.Reply.{Reply};
+ghost use Rattle.mml_window.specs.Logs.{IsLogFrom};
+ghost use Rattle.mml_window.specs.Tallies.{IsEachOnceFrom};
+ghost use Rattle.mml_session.specs.Records.{Kept};
+ghost use Rattle.mml_hosting.specs.declared.hosted.Hosted.{Hosted};
+ghost use Rattle.mml_hosting.specs.declared.seat.ServedSession.{ServedSession};
+ghost use Rattle.mml_hosting.specs.Hosting.{HostsFrom};
+ghost use Rattle.mml_hosting.specs.Seats.{kept_from};
+ghost use Rattle.mml_resuming.specs.Resuming.{Resumes};
+ghost use Rattle.mml_record.specs.RecordedSeats.{IsResumedSeat, IsRecordText, fresh};
+ghost use Rattle.mml_laws.specs.Classes.{seats_of};
+ghost use Rattle.mml_laws.specs.Served.{AreServed, named_by};
+
+/// A class is a house. What `serve_host` says of a class, and `resume_class` of one that goes on, gives what the laws on
+/// houses begin with: sessions that led each window, the desk's first, from the events before the class, and the log of
+/// one list. So each event of the class is named by exactly one reply.
+pub fn a_class_is_a_house<S, K, C, R, W>()
+    ensures hosted { (begun : List Event) (given : ℕ → Option Kept) (lab : LabValue)
+        (sink : S → Option (List ℕ)) (remaining : R → Option (List ℕ)) (contents : W → Option (List ℕ))
+        (recorded : C → Option Kept) (shows : K → ServedSession R W)
+        (to_desk to_come : Option (List (R × W))) (house : Hosted S K C)
+        (h : HostsFrom begun given lab sink remaining contents recorded shows to_desk to_come house) →
+        (sessions : List (List (List Reply))) × AreServed lab begun sessions (h.desk_windows ++ h.windows)
+        × IsLogFrom (length begun) lab sink (h.desk_windows ++ h.windows) house.log
+        × IsEachOnceFrom (length begun) (length house.log.events) (named_by sessions) }
+    ensures resumed { (lab : LabValue) (old first : List ℕ) (given : ℕ → Option Kept)
+        (sink : S → Option (List ℕ)) (remaining : R → Option (List ℕ)) (contents : W → Option (List ℕ))
+        (recorded : C → Option Kept) (shows : K → ServedSession R W)
+        (to_desk to_come : Option (List (R × W))) (wrote now : Option (List ℕ)) (house : Hosted S K C)
+        (r : Resumes lab old first given sink remaining contents recorded shows to_desk to_come wrote now house) →
+        (sessions : List (List (List Reply)))
+        × AreServed lab r.begun sessions (r.hosts.desk_windows ++ r.hosts.windows)
+        × IsLogFrom (length r.begun) lab sink (r.hosts.desk_windows ++ r.hosts.windows) house.log
+        × IsEachOnceFrom (length r.begun) (length house.log.events) (named_by sessions) }
+{}
+
+/// A class whose recorders have kept nothing before has recorded seats: each seat's sessions led its window from the
+/// events before the class, and its recorder from nothing, to what they are at the end. So what each recorder has kept is
+/// the text of a record beside the one list, or a beginning of that. The recorders that a class begins with have kept
+/// nothing before if each of them is empty.
+pub fn a_class_has_recorded_seats<S, K, C, R, W>()
+    ensures seats { (begun : List Event) (given : ℕ → Option Kept) (lab : LabValue)
+        (sink : S → Option (List ℕ)) (remaining : R → Option (List ℕ)) (contents : W → Option (List ℕ))
+        (recorded : C → Option Kept) (shows : K → ServedSession R W)
+        (to_desk to_come : Option (List (R × W))) (house : Hosted S K C)
+        (h : HostsFrom begun given lab sink remaining contents recorded shows to_desk to_come house) →
+        ((n : ℕ) → 0 < n → n ≤ lab.sessions → given n ≡ Some fresh) →
+        AllZip (IsResumedSeat lab begun) (seats_of recorded shows house) (h.desk_windows ++ h.windows)
+        × AllZip (λ p w. IsRecordText lab house.log.events p.number p.kept w.places)
+        (seats_of recorded shows house) (h.desk_windows ++ h.windows) }
+    ensures kept { (recorded : C → Option Kept) (shows : K → ServedSession R W) (cs : List C) (n : ℕ) →
+        AllByRecursion (λ c. recorded c ≡ Some fresh) cs → 0 < n → n ≤ length cs →
+        kept_from recorded 1 cs n ≡ Some fresh }
+{}

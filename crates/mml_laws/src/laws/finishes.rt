@@ -1,0 +1,27 @@
+//! How runs can be finished. Each law is the contract of a function that does nothing.
+ghost use Rattle.std.specs.Prelude.{◌≡◌, ◌+◌, ◌≤◌, ℕ, false, List, length, Ok};
+ghost use Rattle.mml_lab.specs.Labs.{LabValue, link_count};
+ghost use Rattle.mml_lab_file.specs.Reading.{lab_of};
+ghost use Rattle.mml_board.specs.declared.event.Event.{Event};
+ghost use Rattle.mml_convergence.specs.Rest.{EachHasOwner};
+ghost use Rattle.mml_bounds.specs.Most.{events_to_rest};
+ghost use Rattle.mml_codec.specs.declared.reply.Reply.{Reply};
+ghost use Rattle.mml_hall.specs.Halls.{IsHall};
+ghost use Rattle.mml_hall.specs.Turns.{State, opening};
+ghost use Rattle.mml_laws.specs.Finishes.{FinishesByAsking};
+
+/// A run can always be finished by asking. In a hall whose journal isn't halted, and in which 6n + 4 min(L, n²/4) events
+/// more are allowed, for n nodes and L links, some script of at most so many requests, beside a bye and a hello before
+/// each, is granted all of them and ends with no node privileged. So does some script from the beginning of each lab
+/// that bytes spell and that allows so many events.
+pub fn a_run_can_always_be_finished_by_asking()
+    ensures run { (lab : LabValue) (st : State) → IsHall lab st → st.halted ≡ false →
+        EachHasOwner lab.roster (length lab.ids) →
+        st.world.place + events_to_rest (length lab.ids) (link_count st.world.network) ≤ lab.events →
+        (es : List Event) × (rs : List Reply) × (end : State) × FinishesByAsking lab st
+        (events_to_rest (length lab.ids) (link_count st.world.network)) es rs end }
+    ensures lab { (bytes : List ℕ) (lab : LabValue) → lab_of bytes ≡ Ok lab →
+        events_to_rest (length lab.ids) (link_count lab.network) ≤ lab.events →
+        (es : List Event) × (rs : List Reply) × (end : State) × FinishesByAsking lab (opening lab)
+        (events_to_rest (length lab.ids) (link_count lab.network)) es rs end }
+{}

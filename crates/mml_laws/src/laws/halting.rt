@@ -1,0 +1,36 @@
+//! How a house halts. Each law is the contract of a function that does nothing.
+ghost use Rattle.std.specs.Prelude.{◌≡◌, ◌⊎◌, ◌<◌, ℕ, List, Option, true};
+ghost use Rattle.std.specs.List.{AllByRecursion};
+ghost use Rattle.mml_lab.specs.declared.who.Who.{Who};
+ghost use Rattle.mml_lab.specs.Labs.{LabValue};
+ghost use Rattle.mml_policy.specs.declared.command.Command.{Command};
+ghost use Rattle.mml_policy.specs.declared.refusal.Refusal.TheVariants.{Journal};
+ghost use Rattle.mml_window.specs.declared.answer.Answer.{Answer};
+ghost use Rattle.mml_window.specs.declared.answer.Answer.TheVariants.{Refused};
+ghost use Rattle.mml_window.specs.Answers.{Decides, AnswersAtPresent};
+ghost use Rattle.mml_window.specs.Books.{BookValue};
+ghost use Rattle.mml_window.specs.Windows.{WindowValue};
+ghost use Rattle.mml_laws.specs.Halting.{Act, DecidesEach, IsNoGrant};
+
+/// The first refusal `journal` halts a house for good: after it the house's book is halted, whoever asks for whatever
+/// later, the book stays as it is, and nothing is granted. A book that runs halts by such a refusal alone, when a put of
+/// its sink fails.
+pub fn a_house_halts_for_good<S>()
+    ensures refused { (lab : LabValue) (failures : S → ℕ) (old new last : BookValue S) (who : Who)
+        (command : Command) (acts : List Act) (answers : List Answer) →
+        Decides lab failures old who command (Refused Journal) new →
+        DecidesEach lab failures new acts answers last →
+        (new.halted ≡ true) × (last ≡ new) × AllByRecursion IsNoGrant answers }
+    ensures stays { (lab : LabValue) (failures : S → ℕ) (old new : BookValue S)
+        (acts : List Act) (answers : List Answer) → old.halted ≡ true →
+        DecidesEach lab failures old acts answers new →
+        (new ≡ old) × AllByRecursion IsNoGrant answers }
+    ensures only { (lab : LabValue) (failures : S → ℕ) (old new : BookValue S) (who : Who)
+        (command : Command) (answer : Answer) → Decides lab failures old who command answer new →
+        new.halted ≡ true →
+        (old.halted ≡ true) ⊎ ((answer ≡ Refused Journal) × (failures old.sink < failures new.sink)) }
+    ensures present { (lab : LabValue) (contents : S → Option (List ℕ)) (failures : S → ℕ)
+        (old new : WindowValue) (who : Who) (command : Command)
+        (a : AnswersAtPresent lab contents failures old who command (Refused Journal) new) →
+        (a.after.halted ≡ true) × (a.after.events ≡ a.before.events) }
+{}

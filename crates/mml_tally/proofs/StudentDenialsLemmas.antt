@@ -1,0 +1,89 @@
+-- What the clauses denied is the sum over their denials; and a text of denials with one line more.
+use Rattle.std.proofs.Common.{◌≡◌, ℕ, ◌+◌, add-one, Bool, true, false, cond, List, [], ◌∷◌, ◌++◌, append_assoc, Option, None, Some, refl, sym, ap, ◌∙◌, arith}
+use Rattle.std.specs.Prelude.{option_map}
+use Rattle.std.proofs.lemmas.Bool.Decides.{nat_tests}
+use Rattle.mml_lab.specs.declared.who.Who.TheVariants as who
+use Rattle.mml_lab.specs.Labs.{LabValue}
+use Rattle.mml_lab.specs.Rosters.{RosterValue, name_of}
+use Rattle.mml_tally.specs.declared.ask.Ask.{Ask}
+use Rattle.mml_tally.specs.declared.student_denials.StudentDenial.{StudentDenial}
+use Rattle.mml_tally.specs.declared.student_denials.StudentDenial.TheVariants as named
+use Rattle.mml_tally.specs.declared.student_denials.NamedDenials.{NamedDenials}
+use Rattle.mml_tally.specs.Asks.{is_student, asks_by, is_clause, denials_in, denials_of}
+use Rattle.mml_tally.specs.StudentDenials.{clause_named, is_named, named_in, named_of, denials_line, denials_text, IsNamed, AreNamed, AreSums}
+use Rattle.mml_tally.proofs.CountsLemmas.{one, more}
+
+-- ---- a line more
+
+-- the line of a student whose name and denials are known
+line_of : (r r' : RosterValue) (s s' : ℕ) (name : List ℕ) (denied : NamedDenials) (asks : List Ask) → r ≡ r' → s ≡ s' → name ≡ name_of r (who.Student s)
+    → denied ≡ named_of asks s → denials_line name denied ≡ denials_line (name_of r' (who.Student s')) (named_of asks s')
+line_of r r' s s' name denied asks er es en ed =
+    let n : name ≡ name_of r' (who.Student s') = en ∙ ap (λ z. name_of z (who.Student s)) er ∙ ap (λ z. name_of r' (who.Student z)) es in
+    let d : denied ≡ named_of asks s' = ed ∙ ap (named_of asks) es in
+    λ k. denials_line (n k) (d k)
+
+pub next_named : (lab : LabValue) (asks : List Ask) (now before first : List ℕ) (r : RosterValue) (s place : ℕ) (name : List ℕ) (denied : NamedDenials)
+    → before ≡ first ++ denials_text lab asks place → now ≡ before ++ denials_line name denied → r ≡ lab.roster → s ≡ place
+    → name ≡ name_of r (who.Student s) → denied ≡ named_of asks s → now ≡ first ++ denials_text lab asks (place + 1)
+next_named lab asks now before first r s place name denied b n er es en ed =
+    let line = line_of r lab.roster s place name denied asks er es en ed in
+    let more : denials_text lab asks (place + 1) ≡ denials_text lab asks place ++ denials_line (name_of lab.roster (who.Student place)) (named_of asks place) =
+    rw add-one refl in
+    n ∙ ap (λ t. t ++ denials_line name denied) b ∙ append_assoc first (denials_text lab asks place) (denials_line name denied)
+    ∙ ap (λ t. first ++ (denials_text lab asks place ++ t)) line ∙ ap (λ t. first ++ t) (sym more)
+
+-- ---- by clause and by name
+
+-- how many of the denials of clause 1 this is
+abbrev of_first : Option StudentDenial → ℕ
+of_first n = one (is_named named.Greeted n) + one (is_named named.Hidden n) + one (is_named named.NotOwner n) + one (is_named named.NotTeacher n)
+
+first_is : (n : Option StudentDenial) → one (is_clause 1 (option_map clause_named n)) ≡ of_first n
+first_is None = refl
+first_is (Some named.Greeted) = refl
+first_is (Some _) = refl
+
+second_is : (n : Option StudentDenial) → one (is_clause 2 (option_map clause_named n)) ≡ one (is_named named.Stale n)
+second_is None = refl
+second_is (Some named.Stale) = refl
+second_is (Some _) = refl
+
+third_is : (n : Option StudentDenial) → one (is_clause 3 (option_map clause_named n)) ≡ one (is_named named.Chosen n)
+third_is None = refl
+third_is (Some named.Chosen) = refl
+third_is (Some _) = refl
+
+fourth_is : (n : Option StudentDenial) → one (is_clause 4 (option_map clause_named n)) ≡ one (is_named named.Guard n)
+fourth_is None = refl
+fourth_is (Some named.Guard) = refl
+fourth_is (Some _) = refl
+
+-- the clause that denied a line, as it is known by the denial's name
+clause_is : (c : ℕ) (denied : Option ℕ) (n : Option StudentDenial) → denied ≡ option_map clause_named n
+    → one (is_clause c denied) ≡ one (is_clause c (option_map clause_named n))
+clause_is c denied n e = λ k. one (is_clause c (e k))
+
+sums_more : (a : Ask) (own : List Ask) → a.denied ≡ option_map clause_named a.named → AreSums (denials_in own) (named_in own)
+    → AreSums (denials_in (a ∷ own)) (named_in (a ∷ own))
+sums_more a own e rest =
+    let clause = λ (c : ℕ). more (λ (x : Ask). is_clause c x.denied) a own in
+    let name = λ (d : StudentDenial). more (λ (x : Ask). is_named d x.named) a own in (
+      omega (arith, rest.0, clause 1, clause_is 1 a.denied a.named e, first_is a.named, name named.Greeted, name named.Hidden, name named.NotOwner, name named.NotTeacher),
+      omega (arith, rest.1, clause 2, clause_is 2 a.denied a.named e, second_is a.named, name named.Stale),
+      omega (arith, rest.2, clause 3, clause_is 3 a.denied a.named e, third_is a.named, name named.Chosen),
+      omega (arith, rest.3, clause 4, clause_is 4 a.denied a.named e, fourth_is a.named, name named.Guard),
+    )
+
+-- the line of a student who is known is named
+own_named : (s : ℕ) (w denied : Option ℕ) (n : Option StudentDenial) → IsNamed w denied n → is_student s w ≡ true → denied ≡ option_map clause_named n
+own_named s w denied n h b = grind (arith, nat_tests)
+
+sums_if : (a : Ask) (own : List Ask) (b : Bool) → (b ≡ true → a.denied ≡ option_map clause_named a.named) → AreSums (denials_in own) (named_in own)
+    → AreSums (denials_in (cond b (a ∷ own) own)) (named_in (cond b (a ∷ own) own))
+sums_if a own true e rest = sums_more a own (e refl) rest
+sums_if a own false e rest = rest
+
+pub are_sums : (asks : List Ask) (s : ℕ) → AreNamed asks → AreSums (denials_of asks s) (named_of asks s)
+are_sums [] s h = (refl, refl, refl, refl)
+are_sums (a ∷ asks) s h = sums_if a (asks_by s asks) (is_student s a.who) (own_named s a.who a.denied a.named h.0) (are_sums asks s h.1)

@@ -1,0 +1,36 @@
+-- The rounds of a run since its last fault, link or cut.
+use Rattle.std.specs.Prelude.{ℕ, ◌+◌, ◌==◌, Bool, not, if◌then◌else◌, List, [], ◌∷◌, ◌++◌, take, drop, codes}
+use Rattle.mml_ids.specs.Search.{count_below}
+use Rattle.mml_lab.specs.Labs.{LabValue}
+use Rattle.mml_board.specs.declared.event.Event.{Event}
+use Rattle.mml_board.specs.World.{World, size, opening_of}
+use Rattle.mml_board.specs.Runs.{world_of}
+use Rattle.mml_convergence.specs.Rounds.{is_served}
+use Rattle.mml_tally.specs.Runs.{last_change}
+use Rattle.mml_tally.specs.Texts.{numbers_text}
+
+-- in these events each node has its turn: there are no nodes without one
+abbrev pub is_round : World → List Event → Bool
+is_round w es = count_below (size w) (λ i. not (is_served i w es)) == 0
+
+-- how many rounds end in the events es, if a round begins in w with the events fs before them. A round ends with the
+-- first event by which each node has had its turn in it, and the next round begins there
+abbrev pub rounds_from : World → List Event → List Event → ℕ
+rounds_from w fs [] = 0
+rounds_from w fs (e ∷ es) = if is_round w (fs ++ e ∷ []) then 1 + rounds_from (world_of w (fs ++ e ∷ [])) [] es else rounds_from w (fs ++ e ∷ []) es
+
+-- how many rounds end in the events, one after another
+abbrev pub rounds_in : World → List Event → ℕ
+rounds_in w es = rounds_from w [] es
+
+-- how many rounds end in the events after the first k
+abbrev pub rounds_after : ℕ → World → List Event → ℕ
+rounds_after k w es = rounds_in (world_of w (take k es)) (drop k es)
+
+-- how many rounds end in the events after the last fault, link or cut
+abbrev pub rounds_since : World → List Event → ℕ
+rounds_since w es = rounds_after (last_change 0 1 es) w es
+
+-- the line of the rounds of a lab's run since its last fault, link or cut
+abbrev pub rounds_line : LabValue → List Event → List ℕ
+rounds_line lab es = codes "rounds" ++ (numbers_text (rounds_since (opening_of lab.network) es ∷ []) ++ codes "\n")

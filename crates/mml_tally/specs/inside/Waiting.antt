@@ -1,0 +1,30 @@
+-- Rounds, counted by the nodes that wait for their turn.
+use Rattle.std.specs.Prelude.{ℕ, ◌+◌, ◌==◌, if◌then◌else◌, List, [], ◌∷◌}
+use Rattle.std.specs.Ordering.{nat_cmp}
+use Rattle.std.specs.FinSet as set
+use Rattle.std.specs.FinSet.{FinSet}
+use Rattle.mml_ids.specs.Sets.{those_below}
+use Rattle.mml_rules.specs.Rules.{is_privileged}
+use Rattle.mml_board.specs.declared.event.Event.{Event}
+use Rattle.mml_board.specs.World.{World, size, configuration}
+use Rattle.mml_board.specs.Events.{chosen_nodes, after}
+use Rattle.mml_convergence.specs.Moves.{is_close}
+
+-- the nodes that are privileged: they wait when a round begins
+unfoldable pub privileged_nodes : World → FinSet nat_cmp
+privileged_nodes w = those_below (size w) (is_privileged (configuration w))
+
+-- the nodes of which an event applies a move
+abbrev pub moved_nodes : World → Event → FinSet nat_cmp
+moved_nodes w e = if is_close e then chosen_nodes w else set.empty
+
+-- the waiting nodes that wait after an event still: it applies no move of theirs, and leaves them privileged
+abbrev pub still_waiting : World → FinSet nat_cmp → Event → FinSet nat_cmp
+still_waiting w waiting e = set.intersection (set.difference waiting (moved_nodes w e)) (privileged_nodes (after w e))
+
+-- how many rounds end in the events, if these nodes wait in the round that has begun
+abbrev pub count_rounds : World → FinSet nat_cmp → List Event → ℕ
+count_rounds w waiting [] = 0
+count_rounds w waiting (e ∷ es) =
+    if set.len (still_waiting w waiting e) == 0 then 1 + count_rounds (after w e) (privileged_nodes (after w e)) es
+    else count_rounds (after w e) (still_waiting w waiting e) es

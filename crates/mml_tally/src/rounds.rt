@@ -1,0 +1,116 @@
+//! The rounds of a run since its last fault, link or cut.
+ghost use Rattle.std.specs.Prelude.{◌≡◌, ◌≤◌, ◌++◌, true, length, take, IfOk, OnOk};
+ghost use Rattle.mml_board.specs.World.{opening_of};
+ghost use Rattle.mml_board.specs.Events.{can_absorb, after};
+ghost use Rattle.mml_board.specs.Lists.{is_legal_in, world_in};
+ghost use Rattle.mml_tally.specs.Rounds.{rounds_after, rounds_since, rounds_line};
+ghost use Rattle.mml_tally.specs.inside.Waiting.{privileged_nodes, moved_nodes, still_waiting};
+
+use crate::run::last_change;
+use crate::text::put_numbers;
+use mml_board::{Board, Event};
+use mml_ids::{Memory, NodeSet, Piece, Rank, put};
+use mml_lab::Lab;
+use mml_rules::Scene;
+use std::alloc::Global;
+
+/// Appends the line of the rounds since the last fault, link or cut.
+pub fn put_rounds(
+    out: &mut Vec<u8>,
+    alloc: Global,
+    lab: &Lab,
+    events: &[Event],
+) -> Result<(), Memory>
+    requires { is_legal_in lab.now events.now ≡ true }
+    ensures { OnOk result (out.new.items ≡ out.old.items ++ rounds_line lab.now events.now) }
+{
+    let rounds = rounds_since(alloc, lab, events)?;
+    put(out, &[Piece::Text("rounds")])?;
+    put_numbers(out, &[rounds])?;
+    put(out, &[Piece::Text("\n")])
+}
+
+/// Returns how many rounds of a lab's run ended after its last fault, link or cut. A round ends with the event by which
+/// each node has had its turn in it: at some point the node wasn't privileged, or a close applied its move.
+pub fn rounds_since(alloc: Global, lab: &Lab, events: &[Event]) -> Result<u64, Memory>
+    requires { is_legal_in lab.now events.now ≡ true }
+    ensures { IfOk result
+        (λ rounds. rounds ≡ rounds_since (opening_of lab.now.network) events.now) }
+{
+    let since = last_change(events);
+    let mut board = Board::new(alloc, lab)?;
+    replay(lab, events, &mut board, since);
+    Ok(count_rounds(lab, events, &mut board, since))
+}
+
+/// Applies the first `count` events to the board, which is at the beginning of the run.
+fn replay(lab: &Lab, events: &[Event], board: &mut Board, count: usize)
+    requires legal { is_legal_in lab.now events.now ≡ true }
+    requires board { board.old ≡ opening_of lab.now.network }
+    requires few { count ≤ length events.now }
+    ensures { board.new ≡ world_in lab.now (take count events.now) }
+{
+    // By what this getter ensures, the lab is lawful.
+    let _nodes = lab.node_count();
+    'events: for index in 0..count {
+        board.apply(events[index]);
+    }
+}
+
+/// Returns how many rounds end after the first `since` events, and applies the later events to the board. The board
+/// must be the world that the first `since` events led to.
+fn count_rounds(lab: &Lab, events: &[Event], board: &mut Board, since: usize) -> u64
+    requires legal { is_legal_in lab.now events.now ≡ true }
+    requires board { board.old ≡ world_in lab.now (take since events.now) }
+    requires few { since ≤ length events.now }
+    ensures { result ≡ rounds_after since (opening_of lab.now.network) events.now }
+{
+    // By what this getter ensures, the lab is lawful.
+    let _nodes = lab.node_count();
+    let mut waiting = privileged_nodes(board);
+    let mut rounds = 0;
+    'events: for index in since..events.len() {
+        waiting = take_event(board, waiting, &events[index]);
+        if waiting.len() == 0 {
+            rounds += 1;
+            waiting = privileged_nodes(board);
+        }
+    }
+    rounds
+}
+
+/// Applies an event to the board. Returns those of the `waiting` nodes that still wait for their turn in the round: the
+/// event applied no move of theirs, and they are privileged after it.
+fn take_event(board: &mut Board, waiting: NodeSet, event: &Event) -> NodeSet
+    requires { can_absorb board.old event.now ≡ true }
+    ensures board { board.new ≡ after board.old event.now }
+    ensures waiting { result ≡ still_waiting board.old waiting event.now }
+{
+    let moved = moved_nodes(board, event);
+    board.apply(*event);
+    waiting.without(moved).both(privileged_nodes(board))
+}
+
+/// Returns the nodes whose moves the event applies: those with a chosen move if it is a close, and else none.
+fn moved_nodes(board: &Board, event: &Event) -> NodeSet
+    ensures { result ≡ moved_nodes board.now event.now }
+{
+    match event {
+        Event::Close => board.chosen_set(),
+        _ => NodeSet::empty(),
+    }
+}
+
+/// Returns the nodes that are privileged.
+fn privileged_nodes(board: &Board) -> NodeSet
+    ensures { result ≡ privileged_nodes board.now }
+{
+    let mut nodes = NodeSet::empty();
+    for index in 0..board.size() {
+        let node = Rank::at(index);
+        if board.enabled(node).is_some() {
+            nodes = nodes.with(node);
+        }
+    }
+    nodes
+}
