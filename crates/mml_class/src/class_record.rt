@@ -25,22 +25,23 @@ pub const MAX_RECORD: u32 = 1_073_741_824;
 // The most bytes of the text that says how many events came before.
 const MAX_BEGUN: u32 = 20;
 
-/// What the record of a class comes to.
+/// The result of reading the record of a class that passes.
 #[derive(Debug, Drop)]
 pub struct ClassRecord {
-    /// How many events came before it.
+    /// How many events came before the record.
     pub begun: u64,
+    /// The findings of the texts of all seats together.
     pub findings: Findings,
-    /// What its lines asked, in the order of seats, if that was wanted.
+    /// What the lines asked, in the order of seats, or nothing if that wasn't asked for.
     pub asks: Vec<Ask>,
 }
 
 /// Why texts are no record of a class, or couldn't be read.
 #[derive(Clone, Copy, Debug)]
 pub enum ClassFault {
-    /// The text of this seat has an entry that can't be.
+    /// The text of this seat has a bad entry, of which this is the first.
     Entry { seat: u8, bad: BadEntry },
-    /// The events aren't granted once.
+    /// The places that the texts grant have this fault.
     Places(Misgranted),
     /// A text couldn't be read.
     Unread(SeatFault),
@@ -58,9 +59,8 @@ impl From<SeatFault> for ClassFault {
 }
 
 /// Reads the texts of all seats as the record of a class, beside the list of events of a journal of the lab: first how
-/// many events came before, then seat by seat, and last whether the events are granted once. The error is the first that
-/// is found, or that a text can't be read. What the lines asked is returned too if `with_asks` is set, and then each text
-/// is held as a whole.
+/// many events came before, then seat by seat, and last whether the events are granted once. Returns the first fault
+/// that is found. If `with_asks` is set, also returns what the lines asked, and holds each text as a whole for that.
 pub fn read_class<R: Read + Drop, S: Seats<R>>(
     alloc: Global,
     lab: &Lab,
@@ -105,7 +105,8 @@ pub fn read_class<R: Read + Drop, S: Seats<R>>(
     }
 }
 
-// Returns what is first found amiss with the places that records grant, as `find_misgranted` does.
+// Returns the first fault in the places that records grant, or `None` if there is none, as `find_misgranted` does.
+// Returns `Memory` if memory runs out.
 fn find_amiss(
     alloc: Global,
     places: &[u64],
@@ -121,7 +122,8 @@ fn find_amiss(
     }
 }
 
-// Returns how many events came before the record.
+// Reads how many events came before the record, and returns it. Returns `Read` if the text can't be read, or isn't
+// such a number, and `Memory` if memory runs out.
 fn read_begun<R: Read + Drop, S: Seats<R>>(alloc: Global, seats: &S) -> Result<u64, SeatFault>
     ensures { (start : List ℕ) → S.begun seats.now ≡ Some start →
         IfOk result (λ begun. begun_in start ≡ Some begun) }
@@ -134,8 +136,9 @@ fn read_begun<R: Read + Drop, S: Seats<R>>(alloc: Global, seats: &S) -> Result<u
     }
 }
 
-// Reads the record of one seat more, and adds what it comes to to `findings`. The places that it grants go after
-// `granted`, and what its lines asked after `asks`, if that is wanted.
+// Reads the record of one more seat, and adds its findings to `findings`. Appends the places that it grants to
+// `granted`, and what its lines asked to `asks` if `with_asks` is set. Returns its first bad entry, or why it can't be
+// read, if there is such a fault.
 fn read_seat<R: Read + Drop, S: Seats<R>>(
     alloc: Global,
     lab: &Lab,
@@ -165,7 +168,9 @@ fn read_seat<R: Read + Drop, S: Seats<R>>(
     }
 }
 
-// Reads a seat's text as a record: by pieces, or, if what its lines asked is wanted, as a whole.
+// Reads a seat's text as a record, and returns the verdict on it. If `with_asks` is set, reads the text as a whole,
+// and appends what its lines asked to `asks` if it passes; else reads it piece by piece. Appends the places that it
+// grants to `granted`.
 fn read_text<R: Read + Drop>(
     alloc: Global,
     lab: &Lab,
@@ -189,7 +194,8 @@ fn read_text<R: Read + Drop>(
     }
 }
 
-// Reads a seat's text as a record, and what its lines asked.
+// Reads a seat's text as a record, and returns the verdict on it. Appends the places that it grants to `granted`, and,
+// if it passes, what its lines asked to `asks`.
 fn read_asked(
     alloc: Global,
     lab: &Lab,
@@ -212,7 +218,9 @@ fn read_asked(
     }
 }
 
-// Reads what a reader gives as a record of a seat, by pieces.
+// Reads a reader's bytes as a record of a seat, piece by piece, and returns the verdict on it. Appends the places that
+// it grants to `granted`. Returns `Read` if a read fails, or the text or an entry is too long, and `Memory` if memory
+// runs out.
 fn read_pieces<R: Read + Drop>(
     alloc: Global,
     lab: &Lab,
@@ -233,7 +241,8 @@ fn read_pieces<R: Read + Drop>(
     }
 }
 
-// Returns all bytes of a reader, if they are no more than `limit`.
+// Returns all bytes of a reader. Returns `Read` if a read fails, or there are more than `limit`, and `Memory` if
+// memory runs out.
 fn read_all<R: Read + Drop>(alloc: Global, reader: R, limit: u32) -> Result<Vec<u8>, SeatFault>
     ensures { IfOk result (λ bytes. IfSome (R.remaining reader) (λ text. bytes.items ≡ text)) }
 {

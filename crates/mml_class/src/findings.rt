@@ -9,7 +9,7 @@ ghost use Rattle.mml_class.specs.inside.Seats.{no_findings};
 use mml_ids::NodeSet;
 use mml_tally::Findings;
 
-/// Returns what nothing comes to: no session and no line, and nothing left out.
+/// Returns the findings of a record without entries: no session, no line, and nothing left out.
 pub(crate) fn no_findings() -> Findings
     ensures { result ≡ no_findings }
 {
@@ -23,7 +23,7 @@ pub(crate) fn no_findings() -> Findings
     }
 }
 
-/// Returns what two parts of a record come to together. Its sums stop at the greatest number of 64 bits.
+/// Returns the findings of two parts of a record as those of one. Sums stop at the greatest number of 64 bits.
 pub(crate) fn together(a: &Findings, b: &Findings) -> Findings
     ensures sessions { result.sessions ≡ counted (a.now.sessions + b.now.sessions) }
     ensures lines { result.lines ≡ counted (a.now.lines + b.now.lines) }
@@ -41,7 +41,7 @@ pub(crate) fn together(a: &Findings, b: &Findings) -> Findings
     }
 }
 
-// Returns the ranks that are in either set.
+// Returns the union of two sets of ranks.
 fn union(a: NodeSet, b: NodeSet) -> NodeSet
     ensures { (q : ℕ) → set.contains result q ≡ (set.contains a q || set.contains b q) }
 {

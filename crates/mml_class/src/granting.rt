@@ -17,7 +17,7 @@ pub enum Misgranted {
     Nowhere(u64),
 }
 
-// Returns a mark for each place from 0 to `count`, none of which is set.
+// Returns a mark for each place from 0 to `count`, none of which is set. Returns `Memory` if memory runs out.
 fn no_marks(alloc: Global, count: u64) -> Result<Vec<bool>, Memory>
     ensures length { IfOk result (λ marks. length marks.items ≡ count + 1) }
     ensures unset { IfOk result (λ marks. (p : ℕ) → marked marks.items p ≡ 0) }
@@ -30,7 +30,8 @@ fn no_marks(alloc: Global, count: u64) -> Result<Vec<bool>, Memory>
     Ok(marks)
 }
 
-// Marks a place after `begun` that has no mark yet, or returns what is amiss with the place.
+// Sets the mark of a place. Returns `None` if the place is after `begun`, has a mark, and the mark wasn't set.
+// Otherwise changes nothing, and returns what is wrong with the place.
 fn mark(marks: &mut Vec<bool>, begun: u64, place: u64) -> Option<Misgranted>
     ensures { IsMarked begun place marks.old.items marks.new.items result }
 {
@@ -45,7 +46,7 @@ fn mark(marks: &mut Vec<bool>, begun: u64, place: u64) -> Option<Misgranted>
     None
 }
 
-// Returns the first place after `begun` that has no mark, which is granted nowhere then; `None` if each has one.
+// Returns the first place after `begun` whose mark isn't set, since it is granted nowhere, or `None` if each is set.
 fn first_unmarked(marks: &[bool], begun: u64) -> Option<Misgranted>
     ensures { IsUnmarked begun marks.now result }
 {
@@ -58,9 +59,9 @@ fn first_unmarked(marks: &[bool], begun: u64) -> Option<Misgranted>
     None
 }
 
-/// Returns what is first found amiss with the places that records grant; `None` if nothing is. Each of `places` has to
-/// be one from `begun` + 1 to `count`, and none may be there twice. If the records are `whole`, each number from
-/// `begun` + 1 to `count` has to be there. The error is that memory ran out.
+/// Returns the first fault in the places that records grant, or `None` if there is none. Each of `places` must be one
+/// from `begun` + 1 to `count`, and none may be there twice. If the records are `whole`, each number from `begun` + 1
+/// to `count` must be there. Returns `Memory` if memory runs out.
 pub fn find_misgranted(
     alloc: Global,
     places: &[u64],

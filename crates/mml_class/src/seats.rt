@@ -13,7 +13,7 @@ pub enum SeatFault {
 }
 
 impl From<Memory> for SeatFault {
-    // Returns the fault of a growth that was refused.
+    // Returns the fault for a failed allocation.
     fn from(_memory: Memory) -> SeatFault {
         SeatFault::Memory
     }
@@ -27,11 +27,12 @@ pub trait Seats<R: Read> {
     // The bytes of the record of the seat with a number, if they are known.
     ghost text: { Self → ℕ → Option (List ℕ) };
 
-    /// Opens the text that says how many events came before.
+    /// Opens the text that says how many events came before. Returns a reader at its beginning, or why it can't be
+    /// opened.
     fn open_begun(&self) -> Result<R, SeatFault>
         ensures { IfOk result (λ reader. IfSome (begun self.now) (λ bytes. R.remaining reader ≡ Some bytes)) };
 
-    /// Opens the record of the seat with this number.
+    /// Opens the record of the seat with this number. Returns a reader at its beginning, or why it can't be opened.
     fn open_seat(&self, number: u8) -> Result<R, SeatFault>
         ensures { IfOk result (λ reader. IfSome (text self.now number) (λ bytes. R.remaining reader ≡ Some bytes)) };
 }

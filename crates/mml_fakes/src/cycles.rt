@@ -2,13 +2,14 @@
 use std::alloc::{AllocError, Global};
 use std::fmt::Write;
 
+/// The lines of the teacher and of the two students.
 const PEOPLE: &str = r#"teacher = { name = "tess", key = "chalk" }
 student = [{ name = "ana", key = "a-key" }, { name = "ben", key = "b-key" }]
 "#;
 
-/// Returns the lab file of a cycle of `nodes` nodes (three or more), from 1 on, for this many events and connections.
-/// The first half, rounded down, is of ana, the others of ben; the teacher is tess. Returns an error if memory runs
-/// out.
+/// Returns the lab file of a cycle of `nodes` nodes (three or more), numbered from 1, with these limits of events and
+/// sessions. Ana owns the first half of the nodes, rounded down, and ben the others; the teacher is tess. Returns an
+/// error if memory runs out.
 pub fn cycle(alloc: Global, nodes: u64, events: u64, sessions: u64) -> Result<String, AllocError> {
     let mut text = String::from_str(alloc, PEOPLE)?;
     write!(text, "events = {events}\nsessions = {sessions}\n")?;

@@ -2,7 +2,7 @@
 use std::io;
 use std::io::{ErrorKind, Read};
 
-/// A reader that returns at most `step` bytes in a read, and after `good` reads an error of `kind`.
+/// A reader that returns at most `step` bytes in a read, and an error of `kind` after `good` reads.
 #[derive(Drop)]
 pub struct FakeReader<'a> {
     /// What was not read yet.
@@ -16,8 +16,8 @@ pub struct FakeReader<'a> {
 }
 
 impl<'a> FakeReader<'a> {
-    /// Returns a reader of which each of the first `good` reads returns one byte of `rest`, or 0 bytes if none is left,
-    /// and each later one fails as `Other`.
+    /// Returns a reader whose first `good` reads each return the next byte of `rest`, or 0 bytes if none is left. Each
+    /// later read fails with the error `Other`.
     pub fn failing_after(good: usize, rest: &'a [u8]) -> FakeReader<'a> {
         FakeReader {
             rest,

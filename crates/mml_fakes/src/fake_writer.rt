@@ -12,8 +12,8 @@ pub enum Refusal {
     TakesNothing,
 }
 
-/// A writer that takes at most `step` bytes in each of `good` writes, and then refuses; a flush fails after
-/// `good_flushes` flushes.
+/// A writer that takes at most `step` bytes in each of `good` writes and then refuses, and whose flushes fail after
+/// `good_flushes` of them.
 #[derive(Drop)]
 pub struct FakeWriter {
     pub taken: Vec<u8>,
@@ -26,12 +26,13 @@ pub struct FakeWriter {
 }
 
 impl FakeWriter {
-    /// Returns a writer that takes all bytes, and whose flushes are good.
+    /// Returns a writer that takes all bytes of each write, and whose flushes succeed.
     pub fn patient(alloc: Global) -> FakeWriter {
         FakeWriter::failing_after(usize::MAX, alloc)
     }
 
-    /// Returns a writer that takes each of `good` writes whole, and then fails as `Other`. Its flushes are good.
+    /// Returns a writer that takes all bytes of each of `good` writes, and then fails with the error `Other`. Its
+    /// flushes succeed.
     pub fn failing_after(good: usize, alloc: Global) -> FakeWriter {
         FakeWriter {
             taken: Vec::new(alloc),
@@ -44,8 +45,8 @@ impl FakeWriter {
 }
 
 impl Write for FakeWriter {
-    // Takes at most `step` bytes and returns how many. If no good write is left, returns 0 or an error, as `refusal`
-    // says. If memory runs out, returns an error.
+    // Takes at most `step` bytes and returns how many. If no good write is left, returns 0 bytes or an error, by
+    // `refusal`. Returns an error if memory runs out.
     fn write(&mut self, buf: &[u8]) -> io::Result<usize> {
         if self.good == 0 {
             return match self.refusal {
@@ -59,7 +60,8 @@ impl Write for FakeWriter {
         Ok(len)
     }
 
-    // Fails if no good flush is left: by the error of `refusal`, or as `Other` if `refusal` is `TakesNothing`.
+    // Succeeds while good flushes are left. Then fails with the error of `refusal`, or with `Other` if that is
+    // `TakesNothing`.
     fn flush(&mut self) -> io::Result<()> {
         if self.good_flushes == 0 {
             return match self.refusal {

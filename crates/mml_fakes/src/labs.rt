@@ -5,14 +5,14 @@ use mml_lab_file::read_lab;
 use std::alloc::{AllocError, Global};
 use std::test::Fail;
 
-/// Returns the lab that a document spells, in a box: a function that holds it has one thing to drop at each return,
-/// which keeps a test's proof short. Returns an error if the document spells no lab, or memory runs out.
+/// Returns the lab that a document spells, in a box. A function that holds the box has one thing to drop at each
+/// return, which keeps a test's proof short. Returns an error if the document spells no lab, or memory runs out.
 pub fn boxed_lab(alloc: Global, document: &str) -> Result<Box<Lab>, Fail> {
     Ok(Box::new(alloc, read_lab(alloc, document.as_bytes())?)?)
 }
 
-/// Returns the board of a lab at the beginning of a run, in a box: a function that holds it has one thing to drop at
-/// each return, which keeps a test's proof short. Returns an error if memory runs out.
+/// Returns the board of a lab at the beginning of a run, in a box, for the same reason as `boxed_lab`. Returns an error
+/// if memory runs out.
 pub fn boxed_board(alloc: Global, lab: &Lab) -> Result<Box<Board>, Fail> {
     Ok(Box::new(alloc, Board::new(alloc, lab)?)?)
 }
@@ -33,14 +33,14 @@ macro_rules! lab {
     };
 }
 
-/// Nodes 1, 2 and 3 in a row, of ana, ben and cyd; the teacher is tess, four connections.
+/// Nodes 1, 2 and 3 in a row, owned by ana, ben and cyd. The teacher is tess, and there are four connections.
 pub const PATH_OF_THREE: &str = lab!(
     "links = [[1, 2], [2, 3]]\n",
     [("ana", "a-key"), ("ben", "b-key"), ("cyd", "c-key")],
     [(1, "ana", ""), (2, "ben", ""), (3, "cyd", "")]
 );
 
-/// Nodes 3, 5 and 9 in a row, 5 and 9 of ben, 3 of ana; 3 and 5 point at each other, and only 3 holds itself married.
+/// Nodes 3, 5 and 9 in a row: ana owns 3, ben owns 5 and 9. Nodes 3 and 5 point at each other, and only 3 has m set.
 pub const PAIR: &str = lab!(
     "links = [[3, 5], [5, 9]]\n",
     [("ana", "a-key"), ("ben", "b-key")],
@@ -61,9 +61,9 @@ pub const FAR_APART: &str = lab!(
     [(7, "ana", ""), (65535, "ana", "")]
 );
 
-/// Returns the file of the largest lab: 256 nodes with the greatest identifiers, each linked to each other one and of
-/// two students, 256 students with names and keys as long as may be, and the greatest limits. Returns an error if
-/// memory runs out.
+/// Returns the file of the largest lab: 256 nodes with the greatest identifiers, each linked to all others and owned by
+/// two students; 256 students with the longest names and keys; and the greatest limits. Returns an error if memory runs
+/// out.
 pub fn greatest(alloc: Global) -> Result<String, AllocError> {
     let mut text = String::from_str(alloc, "events = 100000\nsessions = 16\nlinks = [\n")?;
     for a in 65280..65536u64 {

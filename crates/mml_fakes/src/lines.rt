@@ -1,14 +1,14 @@
 //! Lines that are sent and answered, each spelled once: tests make their texts of words.
 
-/// The text of these lines, each with its end: a line is a word, with what stands in it after it. A text between
-/// them, as the number of a script's connection, is taken as it is.
+/// Makes the text of these lines, each with its newline. A line is one of the words below, with its values in
+/// parentheses. A text between the words, such as the number of a script's connection, is taken as it is.
 ///
-/// Requests are `hello`, `see`, `seduction` (of a node, in configuration 0), `close` and `bye`. What they are
-/// answered: `welcome`, `seen` (in a configuration, m, of a node, and p), `granted` (such a seduction, and its
-/// place), `closed` (the second event, which applies the move of node 1), `left`, and what is denied.
+/// Requests are `hello`, `see`, `seduction` (of a node, in configuration 0), `close` and `bye`. Replies are `welcome`,
+/// `seen` (configuration, m, node, p), `granted` (the node of a seduction, and its place), `closed` (the second event,
+/// which applies the move of node 1), `left`, and the denials.
 #[macro_export]
 macro_rules! lines {
-    // After `@` stand the end of a line and all pieces so far, then those of one more line, then the words that are
+    // After `@` come the end of a line and all pieces so far, then the pieces of one more line, then the words that are
     // left. `concat!` takes no macros, so the pieces are put together one by one.
     (@ [$end:literal $($so_far:literal)*]) => { concat!($($so_far),*) };
     (@ [$end:literal $($so_far:literal)*] [$($piece:literal)*] $($left:tt)*) => {
@@ -65,7 +65,7 @@ macro_rules! lines {
     ($($line:tt)*) => { $crate::lines!(@ ["\n"], $($line)*) };
 }
 
-/// The text of one line by its word in `lines!`, without its end.
+/// Makes the text of one line by its word in `lines!`, without the newline.
 #[macro_export]
 macro_rules! line {
     ($($word:tt)*) => { $crate::lines!(@ [""], $($word)*) };

@@ -1,7 +1,7 @@
 //! Scripts that several tests share, with their replies.
 use crate::lines;
 
-/// Returns the first `count` lines of a text, each with its newline; the whole text if it has fewer newlines than that.
+/// Returns the first `count` lines of a text, each with its newline, or the whole text if it has fewer newlines.
 pub fn first_lines(text: &str, count: u64) -> &str {
     let mut rest = text;
     for _ in 0..count {
@@ -13,18 +13,18 @@ pub fn first_lines(text: &str, count: u64) -> &str {
     text.strip_suffix(rest).unwrap_or(text)
 }
 
-/// Returns how many lines of a text have their end, which is a newline.
+/// Returns how many lines of a text end with a newline.
 pub fn ended_lines(text: &[u8]) -> usize {
     text.iter().filter(|byte| **byte == b'\n').count()
 }
 
-/// One connection's greeting of a student over `labs::PATH_OF_THREE`, and a move of her node.
+/// Ana's greeting and a move of node 1, which is hers over `labs::PATH_OF_THREE`, as lines of one connection.
 pub const ANA_MOVES: &str = lines!(hello("ana", "a-key"), seduction(1));
 
-/// What is answered to the greeting in `ANA_MOVES`.
+/// The reply to the greeting in `ANA_MOVES`.
 pub const ANA_WELCOME: &str = lines!(welcome("ana"));
 
-/// What is answered to `ANA_MOVES` if the move is the first event.
+/// The replies to `ANA_MOVES` if the move is the first event.
 pub const ANA_GRANTED: &str = lines!(welcome("ana"), granted(1, 1));
 
 /// The journal once the move of `ANA_MOVES` is granted.
@@ -42,10 +42,10 @@ pub const BEN_MOVES: &str = lines!(hello("ben", "b-key"), seduction(2), bye);
 /// The teacher's greeting, a close of the step, and a bye.
 pub const TESS_CLOSES: &str = lines!(hello("tess", "chalk"), close, bye);
 
-/// What is answered to `TESS_CLOSES` if no node is chosen.
+/// The replies to `TESS_CLOSES` if no node is chosen.
 pub const NOTHING_CLOSED: &str = lines!(welcome("tess"), empty, left);
 
-/// Greetings on two connections, and what is asked before and after them.
+/// Greetings on two connections, some of them refused, and requests before and after them.
 pub const GREETING: &str = r#"1 {"do":"see","node":1}
 1 {"do":"hello","key":"a-key","name":"ana"}
 2 {"do":"hello","key":"a-key","name":"zoe"}
@@ -55,7 +55,7 @@ pub const GREETING: &str = r#"1 {"do":"see","node":1}
 1 {"do":"see","node":1}
 "#;
 
-/// What is answered to `GREETING` over `labs::PATH_OF_THREE`.
+/// The replies to `GREETING` over `labs::PATH_OF_THREE`.
 pub const GREETING_REPLIES: &str = r#"1 {"clause":0,"deny":"not-greeted","text":"say hello first"}
 1 {"ok":"hello","who":"ana"}
 2 {"clause":2,"deny":"unknown","text":"name and key do not match"}
@@ -65,14 +65,14 @@ pub const GREETING_REPLIES: &str = r#"1 {"clause":0,"deny":"not-greeted","text":
 1 {"clause":0,"deny":"not-greeted","text":"say hello first"}
 "#;
 
-/// A student says hello, and asks for a node that she sees and two that she does not.
+/// Ana's greeting, and sees of a node that is shown to her and of two that aren't.
 pub const FIRST_LOOK: &str = r#"1 {"do":"hello","key":"a-key","name":"ana"}
 1 {"do":"see","node":2}
 1 {"do":"see","node":3}
 1 {"do":"see","node":99}
 "#;
 
-/// What is answered to `FIRST_LOOK` over `labs::PATH_OF_THREE`.
+/// The replies to `FIRST_LOOK` over `labs::PATH_OF_THREE`.
 pub const FIRST_LOOK_REPLIES: &str = lines!(
     "1 ",
     welcome("ana"),
@@ -84,7 +84,7 @@ pub const FIRST_LOOK_REPLIES: &str = lines!(
     hidden
 );
 
-/// The greetings of all four over `labs::PATH_OF_THREE`.
+/// The greetings of the three students and the teacher of `labs::PATH_OF_THREE`, on a connection each.
 pub const GREETINGS: &str = r#"1 {"do":"hello","key":"a-key","name":"ana"}
 2 {"do":"hello","key":"b-key","name":"ben"}
 3 {"do":"hello","key":"c-key","name":"cyd"}
@@ -104,7 +104,7 @@ pub const TEN_ACTS: &str = r#"1 {"at":0,"do":"move","node":1,"rule":"seduction"}
 4 {"do":"close"}
 "#;
 
-/// The journal of ten acts over `labs::PATH_OF_THREE`, up to a pair that holds.
+/// The journal of `TEN_ACTS` over `labs::PATH_OF_THREE`, at whose end nodes 2 and 3 are a pair.
 pub const TEN_LINES: &str = r#"1 0 grant ana 1 seduction
 2 0 grant ben 2 seduction
 3 0 close

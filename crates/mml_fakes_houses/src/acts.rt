@@ -8,13 +8,12 @@ use mml_lab::{Student, Who};
 use mml_policy::{Asked, Command};
 use mml_window::Answer;
 
-/// Returns the student with this index, from 0 on in the order of the lab file, as one who asks.
+/// Returns the student with this index as one who asks. Students are counted from 0 in the order of the lab file.
 pub fn student(index: u16) -> Who {
     Who::Student(Student::new(index))
 }
 
-/// Returns the command of a move by Seduction, of the node with this identifier, in the configuration with the number
-/// `at`.
+/// Returns the command of a move by Seduction, of the node with this identifier, in configuration `at`.
 pub fn seduction(node: u64, at: u64) -> Command
     ensures { is_act result ≡ true }
 {
@@ -25,8 +24,8 @@ pub fn seduction(node: u64, at: u64) -> Command
     }
 }
 
-/// Returns whether an answer grants a close as the second event, to configuration 1, that applies the move of the first
-/// node alone (rank 0, over the path of three node 1).
+/// Returns whether an answer grants a close as the second event, which leads to configuration 1 and applies the move of
+/// the first node alone (rank 0, which is node 1 in the path of three).
 pub fn is_first_close(answer: &Answer) -> bool {
     match answer {
         Answer::Granted {

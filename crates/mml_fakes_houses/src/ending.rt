@@ -2,21 +2,20 @@
 use mml_journal::{MemorySink, Sink};
 use mml_window::{Astray, Log};
 
-/// How a house ended.
+/// How a house ended, in values that a test compares.
 #[derive(Clone, Copy, Debug, PartialEq, Eq)]
 pub enum Ending {
-    /// So many events, the last configuration's number, and whether the journal was halted.
+    /// The number of events, the number of the last configuration, and whether the journal was halted.
     Log {
         events: usize,
         number: u64,
         halted: bool,
     },
-    /// The windows handed in don't have a place for each event, as if one was left out.
+    /// The windows that came back don't have a place for each event, as if one was left out.
     Astray(Astray),
 }
 
-/// Returns how a house ended, by what its end gave, in values that a test compares: the counts of its log, or its
-/// `Astray`.
+/// Returns how a house ended: the counts of its log, or its `Astray`.
 pub fn ending_of<S: Sink>(end: &Result<Log<S>, Astray>) -> Ending {
     match end {
         Ok(log) => Ending::Log {
@@ -28,7 +27,7 @@ pub fn ending_of<S: Sink>(end: &Result<Log<S>, Astray>) -> Ending {
     }
 }
 
-/// Returns whether a house ended with a log, and its sink has just this journal.
+/// Returns whether a house ended with a log, and its sink holds exactly this journal.
 pub fn has_journal(end: &Result<Log<MemorySink>, Astray>, journal: &str) -> bool {
     match end {
         Ok(log) => log.sink.bytes() == journal.as_bytes(),

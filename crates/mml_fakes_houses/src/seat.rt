@@ -11,7 +11,7 @@ use std::alloc::Global;
 use std::io::{Read, Write};
 use std::sync::Wait;
 
-/// A window of a house, and what it takes to ask through it.
+/// A window of a house, and what is needed to ask through it.
 #[derive(Drop)]
 pub struct Seat<'a, S: Sink, H: House, R: Wait> {
     pub rt: &'a R,
@@ -21,7 +21,7 @@ pub struct Seat<'a, S: Sink, H: House, R: Wait> {
 }
 
 impl<'a, S: Sink + Drop, H: House, R: Wait> Seat<'a, S, H, R> {
-    /// Returns what the desk answers to an act that `who` asks for through the seat's window.
+    /// Asks the desk for an act as `who`, through the seat's window, and returns the answer.
     pub fn ask(&mut self, who: Who, command: &Command) -> Answer
         requires { is_act command.now ≡ true }
     {
@@ -29,7 +29,8 @@ impl<'a, S: Sink + Drop, H: House, R: Wait> Seat<'a, S, H, R> {
             .ask(self.rt, self.alloc, &mut self.window, who, command)
     }
 
-    /// Serves a reader and a writer through the window, as connection 1 with no gate. Returns how the session ended.
+    /// Serves a session between a reader and a writer through the window, as connection 1 and without a gate. Returns
+    /// how the session ended.
     pub fn serve<In: Read, Out: Write>(&mut self, reader: &mut In, writer: &mut Out) -> SessionEnd {
         serve_one(
             self.rt,
@@ -52,7 +53,7 @@ pub struct Pair<'a, S: Sink, H: House, R: Wait> {
 }
 
 impl<'a, S: Sink + Drop, H: House, R: Wait> Pair<'a, S, H, R> {
-    /// Seats at one desk with these two windows, in their order.
+    /// Returns two seats at one desk with these two windows, in their order.
     pub fn new(
         rt: &'a R,
         alloc: Global,
@@ -76,7 +77,7 @@ impl<'a, S: Sink + Drop, H: House, R: Wait> Pair<'a, S, H, R> {
         }
     }
 
-    /// Returns the windows of the first and of the second seat, given back for the house's end.
+    /// Returns the windows of the first and the second seat, so that the house can end with them.
     pub fn into_windows(self) -> (Window<H>, Window<H>) {
         let Pair { one, two } = self;
         let Seat { window: first, .. } = one;

@@ -9,16 +9,15 @@ use mml_policy::{Asked, Command};
 /// How many acts there are.
 pub const ACTS: u64 = 10;
 
-/// Returns the command of a move by this rule, of the node with this identifier, in the configuration with the number
-/// `at`.
+/// Returns the command of a move by this rule, of the node with this identifier, in configuration `at`.
 fn move_by(node: u64, rule: Asked, at: u64) -> Command
     ensures { is_act result ≡ true }
 {
     Command::Move { node, rule, at }
 }
 
-/// Returns the act that is granted as the event with this place, from 1; the journal of all ten is
-/// `scripts::TEN_LINES`. A close if there is no such event.
+/// Returns the act that is granted as the event with this place, counted from 1. The journal of all ten is
+/// `scripts::TEN_LINES`. Returns a close if there is no such event.
 pub fn act(place: u64) -> Command
     ensures { is_act result ≡ true }
 {
@@ -33,7 +32,8 @@ pub fn act(place: u64) -> Command
     }
 }
 
-/// Returns who asks for the act that is granted as the event with this place, from 1; the teacher if there is none.
+/// Returns who asks for the act that is granted as the event with this place, counted from 1. Returns the teacher if
+/// there is no such event.
 pub fn asker(place: u64) -> Who {
     match place {
         1 | 9 => student(0),
@@ -43,8 +43,8 @@ pub fn asker(place: u64) -> Who {
     }
 }
 
-/// Returns the number of the configuration before the event with this place, from 1; past the tenth event it is 4, the
-/// last configuration's.
+/// Returns the number of the configuration before the event with this place, counted from 1. After the tenth event it
+/// is 4, the number of the last configuration.
 pub fn number_before(place: u64) -> u64 {
     match place {
         0..=3 => 0,

@@ -13,8 +13,8 @@ use std::alloc::Global;
 use std::sync::Wait;
 use std::test::Fail;
 
-/// Returns a house over the path of three, not started yet, whose sink fails from the put with the number `fail_at` on,
-/// counted from 1, or never (`None`). Returns an error if memory runs out.
+/// Returns a house over the path of three that isn't started yet. Its sink fails from the put with the number `fail_at`
+/// on, counted from 1, or never if that is `None`. Returns an error if memory runs out.
 pub fn open_path<R: Wait>(
     rt: &R,
     alloc: Global,
@@ -25,7 +25,7 @@ pub fn open_path<R: Wait>(
     Ok(open_house(rt, alloc, lab, sink)?)
 }
 
-/// What is done at two seats of a house.
+/// What a test does at two seats of a house.
 pub trait Visit<S: Sink> {
     /// The result of the visit.
     type Told: Drop;
@@ -34,10 +34,9 @@ pub trait Visit<S: Sink> {
     fn visit<H: House, R: Wait>(self, seats: &mut Pair<'_, S, H, R>) -> Self::Told;
 }
 
-/// Visits a house through the last two of these windows, with the last one at the first seat, and returns the result of
-/// the visit. Both windows are put back, the first seat's before the second's, so that they have changed places.
-/// Returns `None` if there were fewer windows, of which none is left then, or if memory ran out before one was put
-/// back.
+/// Visits a house through the last two of these windows, with the last one at the first seat. Puts both back, the first
+/// seat's before the second's, so that they have changed places. Returns the result of the visit. Returns `None` if
+/// there were fewer windows (none is left then), or memory ran out before both were put back.
 pub fn visit_windows<V: Visit<S> + Drop, S: Sink + Drop, H: House, R: Wait>(
     rt: &R,
     alloc: Global,
@@ -54,12 +53,12 @@ pub fn visit_windows<V: Visit<S> + Drop, S: Sink + Drop, H: House, R: Wait>(
     (give_back(windows, two) && is_back).then_some(told)
 }
 
-/// The result of a visit, or `None` if there were no two windows for it, or memory ran out before one was put back; and
-/// how the house ended: its log, or `Astray` if a window with granted events was missing then.
+/// The result of a visit, or `None` if there were no two windows for it, or memory ran out before both were put back.
+/// Then how the house ended: its log, or `Astray` if a window with granted events was missing.
 pub type Visited<T, S> = (Option<T>, Result<Log<S>, Astray>);
 
-/// Starts a house that was opened, visits it through two of its windows, and ends it: the result of the visit, and how
-/// the house ended. Returns an error if memory runs out at the start.
+/// Starts a house that was opened, visits it through two of its windows, and ends it. Returns the result of the visit,
+/// and how the house ended. Returns an error if memory runs out at the start.
 pub fn visit_house<V: Visit<S> + Drop, S: Sink + Drop, H: House, R: Wait>(
     rt: &R,
     alloc: Global,
@@ -73,8 +72,8 @@ pub fn visit_house<V: Visit<S> + Drop, S: Sink + Drop, H: House, R: Wait>(
     Ok((told, desk.finish(rt, windows)))
 }
 
-/// Opens a house over the lab that a file spells, visits it, and ends it: the result of the visit, and how the house
-/// ended. Returns an error if the file spells no lab, or memory runs out before the visit.
+/// Opens a house over the lab that a file spells, visits it, and ends it. Returns the result of the visit, and how the
+/// house ended. Returns an error if the file spells no lab, or memory runs out before the visit.
 pub fn visit_lab<V: Visit<S> + Drop, S: Sink + Drop, R: Wait>(
     rt: &R,
     alloc: Global,
@@ -90,8 +89,8 @@ pub fn visit_lab<V: Visit<S> + Drop, S: Sink + Drop, R: Wait>(
     visit_house::<_, _, Brand, _>(rt, alloc, blank, visit)
 }
 
-/// Opens a house over the path of three, visits it, and ends it: the result of the visit, and how the house ended.
-/// Returns an error if memory runs out before the visit.
+/// Opens a house over the path of three, visits it, and ends it. Returns the result of the visit, and how the house
+/// ended. Returns an error if memory runs out before the visit.
 pub fn visit_path<V: Visit<S> + Drop, S: Sink + Drop, R: Wait>(
     rt: &R,
     alloc: Global,

@@ -3,7 +3,8 @@ ghost use Rattle.std.specs.Prelude.{◌+◌, ◌≤◌, length, IfSome};
 
 use mml_window::{House, Window};
 
-/// Takes the last two of these windows, the last one first, or `None` if there are fewer, and a single one is dropped.
+/// Takes the last two of these windows, the last one first. Returns `None` if there are fewer; a single one is dropped
+/// then.
 pub fn take_two<H: House>(windows: &mut Vec<Window<H>>) -> Option<(Window<H>, Window<H>)>
     ensures fewer { length windows.new.items ≤ length windows.old.items }
     ensures taken { IfSome result (λ _.
@@ -14,7 +15,8 @@ pub fn take_two<H: House>(windows: &mut Vec<Window<H>>) -> Option<(Window<H>, Wi
     Some((one, two))
 }
 
-/// Puts a window back among those that the house will end with. Returns `false` if memory runs out, and it is dropped.
+/// Puts a window back among those with which the house will end. Returns `false` if memory runs out; the window is
+/// dropped then.
 pub fn give_back<H: House>(windows: &mut Vec<Window<H>>, window: Window<H>) -> bool
     ensures { length windows.new.items ≤ length windows.old.items + 1 }
 {

@@ -35,9 +35,9 @@ abbrev pub KeepCounts : {H K C R W U : Type 0} → (K → ServedSession R W) →
     → List (Busy H K C R W U) → Type 0
 KeepCounts {H} {K} {C} {R} {W} shows free busy free' busy' = (g : ℕ → ℕ) (h : R × W → ℕ) → count_all shows g h free' busy' ≡ count_all shows g h free busy
 
--- the connection is among those served or being served, or it was turned away
-abbrev pub TakesIn : {H K C R W U : Type 0} → (K → ServedSession R W) → R × W → List (Seat H K C) → List (Busy H K C R W U) → List (Seat H K C)
-    → List (Busy H K C R W U) → Type 0
-TakesIn {H} {K} {C} {R} {W} shows ends free busy free' busy' =
+-- the connection is among those served or being served, or it was turned away, so that this is true of it
+abbrev pub TakesIn : {H K C R W U : Type 0} → (K → ServedSession R W) → (R × W → Type 0) → R × W → List (Seat H K C) → List (Busy H K C R W U)
+    → List (Seat H K C) → List (Busy H K C R W U) → Type 0
+TakesIn {H} {K} {C} {R} {W} shows IsAway ends free busy free' busy' =
     ((g : ℕ → ℕ) (h : R × W → ℕ) → count_all shows g h free' busy' ≡ count_all shows g h free busy + h ends)
-    ⊎ KeepCounts shows free busy free' busy'
+    ⊎ (KeepCounts shows free busy free' busy' × IsAway ends)

@@ -6,6 +6,7 @@ use Rattle.mml_serving.specs.Arriving.{Takes}
 use Rattle.mml_hosting.specs.declared.seat.Seat.{Seat}
 use Rattle.mml_hosting.specs.declared.seat.SeatRecord.{SeatRecord}
 use Rattle.mml_hosting.specs.Seats.{IsSeat, Terms, came_to}
+use Rattle.mml_hosting.specs.Away.{IsTurnedAway}
 
 -- whatever is counted in them, both lists have as many
 abbrev pub HaveSame : {A : Type 0} → List A → List A → Type 0
@@ -38,3 +39,9 @@ pub record ServesPort {H K C R W : Type 0} (t : Terms K C R W) (to_come : Option
   pub count : length new ≡ length old
   pub numbers : HaveSame (numbers_of (records_of old)) (numbers_of (records_of new))
   pub attends : Attends to_come (flat_map (came_to t.shows) (records_of old)) (flat_map (came_to t.shows) (records_of new))
+
+-- each connection that came, and wasn't served in one of these seats, was turned away
+abbrev pub TurnsOthersAway : {H K C R W : Type 0} → Terms K C R W → (W → Type 0) → Option (List (R × W)) → List (Seat H K C) → List (Seat H K C) → Type 0
+TurnsOthersAway t IsHungUp to_come old new =
+    (attends : Attends to_come (flat_map (came_to t.shows) (records_of old)) (flat_map (came_to t.shows) (records_of new)))
+    × All (IsTurnedAway t.contents IsHungUp) attends.turned

@@ -5,11 +5,14 @@
 mod accepting;
 mod begun;
 mod hosted;
+mod marks;
 mod port_serving;
+mod replies;
 mod seat;
 
 pub use accepting::{Accept, Accepted, Bell, CutOff};
 pub use begun::Begun;
 pub use hosted::{HostFault, Hosted, Recorders, no_recorders, resume_host, serve_host};
 pub use port_serving::{BUSY, serve_port};
+pub use replies::{NoReplies, Observed, ReplyObserver};
 pub use seat::{Keep, Seat, SeatRecord, ServedSession, serve_in};

@@ -1,16 +1,20 @@
 //! A port: it accepts connections as they come, and serves each in a seat that is free.
-ghost use Rattle.std.specs.Prelude.{◌≡◌, ◌<◌, ◌≤◌, ◌+◌, ℕ, true, All, IfOk, IfErr, IfSome, IfNone, [], vec_len, vec_capacity};
+ghost use Rattle.std.specs.Prelude.{◌≡◌, ◌<◌, ◌≤◌, ◌+◌, ◌^◌, ℕ, true, false, All, IfOk, IfErr, IfSome, IfNone, [], vec_len, vec_capacity};
 ghost use Rattle.std.specs.Thread.{IsSync, IsSend};
 ghost use Rattle.mml_hosting.specs.Seats.{IsReady, IsSeat, ServesIn, came_to, terms};
-ghost use Rattle.mml_hosting.specs.Ports.{ServesPort};
+ghost use Rattle.mml_hosting.specs.Ports.{ServesPort, TurnsOthersAway};
+ghost use Rattle.mml_hosting.specs.Away.{IsTurnedAway, TurnsAway, busy_line};
+ghost use Rattle.mml_hosting.specs.Marks.{IsFirstMarked, NoneMarked};
 ghost use Rattle.mml_hosting.specs.Counting.{count_free, count_busy, count_in, KeepCounts, TakesIn};
 
 use crate::accepting::{Accept, Accepted, Bell, CutOff};
 use crate::begun::Begun;
-use crate::seat::{Keep, Seat, serve_in, set_mark};
+use crate::marks::{Mark, is_marked, set_mark};
+use crate::replies::Observed;
+use crate::seat::{Keep, Seat, serve_in};
 use mml_ids::Memory;
 use mml_journal::Sink;
-use mml_lines::put_all;
+use mml_lines::{WriteFault, put_all};
 use mml_serving::HangUp;
 use mml_session::{Gate, Recorder, Setting};
 use mml_window::Desk;
@@ -18,7 +22,7 @@ use std::alloc::Global;
 use std::io::{Read, Write};
 use std::snapshot::Snapshot;
 use std::sync::Wait;
-use std::sync::atomic::{AtomicU64, Ordering};
+use std::sync::atomic::AtomicU64;
 use std::thread;
 use std::thread::{Promise, PromisedHandle, Scope, Threads};
 
@@ -62,17 +66,18 @@ impl<
     C: Recorder + Drop,
     R: Read + Drop,
     W: Write + Drop,
-    U: Drop,
+    U: CutOff + Drop,
 > Busy<H, K, C, R, W, U> {
     // Returns the index of the first busy seat whose thread has ended according to the marks, or `None` if there is
     // none.
-    fn first_done(busy: &Vec<Self>, marks: &[AtomicU64]) -> Option<usize>
-        ensures { IfSome result (λ index. index < vec_len busy.now) }
+    fn first_done<M: Mark>(busy: &Vec<Self>, marks: &[M]) -> Option<usize>
+        ensures within { IfSome result (λ index. index < vec_len busy.now) }
+        ensures first { IfSome result (IsFirstMarked M.Answers marks.now busy.now.items) }
+        ensures none { IfNone result (NoneMarked M.Answers marks.now busy.now.items) }
     {
-        for index in 0..busy.len() {
-            let mark = marks.get(usize::from(busy[index].number));
-            if mark.is_some_and(|mark| mark.load(Ordering::SeqCst) == 1) {
-                return Some(index);
+        for candidate in 0..busy.len() {
+            if is_marked(marks, busy[candidate].number) {
+                return Some(candidate);
             }
         }
         None
@@ -100,9 +105,11 @@ impl<
 
     // Returns the index of the busy seat to wait for next: the first whose thread has ended according to the marks, or
     // the first of all if there are no marks. Returns `None` if there is no such seat.
-    fn next_to_join(busy: &Vec<Self>, marks: Option<&[AtomicU64]>) -> Option<usize>
+    fn next_to_join<M: Mark>(busy: &Vec<Self>, marks: Option<&[M]>) -> Option<usize>
         ensures some { IfSome result (λ index. index < vec_len busy.now) }
         ensures none { IfNone result (IfNone marks.entry (busy.now.items ≡ [])) }
+        ensures first { IfSome marks.entry (λ marks. IfSome result (IsFirstMarked M.Answers marks.now busy.now.items)) }
+        ensures unmarked { IfSome marks.entry (λ marks. IfNone result (NoneMarked M.Answers marks.now busy.now.items)) }
     {
         match marks {
             Some(marks) => Self::first_done(busy, marks),
@@ -111,22 +118,24 @@ impl<
         }
     }
 
-    // Takes back the seats whose threads have ended according to the marks. Without marks, waits for all threads, and
-    // takes back all seats.
-    fn gather<Rt: Threads>(
+    // Takes back the seats whose threads have ended according to the marks. Without marks, waits for all threads, whose
+    // connections were cut off, and takes back all seats.
+    fn gather<Rt: Threads, M: Mark>(
         rt: &Rt,
         free: &mut Vec<Seat<H, K, C>>,
         busy: &mut Vec<Self>,
-        marks: Option<&[AtomicU64]>,
+        marks: Option<&[M]>,
     )
         requires seats { All (IsSeat (terms H.lab H.begun H.given R.remaining W.contents C.kept K.shows)) free.old.items }
         requires room { vec_len free.old + vec_len busy.old ≤ vec_capacity free.old }
+        requires cut_off { IfNone marks (All (λ b. U.IsCutOff b.cut_off) busy.old.items) }
         ensures seats { All (IsSeat (terms H.lab H.begun H.given R.remaining W.contents C.kept K.shows)) free.new.items }
         ensures count { KeepCounts K.shows free.old.items busy.old.items free.new.items busy.new.items }
         ensures len { vec_len free.new + vec_len busy.new ≡ vec_len free.old + vec_len busy.old }
         ensures capacity { vec_capacity free.new ≡ vec_capacity free.old }
         ensures busy_capacity { vec_capacity busy.new ≡ vec_capacity busy.old }
         ensures all { IfNone marks.entry (busy.new.items ≡ []) }
+        ensures unmarked { IfSome marks.entry (λ marks. NoneMarked M.Answers marks.now busy.new.items) }
     {
         while let Some(index) = Self::next_to_join(busy, marks) {
             free.push_reserved(Self::join_one(rt, busy, index));
@@ -134,8 +143,8 @@ impl<
     }
 }
 
-// Takes a free seat in which one more session may be served. Returns `None`, and all stay free, if no seat is free, or
-// the last of the free ones, which is the only one checked, is dismissed or has no memory for the record of a session.
+// Removes the last of the free seats and returns it, with room for the record of one more session. Returns `None` if no
+// seat is free. Returns `None`, too, and the seat stays free, if that seat is dismissed, or memory runs out.
 fn next_free<H: Begun, K: Keep<R, W> + Drop, C: Recorder + Drop, R: Read + Drop, W: Write + Drop>(
     free: &mut Vec<Seat<H, K, C>>,
 ) -> Option<Seat<H, K, C>>
@@ -172,12 +181,15 @@ fn make_ready<H: Begun, K: Keep<R, W> + Drop, C: Recorder + Drop, R: Read + Drop
     !seat.is_dismissed && seat.record.sessions.reserve(1).is_ok()
 }
 
-// Sends `BUSY` to a connection that has no seat, and hangs up.
-fn turn_away<R: Drop, W: Write + HangUp + Drop>(ends: (R, W)) {
+// Sends `BUSY` to a connection that has no seat, and hangs up. Returns `WriteFault` if the line wasn't written whole.
+#[tactic(auto, unfolding(crate::specs::Away::busy_line))]
+fn turn_away<R: Drop, W: Write + HangUp + Drop>(ends: (R, W)) -> Result<(), WriteFault>
+    ensures { TurnsAway W.contents W.IsHungUp busy_line ends result }
+{
     let (_reader, mut writer) = ends;
-    // The other side may be gone.
-    let _ = put_all(&mut writer, BUSY);
+    let told = put_all(&mut writer, BUSY);
     writer.hang_up();
+    told
 }
 
 // Ends the connections of all busy seats.
@@ -188,17 +200,21 @@ fn cut_off_all<
     R: Read + Drop,
     W: Write + Drop,
     U: CutOff + Drop,
->(busy: &Vec<Busy<H, K, C, R, W, U>>) {
+>(busy: &Vec<Busy<H, K, C, R, W, U>>)
+    ensures { All (λ b. U.IsCutOff b.cut_off) busy.now.items }
+{
     for index in 0..busy.len() {
         busy[index].cut_off.cut_off();
     }
 }
 
-// Returns a mark for each number that a seat may have, which is a byte: 0, since no thread has ended yet. Returns
-// `Memory` if memory runs out.
-fn new_marks(alloc: Global) -> Result<Vec<AtomicU64>, Memory> {
+// Returns 256 marks, one for each number that a seat may have, none of which is set. Returns `Memory` if memory runs
+// out.
+fn new_marks(alloc: Global) -> Result<Vec<AtomicU64>, Memory>
+    ensures { IfOk result (λ marks. vec_len marks ≡ 2 ^ 8) }
+{
     let mut marks = Vec::new(alloc);
-    for _ in 0..256u16 {
+    while marks.len() < 256 {
         if marks.push(AtomicU64::new(0)).is_err() {
             return Err(Memory);
         }
@@ -226,16 +242,16 @@ impl<
     G: Gate + Sync + 's,
     B: Bell + Sync + 's,
 > Shared<'s, Rt, S, H, G, B> {
-    // Serves a connection in a seat, in a thread of its own, and returns the thread's handle. When the session has
-    // ended the bell is rung. If no thread can be made, returns the seat as an error, after the connection was served
-    // in it at once. One that isn't at the desk is ended by `cut_off` before that, so that later connections needn't
-    // wait for it.
+    // Serves a connection in a seat, in a thread of its own, and returns the thread's handle. The thread rings the bell
+    // when the session has ended. If no thread can be made, serves the connection here, and returns the seat as an
+    // error. One that isn't at the desk is ended by `cut_off` before that, so that later connections needn't wait for
+    // it.
     fn serve_apart<
         E,
         K: Keep<R, W> + Send + Drop + 's,
         C: Recorder + Send + Drop + 's,
         R: Read + Send + Drop + 's,
-        W: Write + HangUp + Send + Drop + 's,
+        W: Write + HangUp + Observed + Send + Drop + 's,
         U: CutOff,
     >(
         &self,
@@ -248,6 +264,8 @@ impl<
         ensures pledged { IfOk result (λ handle. (handle.promise.0.value ≡ seat)
             × (handle.promise.1.value ≡ ends)) }
         ensures served { IfErr result (ServesIn (terms H.lab H.begun H.given R.remaining W.contents C.kept K.shows) seat ends) }
+        ensures rung { IfErr result (λ s. B.IsRung self.now.bell.now s.is_dismissed) }
+        ensures cut_off { IfErr result (λ _. seat.is_desk ≡ false → U.IsCutOff cut_off.now) }
     {
         let rt = self.rt;
         let alloc = self.alloc;
@@ -256,13 +274,14 @@ impl<
         let bell = self.bell;
         let marks = self.marks;
         let is_desk = seat.is_desk;
-        set_mark(marks, seat.record.number, 0);
+        set_mark(marks, seat.record.number, false);
         let pledge = SeatPledge(Snapshot::of(&seat), Snapshot::of(&ends));
         match scope.spawn_with(
             pledge,
             move || -> Seat<H, K, C>
                 requires { IsReady (terms H.lab H.begun H.given R.remaining W.contents C.kept K.shows) seat }
-                ensures { ServesIn (terms H.lab H.begun H.given R.remaining W.contents C.kept K.shows) seat ends result }
+                ensures served { ServesIn (terms H.lab H.begun H.given R.remaining W.contents C.kept K.shows) seat ends result }
+                ensures rung { B.IsRung bell.entry.now result.is_dismissed }
             {
                 let setting = Setting { rt, alloc, desk };
                 let seat = serve_in(&setting, seat, ends, gate, marks);
@@ -280,14 +299,14 @@ impl<
         }
     }
 
-    // Takes back the seats whose threads have ended, and serves a connection in a seat that is free then, or turns it
-    // away if none can serve it. `cut_off` ends the connection from here.
+    // Takes back the seats whose threads have ended, and serves a connection in the seat that `next_free` returns then,
+    // or turns it away if it returns none. `cut_off` ends the connection from another thread than its own.
     fn take_in<
         E,
         K: Keep<R, W> + Send + Drop + 's,
         C: Recorder + Send + Drop + 's,
         R: Read + Send + Drop + 's,
-        W: Write + HangUp + Send + Drop + 's,
+        W: Write + HangUp + Observed + Send + Drop + 's,
         U: CutOff + Drop,
     >(
         &self,
@@ -301,7 +320,7 @@ impl<
         requires room { vec_len free.old + vec_len busy.old ≤ vec_capacity free.old }
         requires busy_room { vec_len free.old + vec_len busy.old ≤ vec_capacity busy.old }
         ensures seats { All (IsSeat (terms H.lab H.begun H.given R.remaining W.contents C.kept K.shows)) free.new.items }
-        ensures takes { TakesIn K.shows ends free.old.items busy.old.items
+        ensures takes { TakesIn K.shows (IsTurnedAway W.contents W.IsHungUp) ends free.old.items busy.old.items
             free.new.items busy.new.items }
         ensures len { vec_len free.new + vec_len busy.new ≡ vec_len free.old + vec_len busy.old }
         ensures capacity { vec_capacity free.new ≡ vec_capacity free.old }
@@ -309,7 +328,8 @@ impl<
     {
         Busy::gather(self.rt, free, busy, Some(self.marks));
         let Some(seat) = next_free(free) else {
-            turn_away(ends);
+            // The other side may be gone.
+            let _ = turn_away(ends);
             return;
         };
         let number = seat.record.number;
@@ -323,14 +343,14 @@ impl<
         }
     }
 
-    // Serves the connections that come until no more are to be served, then ends those that are still served, waits for
+    // Serves the connections that come until no more are to be served. Then ends those that are still served, waits for
     // their threads, and returns all seats. Returns `Memory`, and serves nobody, if memory runs out at the beginning.
     fn serve_until_over<
         E,
         K: Keep<R, W> + Send + Drop + 's,
         C: Recorder + Send + Drop + 's,
         R: Read + Send + Drop + 's,
-        W: Write + HangUp + Send + Drop + 's,
+        W: Write + HangUp + Observed + Send + Drop + 's,
         U: CutOff + Drop,
         A: Accept<R, W, U> + Drop,
     >(
@@ -340,8 +360,10 @@ impl<
         arrivals: A,
     ) -> Result<Vec<Seat<H, K, C>>, Memory>
         requires seats { All (IsSeat (terms H.lab H.begun H.given R.remaining W.contents C.kept K.shows)) seats.items }
-        ensures { IfOk result (λ ps. ServesPort (terms H.lab H.begun H.given R.remaining W.contents C.kept K.shows)
+        ensures serves { IfOk result (λ ps. ServesPort (terms H.lab H.begun H.given R.remaining W.contents C.kept K.shows)
             (A.to_come arrivals) seats.items ps.items) }
+        ensures away { IfOk result (λ ps. TurnsOthersAway (terms H.lab H.begun H.given R.remaining W.contents C.kept K.shows)
+            W.IsHungUp (A.to_come arrivals) seats.items ps.items) }
     {
         let mut arrivals = arrivals;
         let mut free = seats;
@@ -360,15 +382,15 @@ impl<
         // The connections that wait at the port are dropped before the sessions are waited for.
         drop(arrivals);
         cut_off_all(&busy);
-        Busy::gather(self.rt, &mut free, &mut busy, None);
+        Busy::gather(self.rt, &mut free, &mut busy, None::<&[AtomicU64]>);
         Ok(free)
     }
 }
 
 /// Accepts connections as they come, serves each in a thread of its own in a free seat, and turns away those for which
-/// there is none. At the end, ends all that are still served; all threads have ended when it returns the seats. A
-/// connection for which no thread can be made is ended before anything is read, but at the desk it is served at once.
-/// Returns `Memory`, and serves nobody, if memory runs out at the beginning.
+/// there is none. At the end, ends all that are still served, and returns the seats when all threads have ended. If no
+/// thread can be made for a connection, ends it before anything is read, but at the desk serves it at once. Returns
+/// `Memory`, and serves nobody, if memory runs out at the beginning.
 pub fn serve_port<
     Rt: Threads + Wait + Sync,
     S: Sink + Send + Drop,
@@ -376,7 +398,7 @@ pub fn serve_port<
     K: Keep<R, W> + Send + Drop,
     C: Recorder + Send + Drop,
     R: Read + Send + Drop,
-    W: Write + HangUp + Send + Drop,
+    W: Write + HangUp + Observed + Send + Drop,
     U: CutOff + Drop,
     A: Accept<R, W, U> + Drop,
     G: Gate + Sync,
@@ -391,6 +413,8 @@ pub fn serve_port<
     requires seats { All (IsSeat (terms H.lab H.begun H.given R.remaining W.contents C.kept K.shows)) seats.items }
     ensures serves { IfOk result (λ ps. ServesPort (terms H.lab H.begun H.given R.remaining W.contents C.kept K.shows)
         (A.to_come arrivals) seats.items ps.items) }
+    ensures away { IfOk result (λ ps. TurnsOthersAway (terms H.lab H.begun H.given R.remaining W.contents C.kept K.shows)
+        W.IsHungUp (A.to_come arrivals) seats.items ps.items) }
 {
     let rt = setting.rt;
     let alloc = setting.alloc;
@@ -404,8 +428,10 @@ pub fn serve_port<
             requires { IsSync Rt.row × IsSync G.row × IsSync B.row × IsSend S.row × IsSend H.row
                 × IsSync H.row × IsSend K.row × IsSend C.row × IsSend R.row × IsSend W.row
                 × All (IsSeat (terms H.lab H.begun H.given R.remaining W.contents C.kept K.shows)) seats.items }
-            ensures { IfOk result (λ ps. ServesPort (terms H.lab H.begun H.given R.remaining W.contents C.kept K.shows)
+            ensures serves { IfOk result (λ ps. ServesPort (terms H.lab H.begun H.given R.remaining W.contents C.kept K.shows)
                 (A.to_come arrivals) seats.items ps.items) }
+            ensures away { IfOk result (λ ps. TurnsOthersAway (terms H.lab H.begun H.given R.remaining W.contents C.kept K.shows)
+                W.IsHungUp (A.to_come arrivals) seats.items ps.items) }
         {
             let shared = Shared {
                 rt,

@@ -3,6 +3,8 @@ ghost use Rattle.std.specs.Prelude.{◌≡◌, ◌&&◌};
 ghost use Rattle.mml_hosting.specs.Seats.{IsReady, ServesIn, is_teachers_bye, terms};
 
 use crate::begun::Begun;
+use crate::marks::set_mark;
+use crate::replies::{Both, Observed};
 use mml_journal::Sink;
 use mml_lab::Who;
 use mml_serving::HangUp;
@@ -11,7 +13,7 @@ use mml_window::Window;
 use std::io::{Read, Write};
 use std::snapshot::Snapshot;
 use std::sync::Wait;
-use std::sync::atomic::{AtomicU64, Ordering};
+use std::sync::atomic::AtomicU64;
 
 /// A session that has ended: its connection as it came, how it ended, and the connection's two ends.
 #[derive(Drop)]
@@ -46,11 +48,11 @@ impl<R: Drop, W: Drop> Keep<R, W> for ServedSession<R, W> {
     }
 }
 
-/// Keeps of a session only what contracts say of it, so that any number can be kept.
+/// Keeps only a snapshot of a session, which contracts alone can read, so that any number of sessions can be kept.
 impl<R: Drop, W: Drop> Keep<R, W> for Snapshot<ServedSession<R, W>> {
     ghost shows = { λ s. s.value };
 
-    // Returns what a contract says of the session, and drops its connection's two ends.
+    // Drops a session that has ended, with its connection's two ends, and returns a snapshot of it, for contracts only.
     fn keep(session: ServedSession<R, W>) -> Snapshot<ServedSession<R, W>>
         ensures { result.value ≡ session }
     {
@@ -89,7 +91,7 @@ pub fn serve_in<
     K: Keep<R, W> + Drop,
     C: Recorder + Drop,
     R: Read + Drop,
-    W: Write + HangUp + Drop,
+    W: Write + HangUp + Observed + Drop,
     G: Gate,
 >(
     setting: &Setting<'_, Rt, S, H>,
@@ -114,7 +116,11 @@ pub fn serve_in<
         recorder,
     } = record;
     let (mut reader, mut writer) = ends;
-    let mut observer = Gated { gate, recorder };
+    let replies = writer.reply_observer();
+    let mut observer = Both {
+        observer: Gated { gate, recorder },
+        replies,
+    };
     let ending = serve_observed(
         setting,
         &mut window,
@@ -123,10 +129,14 @@ pub fn serve_in<
         number,
         &mut observer,
     );
+    let Both {
+        observer,
+        replies: _,
+    } = observer;
     let Gated { gate: _, recorder } = observer;
     writer.hang_up();
     // From here on the thread waits for nobody, and so the thread that joins it doesn't either.
-    set_mark(marks, number, 1);
+    set_mark(marks, number, true);
     let is_dismissed = is_dismissed_by(&ending, is_desk);
     let session = ServedSession {
         came,
@@ -152,11 +162,4 @@ fn is_dismissed_by(ending: &Ending, is_desk: bool) -> bool
     ensures { result ≡ (is_desk && is_teachers_bye ending.now) }
 {
     is_desk && matches!(ending.end, SessionEnd::Bye) && matches!(ending.who, Some(Who::Teacher))
-}
-
-// Sets the mark of the seat with this number, if there is one: 1 if the seat's thread has ended, 0 while it serves.
-pub(crate) fn set_mark(marks: &[AtomicU64], number: u8, value: u64) {
-    if let Some(mark) = marks.get(usize::from(number)) {
-        mark.store(value, Ordering::SeqCst);
-    }
 }

@@ -5,12 +5,13 @@ use crate::end_reason::EndReason;
 use crate::parting::Partings;
 use crate::shared_socket::SharedSocket;
 use mml_ids::Memory;
+use mml_lab::Who;
 use std::alloc::Global;
 use std::sync::atomic::{AtomicBool, Ordering};
 use std::sync::{Arc, Mutex, Wait};
 use std::time::{Clock, Duration, Instant};
 
-// One in this many seats is for connections that haven't greeted.
+// One in this many seats is for strangers.
 const STRANGERS: usize = 3;
 
 // How many seats a name may have if others wait for one.
@@ -28,19 +29,20 @@ const GRACE: u64 = 100;
 struct Guest {
     socket: Arc<SharedSocket, Global>,
     since: Instant,
-    // The reply to its hello, which has its name, once that is granted; at the desk only the teacher's.
-    greeting: Option<Vec<u8>>,
+    // The one who has greeted here, once a hello is granted; at the desk only the teacher.
+    greeting: Option<Who>,
     is_leaving: bool,
 }
 
 impl Guest {
-    // Returns whether the guest hasn't greeted, at the desk not as the teacher, and isn't leaving.
+    // Returns whether the guest is a stranger: one that hasn't greeted, at the desk not as the teacher, and isn't
+    // leaving.
     fn is_stranger(&self) -> bool {
         self.greeting.is_none() && !self.is_leaving
     }
 
     // Returns whether the guest is a stranger that has had its time: it was answered or denied, or has been here for
-    // `GRACE`. If it waits for the turn of a denial, it may do so without a seat.
+    // `GRACE` milliseconds. One that waits for the turn of a denial needs no seat for that.
     fn may_go(&self, now: Instant) -> bool {
         self.is_stranger()
             && (self.socket.is_answered.load(Ordering::SeqCst)
@@ -48,10 +50,10 @@ impl Guest {
                 || now.duration_since(self.since) >= Duration::from_millis(GRACE))
     }
 
-    // Returns whether this guest and another have greeted by one name, and this one isn't leaving.
+    // Returns whether this guest and the other have greeted by the same name, and this one isn't leaving.
     fn has_name_of(&self, other: &Guest) -> bool {
-        match (&self.greeting, &other.greeting) {
-            (Some(own), Some(its)) => own.as_slice() == its.as_slice() && !self.is_leaving,
+        match (self.greeting, other.greeting) {
+            (Some(own), Some(its)) => own == its && !self.is_leaving,
             _ => false,
         }
     }
@@ -63,7 +65,8 @@ impl Guest {
     }
 }
 
-/// The connections that are served at a port, in the order in which they came.
+/// The connections that are served at a port, in the order in which they came. A stranger is one that hasn't greeted,
+/// at the desk not as the teacher, and isn't leaving.
 #[derive(Drop)]
 pub struct Crowd {
     guests: Mutex<Vec<Guest>>,
@@ -105,16 +108,13 @@ impl Crowd {
         }
     }
 
-    /// Notes that the hello of the connection with this number was granted, with this reply.
-    pub fn note_greeting<Rt: Wait>(&self, rt: &Rt, alloc: Global, number: u64, reply: &[u8]) {
-        let mut greeting = Vec::new(alloc);
-        // Without memory it is known by a name that nobody has.
-        let _ = greeting.extend_from_slice(reply);
+    /// Notes that the hello of the connection with this number was granted to `who`.
+    pub fn note_greeting<Rt: Wait>(&self, rt: &Rt, number: u64, who: Who) {
         let mut guests = self.guests.lock(rt);
         if let Some(at) = index_of_guest(&guests, number)
             && let Some(guest) = guests.get_mut(at)
         {
-            guest.greeting = Some(greeting);
+            guest.greeting = Some(who);
         }
     }
 
@@ -136,8 +136,8 @@ impl Crowd {
         self.is_wanted.load(Ordering::SeqCst)
     }
 
-    /// Sends away the first of those who haven't greeted that has had its time, if a newcomer waits for a seat that they
-    /// keep from it. Whoever was just answered calls it, so that a seat is free at once.
+    /// If a newcomer waits for a seat, sends away a stranger as `let_stranger_go` does. A connection that was just
+    /// answered, or is being denied, calls this, so that its seat is free at once. Does nothing if the clock fails.
     pub fn make_room<Rt: Wait + Clock>(&self, rt: &Rt) {
         if self.is_wanted()
             && let Ok(now) = Instant::now(rt)
@@ -147,14 +147,14 @@ impl Crowd {
         }
     }
 
-    // Returns whether those who haven't greeted have their share: a third of the seats, or one if that is more.
+    // Returns whether strangers hold all the seats that they may: a third of the port's, but at least one.
     fn is_share_taken(&self, guests: &Vec<Guest>) -> bool {
         count_strangers(guests) >= (self.seats / STRANGERS).max(1)
     }
 
-    // Sends away the first of those who haven't greeted that has had its time, if they have their share, or if no seat is
-    // free and nobody is leaving one. Few strangers may hold the last seats beside those who have greeted: without the
-    // second case they would keep them until their deadlines.
+    // Sends away the first stranger that has had its time, if strangers hold all the seats that they may, or if no seat
+    // is free and nobody is leaving one. The second case is for a few strangers who hold the last seats: without it
+    // they would keep these until their deadlines.
     fn let_stranger_go<Rt: Wait>(&self, rt: &Rt, guests: &mut Vec<Guest>, now: Instant) {
         let is_full = guests.len() >= self.seats && !is_one_leaving(guests);
         if (is_full || self.is_share_taken(guests))
@@ -165,17 +165,17 @@ impl Crowd {
         }
     }
 
-    /// Returns whether a guest is leaving, or one that has left is still owed a denial, or the time to read it.
+    /// Returns whether a guest is leaving, or a connection that has left isn't closed yet.
     pub fn is_parting<Rt: Wait>(&self, rt: &Rt) -> bool {
         let is_leaving = is_one_leaving(&self.guests.lock(rt));
         // The guests are checked first: one that is owed a denial joins the partings before it stops being a guest.
         is_leaving || !self.partings.is_empty(rt)
     }
 
-    /// Returns whether there is a seat for a newcomer: one is free, and those who haven't greeted don't have their share.
-    /// If there is none, the first of these who has had its time is sent away, unless a seat is being left already. If they
-    /// don't have their share, and newcomers have waited for as long as `wanted`, a moment or more, the last of a name that
-    /// has too many seats is sent away, unless a guest is leaving.
+    /// Returns whether there is a seat for a newcomer: one is free, and strangers don't hold all that they may. If not,
+    /// sends away a stranger as `let_stranger_go` does. If strangers don't hold all that they may, newcomers have
+    /// waited for `MOMENT` or longer (`wanted`) and nobody is leaving, sends away the last guest whose name has too
+    /// many seats.
     pub fn finds_room<Rt: Wait>(&self, rt: &Rt, now: Instant, wanted: Duration) -> bool {
         let mut guests = self.guests.lock(rt);
         let is_share_taken = self.is_share_taken(&guests);
@@ -207,7 +207,7 @@ fn index_of_guest(guests: &Vec<Guest>, number: u64) -> Option<usize>
     None
 }
 
-// Returns how many guests haven't greeted, and aren't leaving.
+// Returns how many guests are strangers.
 fn count_strangers(guests: &Vec<Guest>) -> usize {
     let mut count = 0usize;
     for index in 0..guests.len() {
@@ -218,8 +218,7 @@ fn count_strangers(guests: &Vec<Guest>) -> usize {
     count
 }
 
-// Returns the index of the first guest that hasn't greeted, isn't leaving and has had its time, or `None` if there is
-// no such guest.
+// Returns the index of the first stranger that has had its time, or `None` if there is no such guest.
 fn first_who_may_go(guests: &Vec<Guest>, now: Instant) -> Option<usize> {
     for index in 0..guests.len() {
         if guests[index].may_go(now) {
@@ -239,7 +238,8 @@ fn is_one_leaving(guests: &Vec<Guest>) -> bool {
     false
 }
 
-// Returns the index of the last guest of a name that has more seats than it may, or `None` if there is no such name.
+// Returns the index of the last guest whose name has more than `SEATS_OF_A_NAME` seats, those that are being left not
+// counted, or `None` if no name has so many.
 fn one_too_many(guests: &Vec<Guest>) -> Option<usize> {
     let mut found = None;
     for index in 0..guests.len() {

@@ -26,15 +26,16 @@ const MANY_PARTINGS: usize = 64;
 #[derive(Drop)]
 struct Parting {
     stream: TcpStream,
-    // When it is sent what it is owed, or closed if it was sent all.
+    // The time at which it is sent what it is owed or, if it was sent all, is closed.
     next: Instant,
     // Whether it was sent all, so that it only has to be closed.
     is_told: bool,
 }
 
 impl Parting {
-    // If its time has come, sends the connection the denial that it is owed, and that there is no seat for it, or
-    // closes one that was sent all. Returns the connection if something is left to do.
+    // Returns the connection unchanged if its time hasn't come. After that, closes one that was sent all, and returns
+    // `None`. Sends any other the denial that it is owed and that there is no seat for it, and shuts down its writing
+    // side. Returns it then, to be closed later, or `None` if `closing` closed it at once.
     fn step(self, now: Instant) -> Option<Parting> {
         if now < self.next {
             return Some(self);
@@ -50,8 +51,9 @@ impl Parting {
     }
 }
 
-// Shuts down the writing side of a stream that doesn't wait. Returns the connection, which is closed `PARTING`
-// milliseconds after `now`, or `None` if the other side is gone already.
+// Shuts down the writing side of a stream that doesn't wait, and drops what the other side sent. Returns the
+// connection, which is to be closed `PARTING` milliseconds after `now`. If the other side has ended or is gone, or the
+// clock can't name that time, closes the stream at once and returns `None`.
 fn closing(stream: TcpStream, now: Instant) -> Option<Parting> {
     // This fails if the other side is gone.
     if stream.shutdown(Shutdown::Write).is_err() || !take_unwanted(&stream) {
@@ -115,8 +117,8 @@ impl Partings {
         self.all.lock(rt).is_empty()
     }
 
-    /// Takes the stream of a connection that has left, and whose denial has this turn. If memory runs out, or the
-    /// system doesn't allow non-blocking use, closes the stream without sending the denial.
+    /// Keeps the stream of a connection that has left until the denial that it is owed is sent, at this turn. If memory
+    /// runs out, or the system doesn't allow non-blocking use, closes the stream without sending the denial.
     pub fn add_owed<Rt: Wait>(&self, rt: &Rt, stream: TcpStream, turn: Instant) {
         if stream.set_nonblocking(true).is_err() {
             return;
@@ -146,7 +148,8 @@ impl Partings {
         }
     }
 
-    // Keeps a connection that was sent all. If there are many, closes the first of them that was sent all early.
+    // Keeps a connection that was sent all until its time has come. If `MANY_PARTINGS` or more are kept already, first
+    // closes the first of them that was sent all. If memory runs out, closes the new one at once.
     fn keep<Rt: Wait>(&self, rt: &Rt, parting: Parting) {
         let mut all = self.all.lock(rt);
         if all.len() >= MANY_PARTINGS
@@ -177,7 +180,7 @@ impl Partings {
         }
     }
 
-    /// Closes those that were sent all before their time, so that their descriptors are free.
+    /// Closes at once, before their time, all connections that were sent all, so that their descriptors are free.
     pub fn close_told<Rt: Wait>(&self, rt: &Rt) {
         let mut all = self.all.lock(rt);
         for _ in 0..all.len() {
@@ -192,8 +195,8 @@ impl Partings {
         }
     }
 
-    /// Closes all connections, since the host is over, after they had `PARTING` milliseconds to read what was sent. One
-    /// that wasn't sent its denial yet is sent instead that the class has ended.
+    /// Closes all connections, because the host is over. Sends those that are still owed a denial that the class has
+    /// ended instead. All have `PARTING` milliseconds to read what was sent before they are closed.
     pub fn close_all<Rt: Wait + Clock>(&self, rt: &Rt) {
         let mut all = self.all.lock(rt);
         if all.is_empty() {

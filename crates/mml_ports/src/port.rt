@@ -4,6 +4,7 @@ use crate::crowd::Crowd;
 use crate::end_reason::EndReason;
 use crate::shared_socket::{Heard, SharedSocket};
 use crate::socket_reader::{Incoming, SocketReader};
+use crate::socket_replies::SocketReplies;
 use crate::socket_writer::{ReplyWriter, SocketCutOff, WRITE_LIMIT};
 use crate::state::HostState;
 use mml_hosting::{Accept, Accepted, Bell};
@@ -53,7 +54,8 @@ impl<'a, Rt: Clock + Wait + Eprint> Newcomer<'a, Rt> {
         newcomer.writer.hang_up();
     }
 
-    // Looks at what has come from the newcomer, unless a line was seen before, and returns it.
+    // Returns what has come from the newcomer, without reading it. Checks the socket only if no line was seen before.
+    // Sets its reads not to wait at the first check.
     fn hear(&mut self) -> Heard {
         let SharedConnection {
             rt,
@@ -70,7 +72,8 @@ impl<'a, Rt: Clock + Wait + Eprint> Newcomer<'a, Rt> {
         self.heard
     }
 
-    // Whether the newcomer has had `SILENCE` for its first line.
+    // Returns whether the newcomer came `SILENCE` milliseconds ago or earlier, so that it had time to send its first
+    // line.
     fn had_time(&self, now: Instant) -> bool {
         now.duration_since(self.since) >= Duration::from_millis(SILENCE)
     }
@@ -96,7 +99,7 @@ pub struct Port<'a, Rt> {
     count: u64,
 }
 
-// An accepted connection: its reader and writer, and its cut-off, if there is one.
+// The result of an accept: a connection with its reader, its writer and its cut-off, or none.
 type Brought<'a, Rt> = Accepted<Incoming<'a, Rt>, ReplyWriter<'a, Rt>, SocketCutOff<'a, Rt>>;
 
 impl<'a, Rt: Clock + Wait + Eprint> Port<'a, Rt> {
@@ -123,8 +126,8 @@ impl<'a, Rt: Clock + Wait + Eprint> Port<'a, Rt> {
         }
     }
 
-    // Returns whether somebody waits for a seat, is leaving one, or is owed a denial or the time to read it: then no
-    // accept may wait.
+    // Returns whether somebody waits for a seat, is leaving one, or has left and isn't closed yet: then no accept may
+    // wait.
     fn is_hurried(&self) -> bool {
         !self.waiting.is_empty() || self.crowd.is_parting(self.rt)
     }
@@ -148,7 +151,8 @@ impl<'a, Rt: Clock + Wait + Eprint> Port<'a, Rt> {
             is_desk: self.is_desk,
             socket,
         };
-        let writer = ReplyWriter::new(connection.share()?);
+        let replies = SocketReplies::new(connection.share()?);
+        let writer = ReplyWriter::new(connection.share()?, replies);
         let cut_off = SocketCutOff::new(connection.share()?);
         let reader = SocketReader::new(connection.share()?)?;
         let since = Instant::now(self.rt)?;
@@ -163,7 +167,8 @@ impl<'a, Rt: Clock + Wait + Eprint> Port<'a, Rt> {
         })
     }
 
-    // Returns the stream of the next connection: the one that was accepted before, or one that comes.
+    // Returns the stream of the next connection: the one that was accepted before, or one that comes. Doesn't wait for
+    // it while the port is hurried.
     fn next_stream(&mut self) -> io::Result<TcpStream> {
         match self.first.take() {
             Some(stream) => Ok(stream),
@@ -175,8 +180,8 @@ impl<'a, Rt: Clock + Wait + Eprint> Port<'a, Rt> {
         }
     }
 
-    // Puts one who has come behind those who wait for a seat. If too many wait one of them is turned away. Without memory
-    // the newcomer is.
+    // Adds a newcomer at the end of the queue for a seat. If `WAITING` newcomers wait already, first turns away the one
+    // that `first_to_drop` chooses. If memory runs out, notes that, and turns away the new one.
     fn queue(&mut self, newcomer: Newcomer<'a, Rt>) {
         if self.waiting.len() >= WAITING {
             let index = self.first_to_drop(newcomer.since);
@@ -190,9 +195,10 @@ impl<'a, Rt: Clock + Wait + Eprint> Port<'a, Rt> {
         }
     }
 
-    // Returns one of those that wait, to be served, if there is a seat. If not, ends a guest that has to leave, and
-    // turns the first that waits away once it has waited for half a second. Notes in the crowd whether a newcomer waits
-    // for a seat. Returns `None` if nobody waits, too, or, with nothing else done, if the clock fails.
+    // Returns the next newcomer to serve if there is a seat. If not, returns `None`, has the crowd send a guest away
+    // that has to leave, and turns away the first newcomer once it has waited for half a second. Notes in the crowd
+    // whether one waits for a seat. Returns `None`, too, if nobody waits, or, with nothing else done, if the clock
+    // fails.
     fn let_in(&mut self) -> Option<Brought<'a, Rt>> {
         let Some(first) = self.waiting.front() else {
             self.wanted_since = None;
@@ -220,8 +226,8 @@ impl<'a, Rt: Clock + Wait + Eprint> Port<'a, Rt> {
         None
     }
 
-    // Returns the index of the one to turn away of those who wait: the first from whom no line has come in time, else the
-    // first who hasn't sent a hello, else the first of all.
+    // Returns the index of the waiting newcomer to turn away: the first that has sent no line though it had time for
+    // one, or else the first that hasn't sent a hello, or else the first of all.
     fn first_to_drop(&mut self, now: Instant) -> usize {
         let mut first_without_hello = None;
         for index in 0..self.waiting.len() {
@@ -238,8 +244,8 @@ impl<'a, Rt: Clock + Wait + Eprint> Port<'a, Rt> {
         first_without_hello.unwrap_or(0)
     }
 
-    // Returns the index of the one to serve next of those who wait: the first who has sent a hello, else the first from
-    // whom a line has come, else the first of all.
+    // Returns the index of the waiting newcomer to serve next: the first that has sent a hello, or else the first that
+    // has sent another line, or else the first of all.
     fn first_to_speak(&mut self) -> usize {
         let mut first_with_line = None;
         for index in 0..self.waiting.len() {
@@ -256,8 +262,9 @@ impl<'a, Rt: Clock + Wait + Eprint> Port<'a, Rt> {
         first_with_line.unwrap_or(0)
     }
 
-    // Removes the first that sent a line from those that wait, to be served from now on. Returns `None` if nobody
-    // waits.
+    // Removes the newcomer that `first_to_speak` chooses from the queue, and returns it, to be served from `now` on.
+    // Returns `None` if nobody waits. If memory runs out, notes that: the newcomer is served, but not counted in the
+    // crowd.
     fn bring(&mut self, now: Instant) -> Option<Brought<'a, Rt>> {
         // One that waits alone isn't checked.
         let index = if self.waiting.len() > 1 {
@@ -288,7 +295,7 @@ impl<'a, Rt: Clock + Wait + Eprint> Port<'a, Rt> {
         Some(Accepted::Came((reader, writer), cut_off))
     }
 
-    // Turns away all that wait, and closes all connections that have left, since the host is over. Returns that it is.
+    // Turns away all newcomers, and closes all connections that have left, because the host is over. Returns `Over`.
     fn turn_all_away(&mut self) -> Brought<'a, Rt> {
         for _ in 0..self.waiting.len() {
             if let Some(first) = self.waiting.pop_front() {
@@ -299,10 +306,10 @@ impl<'a, Rt: Clock + Wait + Eprint> Port<'a, Rt> {
         Accepted::Over
     }
 
-    // After an accept failed, waits for at most a tenth of a second until a session ends, so that the next may succeed,
-    // unless a signal or the other side broke it off. `ended` is how many sessions had ended before the accept. If
-    // memory ran out, notes that. If the system refused the accept otherwise, frees descriptors: turns the first that
-    // waits for a seat away, and closes connections that were sent all.
+    // Prepares the next accept after one that failed. Notes if memory ran out. If the system refused it otherwise,
+    // frees descriptors: closes connections that were sent all, and turns the first newcomer away. Unless a signal or
+    // the other side broke the accept off, waits for at most a tenth of a second until more than `ended` sessions have
+    // ended.
     fn put_off(&mut self, kind: ErrorKind, ended: u64) {
         match kind {
             ErrorKind::OutOfMemory => self.state.note_memory(self.rt),
@@ -325,8 +332,9 @@ impl<'a, Rt: Clock + Wait + Eprint> Accept<
     ReplyWriter<'a, Rt>,
     SocketCutOff<'a, Rt>,
 > for Port<'a, Rt> {
-    // Returns one that waits, if there is a seat, before or after it accepts one more. Returns nobody if there is no
-    // seat or none could be accepted, and `Over` once the host is.
+    // Sends the denials whose turn has come, and returns the next newcomer to serve, if there is a seat. If nobody can
+    // be served at once, first accepts one more connection and adds it to the queue. Returns `Nobody` if there is still
+    // no seat, or the accept fails, and `Over` once the host is over.
     fn accept_next(&mut self) -> Brought<'a, Rt> {
         let ended = self.state.ended_count(self.rt);
         if self.state.is_over(self.rt) {
@@ -382,8 +390,8 @@ impl<'a, Rt: Net<Listener = TcpListener, Stream = TcpStream> + Clock + Wait> Bel
     }
 }
 
-// Wakes the accept that waits at a port by a connection to it, which is tried up to 50 times, unless nobody listens
-// there any more.
+// Connects to a port, to wake the accept that waits there. Tries up to 50 times, and stops once a connection is made,
+// or if nobody listens there any more.
 fn wake<Rt: Net<Listener = TcpListener, Stream = TcpStream> + Clock>(rt: &Rt, port: SocketAddr) {
     let call = Duration::from_millis(CALL);
     for _ in 0..CALLS {

@@ -24,8 +24,8 @@ pub(crate) enum Heard {
     Hello,
 }
 
-/// A socket, until it is given back, and what the threads that share it note of its connection. Once it was given back,
-/// each read and each write fails.
+/// The socket of a connection, with what the threads that share it note of the connection. When the connection is hung
+/// up its stream is taken out, and from then on each read and each write fails.
 #[derive(Drop)]
 pub struct SharedSocket {
     /// Its number among the connections of its port.
@@ -35,12 +35,18 @@ pub struct SharedSocket {
     pub(crate) is_served: AtomicBool,
     // Whether a hello was granted.
     pub(crate) is_greeted: AtomicBool,
+    // Whether the teacher has greeted here, at the desk.
+    pub(crate) is_teachers: AtomicBool,
     // Whether the connection may stay: a hello was granted, at the desk the teacher's.
     pub(crate) may_stay: AtomicBool,
+    // Whether the reply to the teacher's bye at the desk is the last one that is written.
+    pub(crate) is_farewell: AtomicBool,
     // Whether a reply was sent.
     pub(crate) is_answered: AtomicBool,
     // How many of its hellos were denied.
     denied: AtomicU64,
+    // Whether the next reply that is written is such a denial.
+    is_denial_next: AtomicBool,
     // Whether its thread is writing: a thread that ends the connection then doesn't wait for that.
     is_writing: AtomicBool,
     // Whether another thread ends the connection.
@@ -58,9 +64,12 @@ impl SharedSocket {
             stream: RwLock::new(Some(stream)),
             is_served: AtomicBool::new(false),
             is_greeted: AtomicBool::new(false),
+            is_teachers: AtomicBool::new(false),
             may_stay: AtomicBool::new(false),
+            is_farewell: AtomicBool::new(false),
             is_answered: AtomicBool::new(false),
             denied: AtomicU64::new(0),
+            is_denial_next: AtomicBool::new(false),
             is_writing: AtomicBool::new(false),
             is_ending: AtomicBool::new(false),
             end_reason: Mutex::new(None),
@@ -81,8 +90,8 @@ impl SharedSocket {
         *self.end_reason.lock(rt)
     }
 
-    /// Sets whether reads and writes wait; what has come may be looked at only while they don't. Returns whether they are
-    /// set so: false if the socket was given back, or the system refuses it. Only before the connection is served.
+    /// Sets whether reads and writes of the socket wait. Returns `false` if its stream was taken out, or the system
+    /// refuses this. Is called only before the connection is served: `hear` needs reads that don't wait.
     pub(crate) fn set_waiting<Rt: Wait>(&self, rt: &Rt, is_waiting: bool) -> bool {
         let stream = self.stream.read(rt);
         match &*stream {
@@ -91,8 +100,8 @@ impl SharedSocket {
         }
     }
 
-    /// Returns what stands in the first 512 bytes that have come, which are left to be read; nothing if the socket was
-    /// given back, or can't be looked at. Reads are set not to wait.
+    /// Returns what has come from the other side, by the first 512 bytes, which are left to be read. Returns `Nothing`
+    /// if the stream was taken out, or can't be checked. Reads must be set not to wait.
     pub(crate) fn hear<Rt: Wait>(&self, rt: &Rt, alloc: Global) -> Heard {
         let stream = self.stream.read(rt);
         match &*stream {
@@ -122,8 +131,9 @@ impl SharedSocket {
         }
     }
 
-    // Keeps the reason, unless one is kept already, and wakes the thread that waits for the end: both under the lock of
-    // the reason, so that it isn't woken before the reason is kept.
+    // Keeps the reason, unless one is kept already, notes that the connection is being ended, and wakes the thread that
+    // waits for that. All of this happens under the lock of the reason, so that no thread wakes before the reason is
+    // kept.
     fn begin_end<Rt: Wait>(&self, rt: &Rt, why: EndReason) {
         let mut reason = self.end_reason.lock(rt);
         if reason.is_none() {
@@ -153,9 +163,16 @@ impl SharedSocket {
         self.is_writing.store(false, Ordering::SeqCst);
     }
 
-    /// Notes that a hello of the connection was denied.
+    /// Notes that a hello of the connection was denied. The denial isn't written yet.
     pub(crate) fn note_denial(&self) {
         self.denied.fetch_add(1, Ordering::SeqCst);
+        self.is_denial_next.store(true, Ordering::SeqCst);
+    }
+
+    /// Returns whether the next reply that is written is the denial of a hello, and clears that note, so that each
+    /// denial is found once.
+    pub(crate) fn take_denial(&self) -> bool {
+        self.is_denial_next.swap(false, Ordering::SeqCst)
     }
 
     /// Returns whether a hello of the connection was denied.
@@ -169,8 +186,8 @@ impl SharedSocket {
     }
 }
 
-// Returns what stands in the first 512 bytes that have come at a socket whose reads don't wait; they are left there.
-// Nothing too if the system refuses the look. Without memory a hello counts as a line.
+// Returns what has come at a socket whose reads don't wait, by the first 512 bytes, which are left to be read. Returns
+// `Nothing` if they have no whole line, or the system refuses the check. If memory runs out, a hello counts as a line.
 fn heard_at(stream: &TcpStream, alloc: Global) -> Heard {
     let mut seen = [0; GLANCE];
     let Ok(count) = stream.peek(&mut seen) else {

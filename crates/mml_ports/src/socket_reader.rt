@@ -94,7 +94,7 @@ impl<'a, Rt: Clock + Wait> SocketReader<'a, Rt> {
     }
 
     // Restarts the deadline of the next line, if it has one. Returns an error if the clock fails.
-    fn renew(&mut self) -> io::Result<()> {
+    fn restart_deadline(&mut self) -> io::Result<()> {
         self.deadline = match self.patience {
             Some(patience) => Instant::now(self.connection.rt)?.checked_add(patience),
             None => None,
@@ -142,9 +142,9 @@ impl<'a, Rt: Clock + Wait> SocketReader<'a, Rt> {
         }
     }
 
-    // Notes bytes that were read: how long the line is, which becomes the reason of the end if it is too long; the
-    // beginning of the first line; and, once the connection may stay, that the deadline of the next line starts when
-    // one ends. Returns an error if the clock fails.
+    // Notes bytes that were read. Counts those of the current line, and keeps `Long` as the reason of the end if a
+    // request can't have so many. Notes how the first line begins. If a line ends and the connection may stay, restarts
+    // the deadline. Returns an error if the clock fails.
     fn note_bytes(&mut self, bytes: &[u8]) -> io::Result<()> {
         let mut has_line = false;
         let mut is_long = false;
@@ -162,7 +162,7 @@ impl<'a, Rt: Clock + Wait> SocketReader<'a, Rt> {
             self.connection.note_end_reason(EndReason::Long);
         }
         if has_line && self.may_stay {
-            self.renew()?;
+            self.restart_deadline()?;
         }
         Ok(())
     }
@@ -196,7 +196,7 @@ impl<'a, Rt: Clock + Wait> Read for SocketReader<'a, Rt> {
         }
         if !self.may_stay && socket.may_stay.load(Ordering::SeqCst) {
             self.may_stay = true;
-            self.renew()?;
+            self.restart_deadline()?;
         }
         let read = if self.may_stay {
             self.read_in_time(buf)
@@ -223,8 +223,7 @@ impl<'a, Rt: Clock + Wait> Read for SocketReader<'a, Rt> {
     }
 }
 
-// Returns how many bytes the first line among the first `count` bytes has, with its newline, or `count` if none ends
-// there.
+// Returns how many of the first `count` bytes the first line has, with its newline: all of them if no line ends there.
 fn end_of_line(bytes: &[u8], count: usize) -> usize
     ensures { result ≤ length bytes.now }
 {

@@ -4,10 +4,11 @@ ghost use Rattle.std.specs.Io.{WritesAtMost};
 
 use crate::connection::SharedConnection;
 use crate::end_reason::EndReason;
-use crate::parting::{PARTING, UNKNOWN, tell};
+use crate::parting::{PARTING, tell};
 use crate::socket_reader::Incoming;
+use crate::socket_replies::SocketReplies;
 use mml_ends::Retrying;
-use mml_hosting::{CutOff, Keep, ServedSession};
+use mml_hosting::{CutOff, Keep, Observed, ServedSession};
 use mml_serving::{HangUp, linger};
 use mml_session::SessionEnd;
 use std::io::{Error, ErrorKind, Write};
@@ -24,71 +25,41 @@ pub const WRITE_LIMIT: u64 = 10;
 // In this many milliseconds before the turn of its denial, a connection that is being ended doesn't wait for it.
 const NEAR: u64 = 500;
 
-// The beginning of the reply to a hello that is granted, before the name.
-const GREETED: &[u8] = b"{\"ok\":\"hello\",\"who\":\"";
-
-// The end of the reply to a hello that is granted, after the name.
-const GREETED_END: &[u8] = b"\"}\n";
-
-// The reply to a bye.
-const BID: &[u8] = b"{\"ok\":\"bye\"}\n";
-
-/// The end to which replies are written. Until a hello is granted it notes each reply before that is sent, and delays
-/// denials of a name and key.
+/// The end to which replies are written. It delays denials of a name and key.
 #[derive(Drop)]
 pub struct SocketWriter<'a, Rt> {
     connection: SharedConnection<'a, Rt>,
-    // Whether the teacher has greeted here, at the desk.
-    is_teachers: bool,
-    // How many bytes of the line that is being written were sent, if they begin the reply to a bye, or `None` if the
-    // line is another one.
-    farewell: Option<usize>,
+    // Whether a line begins with the next byte that is written.
+    is_at_line: bool,
     // Whether the other side has taken nothing for too long.
     is_deaf: bool,
+    // The turn of the denial that is being written, of which no byte was sent yet.
+    turn: Option<Instant>,
     // The turn of the denial that it is owed when it has left.
     owed: Option<Instant>,
 }
 
 impl<'a, Rt: Clock + Wait + Eprint> SocketWriter<'a, Rt> {
-    // Notes a reply before it is sent, until a hello is granted. A denial of a name and key is counted, and the count
-    // is printed on standard error if `HostState::note_denial` returns it. Returns the turn of such a denial, once that
-    // has come, or is near and the connection is being ended, or `None` for any other reply. Returns an error if the
-    // clock fails.
-    fn note_reply(&mut self, reply: &[u8]) -> io::Result<Option<Instant>> {
+    // Counts a denial of a name and key before it is sent, and prints the count on standard error if
+    // `HostState::note_denial` returns it. Makes room for a newcomer, waits for the denial's turn as `wait_for_turn`
+    // does, and returns that turn. Returns an error if the clock fails.
+    fn delay_denial(&self) -> io::Result<Instant> {
         let SharedConnection {
             rt,
-            alloc,
             state,
             crowd,
-            is_desk,
-            socket,
+            ..
         } = &self.connection;
         let rt = *rt;
-        if socket.is_greeted.load(Ordering::SeqCst) {
-            return Ok(None);
+        if let Some(count) = state.note_denial(rt) {
+            let _ = eprintln!(rt;
+                "host: {count} hellos had no right key: somebody may be guessing"
+            );
         }
-        if let Some(name) = greeted_name(reply) {
-            let is_teacher = state.is_teachers_name(name);
-            self.is_teachers = *is_desk && is_teacher;
-            socket.is_greeted.store(true, Ordering::SeqCst);
-            // At the desk anyone but the teacher stays a stranger.
-            if !*is_desk || is_teacher {
-                crowd.note_greeting(rt, *alloc, socket.number, reply);
-                socket.may_stay.store(true, Ordering::SeqCst);
-            }
-        } else if reply == UNKNOWN {
-            socket.note_denial();
-            if let Some(count) = state.note_denial(rt) {
-                let _ = eprintln!(rt;
-                    "host: {count} hellos had no right key: somebody may be guessing"
-                );
-            }
-            crowd.make_room(rt);
-            let turn = state.turn_of_denial(rt)?;
-            self.wait_for_turn(turn)?;
-            return Ok(Some(turn));
-        }
-        Ok(None)
+        crowd.make_room(rt);
+        let turn = state.turn_of_denial(rt)?;
+        self.wait_for_turn(turn)?;
+        Ok(turn)
     }
 
     // Notes that a reply was sent. A connection that may not stay then leaves at once, if a newcomer needs the seat.
@@ -105,8 +76,8 @@ impl<'a, Rt: Clock + Wait + Eprint> SocketWriter<'a, Rt> {
         }
     }
 
-    // Waits for the turn of a denial, and in the last half second before it only until another thread ends the
-    // connection.
+    // Waits for the turn of a denial. In the last half second before the turn, returns early if another thread ends the
+    // connection. Returns an error if the clock fails.
     fn wait_for_turn(&self, turn: Instant) -> io::Result<()> {
         let rt = self.connection.rt;
         let wait = turn.duration_since(Instant::now(rt)?);
@@ -137,16 +108,17 @@ impl<'a, Rt: Clock + Wait + Eprint> SocketWriter<'a, Rt> {
         }
     }
 
-    // Keeps the turn of a denial if the connection is being ended because there is no seat: it is sent later, and all
-    // bytes of `buf` count as written. Any other reply fails, and so does a denial if the end has another reason.
-    fn leave_owed(&mut self, buf: &[u8], turn: Option<Instant>) -> io::Result<usize>
+    // Puts off a denial if the connection is being ended because there is no seat: keeps its turn, at which it is sent
+    // after the connection has left, and returns all bytes of `buf` as written. Returns `BrokenPipe` for any other
+    // reply, or if the end has another reason.
+    fn leave_owed(&mut self, buf: &[u8]) -> io::Result<usize>
         ensures { WritesAtMost result buf.now }
     {
         let SharedConnection { rt, socket, .. } = &self.connection;
-        if turn.is_none() || !socket.is_turned_away(*rt) {
+        if self.turn.is_none() || !socket.is_turned_away(*rt) {
             return Err(Error::from(ErrorKind::BrokenPipe));
         }
-        self.owed = turn;
+        self.owed = self.turn;
         Ok(buf.len())
     }
 
@@ -163,16 +135,9 @@ impl<'a, Rt: Clock + Wait + Eprint> SocketWriter<'a, Rt> {
         Ok(taken)
     }
 
-    // Returns whether a line begins with the next byte that is written.
-    fn is_at_line(&self) -> bool {
-        match self.farewell {
-            Some(count) => count == 0 || count == BID.len(),
-            None => false,
-        }
-    }
-
-    // Hangs up on the connection of this socket. One that leaves for a newcomer, or was never served, is sent the
-    // reason, and the port closes its stream. Any other is waited for here: it has a moment to read what was sent.
+    // Hangs up on the connection of this stream. If it is owed a denial, the port sends that at its turn. If it leaves
+    // for a newcomer, or was never served, sends it the reason, if there is one, and the port closes the stream. Sends
+    // any other the reason, and lingers here for a moment, so that the other side can read what was sent.
     fn part_from(&self, stream: TcpStream) {
         let SharedConnection {
             rt,
@@ -186,7 +151,7 @@ impl<'a, Rt: Clock + Wait + Eprint> SocketWriter<'a, Rt> {
             return;
         }
         // A reason within a reply that is cut would be no line.
-        let why = if self.is_at_line() {
+        let why = if self.is_at_line {
             socket.end_reason(rt)
         } else {
             None
@@ -198,61 +163,38 @@ impl<'a, Rt: Clock + Wait + Eprint> SocketWriter<'a, Rt> {
         if let Some(why) = why {
             say(&stream, why);
         }
-        // If a newcomer waits for the seat, not for long.
+        // Doesn't wait long if a newcomer waits for the seat.
         linger(stream, &crowd.is_wanted);
     }
 }
 
-// Returns how many bytes of the reply to a bye the line has that is being written, after `bytes` more: all of them if
-// that reply was just written, and `None` if the line is another one. `farewell` is how many it had before.
-fn farewell_after(farewell: Option<usize>, bytes: &[u8]) -> Option<usize> {
-    let mut farewell = farewell;
-    for byte in bytes.iter() {
-        let count = match farewell {
-            Some(count) if count < BID.len() => Some(count),
-            Some(_) => Some(0),
-            None => None,
-        };
-        farewell = match count {
-            Some(count) if BID.get(count) == Some(byte) => Some(count + 1),
-            _ if *byte == b'\n' => Some(0),
-            _ => None,
-        };
-    }
-    farewell
-}
-
-// Returns the name in the reply to a hello that is granted, or `None` for another reply.
-fn greeted_name(reply: &[u8]) -> Option<&[u8]> {
-    reply.strip_prefix(GREETED)?.strip_suffix(GREETED_END)
-}
-
 impl<'a, Rt: Clock + Wait + Eprint> Write for SocketWriter<'a, Rt> {
-    // Notes a reply, delays a denial of a name and key until its turn, and returns how many bytes were sent. The reply
-    // to the teacher's bye, even after other replies or in pieces, dismisses the class. Fails if the other side took
-    // nothing for too long, or the connection is being ended, except for a denial that is sent later.
+    // Delays a denial of a name and key until its turn, and returns how many bytes were sent. The reply to the
+    // teacher's bye, even after other replies or in pieces, dismisses the class. Fails if the other side took nothing
+    // for too long, or the connection is being ended, except for a denial that is sent later.
     fn write(&mut self, buf: &[u8]) -> io::Result<usize> {
         if self.is_deaf {
             return Err(Error::from(ErrorKind::TimedOut));
         }
-        let turn = if self.is_at_line() {
-            self.note_reply(buf)?
-        } else {
-            None
-        };
+        if self.connection.socket.take_denial() {
+            self.turn = Some(self.delay_denial()?);
+        }
         let written = if self.connection.socket.begin_write() {
-            if self.is_teachers && farewell_after(self.farewell, buf) == Some(BID.len()) {
+            if self.connection.socket.is_farewell.load(Ordering::SeqCst) {
                 self.write_farewell(buf)
             } else {
                 self.write_now(buf)
             }
         } else {
-            self.leave_owed(buf, turn)
+            self.leave_owed(buf)
         };
         self.connection.socket.end_write();
         let taken = written?;
         self.note_answered();
-        self.farewell = farewell_after(self.farewell, &buf[..taken]);
+        if let Some(last) = buf[..taken].last() {
+            self.is_at_line = *last == b'\n';
+            self.turn = None;
+        }
         Ok(taken)
     }
 
@@ -266,19 +208,26 @@ impl<'a, Rt: Clock + Wait + Eprint> Write for SocketWriter<'a, Rt> {
 #[derive(Drop)]
 pub struct ReplyWriter<'a, Rt> {
     end: Retrying<SocketWriter<'a, Rt>>,
+    // The observer of the replies, until the session has it.
+    replies: Option<SocketReplies<'a, Rt>>,
 }
 
 impl<'a, Rt: Clock + Wait + Eprint> ReplyWriter<'a, Rt> {
-    /// Returns a writer to the connection's socket, to which nothing was written yet.
-    pub fn new(connection: SharedConnection<'a, Rt>) -> ReplyWriter<'a, Rt> {
+    /// Returns a writer to the connection's socket, to which nothing was written yet, with the observer of the
+    /// connection's replies.
+    pub fn new(
+        connection: SharedConnection<'a, Rt>,
+        replies: SocketReplies<'a, Rt>,
+    ) -> ReplyWriter<'a, Rt> {
         ReplyWriter {
             end: Retrying::new(SocketWriter {
                 connection,
-                is_teachers: false,
-                farewell: Some(0),
+                is_at_line: true,
                 is_deaf: false,
+                turn: None,
                 owed: None,
             }),
+            replies: Some(replies),
         }
     }
 }
@@ -292,6 +241,16 @@ impl<'a, Rt: Clock + Wait + Eprint> Write for ReplyWriter<'a, Rt> {
     // Does nothing: no bytes are buffered.
     fn flush(&mut self) -> io::Result<()> {
         Ok(())
+    }
+}
+
+impl<'a, Rt: Clock + Wait + Eprint + Sync> Observed for ReplyWriter<'a, Rt> {
+    /// The observer of the replies, or `None` if the session has it already.
+    type Replies = Option<SocketReplies<'a, Rt>>;
+
+    // Returns the observer of the replies the first time that it is called.
+    fn reply_observer(&mut self) -> Option<SocketReplies<'a, Rt>> {
+        self.replies.take()
     }
 }
 
@@ -318,7 +277,8 @@ impl<'a, Rt: Clock + Wait + Eprint> HangUp for ReplyWriter<'a, Rt> {
     }
 }
 
-// Sends why the connection is ended, if the other side reads that within a moment.
+// Sends why the connection is ended, and waits for at most `PARTING` milliseconds until the other side takes it. Sends
+// nothing if the system refuses that time limit.
 fn say(stream: &TcpStream, why: EndReason) {
     if stream
         .set_write_timeout(Some(Duration::from_millis(PARTING)))
@@ -360,8 +320,8 @@ impl<'a, Rt: Wait> CutOff for SocketCutOff<'a, Rt> {
     }
 }
 
-/// The part of a session over a socket that is kept once it has ended: only what a contract says of it. Its seat is
-/// free again, and running out of memory was noted in the host's state.
+/// A session over a socket that has ended: only a snapshot of it, which contracts alone can read. Its seat is free
+/// again, and running out of memory was noted in the host's state.
 #[derive(Drop)]
 pub struct SocketSession<'a, Rt>(Snapshot<ServedSession<Incoming<'a, Rt>, ReplyWriter<'a, Rt>>>);
 
@@ -369,8 +329,8 @@ impl<'a, Rt: Clock + Wait + Eprint> Keep<Incoming<'a, Rt>, ReplyWriter<'a, Rt>>
     for SocketSession<'a, Rt> {
     ghost shows = { λ kept. kept.0.value };
 
-    // Frees the seat of a session that has ended, and notes in the host's state if it ran out of memory. Only contracts
-    // see the session in what is kept.
+    // Frees the seat of a session that has ended, and notes in the host's state if it ran out of memory. Drops the
+    // session, and returns a snapshot of it, which only contracts can read.
     fn keep(session: ServedSession<Incoming<'a, Rt>, ReplyWriter<'a, Rt>>) -> SocketSession<'a, Rt>
         ensures { result.0.value ≡ session.entry }
     {

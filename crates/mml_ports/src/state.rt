@@ -1,7 +1,6 @@
 //! The state of a host that its threads share.
 use crate::crowd::Crowd;
-use mml_ids::Memory;
-use mml_lab::{Lab, Who};
+use mml_lab::Lab;
 use std::alloc::Global;
 use std::io;
 use std::sync::{Condvar, CondvarTimeouts, Mutex, RwLock, Wait};
@@ -40,8 +39,6 @@ struct News {
 pub struct HostState {
     news: Mutex<News>,
     changed: Condvar,
-    // The teacher's name.
-    teacher: Vec<u8>,
     // Whether the reply to the teacher's bye at the desk was sent.
     pub(crate) is_dismissed: RwLock<bool>,
     at_desk: Crowd,
@@ -50,14 +47,8 @@ pub struct HostState {
 
 impl HostState {
     /// Returns the state of a host of the lab, in which nothing was noted yet. One of the lab's sessions is the desk's.
-    /// Returns `Memory` if memory runs out.
-    pub fn new(alloc: Global, lab: &Lab) -> Result<HostState, Memory> {
-        let mut teacher = Vec::new(alloc);
-        let name = lab.roster().name_of(Who::Teacher);
-        if teacher.extend_from_slice(name.as_bytes()).is_err() {
-            return Err(Memory);
-        }
-        Ok(HostState {
+    pub fn new(alloc: Global, lab: &Lab) -> HostState {
+        HostState {
             news: Mutex::new(News {
                 ended: 0,
                 is_over: false,
@@ -67,11 +58,10 @@ impl HostState {
                 told: MANY,
             }),
             changed: Condvar::new(),
-            teacher,
             is_dismissed: RwLock::new(false),
             at_desk: Crowd::new(alloc, 1),
             elsewhere: Crowd::new(alloc, usize::from(lab.sessions()).saturating_sub(1)),
-        })
+        }
     }
 
     /// Returns the crowd at the desk if `is_desk`, and else that at the other port.
@@ -81,11 +71,6 @@ impl HostState {
         } else {
             &self.elsewhere
         }
-    }
-
-    /// Returns whether `name` is the teacher's.
-    pub fn is_teachers_name(&self, name: &[u8]) -> bool {
-        self.teacher.as_slice() == name
     }
 
     /// Returns whether the reply to the teacher's bye at the desk was sent: what is read from then on isn't answered.
@@ -123,8 +108,8 @@ impl HostState {
         self.news.lock(rt).lacked_memory
     }
 
-    /// Waits until another number of sessions than `count` have ended, for at most a tenth of a second, or 5
-    /// milliseconds if it is hurried.
+    /// Waits until the number of ended sessions is no longer `count`, for at most a tenth of a second, or 5
+    /// milliseconds if `is_hurried` is set.
     pub fn wait_past<Rt: Wait + Clock>(&self, rt: &Rt, count: u64, is_hurried: bool) {
         let pause = Duration::from_millis(if is_hurried { SHORT_PAUSE } else { PAUSE });
         let _ended = self
@@ -145,8 +130,8 @@ impl HostState {
         Ok(turn)
     }
 
-    /// Notes that a name and key were denied. Returns how many were, if the host is to report that, at 30 and at ten
-    /// times as many each time, and else `None`.
+    /// Counts a denial of a name and key. Returns the count if the host is to report it: at the 30th denial, the 300th,
+    /// the 3000th, and so on. Returns `None` at any other.
     pub fn note_denial<Rt: Wait>(&self, rt: &Rt) -> Option<u64> {
         let mut news = self.news.lock(rt);
         news.denials = news.denials.saturating_add(1);

@@ -83,7 +83,7 @@ fn first_within<R: Clock>(rt: &R, listener: &TcpListener) -> io::Result<Option<T
     for _ in 0..LOOKS {
         match listener.accept() {
             Ok((stream, _)) => return Ok(Some(stream)),
-            Err(error) if is_passing(error.kind()) => {
+            Err(error) if is_transient(error.kind()) => {
                 thread::sleep(rt, Duration::from_millis(LOOK));
             }
             Err(_) => return Ok(None),
@@ -93,15 +93,15 @@ fn first_within<R: Clock>(rt: &R, listener: &TcpListener) -> io::Result<Option<T
 }
 
 // Returns whether the next accept may succeed after one that failed this way.
-fn is_passing(kind: io::ErrorKind) -> bool {
+fn is_transient(kind: io::ErrorKind) -> bool {
     matches!(
         kind,
         io::ErrorKind::WouldBlock | io::ErrorKind::Interrupted | io::ErrorKind::ConnectionAborted
     )
 }
 
-// Listens on a port of this machine with a backlog of `BACKLOG`. If the system refuses that one, the listener's own
-// stays.
+// Listens on a port of this machine with a backlog of `BACKLOG`, or with the library's own if the system refuses that.
+// Returns an error if the port can't be listened on.
 fn listen_on<R: Net<Listener = TcpListener, Stream = TcpStream>>(
     rt: &R,
     port: u16,
@@ -139,7 +139,7 @@ pub struct TwoPorts<A: Drop> {
     pub elsewhere: A,
 }
 
-/// Accepts connections on the two listening sockets.
+/// Returns the two ports that accept connections on these listening sockets, the desk's and the students'.
 pub fn open_ports<'a, R: Clock + Wait + Eprint>(
     rt: &'a R,
     alloc: Global,

@@ -1,9 +1,8 @@
 -- What is read of the lines of a record is what was answered by the rules.
-use Rattle.std.proofs.Common.{◌≡◌, ℕ, zero, suc, ◌+◌, ◌/◌, ◌%◌, Bool, true, false, true≢false, cond, not, eqb, List, [], ◌∷◌, ◌++◌, length, take, codes, decimal}
+use Rattle.std.proofs.Common.{◌≡◌, ℕ, Bool, true, false, true≢false, cond, List, [], ◌∷◌, ◌++◌, length, take, codes, decimal}
 use Rattle.std.proofs.Common.{inl, inr, refl, sym, ap, ◌∙◌, arith, Option, None, Some, Result}
-use Rattle.std.specs.Prelude.{nat_lt, bytes_eq}
-use Rattle.std.specs.Fmt.{digits, digits_onto, digit_glyph}
-use Rattle.std.proofs.lemmas.Bool.{and_from}
+use Rattle.std.specs.Prelude.{bytes_eq}
+use Rattle.std.specs.Fmt.{digits}
 use Rattle.std.proofs.lemmas.Bool.Decides.{nat_tests}
 use Rattle.std.proofs.lemmas.Slice.Eq.{bytes_eq-Decides}
 use Rattle.mml_ids.specs.Lines.{ended}
@@ -31,34 +30,16 @@ use Rattle.mml_record.specs.declared.stage.Stage.TheVariants as stages
 use Rattle.mml_record.specs.Certified.{seen_after, stage_after, FitsGreeting, FitsAsked, Fits, GoesOn}
 use Rattle.mml_record.specs.Asks.{unended, clause_first, clause_second, clause_member, clause_told, memory_text, known_by, known_asked, known_after, line_of, student_of}
 use Rattle.mml_record.specs.Asks.{asks_from, clause_in, AreAskedOf}
-use Rattle.mml_journal.proofs.CuttingLemmas.{avoids, cut_here}
+use Rattle.mml_record.specs.DenialNames.{denial_told, denial_in}
+use Rattle.mml_record.specs.Refusals.{reason_told, reason_in}
+use Rattle.mml_journal.proofs.CuttingLemmas.{cut_here}
 use Rattle.mml_record.proofs.TextLineLemmas.{front_of}
 use Rattle.mml_record.proofs.OnceLemmas.{fits_once}
-
--- ---- a number has no comma
-
-glyph_other : (b : Bool) (d : ℕ) → not (eqb (cond b (48 + d) (87 + d)) 44) ≡ true
-glyph_other b d = grind (arith, nat_tests)
-
-digit_more : (b : Bool) (front rest : List ℕ) → avoids 44 front ≡ true → avoids 44 rest ≡ true → avoids 44 (cond b front rest) ≡ true
-digit_more b front rest h k = grind (arith, nat_tests)
-
-no_comma_from : (k n : ℕ) (acc : List ℕ) → avoids 44 acc ≡ true → avoids 44 (digits_onto k 10 false n acc) ≡ true
-no_comma_from zero n acc h = h
-no_comma_from (suc k) n acc h =
-    let more : avoids 44 (digit_glyph false (n % 10) ∷ acc) ≡ true = and_from _ _ (glyph_other (nat_lt (n % 10) 10) (n % 10)) h in
-    digit_more (eqb (n / 10) 0) (digit_glyph false (n % 10) ∷ acc) (digits_onto k 10 false (n / 10) (digit_glyph false (n % 10) ∷ acc)) more
-    (no_comma_from k (n / 10) (digit_glyph false (n % 10) ∷ acc) more)
-
-no_comma : (n : ℕ) → avoids 44 (decimal n) ≡ true
-unfolding digits
-no_comma n = no_comma_from 64 n [] refl
+use Rattle.mml_record.proofs.NumberedLemmas.{no_comma, numbered}
+use Rattle.mml_record.proofs.RefusalsLemmas.{reason_is}
+use Rattle.mml_record.proofs.DenialNamesLemmas.{named_is}
 
 -- ---- the clause in a reply's text
-
--- a reply that begins with a current number
-abbrev numbered : ℕ → List ℕ → List ℕ
-numbered n rest = 123 ∷ 34 ∷ 97 ∷ 116 ∷ 34 ∷ 58 ∷ (decimal n ++ 44 ∷ rest)
 
 second : (n : ℕ) (rest : List ℕ) → clause_second (34 ∷ 97 ∷ 116 ∷ 34 ∷ 58 ∷ (decimal n ++ 44 ∷ rest)) ≡ clause_first rest
 unfolding clause_second
@@ -159,13 +140,15 @@ asked_of_rules lab l known stage least (entry.Said p line out ∷ es) ps on =
     let r : Reply = on.3 in
     let bytes : unended out ≡ text lab.ids lab.roster r = ap unended on.7 ∙ unended_is (text lab.ids lab.roster r) in
     let clause : clause_told (unended out) ≡ clause_in r = ap clause_told bytes ∙ told_is lab.ids lab.roster r in
+    let name : denial_told (unended out) ≡ denial_in r = ap denial_told bytes ∙ named_is lab.ids lab.roster r in
+    let reason : reason_told (unended out) ≡ reason_in r = ap reason_told bytes ∙ reason_is lab.ids lab.roster r in
     let behind : known_after lab.roster known line (unended out) ≡ on.4 = known_of lab l p known line out r on.4 on.7 on.8.1 in (
       r,
       on.4,
       asks_from lab.roster on.4 es,
       on.7,
       on.8.1,
-      λ k. record { who = student_of known; line = line_of (request_in line); denied = clause k } ∷ asks_from lab.roster (behind k) es,
+      λ k. record { who = student_of known; line = line_of (request_in line); denied = clause k; named = name k; refused = reason k } ∷ asks_from lab.roster (behind k) es,
       asked_of_rules lab l on.4 (stage_after (is_bye r)) (seen_after p (place_in r)) es on.5 on.10,
     )
 asked_of_rules lab l known stage least (entry.Left p ∷ es) ps on = asked_of_rules lab l None stages.Open p es ps on.2

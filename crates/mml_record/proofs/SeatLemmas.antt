@@ -39,7 +39,7 @@ use Rattle.mml_record.specs.declared.kept_entry.Entry.{Entry as KeptEntry}
 use Rattle.mml_record.specs.declared.kept_entry.Entry.TheVariants as kept
 use Rattle.mml_record.specs.declared.stage.Stage.{Stage}
 use Rattle.mml_record.specs.declared.stage.Stage.TheVariants as stages
-use Rattle.mml_record.specs.Entries.{all_kept, are_whole, are_ended, NeverFall, record_text as kept_texts}
+use Rattle.mml_record.specs.Entries.{all_kept, are_whole, are_ended, record_text as kept_texts}
 use Rattle.mml_record.specs.Certified.{Fits, FitsAsked, FitsGreeting, seen_after, stage_after, is_paused, is_line, sees_some, asks_window, may_rise, GoesOn, IsRecordOf}
 use Rattle.mml_record.specs.RecordedSeats.{Held, RecordedSeat, IsResumedSeat}
 use Rattle.mml_record.proofs.FitLemmas.{first_of}
@@ -498,30 +498,6 @@ can_have_said lab l number es ps is legal h whole ended =
       goes_on_so lab l (take b.0 l) number es ps is legal pre
           (subst (λ (n : ℕ). GoesOn lab l None stages.Open n es ps) (sym (length-take-le b.0 l b.1)) b.2) whole ended,
     )
-
--- ---- entries never fall
-
--- as many as were seen, or one more, are no fewer
-after_no_fewer : (p : ℕ) (o : Option ℕ) → p ≤ seen_after p o
-after_no_fewer p o = grind (arith, nat_tests)
-
-fall_less : (low high : ℕ) (es : List KeptEntry) → low ≤ high → NeverFall high es → NeverFall low es
-fall_less low high [] le h = tt
-fall_less low high (e ∷ es) le h = (omega (arith, le, h.0), h.1)
-
--- no entry names fewer events than one before it, marks too
-pub never_fall : (lab : LabValue) (l : List Event) (known : Option Who) (stage : Stage) (least : ℕ) (es : List KeptEntry) (ps : List ℕ)
-    → GoesOn lab l known stage least es ps → NeverFall least es
-never_fall lab l known stage least [] ps h = tt
-never_fall lab l known stage least (kept.Said p line out ∷ es) ps h = (
-  h.0.0,
-  fall_less p (seen_after p (place_in h.3)) es (after_no_fewer p (place_in h.3))
-      (never_fall lab l h.4 (stage_after (is_bye h.3)) (seen_after p (place_in h.3)) es h.5 h.10),
-)
-never_fall lab l known stage least (kept.Left p ∷ es) ps h = (h.0.0, never_fall lab l None stages.Open p es ps h.2)
-never_fall lab l known stage least (kept.Unrecorded p ∷ es) ps h = (h.0.0, never_fall lab l None stages.Cut p es ps h.2)
-never_fall lab l known stage least (kept.Paused p ∷ es) ps h = (h.0.0, never_fall lab l known stages.Paused p es ps h.2)
-never_fall lab l known stage least (kept.Resumed p missed ∷ es) ps h = (h.0.0, never_fall lab l known stages.Resuming p es ps h.4)
 
 -- ---- one entry
 

@@ -1,4 +1,5 @@
--- What the lines of a record asked, and which clause denied each, found in the lines and the bytes of their replies.
+-- What the lines of a record asked, and which clause denied each, or why it was refused, found in the lines and the bytes
+-- of their replies.
 use Rattle.std.specs.Prelude.{◌≡◌, ℕ, ◌-◌, List, [], ◌∷◌, ◌++◌, codes, length, take, bytes_eq, Option, None, Some, Result, Ok, Err, if◌then◌else◌}
 use Rattle.std.specs.List.{slice_get}
 use Rattle.mml_rules.specs.declared.rule.Kind.{Kind}
@@ -30,6 +31,8 @@ use Rattle.mml_tally.specs.declared.ask.Line.TheVariants as lines
 use Rattle.mml_record.specs.declared.kept_entry.Entry.{Entry}
 use Rattle.mml_record.specs.declared.kept_entry.Entry.TheVariants as entry
 use Rattle.mml_record.specs.Certified.{Fits}
+use Rattle.mml_record.specs.DenialNames.{denial_told, denial_in}
+use Rattle.mml_record.specs.Refusals.{reason_told, reason_in}
 
 -- ---- what a line is
 
@@ -128,9 +131,15 @@ abbrev pub student_of : Option Who → Option ℕ
 student_of None = None
 student_of (Some w) = student_in w
 
--- what a line asked, by whom, and the clause that denied it
+-- what a line asked, by whom, the clause and the denial by which it was denied, and why it was refused
 abbrev pub ask_of : Option Who → List ℕ → List ℕ → Ask
-ask_of known line out = record { who = student_of known; line = line_of (request_in line); denied = clause_told (unended out) }
+ask_of known line out = record {
+  who = student_of known;
+  line = line_of (request_in line);
+  denied = clause_told (unended out);
+  named = denial_told (unended out);
+  refused = reason_told (unended out);
+}
 
 -- what an entry asks: one thing, if it is a line that was answered
 abbrev pub asks_at : Option Who → Entry → List Ask
@@ -160,13 +169,23 @@ abbrev pub clause_in : Reply → Option ℕ
 clause_in (reply.Deny d) = Some (clause_of d)
 clause_in _ = None
 
--- beside each line that was answered stands who was known by the rules, what the line is, and the clause of the reply
--- of the rules
+-- what the line asked of which this was known, and which has this reply
+abbrev pub asked_with : Option Who → List ℕ → Reply → Ask
+asked_with known line r = record {
+  who = student_of known;
+  line = line_of (request_in line);
+  denied = clause_in r;
+  named = denial_in r;
+  refused = reason_in r;
+}
+
+-- beside each line that was answered stands who was known by the rules, what the line is, and the clause and the denial,
+-- or the reason, of the reply of the rules
 abbrev pub AreAskedOf : LabValue → List Event → Option Who → List Entry → List Ask → Type 0
 AreAskedOf lab l known [] asks = asks ≡ []
 AreAskedOf lab l known (entry.Said p line out ∷ es) asks =
     (r : Reply) × (known' : Option Who) × (more : List Ask) × (out ≡ reply_line lab.ids lab.roster r) × Fits lab l (take p l) known line r known'
-    × (asks ≡ record { who = student_of known; line = line_of (request_in line); denied = clause_in r } ∷ more) × AreAskedOf lab l known' es more
+    × (asks ≡ asked_with known line r ∷ more) × AreAskedOf lab l known' es more
 AreAskedOf lab l known (entry.Left p ∷ es) asks = AreAskedOf lab l None es asks
 AreAskedOf lab l known (entry.Unrecorded p ∷ es) asks = AreAskedOf lab l None es asks
 AreAskedOf lab l known (_ ∷ es) asks = AreAskedOf lab l known es asks

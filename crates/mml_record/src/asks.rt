@@ -1,4 +1,4 @@
-//! What the lines of a record asked, and which clause denied each.
+//! What the lines of a record asked, which clause denied each, and why each was refused.
 ghost use Rattle.std.specs.Prelude.{◌≡◌, ◌++◌, List, ℕ, true, bytes_eq, IfOk, IfSome, OnOk};
 ghost use Rattle.mml_ids.specs.Lines.{ended};
 ghost use Rattle.mml_lab.specs.Rosters.{IsPrincipal};
@@ -11,7 +11,9 @@ ghost use Rattle.mml_journal.specs.Words.{seen};
 ghost use Rattle.mml_record.specs.inside.RawEntries.{entry_view};
 ghost use Rattle.mml_record.specs.Asks.{kind_asked, line_of_command, line_of_request, line_of, digit_first, clause_first, clause_second, clause_member, clause_told, memory_text, known_by, known_asked, known_after, student_in, student_of, ask_of, asks_at, known_behind, asks_in};
 
+use crate::denial_names::denial_told;
 use crate::reading::{RawEntry, entry_in};
+use crate::refusals::reason_told;
 use mml_board::Event;
 use mml_codec::{Greeting, LineFault, Request, greet, read_request};
 use mml_ids::Memory;
@@ -34,8 +36,8 @@ fn kind_asked(rule: Asked) -> Kind
     }
 }
 
-// Returns what a line with this command asks, as the tally distinguishes lines: a move, with its node and kind, or
-// something else.
+// Returns the kind of line that the tally counts for this command: `Move`, with its node and the kind of its rule, or
+// `Other` for any other command.
 fn line_of_command(command: &Command) -> Line
     ensures { result ≡ line_of_command command.now }
 {
@@ -48,7 +50,8 @@ fn line_of_command(command: &Command) -> Line
     }
 }
 
-// Returns what a line with this request asks, as the tally distinguishes lines: a move, or something else.
+// Returns the kind of line that the tally counts for this request: that of its command, or `Other` for a hello or a
+// bye, which ask for no move.
 fn line_of_request(request: &Request) -> Line
     ensures { result ≡ line_of_request request.now }
 {
@@ -58,8 +61,8 @@ fn line_of_request(request: &Request) -> Line
     }
 }
 
-// Returns the value of the digit at the front of `rest`. For another byte, returns how far it is above the byte `0`, or
-// 0. Returns `None` if there is no `rest`, or it is empty.
+// Returns the value of the digit at the front of `rest`. For another byte, returns how far it is above the byte `0`,
+// or 0. Returns `None` if there is no `rest`, or it is empty.
 fn digit_first(rest: Option<&[u8]>) -> Option<u8>
     ensures { result ≡ digit_first (seen rest.entry) }
 {
@@ -68,9 +71,9 @@ fn digit_first(rest: Option<&[u8]>) -> Option<u8>
     Some(digit.saturating_sub(b'0'))
 }
 
-// Returns the clause's number, if `clause` is the first member of a reply. `members` is the reply's text after the `{`.
-// Returns `None` if another member is first, or nothing follows the colon. Only the first byte of the value is read, by
-// `digit_first`: in a reply it is the number, since clauses have one digit.
+// Returns the clause's number, if `clause` is the first member of a reply. `members` is the reply's text after the
+// `{`. Returns `None` if another member is first, or nothing follows the colon. Only the first byte of the value is
+// read, by `digit_first`: in a reply it is the number, since clauses have one digit.
 #[tactic(auto, unfolding(crate::specs::Asks::clause_first))]
 fn clause_first(members: &[u8]) -> Option<u8>
     ensures { result ≡ clause_first members.now }
@@ -83,8 +86,8 @@ fn clause_first(members: &[u8]) -> Option<u8>
     }
 }
 
-// Returns the number of the clause if `clause` is the second member of a reply, or `None` if it isn't, or has no value.
-// `members` is the reply's text after the `{`.
+// Returns the number of the clause if `clause` is the second member of a reply, or `None` if it isn't, or has no
+// value. `members` is the reply's text after the `{`.
 #[tactic(auto, unfolding(crate::specs::Asks::clause_second))]
 fn clause_second(members: &[u8]) -> Option<u8>
     ensures { result ≡ clause_second members.now }
@@ -125,8 +128,8 @@ fn is_memory(text: &[u8]) -> bool
     text == b"{\"refuse\":\"memory\"}".as_slice()
 }
 
-// Returns who is known after a line with this greeting. `known` was known before it: a command that is left to judge
-// changes nothing.
+// Returns who is known after a line that has this greeting, if `known` was known before it. A greeting that is
+// answered at once says who; one that leaves a command to judge changes nothing.
 fn known_by(known: Option<Who>, greeting: Greeting) -> Option<Who>
     ensures { result ≡ known_by known greeting }
 {
@@ -142,8 +145,8 @@ fn known_by(known: Option<Who>, greeting: Greeting) -> Option<Who>
     }
 }
 
-// Returns what the line asks, as the tally distinguishes lines (a move, something else, or no request), and who is
-// known after it. `known` was known before it. Returns `Memory` if memory runs out.
+// Reads a line. Returns the kind of line that the tally counts for it (a move, another request, or no request), and
+// who is known after it, if `known` was known before it. Returns `Memory` if memory runs out.
 fn line_and_known(
     alloc: Global,
     roster: &Roster,
@@ -187,9 +190,9 @@ fn student_of(known: Option<Who>) -> Option<Student>
     }
 }
 
-// Returns what a line asked that was answered by this text, with the student who was known before it and the clause
-// that denied it; and who is known after the line. `known` was known before it, and still is if the text is the refusal
-// for memory. Returns `Memory` if memory runs out in this call.
+// Reads a line and its reply, `text`. Returns what the tally counts of them: the student who was known before the
+// line, what the line asks, and the clause, the denial or the reason in the reply. Also returns who is known after the
+// line: still `known` if the reply is the refusal for memory. Returns `Memory` if memory runs out in this call.
 #[tactic(auto, unfolding(crate::specs::Asks::known_after))]
 fn ask_and_known(
     alloc: Global,
@@ -206,11 +209,15 @@ fn ask_and_known(
     // By reference: a value with a student inside isn't copied by the toolchain if it is used again.
     let known = &known;
     let denied = clause_told(text);
+    let named = denial_told(text);
+    let refused = reason_told(text);
     let (line, then) = line_and_known(alloc, roster, *known, line)?;
     let ask = Ask {
         who: student_of(*known),
         line,
         denied,
+        named,
+        refused,
     };
     if is_memory(text) {
         Ok((ask, *known))
@@ -219,9 +226,9 @@ fn ask_and_known(
     }
 }
 
-// Appends what an entry's line asked to `asks`, and returns who is known after the entry. An entry without a line asks
-// nothing. Nobody is known after a session's end, nor if anything may be missing. Returns `Memory` if memory runs out
-// in this call.
+// Appends to `asks` what the tally counts of an entry, and returns who is known after it, if `known` was known before
+// it. Only the entry of a line is counted. Nobody is known after a session's end, nor after a mark that anything may
+// be missing. Returns `Memory` if memory runs out in this call.
 fn read_ask(
     alloc: Global,
     lab: &Lab,
@@ -247,10 +254,10 @@ fn read_ask(
     }
 }
 
-/// Appends to `asks` what each line of the seat with this number asked, which student was known then, if one was, and
-/// which clause denied it, if one did. The text is that of a record beside the events of a journal of the lab; `events`
-/// is only for the contract. Any other text is read up to the first bytes that are no entry. Returns `Memory` if memory
-/// runs out.
+/// Appends to `asks` what each line of the seat with this number asked, which student was known then, which clause and
+/// denial denied it, and why it was refused, if these exist. The text is that of a record beside the events of a
+/// journal of the lab; `events` is only for the contract. Any other text is read up to the first bytes that are no
+/// entry. Returns `Memory` if memory runs out.
 pub fn read_asks(
     alloc: Global,
     lab: &Lab,

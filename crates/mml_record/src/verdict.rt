@@ -19,6 +19,7 @@ pub struct BadEntry {
     pub line: u64,
     /// How many events it says had been seen, or 0 if no entry can be read.
     pub place: u64,
+    /// Why it is bad.
     pub why: Why,
 }
 

@@ -1,6 +1,9 @@
 //! How much is recorded of each account.
+ghost use Rattle.std.specs.Prelude.{◌≡◌, is_some};
+
+use mml_codec::Reply;
 use mml_files::FileFault;
-use mml_lab::{Lab, Student, Who};
+use mml_lab::{Lab, Who};
 use mml_record::{Budget, Taking};
 use std::alloc::Global;
 use std::sync::Arc;
@@ -13,24 +16,23 @@ pub const BUDGET: u64 = 8 << 20;
 /// How many bytes of entries may be recorded of one connection while nobody is known there.
 pub const STRANGER: u64 = 64 << 10;
 
-// How many more bytes there may be of the ends of sessions.
+// How many more bytes than `BUDGET` the ends of sessions may bring an account to.
 const ENDS: u64 = 64 << 10;
-
-// The beginning of the reply to a hello that is granted, up to the name.
-const GREETED: &[u8] = b"{\"ok\":\"hello\",\"who\":\"";
 
 // How many bytes were recorded of one account, and whether something of it was refused: then recording has paused, or
 // is about to, in a session in which it is known.
 #[derive(Drop)]
 struct Spending {
-    name: String,
+    /// How many bytes were recorded of the account.
     spent: AtomicU64,
+    /// Whether something of it was refused.
     is_refused: AtomicBool,
 }
 
 /// How many bytes were recorded of each account, and of those who aren't known.
 #[derive(Drop)]
 pub struct Budgets {
+    // The teacher's, and then the students' in the roster's order.
     accounts: Vec<Spending>,
     unknown: AtomicU64,
 }
@@ -39,13 +41,10 @@ impl Budgets {
     /// Returns the budgets of a class of the lab, of which nothing was recorded yet. Returns `FileFault` if memory runs
     /// out.
     pub fn new(alloc: Global, lab: &Lab) -> Result<Budgets, FileFault> {
-        let roster = lab.roster();
         let mut accounts = Vec::new(alloc);
-        accounts.push(new_account(alloc, roster.name_of(Who::Teacher))?)?;
-        for index in 0..roster.student_count() {
-            let student = Student::new(index as u16);
-            let name = roster.name_of(Who::Student(student));
-            accounts.push(new_account(alloc, name)?)?;
+        accounts.push(Spending::new())?;
+        for _ in 0..lab.roster().student_count() {
+            accounts.push(Spending::new())?;
         }
         Ok(Budgets {
             accounts,
@@ -53,14 +52,8 @@ impl Budgets {
         })
     }
 
-    // Returns the index of the account with this name, or `None` if the lab has no such account.
-    fn index_of(&self, name: &[u8]) -> Option<usize> {
-        self.accounts
-            .iter()
-            .position(|account| account.name.as_bytes() == name)
-    }
-
-    // Returns the count of the bytes of the account with this index, or, for `None`, of those who aren't known.
+    // Returns the counter of the bytes that were recorded of the account with this index, or, for `None`, of all who
+    // aren't known.
     fn spent_by(&self, account: Option<usize>) -> &AtomicU64 {
         match account {
             Some(index) => match self.accounts.get(index) {
@@ -72,13 +65,23 @@ impl Budgets {
     }
 }
 
-// Returns an account with this name, of which nothing was recorded yet. Returns `FileFault` if memory runs out.
-fn new_account(alloc: Global, name: &str) -> Result<Spending, FileFault> {
-    Ok(Spending {
-        name: String::from_str(alloc, name)?,
-        spent: AtomicU64::new(0),
-        is_refused: AtomicBool::new(false),
-    })
+impl Spending {
+    // Returns the spending of an account of which nothing was recorded or refused yet.
+    fn new() -> Spending {
+        Spending {
+            spent: AtomicU64::new(0),
+            is_refused: AtomicBool::new(false),
+        }
+    }
+}
+
+// Returns the index of a participant's account in `Budgets`: 0 for the teacher, then the students in the roster's
+// order.
+fn index_of(who: Who) -> usize {
+    match who {
+        Who::Teacher => 0,
+        Who::Student(student) => usize::from(student.index()) + 1,
+    }
 }
 
 /// The budgets as a seat sees them: the replies of the seat say who is known there and charged.
@@ -103,8 +106,8 @@ impl SeatBudget {
         }
     }
 
-    // Charges this many `bytes` to whoever is known, or else to all together who aren't, unless that account would then
-    // have more than `most`. Returns `false`, and charges nothing, if it would.
+    // Adds this many `bytes` to the count of whoever is known, or else of all who aren't, and returns `true`. If the
+    // count would then exceed `most`, adds nothing, and returns `false`.
     fn charge(&self, bytes: u64, most: u64) -> bool {
         let spent = self.budgets.spent_by(self.account);
         spent
@@ -115,9 +118,13 @@ impl SeatBudget {
             .is_ok()
     }
 
-    // Returns whether an entry of this many `bytes` may be written while nobody is known: this connection then has no
-    // more than `STRANGER` bytes, and all together who aren't known no more than `BUDGET`.
-    fn takes_unknown(&mut self, bytes: u64) -> bool {
+    // Returns whether an entry of this many `bytes` may be written while nobody is known, and charges it if so. It may
+    // if this connection then has no more than `STRANGER` bytes, and all who aren't known no more than `BUDGET`
+    // together.
+    fn takes_unknown(&mut self, bytes: u64) -> bool
+        ensures known { self.new.account ≡ self.old.account }
+        ensures greeted { self.new.is_greeted ≡ self.old.is_greeted }
+    {
         let here = self.unknown_here.saturating_add(bytes);
         if here > STRANGER || !self.charge(bytes, BUDGET) {
             return false;
@@ -126,8 +133,9 @@ impl SeatBudget {
         true
     }
 
-    // Returns what happens to an entry of the account with this index that its budget doesn't take. The entry of a
-    // hello is still written, if nothing of the account was refused yet: recording pauses after it.
+    // Returns what happens to an entry that the budget of the account with this index doesn't take, and notes that
+    // something of the account was refused. The entry of a hello is still written (`Last`) if it is the first that is
+    // refused: recording pauses after it. Any other entry is `Refused`.
     fn refuse(&self, index: usize) -> Taking {
         match self.budgets.accounts.get(index) {
             Some(account) => {
@@ -144,28 +152,29 @@ impl SeatBudget {
 }
 
 impl Budget for SeatBudget {
-    // A reply that grants a hello names whom to charge from then on. Another reply changes nothing.
-    fn hear(&mut self, reply: &[u8]) {
-        let name = name_greeted(reply);
-        self.is_greeted = name.is_some();
-        if let Some(name) = name {
-            self.account = self.budgets.index_of(name);
+    ghost known = { λ b. is_some b.account };
+
+    ghost greeted = { λ b. b.is_greeted };
+
+    // Notes whom to charge from now on, if the reply grants a hello. Another reply doesn't change that.
+    fn note_answered(&mut self, reply: &Reply) {
+        match reply {
+            Reply::Hello(who) => {
+                self.account = Some(index_of(*who));
+                self.is_greeted = true;
+            }
+            _ => self.is_greeted = false,
         }
     }
 
-    // What `hear` found.
-    fn is_greeted(&self) -> bool {
-        self.is_greeted
-    }
-
-    // The name in the last hello that was granted in the session.
+    // Returns whether a hello was granted in the session.
     fn is_known(&self) -> bool {
         self.account.is_some()
     }
 
-    // An entry may be written, and is charged, if whoever is known then has no more than `BUDGET` bytes. While nobody
-    // is known, the connection may have no more than `STRANGER`, and all together who aren't known no more than
-    // `BUDGET`.
+    // Charges an entry to whoever is known, and returns `Taken`, if the account then has no more than `BUDGET` bytes.
+    // While nobody is known, the connection may have no more than `STRANGER`, and all who aren't known no more than
+    // `BUDGET`. Otherwise returns `Refused`, or what `refuse` decides for a known account.
     fn takes_entry(&mut self, bytes: u64) -> Taking {
         match self.account {
             Some(index) => {
@@ -185,21 +194,16 @@ impl Budget for SeatBudget {
         }
     }
 
-    // A session's end may go `ENDS` bytes beyond `BUDGET`, so that it is still written if entries no longer are.
+    // Charges a session's end, and returns whether it may be written. It may go `ENDS` bytes beyond `BUDGET`, so that
+    // it is still written if entries no longer are.
     fn takes_end(&mut self, bytes: u64) -> bool {
         self.charge(bytes, BUDGET + ENDS)
     }
 
-    // What is recorded from then on is charged to those who aren't known.
+    // Forgets who was known, so that what is recorded from now on is charged to those who aren't known.
     fn forget(&mut self) {
         self.account = None;
         self.is_greeted = false;
         self.unknown_here = 0;
     }
-}
-
-// Returns the name of whoever is known from this reply on, if it grants a hello, and `None` for another reply.
-fn name_greeted(reply: &[u8]) -> Option<&[u8]> {
-    let name = reply.strip_prefix(GREETED)?;
-    name.split(|byte| *byte == b'"').next()
 }

@@ -1,5 +1,6 @@
 -- Houses that fail.
-use Rattle.std.specs.Prelude.{◌≡◌, ◌≤◌, ℕ, true, false, List, [], length, Option}
+use Rattle.std.specs.Prelude.{◌≡◌, ◌≤◌, ℕ, true, false, List, [], length, Option, None}
+use Rattle.std.specs.List.{list_all}
 use Rattle.std.specs.Io.KnownBytes.{Appends}
 use Rattle.mml_lab.specs.Labs.{LabValue}
 use Rattle.mml_board.specs.declared.event.Event.{Event}
@@ -11,7 +12,8 @@ use Rattle.mml_serving.specs.declared.connection.EndedSession.{EndedSession}
 use Rattle.mml_serving.specs.declared.serving.ServeFault.{ServeFault}
 use Rattle.mml_serving.specs.declared.serving.ServeFault.TheVariants as fault
 use Rattle.mml_serving.specs.Closings.{IsCutShort, done_line}
-use Rattle.mml_serving.specs.Serving.{ServesWindows, ServesHouse}
+use Rattle.mml_serving.specs.declared.socket.Socket.{Socket}
+use Rattle.mml_serving.specs.Serving.{ServesWindows, ServesHouse, had_memory}
 
 -- the places that the windows were given aren't those of the house's legal list of events, each once
 pub record WentAstray (lab : LabValue) (windows : List WindowValue) : Type 0 where
@@ -61,3 +63,13 @@ EndsBadly lab sink remaining contents to_come count wrote wrote' fault.Halted =
 EndsBadly lab sink remaining contents to_come count wrote wrote' fault.Write =
     EndsLogged lab sink remaining contents to_come count (λ log. (log.halted ≡ false)
     × IsCutShort wrote wrote' (done_line (length log.events) (world_in lab log.events).number) fault.Write)
+
+-- the connections of a listener were served, the house left a log that isn't halted, the last line is that of its events, and neither a session nor a
+-- socket ran out of memory; of the bytes of a socket nothing is known
+pub record ServesWithMemory {S : Type 0} (lab : LabValue) (sink : S → Option (List ℕ)) (count : ℕ) (wrote wrote' : Option (List ℕ)) : Type 0 where
+  pub sessions : List (EndedSession Socket Socket)
+  pub log : Log S
+  pub serves : ServesHouse lab sink (λ _. None) (λ _. None) None count sessions log
+  pub unhalted : log.halted ≡ false
+  pub told : Appends wrote wrote' (done_line (length log.events) (world_in lab log.events).number)
+  pub memory : list_all had_memory sessions ≡ true

@@ -24,16 +24,24 @@ pub trait Arrivals<R: Read + Drop, W: Write + Drop> {
 
 /// The reading end of a connection, whose handle can be closed while its value is kept.
 pub trait LetGo: Read {
+    // That the handle is closed. Bytes in memory have none.
+    ghost IsLetGo: { Self → Type 0 } = { λ _. Unit {0} };
+
     /// Closes its handle. Nothing more is read.
     fn let_go(&mut self)
-        ensures { Self.remaining self.new ≡ Self.remaining self.old };
+        ensures remaining { Self.remaining self.new ≡ Self.remaining self.old }
+        ensures closed { IsLetGo self.new };
 }
 
 /// The writing end of a connection, which can signal to the other side that nothing more comes.
 pub trait HangUp: Write {
+    // That the connection is ended and the handle closed. Bytes in memory have neither.
+    ghost IsHungUp: { Self → Type 0 } = { λ _. Unit {0} };
+
     /// Ends the connection and closes its handle. Nothing more is written.
     fn hang_up(&mut self)
-        ensures { Self.contents self.new ≡ Self.contents self.old };
+        ensures contents { Self.contents self.new ≡ Self.contents self.old }
+        ensures ended { IsHungUp self.new };
 }
 
 impl Arrivals<Socket, Socket> for TcpListener {

@@ -34,7 +34,8 @@ struct Seated<H: House, R: Drop, W: Drop> {
 }
 
 /// Serves the next `connections` connections. Returns their windows, and how their sessions ended, both in the order in
-/// which they came. All threads have ended when it returns, even after an error.
+/// which they came. Returns an error if one couldn't be accepted, no thread could be made, or memory runs out. All
+/// threads have ended when it returns, even after an error.
 pub(crate) fn serve_all<
     Rt: Threads + Wait + Sync,
     S: Sink + Send + Drop,
@@ -106,8 +107,8 @@ impl<H: House, R: Read + Drop, W: Write + Drop> Promise<(Window<H>, EndedSession
     ghost kept_by = { λ pledge t. IsServed H.lab R.remaining W.contents pledge.0.value t.1 t.0 };
 }
 
-// Returns the next connection, which gets this number, with a window that is taken for it, or why none could be
-// accepted.
+// Accepts the next connection, and returns it, with this number, and a window for it, which is removed from the list.
+// Returns why none could be accepted.
 fn next_seat<H: House, R: Read + Drop, W: Write + Drop, A: Arrivals<R, W>>(
     arrivals: &mut A,
     windows: &mut Vec<Window<H>>,
@@ -136,7 +137,7 @@ fn next_seat<H: House, R: Read + Drop, W: Write + Drop, A: Arrivals<R, W>>(
     }
 }
 
-// Returns the reading and the writing end of the next connection, or why none could be accepted.
+// Accepts the next connection, and returns its reading and its writing end. Returns why none could be accepted.
 fn accept<R: Read + Drop, W: Write + Drop, A: Arrivals<R, W>>(
     arrivals: &mut A,
 ) -> Result<(R, W), SeatingFault>
@@ -149,7 +150,7 @@ fn accept<R: Read + Drop, W: Write + Drop, A: Arrivals<R, W>>(
     }
 }
 
-// Returns why a connection couldn't be accepted, by the kind of the error: memory ran out, or something else.
+// Returns the fault for an accept that failed with this kind of error: `Memory` if memory ran out, and else `Accept`.
 fn accept_fault(kind: ErrorKind) -> SeatingFault
     ensures memory { kind ≡ ErrorKind.OutOfMemory → result ≡ SeatingFault.Memory }
     ensures other { kind ≢ ErrorKind.OutOfMemory → result ≡ SeatingFault.Accept }
@@ -171,6 +172,8 @@ fn serve_seated<Rt: Wait, S: Sink + Drop, H: House, R: LetGo + Drop, W: HangUp +
 ) -> (Window<H>, EndedSession<R, W>)
     requires fresh { seat.window ≡ window [] [] }
     ensures served { IsServed H.lab R.remaining W.contents seat.connection result.1 result.0 }
+    ensures hung_up { W.IsHungUp result.1.connection.writer }
+    ensures let_go { R.IsLetGo result.1.connection.reader }
 {
     let Seated {
         mut window,

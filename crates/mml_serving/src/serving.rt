@@ -8,6 +8,7 @@ ghost use Rattle.mml_window.specs.Logs.{IsLog};
 ghost use Rattle.mml_serving.specs.Closings.{Closes, done_line};
 ghost use Rattle.mml_serving.specs.Endings.{EndsBadly, EndsEarly, EndsWithout};
 ghost use Rattle.mml_serving.specs.Serving.{ServesHouse};
+ghost use Rattle.mml_serving.specs.Endings.{ServesWithMemory};
 
 use crate::announcing::write_last;
 use crate::arrivals::{Arrivals, HangUp, LetGo};
@@ -66,7 +67,9 @@ pub fn serve_on<Rt: Threads + Wait + Sync, S: Sink + Send + Drop, G: Gate + Sync
     requires sessions { connections ≤ lab.sessions }
     requires fresh { IsFresh (S.contents sink) }
     requires countable { S.failures sink < 2 ^ 64 - 1 }
-    ensures { OnOk result (Closes lab (W.contents writer.old) (W.contents writer.new)) }
+    ensures closes { OnOk result (Closes lab (W.contents writer.old) (W.contents writer.new)) }
+    ensures had_memory { OnOk result (ServesWithMemory lab S.contents connections
+        (W.contents writer.old) (W.contents writer.new)) }
 {
     let house = serve_arrivals(rt, alloc, lab, listener, connections, sink, gate, writer)?;
     if all_had_memory(&house.sessions) {
@@ -132,8 +135,8 @@ pub fn serve_arrivals<
     }
 }
 
-// Serves the next `connections` connections in the house that H names, and ends it. Returns its result, or why there is
-// no log.
+// Serves the next `connections` connections in the house that H names, and ends it. Returns its result, or why the
+// house failed.
 fn serve_in_house<
     H: House + Send + Sync,
     Rt: Threads + Wait + Sync,
@@ -178,8 +181,8 @@ fn serve_in_house<
     }
 }
 
-/// Ends a failed house and returns this fault, which is the only one that is reported: the result of `finish` is
-/// dropped.
+/// Ends a failed house, and returns this fault as the error. Drops the result of `finish`, so that no other fault is
+/// reported.
 pub fn end_for<Rt: Wait, S: Sink + Drop, H: House, T, F>(
     fault: F,
     rt: &Rt,
@@ -193,7 +196,8 @@ pub fn end_for<Rt: Wait, S: Sink + Drop, H: House, T, F>(
 }
 
 // Ends a house with all its windows: those through which connections were served, and the unused ones after them.
-// Returns its log, or `Memory`, or `Astray` if the windows' places aren't those of the events, each once.
+// Returns its log, `Memory` if memory runs out, or `Astray` if the windows' places aren't those of the events, each
+// once.
 fn end_house<Rt: Wait, S: Sink + Drop, H: House>(
     rt: &Rt,
     alloc: Global,

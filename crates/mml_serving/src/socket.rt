@@ -1,4 +1,6 @@
 //! One end of a connection over a socket.
+ghost use Rattle.std.specs.Prelude.{◌≡◌, ◌≢◌, true, false, None};
+
 use crate::arrivals::{HangUp, LetGo};
 use mml_ends::Retrying;
 use std::io;
@@ -51,6 +53,8 @@ impl Write for Socket {
 }
 
 impl LetGo for Socket {
+    ghost IsLetGo = { λ socket. socket.end.inner.0 ≡ None };
+
     // Closes the handle. Each later read fails.
     fn let_go(&mut self) {
         self.end.inner.0 = None;
@@ -58,6 +62,8 @@ impl LetGo for Socket {
 }
 
 impl HangUp for Socket {
+    ghost IsHungUp = { λ socket. socket.end.inner.0 ≡ None };
+
     // Shuts down the writing side, and closes the handle once the other side has ended too, or after the last turn of
     // `linger`, which isn't hurried here.
     fn hang_up(&mut self) {
@@ -83,7 +89,7 @@ pub fn linger(stream: TcpStream, is_hurried: &AtomicBool) {
             Ok(0) => return,
             Ok(_) => {}
             Err(error) => {
-                if !is_passing(error.kind()) {
+                if !is_transient(error.kind()) {
                     return;
                 }
             }
@@ -96,7 +102,11 @@ pub fn linger(stream: TcpStream, is_hurried: &AtomicBool) {
 
 // Returns whether the next turn may find more after a read that failed this way: the turn's time is over, or a signal
 // came.
-fn is_passing(kind: ErrorKind) -> bool {
+fn is_transient(kind: ErrorKind) -> bool
+    ensures timeout { kind ≡ ErrorKind.WouldBlock → result ≡ true }
+    ensures interrupted { kind ≡ ErrorKind.Interrupted → result ≡ true }
+    ensures other { kind ≢ ErrorKind.WouldBlock → kind ≢ ErrorKind.Interrupted → result ≡ false }
+{
     matches!(kind, ErrorKind::WouldBlock | ErrorKind::Interrupted)
 }
 

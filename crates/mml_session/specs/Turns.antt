@@ -92,6 +92,11 @@ Turn lab st line r next = Asked lab st (request_in line) r next ⊎ Unread st r 
 abbrev pub Run : LabValue → Standing → List (List ℕ) → List Reply → Standing → Type 0
 Run lab st lines rs end = Runs (Turn lab) st lines rs end
 
+-- the reply is that to a hello that is granted
+abbrev pub is_hello : Reply → Bool
+is_hello (reply.Hello who) = true
+is_hello _ = false
+
 -- the reply is that to a bye
 abbrev pub is_bye : Reply → Bool
 is_bye reply.Bye = true

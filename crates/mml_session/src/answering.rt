@@ -17,8 +17,8 @@ use mml_window::{Answer, Closed, House, SightFault, Window};
 use std::alloc::Global;
 use std::sync::Wait;
 
-/// Answers a line of a connection on which `known` has greeted, if anybody has, and sets `known` to who is known
-/// afterwards. Puts the reply into `reply`, since a reply is large to return. Returns `Closed`, and puts no reply, if a
+/// Answers a line of a connection, and puts the reply into `reply`, since a reply is large to return. `known` is who
+/// has greeted, if anybody has, and is set to who is known after the line. Returns `Closed`, and puts no reply, if a
 /// known participant asks for a view of a window that shows nothing any more.
 pub(crate) fn answer_into<Rt: Wait, S: Sink + Drop, H: House>(
     setting: &Setting<'_, Rt, S, H>,
@@ -74,7 +74,8 @@ impl<'a, Rt: Wait, S: Sink + Drop, H: House> Engine for Setting<'a, Rt, S, H> {
         at.roster()
     }
 
-    // Puts the window's reply to a view. The window reads what is published, without the lock.
+    // Puts the window's reply to a view into `reply`. The window reads what is published, without the lock. Returns
+    // `Closed` if the window shows nothing any more.
     fn view(
         &mut self,
         at: &mut Window<H>,
@@ -89,7 +90,7 @@ impl<'a, Rt: Wait, S: Sink + Drop, H: House> Engine for Setting<'a, Rt, S, H> {
         }
     }
 
-    // Puts the desk's reply to an act.
+    // Asks the desk for an act, and puts its answer into `reply`.
     fn act(
         &mut self,
         at: &mut Window<H>,
@@ -111,7 +112,8 @@ impl<'a, Rt: Wait, S: Sink + Drop, H: House> Engine for Setting<'a, Rt, S, H> {
     }
 }
 
-// Puts the window's reply to a view. Returns `Closed`, and puts no reply, if the window shows nothing any more.
+// Puts the window's reply to a view into `reply`: see, look or report. Returns `Closed`, and puts no reply, if the
+// window shows nothing any more. The function is never called with another command.
 #[inline(always)]
 fn show<H: House>(
     alloc: Global,
@@ -134,8 +136,8 @@ fn show<H: House>(
     }
 }
 
-// Puts the reply to a see: what a node shows to those who may see it. Returns `Closed`, and puts no reply, if the
-// window shows nothing any more. `Window::see` allocates nothing, so it can't run out of memory.
+// Puts the reply to a `see` into `reply`: what the node shows to `who`, or why that is denied. Returns `Closed`, and
+// puts no reply, if the window shows nothing any more. `Window::see` allocates nothing, so it can't run out of memory.
 fn see<H: House>(
     window: &mut Window<H>,
     who: Who,
@@ -156,8 +158,8 @@ fn see<H: House>(
     Ok(())
 }
 
-// Puts the reply to a look: what a node shows to its owners and the teacher. Returns `Closed`, and puts no reply, if
-// the window shows nothing any more.
+// Puts the reply to a `look` into `reply`: what the node shows to `who`, or why that is denied, or the refusal for
+// memory. Returns `Closed`, and puts no reply, if the window shows nothing any more.
 fn look<H: House>(
     alloc: Global,
     window: &mut Window<H>,
@@ -179,8 +181,8 @@ fn look<H: House>(
     Ok(())
 }
 
-// Puts the reply to a request for the report on the configuration. Returns `Closed`, and puts no reply, if the window
-// shows nothing any more.
+// Puts the reply to a `report` into `reply`: the report on the configuration, or why that is denied, or the refusal
+// for memory. Returns `Closed`, and puts no reply, if the window shows nothing any more.
 fn report<H: House>(
     alloc: Global,
     window: &mut Window<H>,

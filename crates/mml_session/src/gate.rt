@@ -9,7 +9,7 @@ pub enum Point {
 
 /// An object that may hold a session at its points, for as long as it likes: no lock is held there.
 pub trait Gate {
-    /// Returns when the session of this connection may go on from `point`.
+    /// Waits until the session of this connection may go on from `point`.
     fn pass(&self, connection: u8, point: Point);
 }
 

@@ -9,10 +9,10 @@ use mml_lines::{WriteFault, put_all, put_both};
 use std::alloc::Global;
 use std::io::Write;
 
-// The most bytes that stay held from one reply to the next: if there are more, all are written.
+// The most bytes that stay in the buffer from one reply to the next. If there are more, all are written.
 const HELD_BYTES: usize = 8192;
 
-// A buffer of replies' lines, so that one write takes many.
+// The lines of replies that aren't written yet, buffered so that one write takes many.
 #[derive(Drop)]
 pub(crate) struct Held {
     pub(crate) bytes: Vec<u8>,
@@ -31,8 +31,9 @@ impl Held {
         })
     }
 
-    // Appends a line. If there is no room for it, or `at_once` is set, writes all and empties the buffer. If a write
-    // fails, returns how many bytes of the held lines and of this one were written, and empties the buffer too.
+    // Appends a line to the buffer. If there is no room for it, or `at_once` is set, writes all and empties the
+    // buffer. If a write fails, empties the buffer, and returns how many bytes of the held lines and of this one were
+    // written.
     pub(crate) fn put<W: Write>(
         &mut self,
         line: &[u8],
@@ -59,8 +60,8 @@ impl Held {
         came
     }
 
-    // Writes all held lines and empties the buffer if `at_once` is set, or more than `HELD_BYTES` are held. If a write
-    // fails, returns how many bytes were written, and empties the buffer too.
+    // Writes all held lines and empties the buffer, if `at_once` is set or more than `HELD_BYTES` are held. If a write
+    // fails, empties the buffer, and returns how many bytes were written.
     pub(crate) fn let_out_when_due<W: Write>(
         &mut self,
         at_once: bool,
@@ -83,7 +84,8 @@ impl Held {
         Ok(())
     }
 
-    // Writes all held lines and empties the buffer, even if a write fails: then returns how many bytes were written.
+    // Writes all held lines and empties the buffer. If a write fails, empties the buffer too, and returns how many
+    // bytes were written.
     pub(crate) fn let_out<W: Write>(&mut self, writer: &mut W) -> Result<(), WriteFault>
         ensures none { self.new.bytes.items ≡ [] }
         ensures ok { OnOk result (Appends (W.contents writer.old) (W.contents writer.new)
@@ -99,7 +101,7 @@ impl Held {
         came
     }
 
-    // Appends a line if there is room, and returns whether there was.
+    // Appends a line to the buffer if it then has no more than `HELD_BYTES`. Returns whether the line was appended.
     fn hold(&mut self, line: &[u8]) -> bool
         ensures { self.new.bytes.items
             ≡ (if result then self.old.bytes.items ++ line.now else self.old.bytes.items) }

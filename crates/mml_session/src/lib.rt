@@ -13,5 +13,5 @@ mod setting;
 pub use gate::{Gate, NoGate, Point};
 pub use observer::{Gated, Observer};
 pub use recorder::{Entry, NoRecorder, Recorder};
-pub use session::{Ending, SessionEnd, is_bye, serve_observed, serve_one};
+pub use session::{Ending, SessionEnd, is_bye, is_hello, serve_observed, serve_one};
 pub use setting::Setting;

@@ -47,7 +47,7 @@ impl<'a, G: Gate, K: Recorder + Drop> Observer for Gated<'a, G, K> {
         self.gate.pass(number, Point::Line);
     }
 
-    // Passes the line and the reply's line to the recorder, unless the reply is that to a view.
+    // Passes the line, the reply and the reply's line to the recorder, unless the reply is that to a view.
     fn answered(&mut self, number: u8, seen: u64, line: &[u8], reply: &Reply, out: &[u8]) {
         record(&mut self.recorder, number, seen, line, reply, out);
     }
@@ -65,8 +65,9 @@ impl<'a, G: Gate, K: Recorder + Drop> Observer for Gated<'a, G, K> {
     }
 }
 
-// Passes a line and `out`, its reply's line, to a recorder, unless the reply is that to a view. A line whose reply
-// names the place of an event was judged before that event was seen.
+// Records a line, its reply and `out`, the reply's line, in a recorder, unless the reply shows a view. The window has
+// seen `seen` events after the line. A line whose reply names the place of an event was judged before that event was
+// seen.
 fn record<K: Recorder>(
     recorder: &mut K,
     number: u8,
@@ -88,5 +89,5 @@ fn record<K: Recorder>(
         | Reply::Release { .. } => seen.saturating_sub(1),
         _ => seen,
     };
-    recorder.said(number, before, line, out);
+    recorder.said(number, before, line, reply, out);
 }

@@ -4,7 +4,7 @@ ghost use Rattle.mml_lines.specs.LinesOf.{IsWithinLimit};
 ghost use Rattle.mml_lines.specs.declared.lines.TheConstants.{READ_SIZE};
 ghost use Rattle.mml_lines.specs.LinesState.{bytes_ahead, fresh};
 ghost use Rattle.mml_lab.specs.Rosters.{IsPrincipal};
-ghost use Rattle.mml_session.specs.Turns.{standing, is_bye};
+ghost use Rattle.mml_session.specs.Turns.{standing, is_bye, is_hello};
 ghost use Rattle.mml_session.specs.Ends.{Ended};
 ghost use Rattle.mml_session.specs.Records.{EndedRecorded};
 ghost use Rattle.mml_session.specs.Holding.{LetsOut};
@@ -134,8 +134,8 @@ struct Session {
 }
 
 impl Session {
-    // Returns a session in which nobody is known and no reply is held, with the memory for its lines and short replies.
-    // Returns `Memory` if memory runs out.
+    // Returns a session in which nobody is known and no reply is held, with the memory for its lines and short
+    // replies. Returns `Memory` if memory runs out.
     fn new(alloc: Global, connection: u8) -> Result<Session, Memory>
         ensures number { IfOk result (λ session. session.connection ≡ connection) }
         ensures nobody { IfOk result (λ session. session.known ≡ None) }
@@ -154,7 +154,7 @@ impl Session {
     }
 }
 
-// The result of the next line.
+// What follows a line.
 #[derive(Clone, Copy)]
 enum Next {
     // It was answered, and the session goes on.
@@ -163,7 +163,8 @@ enum Next {
     Ended(SessionEnd),
 }
 
-// Answers the next line. Reads only if no reply is held. Returns whether the session goes on or how it ended.
+// Reads the next line and answers it. The reader is read only if no reply is held. Returns whether the session goes
+// on, or how it ended.
 fn serve_next<Rt: Wait, S: Sink + Drop, H: House, R: Read, W: Write, O: Observer>(
     setting: &Setting<'_, Rt, S, H>,
     session: &mut Session,
@@ -212,8 +213,8 @@ fn serve_next<Rt: Wait, S: Sink + Drop, H: House, R: Read, W: Write, O: Observer
     }
 }
 
-// Counts the reply of a line, if it is written or held, and notes in the observer what is written. Returns whether the
-// session goes on or how it ended.
+// Returns whether the session goes on after the line that was just served, or how it ended. Counts the line's reply if
+// that is written or held, and notes in the observer how many replies are written if none is held.
 fn go_on<O: Observer>(
     said: Result<Sent, Closed>,
     held: &mut Held,
@@ -241,7 +242,7 @@ fn go_on<O: Observer>(
     }
 }
 
-// Counts a reply that is written or held. If no reply is held any longer, notes all that are counted in the observer.
+// Counts a reply that is written or held. If no reply is held any longer, notes in the observer how many were counted.
 fn count_told<O: Observer>(held: &mut Held, observer: &mut O, connection: u8)
     ensures held { held.new.bytes.items ≡ held.old.bytes.items }
     ensures kept { O.kept observer.new ≡ O.kept observer.old }
@@ -250,8 +251,8 @@ fn count_told<O: Observer>(held: &mut Held, observer: &mut O, connection: u8)
     pass_told(held, observer, connection);
 }
 
-// Notes in the observer how many replies were counted since the last time, if no reply is held any longer: those are
-// written.
+// Notes in the observer how many replies were counted since the last time, if no reply is held any longer: then all of
+// them are written.
 fn pass_told<O: Observer>(held: &mut Held, observer: &mut O, connection: u8)
     ensures held { held.new.bytes.items ≡ held.old.bytes.items }
     ensures kept { O.kept observer.new ≡ O.kept observer.old }
@@ -263,8 +264,8 @@ fn pass_told<O: Observer>(held: &mut Held, observer: &mut O, connection: u8)
 }
 
 // Writes what is held at the end of a session, notes the written replies in the observer, and returns `ending`. If the
-// write fails, that is how the session ends, and its ending has `before`: who was known before the line that was
-// answered last.
+// write fails, returns instead that the session ended by this fault, with `before`, who was known before the line that
+// was answered last.
 fn let_out<W: Write, O: Observer>(
     session: &mut Session,
     ending: Ending,
@@ -288,7 +289,7 @@ fn let_out<W: Write, O: Observer>(
     }
 }
 
-// The result of a reply.
+// What happened to a reply.
 #[derive(Clone, Copy)]
 enum Sent {
     // Its line is written, or held.
@@ -299,8 +300,8 @@ enum Sent {
     Unwritten(usize),
 }
 
-// Answers the line that was read last, and writes or holds its reply. Returns the result. Returns `Closed` if the line
-// asks for a view of a window that shows nothing any more, and so has no reply.
+// Answers the line that was read last, and writes or holds its reply. Returns what happened to the reply. Returns
+// `Closed` if the line asks for a view of a window that shows nothing any more, and so has no reply.
 fn serve_line<Rt: Wait, S: Sink + Drop, H: House, W: Write, O: Observer>(
     setting: &Setting<'_, Rt, S, H>,
     session: &mut Session,
@@ -353,20 +354,22 @@ fn serve_line<Rt: Wait, S: Sink + Drop, H: House, W: Write, O: Observer>(
     ))
 }
 
-// A line that was answered.
+// A line that was answered, and what is needed to record and send its reply.
 #[derive(Clone, Copy)]
 struct Judged<'a> {
     // The number of the seat in which it came.
     number: u8,
     // How many events the window had seen afterwards.
     seen: u64,
+    /// The line, without its newline.
     line: &'a [u8],
     // Whether the reader has to be read for the next line, so that all replies must be written.
     is_next_unknown: bool,
 }
 
-// Calls the observer with a line and its reply, and writes the reply or holds it. A short one is appended to the
-// buffer, and any other, or `memory` in its place, is put into `out` first. Returns the result of the reply.
+// Calls the observer with a line and its reply, and writes the reply or holds it. A short reply is appended to the
+// buffer. Any other is put into `out` first, or `memory` in its place if memory runs out. Returns what happened to the
+// reply.
 fn tell<H: House, W: Write, O: Observer>(
     alloc: Global,
     window: &Window<H>,
@@ -397,8 +400,8 @@ fn tell<H: House, W: Write, O: Observer>(
     send(&told, out, held, judged.is_next_unknown, writer)
 }
 
-// Writes the line of a reply after the held ones if `at_once` is set, after a `bye`, or if there is no room for it, and
-// else holds it. Returns the result of the reply.
+// Appends the line of a reply to the held ones. Writes all if `at_once` is set, after a `bye`, or if the buffer has no
+// room for the line. Returns what happened to the reply.
 fn send<W: Write>(
     reply: &Reply,
     line: &[u8],
@@ -415,8 +418,8 @@ fn send<W: Write>(
     sent_of(held.put(line, at_once || is_last, writer), is_last)
 }
 
-// Flushes the held replies, of which this is the last, if `at_once` is set, after a `bye`, or when the buffer is full.
-// Returns the result of the reply.
+// Writes the held replies, of which this is the last, if `at_once` is set, after a `bye`, or when the buffer is full.
+// Returns what happened to the reply.
 fn send_held<W: Write>(reply: &Reply, held: &mut Held, at_once: bool, writer: &mut W) -> Sent
     ensures sends { SendsReply result reply.now held.old.bytes.items
         [] held.new.bytes.items
@@ -427,8 +430,8 @@ fn send_held<W: Write>(reply: &Reply, held: &mut Held, at_once: bool, writer: &m
     sent_of(held.let_out_when_due(at_once || is_last, writer), is_last)
 }
 
-// Returns the result of a reply: `came` is the result of its line and of what was held before it, and `is_last` says
-// whether the reply is a bye's.
+// Returns what happened to a reply, by `came`, the result of writing or holding it and what was held before it.
+// `is_last` says whether it is the reply to a bye.
 fn sent_of(came: Result<(), WriteFault>, is_last: bool) -> Sent
     ensures { result ≡ sent_of came is_last }
 {
@@ -436,6 +439,13 @@ fn sent_of(came: Result<(), WriteFault>, is_last: bool) -> Sent
         Ok(()) => { if is_last { Sent::Bye } else { Sent::Told } }
         Err(fault) => Sent::Unwritten(fault.written),
     }
+}
+
+/// Returns whether a reply is that to a hello that is granted: it says who is known from then on.
+pub fn is_hello(reply: &Reply) -> bool
+    ensures { result ≡ is_hello reply.now }
+{
+    matches!(reply, Reply::Hello(_))
 }
 
 /// Returns whether a reply is that to a bye, which is the last of its session.

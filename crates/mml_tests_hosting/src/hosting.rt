@@ -11,13 +11,13 @@ use std::sync::Wait;
 use std::test::Fail;
 use std::thread::Threads;
 
-/// Whether a connection comes to the desk, else to the port, what is said there, and what that is answered.
+/// One connection: whether it comes to the desk, else to the port; what it sends; and the replies that it should get.
 type Talk = (bool, &'static str, &'static str);
 
 // A greeting, a move of node 1, a see of it, and a bye.
 const ANA_MOVES: &str = lines!(hello("ana", "a-key"), seduction(1), see(1), bye);
 
-/// Moves node 1.
+/// Ana moves node 1, sees it, and says bye.
 const ANA: Talk = (
     false,
     ANA_MOVES,
@@ -29,27 +29,27 @@ const ANA: Talk = (
     ),
 );
 
-/// Goes without a bye. No neighbour of node 6 has a greater identifier.
+/// Ben goes without a bye. The guard of his move doesn't hold, since no neighbour of node 6 has a greater identifier.
 const BEN: Talk = (
     false,
     lines!(hello("ben", "b-key"), see(6), seduction(6)),
     lines!(welcome("ben"), seen(0, false, 6, "null"), guard),
 );
 
-/// A bye at the desk that ends nothing: who says it hasn't said hello.
+/// A bye at the desk by someone who hasn't said hello. It doesn't end the house.
 const NOBODY: Talk = (true, lines!(close, bye), lines!(not_greeted, left));
 
-/// The teacher's connection ends within a line.
+/// The teacher's connection closes a step, and then ends within a line.
 const FALLEN: Talk = (
     true,
     lines!(hello("tess", "chalk"), close, "{\"do\":\"cl"),
     lines!(welcome("tess"), closed),
 );
 
-/// The teacher's bye at the students' port ends nothing.
+/// The teacher's bye at the students' port, which doesn't end the house.
 const ELSEWHERE: Talk = (false, TESS_CLOSES, NOTHING_CLOSED);
 
-/// The teacher's bye at the desk ends the house.
+/// The teacher's bye at the desk, which ends the house.
 const TESS: Talk = (true, TESS_CLOSES, NOTHING_CLOSED);
 
 /// Ana comes again with the same lines, in configuration 1.
@@ -59,10 +59,11 @@ const AGAIN: Talk = (
     lines!(welcome("ana"), stale(1), seen(1, false, 1, 6), left),
 );
 
+/// The talks of one house, in the order in which they come.
 const TALKS: &[Talk] = &[ANA, BEN, NOBODY, FALLEN, ELSEWHERE, AGAIN, AGAIN, TESS];
 
-/// Returns what of these talks is said at the desk where `is_desk`, else at the port: each once the one before it has
-/// ended.
+/// Returns the connections of these talks that come to the desk if `is_desk`, else those that come to the port. Each
+/// comes once all talks before it have ended. Returns an error if memory runs out.
 fn texts_of<'a>(
     alloc: Global,
     talks: &[Talk],
@@ -84,8 +85,8 @@ fn texts_of<'a>(
     Texts::of(alloc, &said, count)
 }
 
-/// Hosts these talks over a cycle of six nodes: what is left of the house, or the host's fault; a failure if the test
-/// itself goes wrong.
+/// Hosts these talks over a cycle of six nodes. Returns the finished house, or the host's fault. Returns an error
+/// (`Fail`) if the test itself goes wrong.
 fn host<R: Threads + Wait + Sync>(
     rt: &R,
     alloc: Global,
@@ -99,8 +100,8 @@ fn host<R: Threads + Wait + Sync>(
     Ok(host_in_memory(rt, alloc, lab, at_desk, at_port, &count, out))
 }
 
-/// Hosts the connections that come to the desk and to the port, over this lab, with a sink in memory and no records:
-/// what is left of the house, or the host's fault.
+/// Hosts these connections at the desk and at the port over this lab, with a journal in memory and no records. Returns
+/// the finished house, or the host's fault.
 fn host_in_memory<R: Threads + Wait + Sync>(
     rt: &R,
     alloc: Global,
@@ -119,7 +120,7 @@ fn host_in_memory<R: Threads + Wait + Sync>(
     )
 }
 
-/// Returns whether each of these talks was sent just the replies that stand in it.
+/// Returns whether each of these talks was sent exactly its replies.
 fn are_answered(left: &Left, talks: &[Talk]) -> bool {
     let mut number = 0u64;
     for (_, _, replies) in talks {
@@ -131,8 +132,8 @@ fn are_answered(left: &Left, talks: &[Talk]) -> bool {
     true
 }
 
-/// Returns whether the talks of `TALKS` are answered as they say, whether the journal is a move and its close, and
-/// whether the last line has both. Returns an error if the house ends by a fault.
+/// Hosts `TALKS`. Returns whether each talk is answered as it says, whether the journal is a move and its close, and
+/// whether the last line counts both. Returns an error if the house ends with a fault.
 fn told_of_talks<R: Threads + Wait + Sync>(rt: &R, alloc: Global) -> Result<[bool; 3], Fail> {
     let mut out = Vec::new(alloc);
     match host(rt, alloc, TALKS, &mut out)? {
@@ -145,23 +146,23 @@ fn told_of_talks<R: Threads + Wait + Sync>(rt: &R, alloc: Global) -> Result<[boo
     }
 }
 
-/// Fails if a talk of `TALKS` is answered otherwise, or the journal or the last line is another.
+/// Fails if a talk of `TALKS` has other replies than it says, or the journal or the last line is another.
 #[test]
 fn sessions_come_one_after_another(rt: HostRuntime) -> Result<(), Fail> {
     assert_eq!(rt; told_of_talks(&rt, rt.alloc())?, [true; 3]);
     Ok(())
 }
 
-/// Returns whether a house whose teacher says bye at the port alone ends with the fault that nobody dismissed it, and
-/// without a last line.
+/// Hosts two talks: a bye at the desk by someone who hasn't said hello, and the teacher's bye at the port. Returns
+/// whether the house ends with the fault `Undismissed`, and without a last line.
 fn is_undismissed<R: Threads + Wait + Sync>(rt: &R, alloc: Global) -> Result<bool, Fail> {
     let mut out = Vec::new(alloc);
     let left = host(rt, alloc, &[NOBODY, ELSEWHERE], &mut out)?;
     Ok(matches!(left, Err(HostFault::Undismissed)) && out.is_empty())
 }
 
-/// Fails if a house ends otherwise than undismissed, or with a last line, though the teacher said bye at the students'
-/// port alone.
+/// Fails if a house whose teacher said bye at the students' port alone doesn't end as undismissed, or prints a last
+/// line.
 #[test]
 fn a_bye_at_the_port_ends_no_house(rt: HostRuntime) -> Result<(), Fail> {
     assert!(rt; is_undismissed(&rt, rt.alloc())?);

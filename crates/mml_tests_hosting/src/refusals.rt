@@ -5,5 +5,5 @@ mod library;
 mod replies;
 mod untouched;
 
-/// More requests for memory than any call that is tried here makes.
+/// More requests for memory than any call makes that is tried here.
 const MOST: usize = 100_000;

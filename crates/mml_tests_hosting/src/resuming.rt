@@ -19,7 +19,8 @@ use std::thread::Threads;
 /// A journal whose last line is torn: ana's move was granted, and ben's line was being written.
 const OLD: &str = "1 0 grant ana 1 seduction\n2 0 gra";
 
-/// Ana, who comes again, asks for what stands, and for what is stale.
+/// Ana comes again. She asks for the move that is chosen already, for a move in a configuration that is not current,
+/// and for a look at her node.
 const ANA: &str = lines!(
     hello("ana", "a-key"),
     seduction(1),
@@ -28,6 +29,7 @@ const ANA: &str = lines!(
 "#
 );
 
+/// The replies to `ANA` in a class that goes on from `OLD`.
 const ANA_IS_TOLD: &str = lines!(
     welcome("ana"),
     chosen,
@@ -36,29 +38,31 @@ const ANA_IS_TOLD: &str = lines!(
 "#
 );
 
+/// The teacher's greeting, two closes, and a bye.
 const TESS: &str = lines!(hello("tess", "chalk"), close, close, bye);
 
+/// The replies to `TESS`: the first close applies ana's move, and at the second no node is chosen.
 const TESS_IS_TOLD: &str = lines!(welcome("tess"), closed, empty, left);
 
-/// What is printed before all else.
+/// The line that a class prints first.
 const FIRST: &str = "listening\n";
 
-/// What the class that goes on from `OLD` prints, `FIRST` and then two lines by hand.
+/// What a class that goes on from `OLD` prints: `FIRST`, and then two lines by hand.
 const TOLD: &str = "listening
 resumed at place 1, configuration 0, 1 chosen
 done: 2 events, configuration 1
 ";
 
-/// A journal whose last line is torn and longer than the text of an event may be.
+/// A journal whose last line is torn and longer than an event's line may be.
 const LONG: &str = "1 0 grant ana 1 seduction
 2 0 close and more and more and more and more and more and more and more and more and more and more and more.";
 
-/// Keeps a journal in memory.
+/// A store that keeps a journal in memory.
 #[derive(Drop)]
 struct Shelf(Global);
 
 impl Store<MemorySink> for Shelf {
-    // Returns a new sink that has taken these bytes. Returns `None` if memory runs out.
+    // Returns a new sink that holds these bytes. Returns `None` if memory runs out.
     fn shorten_to(self, whole: &[u8]) -> Option<MemorySink>
         ensures holds { IfSome result (λ sink. sink.bytes ≡ whole.now) }
         ensures countable { IfSome result (λ sink. sink.failures < 2 ^ 64 - 1) }
@@ -74,8 +78,9 @@ impl Store<MemorySink> for Shelf {
     }
 }
 
-/// Goes on from an old journal over a cycle of six nodes with this limit of events, where ana comes and, once she has
-/// gone, the teacher: what is left of the class, or why it didn't go on; a failure if the test itself goes wrong.
+/// Resumes a class from the journal `old` over a cycle of six nodes, with this limit of events. Ana comes to the port
+/// and, once she has gone, the teacher comes to the desk. Returns the finished class, or the fault because of which it
+/// didn't go on. Returns an error (`Fail`) if the test itself goes wrong.
 fn resume<R: Threads + Wait + Sync>(
     rt: &R,
     alloc: Global,
@@ -100,8 +105,8 @@ fn resume<R: Threads + Wait + Sync>(
     Ok(resume_in(rt, alloc, lab, old, at_desk, at_port, &count, out))
 }
 
-/// Goes on from an old journal over this lab, with what comes to the desk and to the port, and no records: what is left
-/// of the class, or why it didn't go on.
+/// Resumes a class from the journal `old` over this lab, with these connections at the desk and at the port, and no
+/// records. Returns the finished class, or the fault because of which it didn't go on.
 fn resume_in<R: Threads + Wait + Sync>(
     rt: &R,
     alloc: Global,
@@ -131,8 +136,8 @@ fn resume_in<R: Threads + Wait + Sync>(
     )
 }
 
-/// Returns why a class over this journal and limit of events didn't go on, `None` if it did; and whether nothing was
-/// printed.
+/// Resumes a class from the journal `old` with this limit of events. Returns the fault because of which it didn't go
+/// on, or `None` if it did; and whether nothing was printed.
 fn fault_of_class<R: Threads + Wait + Sync>(
     rt: &R,
     alloc: Global,
@@ -144,8 +149,8 @@ fn fault_of_class<R: Threads + Wait + Sync>(
     Ok((fault, out.is_empty()))
 }
 
-/// Returns, for a class that goes on from `OLD`, whether ana and whether tess is answered as she should be, whether the
-/// journal is ana's move and a close, and whether the class itself prints `TOLD`. Fails if it doesn't go on.
+/// Resumes a class from `OLD`. Returns, in this order, whether ana's replies, the teacher's replies, the journal, and
+/// what the class prints are the wanted ones. Returns an error if the class doesn't go on.
 fn told_of_a_class<R: Threads + Wait + Sync>(rt: &R, alloc: Global) -> Result<[bool; 4], Fail> {
     let mut out = Vec::new(alloc);
     match resume(rt, alloc, 100, OLD, &mut out)? {
@@ -160,15 +165,16 @@ fn told_of_a_class<R: Threads + Wait + Sync>(rt: &R, alloc: Global) -> Result<[b
     }
 }
 
-/// Fails if a class doesn't go on from a journal with a torn line, ana or tess is answered otherwise there, or its
-/// journal or its result is another.
+/// Fails if a class doesn't go on from a journal with a torn line, or if ana's or the teacher's replies, the journal,
+/// or what the class prints is another.
 #[test]
 fn a_class_goes_on_where_its_journal_stopped(rt: HostRuntime) -> Result<(), Fail> {
     assert_eq!(rt; told_of_a_class(&rt, rt.alloc())?, [true; 4]);
     Ok(())
 }
 
-/// Returns whether a class over this journal and limit of events doesn't go on for this reason, and nothing is printed.
+/// Returns whether a class with this journal and limit of events is refused for the reason `wanted`, and prints
+/// nothing.
 fn is_refused<R: Threads + Wait + Sync>(
     rt: &R,
     alloc: Global,
@@ -179,8 +185,8 @@ fn is_refused<R: Threads + Wait + Sync>(
     Ok(fault_of_class(rt, alloc, events, old)? == (Some(ResumeFault::Refused(wanted)), true))
 }
 
-/// Returns whether, each for its reason, a journal is refused with an illegal event, one with more events than the
-/// limit, and one whose last line is torn and longer than a line may be.
+/// Returns whether each of three journals is refused for its reason: one with an illegal event, one with more events
+/// than the limit, and one whose last line is torn and longer than a line may be.
 fn are_refused<R: Threads + Wait + Sync>(rt: &R, alloc: Global) -> Result<[bool; 3], Fail> {
     let illegal = AuditFault::Illegal(1, Denial::Empty);
     let is_empty = is_refused(rt, alloc, 100, "1 0 close\n", illegal)?;
@@ -189,8 +195,8 @@ fn are_refused<R: Threads + Wait + Sync>(rt: &R, alloc: Global) -> Result<[bool;
     Ok([is_empty, is_long, is_torn])
 }
 
-/// Fails if a class goes on from a journal with an illegal event, too many events, or a torn line that is too long for
-/// one, or is refused for another reason, or something is printed.
+/// Fails if a class goes on from a journal with an illegal event, with too many events, or with a torn line that is too
+/// long. Fails too if it is refused for another reason, or prints something.
 #[test]
 fn what_is_no_journal_is_refused(rt: HostRuntime) -> Result<(), Fail> {
     assert_eq!(rt; are_refused(&rt, rt.alloc())?, [true; 3]);

@@ -5,7 +5,7 @@ ghost use Rattle.mml_hosting.specs.Bringing.{Brings};
 
 use mml_fakes::cycles::cycle;
 use mml_fakes::meeting::wait_for;
-use mml_hosting::{Accept, Accepted, Bell, CutOff, Hosted, ServedSession};
+use mml_hosting::{Accept, Accepted, Bell, CutOff, Hosted, NoReplies, Observed, ServedSession};
 use mml_journal::MemorySink;
 use mml_lab::Lab;
 use mml_lab_file::read_lab;
@@ -19,19 +19,19 @@ use std::sync::atomic::{AtomicU64, Ordering};
 use std::test::Fail;
 use std::vec::IntoIter;
 
-/// Counts how often the bell was rung: for each session that has ended, and for a port that couldn't be served.
+/// A bell that counts how often it was rung: for each session that has ended, and for a port that couldn't be served.
 #[derive(Drop)]
 pub struct Count(AtomicU64);
 
 impl Count {
-    /// Returns a count at 0: the bell wasn't rung yet.
+    /// Returns a bell that wasn't rung yet.
     pub fn new() -> Count {
         Count(AtomicU64::new(0))
     }
 }
 
 impl Bell for Count {
-    // Counts one ring more, whatever it is for: a session that has ended, or a port that couldn't be served.
+    // Counts one more ring, whatever it is for: a session that has ended, or a port that couldn't be served.
     fn ring(&self, _is_dismissed: bool) {
         self.0.fetch_add(1, Ordering::SeqCst);
     }
@@ -47,33 +47,44 @@ pub struct NumberedWriter {
 impl Write for NumberedWriter {
     ghost contents = { λ k. Some k.bytes.items };
 
+    // Appends the bytes, and returns how many there are. Returns an error if memory runs out.
     fn write(&mut self, bytes: &[u8]) -> io::Result<usize> {
         self.bytes.write(bytes)
     }
 
+    // Succeeds: all that was written is in memory already.
     fn flush(&mut self) -> io::Result<()> {
         self.bytes.flush()
     }
 }
 
 impl HangUp for NumberedWriter {
-    // In memory nobody waits for more, and nothing is to be given back.
+    // Does nothing: in memory nobody waits for more, and there is nothing to give back.
     fn hang_up(&mut self) {}
 }
 
-/// What cuts nothing off.
+impl Observed for NumberedWriter {
+    type Replies = NoReplies;
+
+    // Returns an observer that does nothing: in memory nobody has to know who has greeted.
+    fn reply_observer(&mut self) -> NoReplies {
+        NoReplies
+    }
+}
+
+/// A handle that cuts nothing off.
 #[derive(Drop)]
 pub struct Nothing;
 
 impl CutOff for Nothing {
-    // A connection in memory is at its end by itself.
+    // Does nothing: a connection in memory ends by itself.
     fn cut_off(&self) {}
 }
 
-/// What a connection sends, and what it is sent.
+/// The two ends of a connection: the bytes that it sends, and the writer that keeps what it is sent.
 pub type TextEnds = (VecDeque<u8>, NumberedWriter);
 
-/// A text that the connection with this number sends once so many sessions have ended.
+/// A text that the connection with this number sends once `after` sessions have ended.
 #[derive(Drop)]
 pub struct Timed<'a> {
     pub after: u64,
@@ -81,7 +92,7 @@ pub struct Timed<'a> {
     pub text: &'a str,
 }
 
-/// Connections that come in their order.
+/// Connections in memory that come in their order, each after its number of ended sessions.
 #[derive(Drop)]
 pub struct Texts<'a> {
     coming: IntoIter<TextEnds>,
@@ -90,7 +101,8 @@ pub struct Texts<'a> {
 }
 
 impl<'a> Texts<'a> {
-    /// Connections that send these texts, each once as many sessions have ended as its time says, by the count.
+    /// Returns connections that send these texts, in their order. Each comes once `count` has counted as many ended
+    /// sessions as its `after` says. Returns an error if memory runs out.
     pub fn of(
         alloc: Global,
         timed: &[Timed<'_>],
@@ -110,8 +122,8 @@ impl<'a> Texts<'a> {
     }
 }
 
-/// Returns the two ends of a connection that sends a text: the bytes to read, and a writer that has its number and
-/// keeps what it is sent.
+/// Returns the two ends of a connection that sends a text: the bytes to read, and a writer with the connection's number
+/// that keeps what it is sent. Returns an error if memory runs out.
 fn ends_of(alloc: Global, timed: &Timed<'_>) -> Result<TextEnds, AllocError> {
     let mut bytes = VecDeque::new(alloc);
     for byte in timed.text.as_bytes() {
@@ -127,8 +139,8 @@ fn ends_of(alloc: Global, timed: &Timed<'_>) -> Result<TextEnds, AllocError> {
 impl<'a> Accept<VecDeque<u8>, NumberedWriter, Nothing> for Texts<'a> {
     ghost to_come = { λ t. Some (into_iter_items t.coming) };
 
-    // Returns the next connection, once as many sessions have ended as it wants or after many looks; if none is left,
-    // returns that no more are to be served.
+    // Waits until as many sessions have ended as the next connection wants, or gives up after many looks; then returns
+    // that connection. Returns `Over` if none is left.
     fn accept_next(&mut self) -> Accepted<VecDeque<u8>, NumberedWriter, Nothing>
         ensures { Brings (Some (into_iter_items self.old.coming))
             (Some (into_iter_items self.new.coming)) result }
@@ -143,16 +155,16 @@ impl<'a> Accept<VecDeque<u8>, NumberedWriter, Nothing> for Texts<'a> {
     }
 }
 
-/// Returns a lab of six nodes in a cycle, with `events` events and three sessions at most.
+/// Returns a lab of six nodes in a cycle, with at most `events` events and three sessions.
 pub fn cycle_of_six(alloc: Global, events: u64) -> Result<Lab, Fail> {
     let text = cycle(alloc, 6, events, 3)?;
     Ok(read_lab(alloc, text.as_bytes())?)
 }
 
-/// What is left of a house over connections in memory, with a journal in memory and no record.
+/// The result of a finished house over connections in memory, with a journal in memory and no record.
 pub type Left = Hosted<MemorySink, ServedSession<VecDeque<u8>, NumberedWriter>, NoRecorder>;
 
-/// Returns what the connection with this number was sent, if it was served.
+/// Returns what the connection with this number was sent, or `None` if it wasn't served.
 pub fn sent_to(left: &Left, number: u64) -> Option<&[u8]> {
     for record in left.at_desk.iter().chain(left.others.iter()) {
         for session in record.sessions.iter() {

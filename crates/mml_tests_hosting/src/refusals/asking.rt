@@ -10,8 +10,8 @@ use std::alloc::Global;
 use std::sync::Wait;
 use std::test::Fail;
 
-/// Returns whether an answer grants an act, with this place: `false` if it says that memory ran out, and a request for
-/// memory ran out (not `was_none`), or `None` if it is anything else.
+/// Returns `true` if an answer grants an act with this place, and `false` if it says that memory ran out and a request
+/// was indeed refused (`was_none` is false). Returns `None` for any other answer.
 fn granted_or_refused(answer: &Answer, place: u64, was_none: bool) -> Option<bool> {
     match answer {
         Answer::Granted { place: granted, .. } => (*granted == place).then_some(true),
@@ -20,8 +20,9 @@ fn granted_or_refused(answer: &Answer, place: u64, was_none: bool) -> Option<boo
     }
 }
 
-/// Asks for the act with this place, whose nth request for memory is refused, if there is one: whether it was granted,
-/// or else refused for that, or `None` if it was answered otherwise, or refused with a new number of the configuration.
+/// Asks for the act with this place while its nth request for memory is refused, if it makes that many. Returns `true`
+/// if the act was granted, and `false` if it was refused for memory and the window's number is as before. Returns
+/// `None` if it was answered otherwise, or the number changed.
 fn asked<H: House, R: Wait>(
     seat: &mut Seat<'_, NullSink, H, R>,
     place: u64,
@@ -36,8 +37,9 @@ fn asked<H: House, R: Wait>(
     is_kept.then_some(is_granted)
 }
 
-/// Asks for the act with this place until it is granted, with one request for memory after another refused: how often
-/// the act was refused, or `None` if something else came of it.
+/// Asks for the act with this place until it is granted: first with its first request for memory refused, then with its
+/// second, and so on. Returns how often the act was refused. Returns `None` if an answer was wrong, or the act still
+/// wasn't granted before try `MOST`.
 fn refusals_of<H: House, R: Wait>(
     seat: &mut Seat<'_, NullSink, H, R>,
     place: u64,
@@ -51,17 +53,18 @@ fn refusals_of<H: House, R: Wait>(
     None
 }
 
-/// The ten acts, each asked for until it is granted, with one request for memory after another refused.
+/// A visit that asks for each of the ten acts until it is granted, with one request for memory after another refused.
+/// `is_there`: whether the library that refuses requests is loaded.
 #[derive(Clone, Copy)]
 struct Acts {
     is_there: bool,
 }
 
 impl Visit<NullSink> for Acts {
-    /// How often all acts were refused, each until it was granted, or `None` if something else came of one.
+    /// How many refusals there were in all, or `None` if an act was answered wrongly or never granted.
     type Told = Option<usize>;
 
-    // Asks for all acts through the first seat, and adds up how often each was refused.
+    // Asks for the ten acts in their order through the first seat, and adds up their refusals.
     fn visit<H: House, R: Wait>(self, seats: &mut Pair<'_, NullSink, H, R>) -> Option<usize> {
         let mut refused = 0usize;
         for place in 1..=ACTS {
@@ -72,8 +75,8 @@ impl Visit<NullSink> for Acts {
     }
 }
 
-/// Returns how often the ten acts were refused over the path of three, each until it was granted, or `None` if
-/// something else came of one, or the house didn't end with all of them.
+/// Plays `Acts` over the path of three. Returns how often the ten acts were refused in all. Returns `None` if an act
+/// was answered wrongly, or the house didn't end with ten events in configuration 4.
 fn told_of_acts<R: Wait>(rt: &R, alloc: Global, is_there: bool) -> Result<Option<usize>, Fail> {
     let (refused, end) = visit_path(rt, alloc, NullSink::new(), Acts { is_there })?;
     let wanted = Ending::Log {
@@ -84,7 +87,8 @@ fn told_of_acts<R: Wait>(rt: &R, alloc: Global, is_there: bool) -> Result<Option
     Ok(refused.flatten().filter(|_| ending_of(&end) == wanted))
 }
 
-/// The first act, whose nth request for memory is refused, and then the second one, for which none is.
+/// A visit that asks for the first act while its nth request for memory is refused, and then for the second act with
+/// none refused. `is_there`: whether the library that refuses requests is loaded.
 #[derive(Clone, Copy)]
 struct FirstThenSecond {
     nth: usize,
@@ -92,11 +96,11 @@ struct FirstThenSecond {
 }
 
 impl Visit<NullSink> for FirstThenSecond {
-    /// Whether the first was granted, or else refused, or `None` if it was answered otherwise, or the second wasn't
-    /// granted with the next place.
+    /// Whether the first act was granted; `false` if it was refused for memory. `None` if it was answered otherwise, or
+    /// the second act wasn't granted with the next place.
     type Told = Option<bool>;
 
-    // Asks for both acts through the first seat: the second gets place 2 if the first was granted, else place 1.
+    // Asks for both acts through the first seat. The second act gets place 2 if the first was granted, else place 1.
     fn visit<H: House, R: Wait>(self, seats: &mut Pair<'_, NullSink, H, R>) -> Option<bool> {
         let seat = &mut seats.one;
         let was_granted = asked(seat, 1, self.nth, self.is_there)?;
@@ -106,8 +110,8 @@ impl Visit<NullSink> for FirstThenSecond {
     }
 }
 
-/// Returns whether the first act, whose nth request for memory is refused, if there is one, was granted, in a house
-/// that ends with just the granted ones of that act and the second, or `None` if something else came of them.
+/// Plays `FirstThenSecond` in a new house over the path of three. Returns whether the first act was granted. Returns
+/// `None` if an act was answered wrongly, or the house didn't end with exactly the granted acts.
 fn was_first_granted<R: Wait>(
     rt: &R,
     alloc: Global,
@@ -131,8 +135,9 @@ fn was_first_granted<R: Wait>(
     Ok((ending_of(&end) == wanted).then_some(was_granted))
 }
 
-/// Returns how often the first act was refused before it was granted, each time in a house of its own, or `None` if
-/// something else came of it or of the second act.
+/// Plays `FirstThenSecond` in one new house after another until the first act is granted: first with its first request
+/// for memory refused, then with its second, and so on. Returns how often the first act was refused, or `None` if a
+/// house went wrong, or the act was never granted.
 fn refusals_of_first<R: Wait>(
     rt: &R,
     alloc: Global,
@@ -148,8 +153,8 @@ fn refusals_of_first<R: Wait>(
     Ok(None)
 }
 
-/// Fails if an act with a request refused is neither granted nor refused for memory, or leaves a trace; or if no
-/// request is refused though the library is there.
+/// Fails if an act with a refused request for memory is neither granted nor refused for memory, or if a refused act
+/// leaves a trace. Fails too if the library is there and no act is refused, or the other way round.
 #[test]
 fn refusals_of_an_act_lose_nothing(rt: HostRuntime) -> Result<(), Fail> {
     let is_there = is_there(rt.alloc());

@@ -12,8 +12,9 @@ use mml_lab_file::read_lab;
 use std::alloc::Global;
 use std::test::Fail;
 
-/// Returns the reply line to a request of connection 1, for which the nth request for memory is refused (0 for none),
-/// and whether none was refused, or `None` if the lab has no such connection, or the line can't be written.
+/// Answers a request of connection 1 while the nth request for memory is refused (none for 0). Returns the reply line,
+/// and whether no request for memory was refused. Returns `None` if the lab has no connection, or the line can't be
+/// written.
 fn answer_with_refusal(
     alloc: Global,
     hall: &mut Hall<MemorySink>,
@@ -33,24 +34,28 @@ fn answer_with_refusal(
     Some((out, was_none))
 }
 
+/// Ana's greeting.
 const HELLO: &str = line!(hello("ana", "a-key"));
 
+/// Ana's move of node 1 by Seduction.
 const MOVE: &str = line!(seduction(1));
 
+/// The reply line that grants `MOVE` as the first event.
 const GRANTED: &str = lines!(granted(1, 1));
 
-/// What became of a grant over a sink in memory.
+/// The outcome of a legal move over a sink in memory.
 #[derive(Clone, Copy, Debug, PartialEq, Eq)]
 enum Grant {
+    /// The move was granted.
     Made,
-    /// Out of memory, with the hall as before.
+    /// Memory ran out elsewhere than in the sink, and the hall is as before.
     Refused,
-    /// The sink's own out of memory, which halts.
+    /// The sink itself ran out of memory, which halts the journal.
     Halted,
 }
 
-/// Returns what became of the first grant, by its reply, or `None` if that is another one, or the hall's events, its
-/// journal or whether it halted aren't as they should be then.
+/// Returns the outcome of the first move by its reply. Returns `None` if the reply is none of the three, or if the
+/// hall's events, its journal, or whether it has halted doesn't fit the outcome.
 fn grant_of(hall: &Hall<MemorySink>, reply: &[u8]) -> Option<Grant> {
     let (found, events) = if reply == GRANTED.as_bytes() {
         (Grant::Made, 1)
@@ -68,8 +73,8 @@ fn grant_of(hall: &Hall<MemorySink>, reply: &[u8]) -> Option<Grant> {
     is_so.then_some(found)
 }
 
-/// Returns whether a move that is asked for once more, with no request for memory refused, gets the line of a halted
-/// journal.
+/// Asks for the move again with no request for memory refused, and returns whether the reply says that the journal is
+/// halted.
 fn stays_halted(alloc: Global, hall: &mut Hall<MemorySink>, is_there: bool) -> bool {
     match answer_with_refusal(alloc, hall, MOVE, 0, is_there) {
         Some((reply, _)) => reply.as_slice() == JOURNAL_LINE.as_bytes(),
@@ -77,8 +82,9 @@ fn stays_halted(alloc: Global, hall: &mut Hall<MemorySink>, is_there: bool) -> b
     }
 }
 
-/// Greets ana and has her move node 1, for which the nth request for memory is refused, if there is one: what became of
-/// the grant, and whether none was refused, or `None` if the reply or the hall is otherwise, or a halt doesn't last.
+/// Greets ana and moves node 1 while the nth request for memory of the move is refused, if it makes that many. Returns
+/// the outcome, and whether no request was refused. Returns `None` if the reply or the hall is wrong, or a halted hall
+/// doesn't stay halted.
 fn grant_in(
     alloc: Global,
     hall: &mut Hall<MemorySink>,
@@ -92,8 +98,7 @@ fn grant_in(
     is_so.then_some((found, was_none))
 }
 
-/// Returns what became, in a hall of its own, of a grant for which the nth request for memory is refused, if there is
-/// one, and whether none was refused, or `None` if the reply or the hall isn't as it should be.
+/// Returns the result of `grant_in` in a new hall over the path of three.
 fn grant_in_new_hall(
     alloc: Global,
     nth: usize,
@@ -104,8 +109,9 @@ fn grant_in_new_hall(
     Ok(grant_in(alloc, &mut hall, nth, is_there))
 }
 
-/// Returns how often a grant was refused, and how often it halted the hall, until it was made, or `None` if something
-/// else came of it.
+/// Moves node 1 in one new hall after another until the move is granted: first with its first request for memory
+/// refused, then with its second, and so on. Returns how many halls refused the move and how many halted, or `None` if
+/// a hall went wrong, or the move was never granted.
 fn told_of_grants(alloc: Global, is_there: bool) -> Result<Option<(usize, usize)>, Fail> {
     let (mut refused, mut halted) = (0usize, 0usize);
     for nth in 1..MOST {
@@ -119,13 +125,14 @@ fn told_of_grants(alloc: Global, is_there: bool) -> Result<Option<(usize, usize)
     Ok(None)
 }
 
-/// With the library there, fails where, of a grant's requests for memory, not exactly one, the sink's, halts the hall
-/// when it is refused, another one changes the hall, or there is no other; without it, if the grant isn't made at once.
+/// With the library: fails unless exactly one of the move's requests for memory, the sink's own, halts the hall when it
+/// is refused, and at least one other leaves the hall as before. Without the library: fails unless the move is granted
+/// at once.
 #[test]
 fn refusals_of_a_sink_halt(rt: HostRuntime) -> Result<(), Fail> {
     let is_there = is_there(rt.alloc());
     let told = told_of_grants(rt.alloc(), is_there)?;
-    // The list of events and the line want memory before the sink does.
+    // The list of events and the line request memory before the sink does.
     assert_eq!(rt;
         told.map(|(refused, halted)| (refused > 0, halted)),
         Some((is_there, usize::from(is_there)))

@@ -9,13 +9,14 @@ use mml_lab_file::read_lab;
 use std::alloc::{AllocError, Global};
 use std::test::Fail;
 
+/// The limits, the teacher and the one student of the lab of `row_of_256`.
 const LIMITS_AND_PEOPLE: &str = r#"events = 261
 sessions = 2
 teacher = { name = "tess", key = "chalk" }
 student = [{ name = "ana", key = "a-key" }]
 "#;
 
-/// Returns the lab file of nodes 65280 to 65535 in a row, all of ana.
+/// Returns the lab file of nodes 65280 to 65535 in a row, all owned by ana.
 fn row_of_256(alloc: Global) -> Result<String, AllocError> {
     let mut text = format!(in alloc; "{LIMITS_AND_PEOPLE}links = [")?;
     for id in 65280..65535u64 {
@@ -28,7 +29,7 @@ fn row_of_256(alloc: Global) -> Result<String, AllocError> {
     Ok(text)
 }
 
-// What is asked before the moves: a connection, its request, and the reply.
+// What is asked before the moves: connections, requests and their replies.
 const BEFORE: &[(u8, &str, &str)] = &[
     (1, line!(see(65280)), line!(not_greeted)),
     (1, line!(hello("ana", "a-key")), line!(welcome("ana"))),
@@ -42,7 +43,7 @@ const BEFORE: &[(u8, &str, &str)] = &[
     (1, "{", r#"{"refuse":"malformed"}"#),
 ];
 
-// What is asked after the close: a connection, its request, and the reply.
+// What is asked after the close: connections, requests and their replies.
 const AFTER: &[(u8, &str, &str)] = &[
     (
         2,
@@ -77,8 +78,8 @@ const AFTER: &[(u8, &str, &str)] = &[
     (1, line!(bye), line!(left)),
 ];
 
-/// Answers a connection's request, and writes the reply line into `out` while each request for memory is refused; an
-/// error if memory was wanted for that, or the lab has no such connection.
+/// Answers a connection's request, and writes the reply line into `out` while each request for memory is refused.
+/// Returns `Memory` if writing the line needed more memory than `out` has, or the lab has no such connection.
 fn written(
     alloc: Global,
     hall: &mut Hall<NullSink>,
@@ -96,8 +97,7 @@ fn written(
     told
 }
 
-/// Returns whether the reply to a connection's request is the wanted one, and is written without more memory than `out`
-/// has.
+/// Returns whether the reply to a connection's request is `wanted`, and is written without more memory than `out` has.
 fn is_written(
     alloc: Global,
     hall: &mut Hall<NullSink>,
@@ -110,8 +110,8 @@ fn is_written(
     told.is_ok() && out.strip_suffix(b"\n") == Some(wanted.as_bytes())
 }
 
-/// Returns whether the reply to the request of each row is the row's, and is written without more memory than `out`
-/// has.
+/// Returns whether the request of each row gets the row's reply, written without more memory than `out` has. Stops at
+/// the first row that doesn't.
 fn are_written(
     alloc: Global,
     hall: &mut Hall<NullSink>,
@@ -126,8 +126,8 @@ fn are_written(
     true
 }
 
-/// Returns whether the replies to a move of each node but the last grant it, and are written without more memory than
-/// `out` has.
+/// Asks for a move of each node but the last. Returns whether each is granted, and its reply is written without more
+/// memory than `out` has.
 fn are_moves_written(
     alloc: Global,
     hall: &mut Hall<NullSink>,
@@ -148,7 +148,7 @@ fn are_moves_written(
     Ok(true)
 }
 
-/// Returns the reply to the close that applies the moves of all nodes but the last.
+/// Returns the reply line to the close that applies the moves of all nodes but the last, without its newline.
 fn closed(alloc: Global) -> Result<String, AllocError> {
     let mut text = String::from_str(alloc, "{\"at\":1,\"moved\":[65280")?;
     for id in 65281..65535u64 {
@@ -166,8 +166,9 @@ fn hall_of_256(alloc: Global) -> Result<Box<Hall<NullSink>>, Fail> {
     Ok(Box::new(alloc, hall)?)
 }
 
-/// Returns whether each kind of reply but a look and a report is written without memory, and whether a report of all
-/// nodes is.
+/// Plays the requests of `BEFORE`, the moves, the close and the requests of `AFTER` over the row of 256 nodes. Returns
+/// whether each reply is the wanted one, written without more memory; and whether a report of all nodes is written so
+/// too, which needs more room than there is.
 fn told_of_replies(alloc: Global) -> Result<(bool, bool), Fail> {
     let closed = closed(alloc)?;
     let out = &mut Vec::with_capacity(alloc, REPLY_ROOM)?;
@@ -180,8 +181,8 @@ fn told_of_replies(alloc: Global) -> Result<(bool, bool), Fail> {
     Ok((is_before && is_moved && is_closed && is_after, is_reported))
 }
 
-/// Fails if a reply that fits into its room wants memory or is another one, or where, with each request for memory
-/// refused by the library, a report of all nodes is written, or isn't without the library.
+/// Fails if a reply that fits into its room needs memory or is another one. Fails too if a report of all nodes is
+/// written while the library refuses each request, or isn't written without the library.
 #[test]
 fn refusals_do_not_keep_a_reply_from_its_room(rt: HostRuntime) -> Result<(), Fail> {
     let is_there = is_there(rt.alloc());

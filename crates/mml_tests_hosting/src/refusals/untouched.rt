@@ -11,8 +11,9 @@ use std::alloc::Global;
 use std::sync::Wait;
 use std::test::Fail;
 
-/// Returns whether the act with this place is answered by the wanted refusal, or denied if none is wanted, and no
-/// memory is taken for it or, if the library isn't there, this isn't known.
+/// Asks through the seat for the act with this place. Returns whether it is refused as `wanted`, or denied if `wanted`
+/// is `None`, and no memory was requested for it. Without the library (`is_there` is false) requests can't be counted,
+/// and only the answer is checked.
 fn takes_none<H: House, R: Wait>(
     seat: &mut Seat<'_, MemorySink, H, R>,
     place: u64,
@@ -29,8 +30,8 @@ fn takes_none<H: House, R: Wait>(
     }
 }
 
-/// Returns whether a node and the number of the configuration, which is 0, are shown, and no memory is taken for them
-/// or, if the library isn't there, this isn't known.
+/// Returns whether the window shows number 0 and a see of node 2 by the teacher, and neither requested memory. Without
+/// the library (`is_there` is false) requests can't be counted, and only the views are checked.
 fn views_take_none<H: House, R: Wait>(
     seat: &mut Seat<'_, MemorySink, H, R>,
     is_there: bool,
@@ -41,7 +42,8 @@ fn views_take_none<H: House, R: Wait>(
     was_none_made(seat.alloc) == is_there && number == Ok(0) && see.is_ok()
 }
 
-/// The first act, and what is asked for after it.
+/// A visit that asks for the first two acts, and then for what should take no memory. `wanted` is the refusal of the
+/// second act. `is_there`: whether the library that counts requests for memory is loaded.
 #[derive(Clone, Copy)]
 struct AfterFirst {
     wanted: Refusal,
@@ -49,15 +51,15 @@ struct AfterFirst {
 }
 
 impl Visit<MemorySink> for AfterFirst {
-    /// Whether, once the first act was granted and the second refused, the first is denied, the second refused as is
-    /// wanted, and a view answered, all without memory.
+    /// Whether the first act was granted and the second refused; and whether then, all without memory, the first is
+    /// denied, the second is refused as `wanted`, and the views are answered.
     type Told = bool;
 
-    // Asks through the first seat for the first and the second act, for each of them once more, and for views.
+    // Asks through the first seat for the first act and the second, then for both again, and then for the views.
     fn visit<H: House, R: Wait>(self, seats: &mut Pair<'_, MemorySink, H, R>) -> bool {
         let (seat, is_there) = (&mut seats.one, self.is_there);
         let first = seat.ask(asker(1), &act(1));
-        // The put that fails isn't one of those that are asked for later.
+        // If the sink fails at its second put, it fails here, before the calls that should take no memory.
         let second = seat.ask(asker(2), &act(2));
         matches!(first, Answer::Granted { .. })
             && matches!(second, Answer::Refused(_))
@@ -67,9 +69,10 @@ impl Visit<MemorySink> for AfterFirst {
     }
 }
 
-/// Returns whether what is asked after a first act that is granted takes no memory, in a house over the path of three
-/// with this line as its limit of events and a sink that fails at this put, if at any, and the second act gets the
-/// wanted refusal, or `None` if there were fewer than two windows. `is_there`: whether the library that counts is.
+/// Plays `AfterFirst` in a house over the path of three. `events` replaces the lab's line with the limit of events, and
+/// the sink fails from its put `fail_at` on, or never if that is `None`. Returns whether the first act is granted, and
+/// all that is asked afterwards is answered as `AfterFirst` says, without memory. Returns `None` if there were fewer
+/// than two windows, or one couldn't be put back. `is_there`: whether the library that counts requests is loaded.
 fn takes_none_after_first<R: Wait>(
     rt: &R,
     alloc: Global,
@@ -89,8 +92,8 @@ fn takes_none_after_first<R: Wait>(
     Ok(hold)
 }
 
-/// Fails if a denied act, one over the limit of events or after the journal halted, or a view takes memory or is
-/// answered otherwise.
+/// Fails if a denied act, an act over the limit of events, an act after the journal halted, or a view requests memory
+/// or is answered otherwise.
 #[test]
 fn refusals_that_take_no_memory(rt: HostRuntime) -> Result<(), Fail> {
     let is_there = is_there(rt.alloc());

@@ -1,4 +1,4 @@
-use Rattle.std.proofs.Common.{◌≡◌, ◌&&◌, refl}
+use Rattle.std.proofs.Common.{◌≡◌, ◌&&◌, refl, sym}
 use Rattle.std.proofs.lemmas.List.{map-append}
 use Rattle.mml_hosting.specs.Seats.{is_teachers_bye, terms}
 use Rattle.mml_hosting.proofs.SeatLemmas.{led_more, dismissed_so, going_on_so}
@@ -16,8 +16,8 @@ returns g c =
     rw c.keep.ensures c.is_dismissed_by-is_dismissed.ensures in
     record {
       seat = record {
-        led = led_more t old.record now old.window c.serve_observed-ending.new.window c.keep.result c.serve_observed-ending.new.observer.recorder put at.led
-            (rw (c.keep.ensures, c.of-came.ensures, c.hang_up.ensures) c.serve_observed-ending.ensures.ended);
+        led = led_more t old.record now old.window c.serve_observed-ending.new.window c.keep.result c.serve_observed-ending.new.observer.observer.recorder put at.led
+            (rw (c.keep.ensures, c.of-came.ensures, c.hang_up.ensures.contents, sym c.reply_observer-replies.ensures.contents) c.serve_observed-ending.ensures.ended);
         dismissed = dismissed_so shows old.record.sessions.items now c.keep.result put old.is_desk _ noted (λ so. at.going_on so c.requires.going_on);
         going_on = going_on_so shows old.record.sessions.items now c.keep.result put old.is_desk _ noted (λ so. at.going_on so c.requires.going_on);
       };

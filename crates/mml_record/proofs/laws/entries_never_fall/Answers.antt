@@ -1,6 +1,6 @@
 use Rattle.std.proofs.Common.{None}
 use Rattle.mml_record.specs.declared.stage.Stage.TheVariants as stages
-use Rattle.mml_record.proofs.SeatLemmas.{never_fall}
+use Rattle.mml_record.proofs.FallLemmas.{never_fall}
 use Rattle.mml_record.proofs.laws.entries_never_fall.Goals as goal
 
 pub returns : goal.returns

@@ -1,0 +1,20 @@
+use Rattle.std.proofs.Common.{rules, ◌≡◌, ◌<◌, All, length, get_or, subst}
+use Rattle.std.proofs.lemmas.List.{take_all}
+use Rattle.std.proofs.lemmas.List.Elements.{All-more}
+use Rattle.mml_hosting.specs.declared.port_serving.Busy.{Busy}
+use Rattle.mml_hosting.proofs.port_serving.cut_off_all.Goals as goal
+
+pub loop-index-preserved : goal.loop-index-preserved
+loop-index-preserved g c =
+    let IsCut : Busy g.row.H.Denot g.row.K.Denot g.row.C.Denot g.row.R.Denot g.row.W.Denot g.row.U.Denot → Type 0 = λ b. g.U.CutOff.IsCutOff b.cut_off in
+    let xs = c.args.busy.now.items in
+    let i = c.loop-index.index in
+    let b = c.index.result.now in
+    let within : i < length xs = search rules in
+    let was : b ≡ get_or xs i b = search rules in
+    All-more IsCut xs i b within c.loop-index.invariant (subst IsCut was c.cut_off.ensures)
+
+pub returns : goal.returns
+returns g c =
+    let IsCut : Busy g.row.H.Denot g.row.K.Denot g.row.C.Denot g.row.R.Denot g.row.W.Denot g.row.U.Denot → Type 0 = λ b. g.U.CutOff.IsCutOff b.cut_off in
+    subst (All IsCut) (take_all c.loop-index.index c.args.busy.now.items (search rules)) c.loop-index.invariant

@@ -1,0 +1,20 @@
+-- Connections that are turned away.
+use Rattle.std.specs.Prelude.{ℕ, List, Option, Result, OnOk, IfErr, take, codes}
+use Rattle.std.specs.Io.KnownBytes.{Appends}
+use Rattle.mml_lines.specs.declared.write_fault.WriteFault.{WriteFault}
+
+-- the line that says that no seat is free
+unfoldable pub busy_line : List ℕ
+busy_line = codes "{\"refuse\":\"busy\"}\n"
+
+-- the line was written to the connection's writing end, or a beginning of it if a write failed, and then the connection was ended
+pub record TurnsAway {R W : Type 0} (contents : W → Option (List ℕ)) (IsHungUp : W → Type 0) (line : List ℕ) (ends : R × W)
+    (told : Result (Unit {0}) WriteFault) : Type 0 where
+  pub writer : W
+  pub whole : OnOk told (Appends (contents ends.1) (contents writer) line)
+  pub cut : IfErr told (λ fault. Appends (contents ends.1) (contents writer) (take fault.written line))
+  pub hung_up : IsHungUp writer
+
+-- the connection was turned away since no seat was free
+abbrev pub IsTurnedAway : {R W : Type 0} → (W → Option (List ℕ)) → (W → Type 0) → R × W → Type 0
+IsTurnedAway contents IsHungUp ends = (told : Result (Unit {0}) WriteFault) × TurnsAway contents IsHungUp busy_line ends told

@@ -1,0 +1,73 @@
+//! Observers of a connection's replies.
+ghost use Rattle.std.specs.Prelude.{◌≡◌};
+
+use mml_codec::Reply;
+use mml_session::{Ending, Observer};
+use std::io::Write;
+
+/// An observer of the replies of one connection.
+pub trait ReplyObserver {
+    /// Notes a reply, whose bytes aren't written yet.
+    fn note_reply(&mut self, reply: &Reply);
+}
+
+/// An observer that notes nothing.
+#[derive(Clone, Copy, Debug, Drop)]
+pub struct NoReplies;
+
+impl ReplyObserver for NoReplies {
+    // Notes nothing.
+    fn note_reply(&mut self, _reply: &Reply) {}
+}
+
+/// An observer, or none.
+impl<E: ReplyObserver> ReplyObserver for Option<E> {
+    // Notes the reply in the observer, if there is one.
+    fn note_reply(&mut self, reply: &Reply) {
+        if let Some(observer) = self {
+            observer.note_reply(reply);
+        }
+    }
+}
+
+/// The writing end of a connection, which has an observer of the replies to it.
+pub trait Observed: Write {
+    /// The observer of the replies.
+    type Replies: ReplyObserver + Send + Drop;
+
+    /// Returns the observer of the replies, for the connection's one session.
+    fn reply_observer(&mut self) -> Self::Replies
+        ensures contents { Self.contents self.new ≡ Self.contents self.old };
+}
+
+/// An observer of a seat's sessions, and that of the replies of its connection, combined into one.
+#[derive(Drop)]
+pub(crate) struct Both<O: Drop, E: Drop> {
+    pub(crate) observer: O,
+    pub(crate) replies: E,
+}
+
+impl<O: Observer + Drop, E: ReplyObserver + Drop> Observer for Both<O, E> {
+    ghost kept = { λ b. O.kept b.observer };
+
+    // Notes in the seat's observer that a line came.
+    fn came(&mut self, number: u8, line: &[u8]) {
+        self.observer.came(number, line);
+    }
+
+    // Notes the reply in both observers, in that of the seat with its line.
+    fn answered(&mut self, number: u8, seen: u64, line: &[u8], reply: &Reply, out: &[u8]) {
+        self.observer.answered(number, seen, line, reply, out);
+        self.replies.note_reply(reply);
+    }
+
+    // Notes in the seat's observer how many replies were written.
+    fn wrote(&mut self, number: u8, replies: u32) {
+        self.observer.wrote(number, replies);
+    }
+
+    // Notes in the seat's observer that a session has ended.
+    fn left(&mut self, number: u8, ending: &Ending, seen: u64) {
+        self.observer.left(number, ending, seen);
+    }
+}

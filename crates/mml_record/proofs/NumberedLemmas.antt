@@ -1,0 +1,28 @@
+-- Replies that begin with a current number, in which there is no comma.
+use Rattle.std.proofs.Common.{◌≡◌, ℕ, zero, suc, ◌+◌, ◌/◌, ◌%◌, Bool, true, false, cond, not, eqb, List, [], ◌∷◌, ◌++◌, decimal, refl, arith}
+use Rattle.std.specs.Prelude.{nat_lt}
+use Rattle.std.specs.Fmt.{digits, digits_onto, digit_glyph}
+use Rattle.std.proofs.lemmas.Bool.{and_from}
+use Rattle.std.proofs.lemmas.Bool.Decides.{nat_tests}
+use Rattle.mml_journal.proofs.CuttingLemmas.{avoids}
+
+glyph_other : (b : Bool) (d : ℕ) → not (eqb (cond b (48 + d) (87 + d)) 44) ≡ true
+glyph_other b d = grind (arith, nat_tests)
+
+digit_more : (b : Bool) (front rest : List ℕ) → avoids 44 front ≡ true → avoids 44 rest ≡ true → avoids 44 (cond b front rest) ≡ true
+digit_more b front rest h k = grind (arith, nat_tests)
+
+no_comma_from : (k n : ℕ) (acc : List ℕ) → avoids 44 acc ≡ true → avoids 44 (digits_onto k 10 false n acc) ≡ true
+no_comma_from zero n acc h = h
+no_comma_from (suc k) n acc h =
+    let more : avoids 44 (digit_glyph false (n % 10) ∷ acc) ≡ true = and_from _ _ (glyph_other (nat_lt (n % 10) 10) (n % 10)) h in
+    digit_more (eqb (n / 10) 0) (digit_glyph false (n % 10) ∷ acc) (digits_onto k 10 false (n / 10) (digit_glyph false (n % 10) ∷ acc)) more
+    (no_comma_from k (n / 10) (digit_glyph false (n % 10) ∷ acc) more)
+
+pub no_comma : (n : ℕ) → avoids 44 (decimal n) ≡ true
+unfolding digits
+no_comma n = no_comma_from 64 n [] refl
+
+-- a reply that begins with a current number
+abbrev pub numbered : ℕ → List ℕ → List ℕ
+numbered n rest = 123 ∷ 34 ∷ 97 ∷ 116 ∷ 34 ∷ 58 ∷ (decimal n ++ 44 ∷ rest)

@@ -1,0 +1,22 @@
+//! Why the lines of a record were refused.
+ghost use Rattle.std.specs.Prelude.{◌≡◌};
+ghost use Rattle.mml_record.specs.Refusals.{reason_told};
+
+use mml_policy::Refusal;
+
+/// Returns the reason in a reply's text, if the reply is the refusal for `journal`, `memory` or `full`. Returns `None`
+/// for any other text, also for the refusal of a line that is no request.
+#[tactic(auto, unfolding(crate::specs::Refusals::reason_told))]
+pub(crate) fn reason_told(text: &[u8]) -> Option<Refusal>
+    ensures { result ≡ reason_told text.now }
+{
+    if text == b"{\"refuse\":\"journal\"}".as_slice() {
+        Some(Refusal::Journal)
+    } else if text == b"{\"refuse\":\"memory\"}".as_slice() {
+        Some(Refusal::Memory)
+    } else if text == b"{\"refuse\":\"full\"}".as_slice() {
+        Some(Refusal::Full)
+    } else {
+        None
+    }
+}
