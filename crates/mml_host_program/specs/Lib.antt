@@ -1,3 +1,4 @@
 pub mod Faults
+pub mod Limits
 pub mod Telling
 pub mod Words

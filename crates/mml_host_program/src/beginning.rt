@@ -49,7 +49,7 @@ impl<C: Recorder + Send + Drop> Ready<C> {
         requires as_many { length self.recorders.others.items + 1 ≡ self.lab.sessions }
         ensures { OnOk result (Closes self.lab (W.contents writer.old) (W.contents writer.new)) }
     {
-        let state = HostState::new(rt.alloc(), &self.lab)?;
+        let state = HostState::new(rt.alloc(), &self.lab);
         self.serve_to_the_end(rt, sink, &state, writer)?;
         told_memory(rt, &state)
     }
@@ -84,7 +84,7 @@ impl<C: Recorder + Send + Drop> Ready<C> {
     }
 }
 
-// Returns how a class ends: well, or with the error of its host.
+// Returns the host's error if a class failed. Otherwise drops the result of its house, and returns `Ok`.
 fn end_of_class<S: Drop, K: Drop, C: Drop>(
     served: Result<Hosted<S, K, C>, HostFault>,
 ) -> Result<(), Fault>
@@ -99,7 +99,7 @@ fn end_of_class<S: Drop, K: Drop, C: Drop>(
     }
 }
 
-/// Returns the host's error if a session ran out of memory, and else `Ok`.
+/// Returns the error `Memory` if the state notes that memory ran out, and else `Ok`.
 pub(crate) fn told_memory<R: Wait>(rt: &R, state: &HostState) -> Result<(), Fault> {
     if state.lacked_memory(rt) {
         Err(Fault::Common(ProgramFault::Memory))
@@ -113,7 +113,7 @@ pub(crate) fn let_go<S: Drop, K: Drop, C: Drop>(house: Hosted<S, K, C>) {
     drop(house);
 }
 
-/// Writes the first line of a class, which names its ports.
+/// Writes the first line of a class, which names its ports. Returns an error if the write fails, or memory runs out.
 pub fn write_listening<W: Write>(
     alloc: Global,
     port: u16,

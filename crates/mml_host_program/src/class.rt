@@ -81,7 +81,7 @@ pub(crate) fn serve_class<
 }
 
 // Serves a class, whose journal is watched by a thread of its own. If none can be started, checks the journal once, at
-// the end.
+// the end. Returns the error of the class, or else a journal fault if the journal's file was lost.
 fn serve_watched<
     R: System + Files<File = File> + Net<Listener = TcpListener, Stream = TcpStream> + Sync,
     L: Look + Sync,
@@ -128,7 +128,8 @@ fn serve_unrecorded<
     serve_ports(rt, class, recorders)
 }
 
-// Serves a class, and records it in a folder. If something couldn't be recorded, returns that error at the end.
+// Serves a class, and records it in a folder. Returns the error of the class, or else `Unrecorded` if something
+// couldn't be recorded.
 fn serve_in_folder<
     R: System + Files<File = File> + Net<Listener = TcpListener, Stream = TcpStream> + Sync,
 >(rt: &R, class: Class<'_>, folder: RecordFolder) -> Result<(), Fault> {
@@ -137,7 +138,8 @@ fn serve_in_folder<
     told_whole(&state)
 }
 
-// Opens the file of each seat in the folder, and serves a class that is recorded there.
+// Opens the file of each seat in the folder, and serves a class that is recorded there. Returns an error if a file
+// can't be opened, or the class fails.
 fn serve_seats<
     R: System + Files<File = File> + Net<Listener = TcpListener, Stream = TcpStream> + Sync,
 >(rt: &R, class: Class<'_>, folder: RecordFolder, state: &RecordState) -> Result<(), Fault> {
@@ -146,7 +148,8 @@ fn serve_seats<
     serve_synced(rt, class, recorders, files.as_slice(), state)
 }
 
-// Serves a class, while its record is synced by a thread of its own, or once, at the end, if none can be started.
+// Serves a class, while its record is synced by a thread of its own. If none can be started, syncs the record once, at
+// the end. Returns the error of the class.
 fn serve_synced<
     R: System + Files<File = File> + Net<Listener = TcpListener, Stream = TcpStream> + Sync,
     C: Recorder + Send + Drop,
@@ -176,7 +179,7 @@ fn serve_synced<
     )
 }
 
-// Returns the host's error if a put in a record or a sync of its files has failed, and else `Ok`.
+// Returns the error `Unrecorded` if a put in a record or a sync of its files has failed, and else `Ok`.
 fn told_whole(state: &RecordState) -> Result<(), Fault> {
     if state.has_failed() {
         Err(Fault::Unrecorded)
@@ -200,8 +203,8 @@ fn serve_ports<
     }
 }
 
-// Serves a class at its ports, with the sink of its journal: none, a file that is synced, or one that can't be; or goes
-// on in an old one.
+// Serves a class at its ports. The lines of granted events go to the sink of its journal: none, a file that is synced
+// and watched, or one that can't be. If the journal is an old one, the class goes on from it.
 fn serve_journaled<
     R: System + Files<File = File> + Net<Listener = TcpListener, Stream = TcpStream> + Sync,
     C: Recorder + Send + Drop,

@@ -110,8 +110,8 @@ impl From<ResumeFault> for Fault {
 
     ghost from_gives = { IsToldAs };
 
-    // Turns the reason why a class doesn't go on into the host's error: why its journal doesn't pass the audit, out of
-    // memory, a journal fault for a journal that can't be cut, or the error of its host.
+    // Turns the reason why a class doesn't go on into the host's error: the audit's error, out of memory, a journal
+    // fault if the journal can't be cut, or the error of the class's host.
     fn from(fault: ResumeFault) -> Fault {
         match fault {
             ResumeFault::Refused(why) => Fault::Common(ProgramFault::from(why)),

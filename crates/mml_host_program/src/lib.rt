@@ -1,4 +1,5 @@
-//! The body of the host: the subcommands that serve a class, its error lines and statuses.
+//! The body of the host: the subcommands that serve a class, with their error lines and statuses, and the table of
+//! limits.
 #![tactic(auto)]
 
 mod beginning;
@@ -6,6 +7,7 @@ mod class;
 mod fault;
 mod going_on;
 mod journal_watch;
+mod limit_table;
 mod limits;
 mod old_file;
 mod resumed;
@@ -16,6 +18,7 @@ mod words;
 pub use beginning::write_listening;
 pub use fault::Fault;
 pub use journal_watch::{JournalEye, JournalLoss, JournalWatch, Look, WatchedSink};
+pub use limit_table::{is_for_limits, print_limits, write_limits};
 pub use old_file::OldFile;
 pub use system::System;
 pub use task::run;

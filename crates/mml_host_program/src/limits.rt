@@ -18,7 +18,8 @@ const FILES: usize = 7;
 const THREADS: usize = 4;
 
 /// Checks whether the files that a class needs at least may be open at once, and then whether its threads may exist at
-/// once. Closes and ends all of them again. Returns which may not, or that memory ran out.
+/// once. Closes and ends all of them again. Returns `FewFiles` or `FewThreads` if they may not, or `Memory` if memory
+/// runs out.
 pub fn look_at_limits<R: Files<File = File> + Threads + Wait + Sync>(
     rt: &R,
     alloc: Global,
@@ -45,7 +46,7 @@ pub fn look_at_limits<R: Files<File = File> + Threads + Wait + Sync>(
     }
 }
 
-// Returns whether `THREADS` threads may exist at once: none ends before the last is started.
+// Returns whether `THREADS` threads may exist at once. To find out, starts them; none ends before the last is started.
 fn has_threads<R: Threads + Wait + Sync>(rt: &R) -> bool {
     let door = Mutex::new(());
     thread::scope(thread::scope_env(), rt, |scope| -> bool {

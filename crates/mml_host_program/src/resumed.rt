@@ -30,7 +30,7 @@ impl<C: Recorder + Send + Drop> Ready<C> {
             self.ports.desk
             (W.contents writer.old) (W.contents writer.new)) }
     {
-        let state = HostState::new(rt.alloc(), &self.lab)?;
+        let state = HostState::new(rt.alloc(), &self.lab);
         let first = first_line(rt.alloc(), &self.ports)?;
         let Past {
             journal,
@@ -91,7 +91,7 @@ impl<C: Recorder + Send + Drop> Ready<C> {
     }
 }
 
-// Returns the first line of a class, which names its ports.
+// Returns the first line of a class, which names its ports. Returns `Memory` if memory runs out.
 fn first_line(alloc: Global, ports: &Ports) -> Result<Vec<u8>, ProgramFault>
     ensures { IfOk result (λ line. line.items ≡ ports_line ports.now.port ports.now.desk) }
 {
@@ -100,8 +100,8 @@ fn first_line(alloc: Global, ports: &Ports) -> Result<Vec<u8>, ProgramFault>
     Ok(line)
 }
 
-// Returns the host's error if a class doesn't go on: `Memory` if the journal couldn't be cut for that reason
-// (`lacked`), and else that of the fault.
+// Returns the host's error for a class that doesn't go on or fails: `Memory` if its journal couldn't be cut because
+// memory ran out (`lacked`), and else that of the fault.
 fn told_as(fault: ResumeFault, lacked: bool) -> Fault {
     match fault {
         ResumeFault::Store if lacked => Fault::Common(ProgramFault::Memory),

@@ -56,21 +56,21 @@ pub fn read_words<'a>(alloc: Global, words: &'a [String]) -> Result<Task<'a>, Pr
     }
 }
 
-// Returns the whole command line of the subcommands that serve a class.
+// Returns the whole command line of the two subcommands that serve a class. Returns an error if memory runs out.
 fn command_line<'a>(alloc: Global) -> Result<Command<'a>, AllocError> {
     let whole = subcommand_of(alloc, "mml_host", &[])?;
     let whole = whole.subcommand(host_words(alloc)?)?;
     whole.subcommand(resume_words(alloc)?)
 }
 
-// Returns the subcommand `host`, with its values.
+// Returns the subcommand `host`, with its values: a lab, two ports, and optionally a journal and a record.
 fn host_words<'a>(alloc: Global) -> Result<Command<'a>, AllocError> {
     let command = subcommand_of(alloc, "host", &["lab", "port", "desk"])?;
     let command = with_optional(alloc, command, "journal")?;
     with_optional(alloc, command, "record")
 }
 
-// Returns the subcommand `resume`, with its values.
+// Returns the subcommand `resume`, with its values: a lab, two ports, a journal, and optionally a record.
 fn resume_words<'a>(alloc: Global) -> Result<Command<'a>, AllocError> {
     let values = ["lab", "port", "desk", "journal"];
     with_optional(alloc, subcommand_of(alloc, "resume", &values)?, "record")

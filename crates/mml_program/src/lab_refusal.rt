@@ -57,7 +57,7 @@ impl LabRefusal {
         }
     }
 
-    // Returns the refusal of a file for the node with this number.
+    // Returns the refusal of a lab file for the node with this number, for this reason.
     fn node(index: usize, reason: &'static str) -> LabRefusal {
         LabRefusal::Element("node", index, reason)
     }
@@ -91,7 +91,7 @@ impl AuditRefusal {
     }
 }
 
-// Returns the name of a lab file's key in an error line.
+// Returns the name that an error line gives to this key of a lab file.
 fn key_name(key: Key) -> &'static str {
     match key {
         Key::Events => "events",

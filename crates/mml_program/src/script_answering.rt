@@ -52,7 +52,7 @@ pub fn write_audit<W: Write>(
 }
 
 // Writes the line of a journal that passes: how many events it has, the number of the configuration, and whether that
-// is stable.
+// is stable. Returns `Write` if the write fails, and `Memory` if memory runs out.
 fn write_world<W: Write>(alloc: Global, board: &Board, writer: &mut W) -> Result<(), Fault>
     ensures { OnOk result
         (Appends (W.contents writer.old) (W.contents writer.new) (world_line board.now)) }
@@ -64,7 +64,8 @@ fn write_world<W: Write>(alloc: Global, board: &Board, writer: &mut W) -> Result
     }
 }
 
-// Writes how many events led to the board, and the number of its configuration, and then `end`, the rest of the line.
+// Writes a line: how many events led to the board, the number of its configuration, and then `end`, which ends the
+// line. Returns `Write` if the write fails, and `Memory` if memory runs out.
 fn write_ended<W: Write>(
     alloc: Global,
     board: &Board,
@@ -101,8 +102,9 @@ pub fn write_pieces<W: Write>(alloc: Global, pieces: &[Piece], writer: &mut W) -
     }
 }
 
-/// Answers the lines of a script, and returns the hall that they lead to. Replies are buffered, and all are written
-/// before each read. The lines of the granted events go to the sink. Returns why the script ended if it ended early.
+/// Answers the lines of a script, and returns the hall that they lead to. Replies are buffered, and all of them are
+/// written before each read. The lines of the granted events go to the sink. Returns why the script ended if it ended
+/// early.
 pub fn answer_script<R: Read, W: Write, S: Sink + Drop>(
     alloc: Global,
     lab: Lab,

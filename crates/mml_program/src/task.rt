@@ -55,7 +55,8 @@ fn check_file<R: Files + Print + AllocGlobal>(rt: &R, path: &str) -> Result<(), 
     write_size(rt.alloc(), &lab, &mut io::writer(rt))
 }
 
-// Answers the script on standard input over the built-in lab.
+// Answers the script on standard input over the built-in lab, on standard output. Returns why the script ended early,
+// or `Memory` if a read or a write ran out of memory.
 fn answer_input<R: Input + Print + AllocGlobal>(rt: &R) -> Result<(), Fault> {
     let alloc = rt.alloc();
     let lab = lab_in(alloc, BUILT_IN.as_bytes())?;
@@ -67,7 +68,8 @@ fn answer_input<R: Input + Print + AllocGlobal>(rt: &R) -> Result<(), Fault> {
     }
 }
 
-// Answers the script of a file over the lab of a file, with a journal if one is named.
+// Answers the script of a file over the lab of a file, with a journal if one is named. Returns an error if one of the
+// files is refused, the script ended early, or the journal was halted.
 fn script_file<R: Files<File = File> + Print + AllocGlobal>(
     rt: &R,
     task: ScriptTask<'_>,
@@ -87,7 +89,8 @@ fn script_file<R: Files<File = File> + Print + AllocGlobal>(
     }
 }
 
-// Answers the lines of a script over a lab. At the end, returns `Journal` if the journal was halted.
+// Answers the lines of a script over a lab, on standard output. Returns why the script ended early, or, at its end,
+// `Journal` if the journal was halted.
 fn answer_lines<R: Print + AllocGlobal, S: Sink + Drop>(
     rt: &R,
     lab: Lab,
@@ -113,7 +116,8 @@ fn fault_if_halted<S: Sink>(hall: &Hall<S>) -> Result<(), Fault> {
     Ok(())
 }
 
-// Audits the journal of a file over the lab of a file, and prints where its events lead.
+// Audits the journal of a file over the lab of a file, and prints how many events it has, which configuration they lead
+// to, and whether that is stable. Returns why one of the files is refused, or that the write failed.
 fn audit_file<R: Files + Print + AllocGlobal>(
     rt: &R,
     lab: &str,
@@ -172,7 +176,7 @@ struct Service {
 }
 
 // Prints the port on which it listens, serves as many of the connections that come as the service says, and prints the
-// last line. Running out of memory at a write is reported as that.
+// last line. If a write ran out of memory, returns `Memory`, whatever the error would be else.
 fn serve_listener<
     R: Net<Listener = TcpListener, Stream = TcpStream>
         + Threads
@@ -194,7 +198,7 @@ fn serve_listener<
     }
 }
 
-// Writes the line with the port, serves the connections, and writes the last line.
+// Writes the line with the port, serves the connections, and writes the last line. Returns why the server failed.
 fn serve_lines<R: Threads + Wait + Sync + AllocGlobal, S: Sink + Send + Drop, W: Write>(
     rt: &R,
     lab: Lab,
@@ -229,9 +233,9 @@ fn listen<R: Net<Listener = TcpListener, Stream = TcpStream>>(
     }
 }
 
-/// Begins a program, and returns its command line. First holds each standard stream that is closed, so that no file
-/// gets its descriptor, and returns a write fault if that fails. If stacks are too small, begins nothing, and returns
-/// `Memory`.
+/// Returns the words of the command line, before a program does anything else. First opens the null device for each
+/// standard stream that is closed, so that no file gets its descriptor, and returns `Write` if that fails. Returns
+/// `Memory` if stacks may be too small, or memory runs out.
 pub fn begin_program<R: Env + Files<File = File> + AllocGlobal>(
     rt: &R,
 ) -> Result<Vec<String>, Fault> {

@@ -89,7 +89,7 @@ fn task_of<'a>(name: &str, values: &ArgMatches<'a>) -> Option<Task<'a>> {
     }
 }
 
-// Returns the whole command line of the program, with its four subcommands.
+// Returns the whole command line of the program, with its four subcommands. Returns an error if memory runs out.
 fn command_line<'a>(alloc: Global) -> Result<Command<'a>, AllocError> {
     command_without_help(alloc, "mml_server")
         .subcommand(subcommand_of(alloc, "check", &["lab"])?)?
@@ -106,7 +106,8 @@ fn command_line<'a>(alloc: Global) -> Result<Command<'a>, AllocError> {
         )?)
 }
 
-/// Returns a command or subcommand of this name, with these values in this order, each of which is required.
+/// Returns a command or subcommand of this name, with these values in this order, each of which is required. Returns an
+/// error if memory runs out.
 pub fn subcommand_of<'a>(
     alloc: Global,
     name: &'a str,
@@ -119,7 +120,7 @@ pub fn subcommand_of<'a>(
     Ok(command)
 }
 
-/// Returns the command with one more value after its others, which is optional.
+/// Returns the command with one more value after its others, which is optional. Returns an error if memory runs out.
 pub fn with_optional<'a>(
     alloc: Global,
     command: Command<'a>,

@@ -20,7 +20,7 @@ const HIGHER_POINTS: &str = lab!(
     [(5, "ana", "p = 3\n"), (3, "ana", "")]
 );
 
-/// Returns the first student's move by a rule, of the node with the rank `index`; `None` past the last rank.
+/// Returns the first student's move by a rule, of the node with the rank `index`, or `None` if there is no such rank.
 fn grant(index: u64, rule: Rule) -> Option<Event> {
     let node = Rank::new(index)?;
     Some(Event::Grant {
@@ -30,7 +30,7 @@ fn grant(index: u64, rule: Rule) -> Option<Event> {
     })
 }
 
-/// Adds a node's registers p (by rank) and m, and the rule that is enabled there, to a text.
+/// Appends to a text a node's registers p (by rank) and m, and the rule that is enabled there.
 fn push_node(text: &mut String, board: &Board, node: Rank) -> Result<(), AllocError>
     requires { node < length board.now.network.registers }
 {
@@ -40,7 +40,8 @@ fn push_node(text: &mut String, board: &Board, node: Rank) -> Result<(), AllocEr
     write!(text, "; {p:?} {} {kind:?}", regs.m)
 }
 
-/// Adds to a text whether no move is chosen for a node, and for each node `-` if the two are linked, else `.`.
+/// Appends to a text whether no move is chosen for a node, and then a mark for each node: `-` if the two are linked,
+/// else `.`.
 fn push_links(text: &mut String, board: &Board, node: Rank) -> Result<(), AllocError>
     requires { node < length board.now.network.registers }
 {
@@ -57,8 +58,8 @@ fn push_links(text: &mut String, board: &Board, node: Rank) -> Result<(), AllocE
     Ok(())
 }
 
-/// Returns a board as text: the configuration's number, how many events were granted, how many nodes are privileged and
-/// how many moves are chosen, and then each node; by `with_links` also whether no move is chosen for it, and its links.
+/// Returns a board as text: the configuration's number, how many events were granted, how many nodes are privileged,
+/// how many moves are chosen, and then each node by `push_node`; with `with_links` also by `push_links`.
 fn board_text(alloc: Global, board: &Board, with_links: bool) -> Result<String, AllocError> {
     let (number, place) = (board.number(), board.place());
     let (privileged, chosen) = (board.privileged_count(), board.chosen_set().len());
@@ -77,24 +78,24 @@ fn board_text(alloc: Global, board: &Board, with_links: bool) -> Result<String, 
 const OPENING: &str =
     "0 0 2 0; None false Some(Marriage) true .-; Some(0) false Some(Abandonment) true -.";
 
-/// Returns whether a board is shown as `OPENING`.
+/// Returns whether a board's text is `OPENING`.
 fn is_opening(alloc: Global, board: &Board) -> Result<bool, Fail> {
     let told = board_text(alloc, board, true)?;
     Ok(told.as_str() == OPENING)
 }
 
-/// Returns whether a board's copy is shown as `OPENING`.
+/// Returns whether the text of a board's copy is `OPENING`.
 fn is_copy_opening(alloc: Global, board: &Board) -> Result<bool, Fail> {
     let copy = board.try_copy(alloc)?;
     is_opening(alloc, &copy)
 }
 
-/// Returns whether a board is shown as `OPENING`, and its copy too.
+/// Returns whether the texts of a board and of its copy are `OPENING`.
 fn are_both_opening(alloc: Global, board: &Board) -> Result<bool, Fail> {
     Ok(is_opening(alloc, board)? && is_copy_opening(alloc, board)?)
 }
 
-/// Returns what a look at the first node shows, as text; `no node` if the board has none.
+/// Returns a look at the first node as text, or `no node` if the board has none.
 fn look_at_the_first(alloc: Global, board: &Board) -> Result<String, Fail> {
     let node = Rank::at(0);
     if node.index() >= board.size() {
@@ -104,8 +105,8 @@ fn look_at_the_first(alloc: Global, board: &Board) -> Result<String, Fail> {
     Ok(shown(alloc, &look)?)
 }
 
-/// Returns a look as text: its configuration's number, the node's p, its chosen and its enabled rule, and the nodes
-/// near it.
+/// Returns a look as text: its configuration's number, the node's p, its chosen rule, its enabled rule, and its
+/// neighbours.
 fn shown(alloc: Global, look: &Look) -> Result<String, AllocError> {
     let (p, chosen, enabled) = (look.regs.p, look.chosen, look.enabled);
     let mut text = format!(in alloc; "{} {p:?} {chosen:?} {enabled:?}", look.at)?;
@@ -113,7 +114,7 @@ fn shown(alloc: Global, look: &Look) -> Result<String, AllocError> {
     Ok(text)
 }
 
-/// Adds the nodes near a node to a text: each one's rank, p (by rank) and m.
+/// Appends a node's neighbours to a text: the rank, p (by rank) and m of each.
 fn push_near(text: &mut String, near: &[(Rank, Regs)]) -> Result<(), AllocError> {
     for (other, regs) in near {
         let (index, p) = (other.index(), regs.p.map(Rank::index));
@@ -122,8 +123,8 @@ fn push_near(text: &mut String, near: &[(Rank, Regs)]) -> Result<(), AllocError>
     Ok(())
 }
 
-/// Returns the journal's line of an abandonment by the second node as the first event; `what stood there` if that isn't
-/// legal on the board, other events came first, or lab and board aren't of one size.
+/// Returns the journal's line of an abandonment by the second node as the first event. Returns `what stood there` if
+/// that isn't legal on the board, other events came first, or lab and board aren't of one size.
 fn first_event_line(alloc: Global, lab: &Lab, board: &Board) -> Result<Vec<u8>, Fail> {
     let mut line = Vec::from_slice(alloc, b"what stood there")?;
     if let Some(event) = &grant(1, Rule::Abandonment) {
@@ -137,8 +138,8 @@ fn first_event_line(alloc: Global, lab: &Lab, board: &Board) -> Result<Vec<u8>, 
     Ok(line)
 }
 
-/// Returns whether a lab's board and its copy are shown as `OPENING`; and whether a look at the first node and the line
-/// of the first event are as they stand here.
+/// Returns whether the texts of a lab's board and of its copy are `OPENING`; and whether a look at the first node and
+/// the line of the first event are the ones written here.
 fn are_told_at_first(alloc: Global, lab: &Lab) -> Result<(bool, bool), Fail> {
     let board = boxed_board(alloc, lab)?;
     let are_opening = are_both_opening(alloc, &board)?;
@@ -149,25 +150,23 @@ fn are_told_at_first(alloc: Global, lab: &Lab) -> Result<(bool, bool), Fail> {
     Ok((are_opening, is_shown && is_line))
 }
 
-/// Over `HIGHER_POINTS`: whether a board and its copy are shown as `OPENING`, and whether a look at the first node and
-/// the line of the first event are as they should be.
+/// Returns the result of `are_told_at_first` for the lab of `HIGHER_POINTS`.
 fn are_told_where_higher_points(alloc: Global) -> Result<(bool, bool), Fail> {
     let lab = boxed_lab(alloc, HIGHER_POINTS)?;
     are_told_at_first(alloc, &lab)
 }
 
-/// Fails if a new board, its copy, a look or the first line of a journal isn't what follows from `HIGHER_POINTS`.
+/// Fails if a new board, its copy, a look, or the first line of a journal isn't what follows from `HIGHER_POINTS`.
 #[test]
 fn opening_board(rt: HostRuntime) -> Result<(), Fail> {
     assert_eq!(rt; are_told_where_higher_points(rt.alloc())?, (true, true));
     Ok(())
 }
 
-/// An event, if there is one, and the result after it.
+/// A part of a story: an event, if there is one, and the board's text after it.
 type Part = (Option<Event>, &'static str);
 
-/// Returns two moves that are chosen and then applied by one close, and two events that may not happen and so change
-/// nothing: each event, with the board's text after it.
+/// Returns a story in which one close applies two chosen moves. Two events in it may not happen, and change nothing.
 fn story_of_moves() -> [Part; 5] {
     [
         (
@@ -196,8 +195,8 @@ fn story_of_moves() -> [Part; 5] {
     ]
 }
 
-/// After `story_of_moves`: a move that is chosen, a fault that takes it back, a cut, a link, and a cut that may not
-/// happen: each event, with the board's text after it.
+/// Returns the story that follows `story_of_moves`: a move that is chosen, a fault that takes it back, a cut, a link,
+/// and a cut that may not happen.
 fn story_of_changes() -> [Part; 5] {
     let [a, b, c] = [Rank::at(0), Rank::at(1), Rank::at(2)];
     let fault = Event::Fault {
@@ -232,9 +231,8 @@ fn story_of_changes() -> [Part; 5] {
     ]
 }
 
-/// Returns whether a board is shown as a story says after each of its events, which happen to it if they may; a part
-/// without an event just shows the board. All events happen, also after a difference, since another story may go on
-/// there.
+/// Applies the events of a story to a board, and returns whether the board's text is the story's after each part. Goes
+/// on after a difference, since another story may follow on the same board.
 fn is_story_told(alloc: Global, board: &mut Board, story: &[Part]) -> Result<bool, AllocError> {
     let mut is_told = true;
     for (event, expected) in story {
@@ -249,30 +247,27 @@ fn is_story_told(alloc: Global, board: &mut Board, story: &[Part]) -> Result<boo
     Ok(is_told)
 }
 
-/// Returns whether a board is shown as `story_of_moves` says after each event of that, and whether then as
-/// `story_of_changes` says.
+/// Applies `story_of_moves` and then `story_of_changes` to a board, and returns the result of `is_story_told` for each.
 fn are_stories_told(alloc: Global, board: &mut Board) -> Result<(bool, bool), Fail> {
     let moved = is_story_told(alloc, board, &story_of_moves())?;
     let changed = is_story_told(alloc, board, &story_of_changes())?;
     Ok((moved, changed))
 }
 
-/// Returns whether a lab's board is shown as `story_of_moves` says after each event of that, and whether then as
-/// `story_of_changes` says.
+/// Returns the result of `are_stories_told` for the board at the beginning of a lab's run.
 fn are_stories_of_lab_told(alloc: Global, lab: &Lab) -> Result<(bool, bool), Fail> {
     let mut board = boxed_board(alloc, lab)?;
     are_stories_told(alloc, &mut board)
 }
 
-/// Returns whether the board of the path of three is shown as `story_of_moves` says, and whether then as
-/// `story_of_changes` says.
+/// Returns the result of `are_stories_told` for the path of three.
 fn are_stories_of_path_told(alloc: Global) -> Result<(bool, bool), Fail> {
     let lab = boxed_lab(alloc, PATH_OF_THREE)?;
     are_stories_of_lab_told(alloc, &lab)
 }
 
-/// Fails if a board isn't as `story_of_moves` and `story_of_changes`, by hand, say after an event, or is changed by an
-/// event that may not happen.
+/// Fails if a board differs from `story_of_moves` or `story_of_changes`, which are by hand, after an event, or is
+/// changed by an event that may not happen.
 #[test]
 fn events_in_a_row_of_three(rt: HostRuntime) -> Result<(), Fail> {
     assert_eq!(rt; are_stories_of_path_told(rt.alloc())?, (true, true));

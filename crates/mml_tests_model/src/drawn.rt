@@ -59,13 +59,14 @@ const OF_256: &str = concat!(
     "aaaejb",
 );
 
-/// Returns the node at that index round a cycle of `nodes` nodes, at most 256, counted on past the last one.
+/// Returns the node at an index of a cycle of `nodes` nodes, at most 256. Indices past the last node begin again at the
+/// first.
 fn node_at(nodes: u64, index: u64) -> Rank {
     Rank::at((index % nodes.max(1)).min(255))
 }
 
-/// Returns the rule that is enabled at a node, if that is Marriage with this partner; Update if none is, or the board
-/// has no such node.
+/// Returns the rule that is enabled at a node, Marriage always with `partner`. Returns Update if none is enabled, or
+/// the board has no such node.
 fn enabled_rule(board: &Board, node: Rank, partner: Rank) -> Rule {
     if node.index() >= board.size() {
         return Rule::Update;
@@ -78,8 +79,8 @@ fn enabled_rule(board: &Board, node: Rank, partner: Rank) -> Rule {
     }
 }
 
-/// Returns a move of a node by the rule that `enabled_rule` gives, mostly by the student who owns the node, at times by
-/// the other one; the move need not be legal.
+/// Returns a move of a node by the rule that `enabled_rule` returns, mostly by the student who owns the node, at times
+/// by the other one. The move need not be legal.
 fn grant(board: &Board, numbers: &mut Numbers, node: Rank, partner: Rank) -> Event {
     let is_ana = (node.index() < board.size() / 2) != (numbers.below(8) == 0);
     Event::Grant {
@@ -89,7 +90,7 @@ fn grant(board: &Board, numbers: &mut Numbers, node: Rank, partner: Rank) -> Eve
     }
 }
 
-/// Returns a fault with drawn registers: the node points at `other`, or at times at none, and m is either.
+/// Returns a fault with drawn registers: p points at `other`, or at times at none, and m is either.
 fn fault(numbers: &mut Numbers, node: Rank, other: Rank) -> Event {
     let p = if numbers.below(4) == 0 {
         None
@@ -103,8 +104,8 @@ fn fault(numbers: &mut Numbers, node: Rank, other: Rank) -> Event {
     }
 }
 
-/// Returns the event drawn as the one with this index, legal or not: mostly a move. Its nodes are near to each other
-/// round the cycle, at nodes that move on by one every eight events.
+/// Returns the event that is drawn at this index, legal or not; mostly it is a move. Its nodes are near to each other
+/// in the cycle, and move on by one node every eight events.
 fn drawn(board: &Board, numbers: &mut Numbers, index: u64) -> Event {
     let place = (index / 8).wrapping_add(numbers.below(8));
     let other = place
@@ -122,8 +123,8 @@ fn drawn(board: &Board, numbers: &mut Numbers, index: u64) -> Event {
     }
 }
 
-/// Returns a letter for each legal one of the events drawn over a board, to which it then happens: how many illegal
-/// ones came since the last legal one, from `a` for none to `z` for 25 or more.
+/// Draws the events over a board, and applies each legal one to it. Returns a letter for each legal one: how many
+/// illegal ones came since the last legal one, from `a` for none to `z` for 25 or more.
 fn letters_on(alloc: Global, lab: &Lab, board: &mut Board) -> Result<Vec<u8>, AllocError> {
     let mut numbers = Numbers {
         state: board.size(),
@@ -143,7 +144,7 @@ fn letters_on(alloc: Global, lab: &Lab, board: &mut Board) -> Result<Vec<u8>, Al
     Ok(letters)
 }
 
-/// Returns the letters that `letters_on` gives from the beginning of a lab's run.
+/// Returns the result of `letters_on` from the beginning of a lab's run.
 fn letters_over(alloc: Global, lab: &Lab) -> Result<Vec<u8>, Fail> {
     let mut board = boxed_board(alloc, lab)?;
     Ok(letters_on(alloc, lab, &mut board)?)
@@ -155,20 +156,19 @@ fn cycle_lab(alloc: Global, nodes: u64) -> Result<Box<Lab>, Fail> {
     boxed_lab(alloc, file.as_str())
 }
 
-/// Returns whether `wanted` are the letters that `letters_over` gives over a cycle of `nodes` nodes.
+/// Returns whether the result of `letters_over` over a cycle of `nodes` nodes is `wanted`.
 fn are_letters(alloc: Global, nodes: u64, wanted: &str) -> Result<bool, Fail> {
     let lab = cycle_lab(alloc, nodes)?;
     Ok(letters_over(alloc, &lab)?.as_slice() == wanted.as_bytes())
 }
 
-/// Returns whether the letters over the cycle of 64 nodes are those of the plain model, and whether those over that of
-/// 256.
+/// Returns the results of `are_letters` for the cycle of 64 nodes and for that of 256, with the plain model's letters.
 fn are_both_letters(alloc: Global) -> Result<(bool, bool), Fail> {
     let of_64 = are_letters(alloc, 64, OF_64)?;
     Ok((of_64, are_letters(alloc, 256, OF_256)?))
 }
 
-/// Fails if a drawn event is legal on the board and not by the plain model's letters, or the other way round.
+/// Fails if a drawn event is legal on the board and illegal by the plain model's letters, or the other way round.
 #[test]
 fn drawn_events_are_legal_as_in_the_plain_model(rt: HostRuntime) -> Result<(), Fail> {
     assert_eq!(rt; are_both_letters(rt.alloc())?, (true, true));

@@ -5,12 +5,12 @@ use mml_ids::{
 use std::alloc::{AllocError, Global};
 use std::test::Fail;
 
-/// Returns the rank of an identifier, or `None` if it doesn't stand in the table.
+/// Returns the rank of an identifier, or `None` if the table doesn't have it.
 fn index_of(table: &IdTable, id: u64) -> Option<u64> {
     Some(table.rank_of(id)?.index())
 }
 
-/// Returns whether the identifier stands in the table, and its rank gives it back.
+/// Returns whether the table has an identifier, and the identifier of its rank is the same one.
 fn comes_back(table: &IdTable, id: u64) -> bool {
     match table.rank_of(id) {
         Some(node) => table.id_of(node) == id,
@@ -18,7 +18,7 @@ fn comes_back(table: &IdTable, id: u64) -> bool {
     }
 }
 
-// An identifier, and its rank in the table of 9, 1, 7 and 4; `None` if it doesn't stand there.
+// Identifiers, each with its rank in the table of 9, 1, 7 and 4, or `None` if the table doesn't have it.
 const RANKS: [(u64, Option<u64>); 6] = [
     (1, Some(0)),
     (4, Some(1)),
@@ -28,8 +28,8 @@ const RANKS: [(u64, Option<u64>); 6] = [
     (0, None),
 ];
 
-/// Returns the first identifier of `RANKS` that has another rank in the table, or whose rank doesn't give it back, or
-/// `None` if each is as `RANKS` says.
+/// Returns the first identifier of `RANKS` whose rank in the table is another, or doesn't lead back to it. Returns
+/// `None` if there is none.
 fn first_other_rank(table: &IdTable) -> Option<u64> {
     for (id, index) in RANKS {
         if (index_of(table, id), comes_back(table, id)) != (index, index.is_some()) {
@@ -39,19 +39,18 @@ fn first_other_rank(table: &IdTable) -> Option<u64> {
     None
 }
 
-/// Returns how many identifiers the table of 9, 1, 7 and 4 has, and the first one that isn't in it as `RANKS` says, if
-/// any.
+/// Returns how many identifiers the table of 9, 1, 7 and 4 has, and the result of `first_other_rank` for it.
 fn told_of_ranks(alloc: Global) -> Result<(u64, Option<u64>), IdFault> {
     let table = IdTable::new(alloc, &[9, 1, 7, 4])?;
     Ok((table.len(), first_other_rank(&table)))
 }
 
-/// Returns the number itself if `NodeId` takes it for an identifier, and else `None`.
+/// Returns the number itself if `NodeId` accepts it as an identifier, else `None`.
 fn identifier(id: u64) -> Option<u64> {
     Some(NodeId::new(id)?.get())
 }
 
-/// Returns the number itself if `Rank` takes it for a rank, and else `None`.
+/// Returns the number itself if `Rank` accepts it as a rank, else `None`.
 fn rank(index: u64) -> Option<u64> {
     Some(Rank::new(index)?.index())
 }
@@ -67,8 +66,8 @@ const RANGES: [(u64, bool, bool); 7] = [
     (65536, false, false),
 ];
 
-/// Returns the first number of `RANGES` that is taken for an identifier or a rank and isn't one, or isn't taken and is,
-/// or `None` if there is none.
+/// Returns the first number of `RANGES` that is wrongly accepted or wrongly rejected as an identifier or a rank, or
+/// `None` if there is none.
 fn first_other_range() -> Option<u64> {
     for (number, is_identifier, is_rank) in RANGES {
         let wanted = (is_identifier.then_some(number), is_rank.then_some(number));
@@ -79,8 +78,8 @@ fn first_other_range() -> Option<u64> {
     None
 }
 
-/// Fails if an identifier of a table of four has a wrong rank, a number is wrongly taken (or not) for an identifier or
-/// a rank, or `MAX_NODES` isn't 256.
+/// Fails if an identifier has a wrong rank in a table of four, a number is wrongly accepted or rejected as an
+/// identifier or a rank, or `MAX_NODES` isn't 256.
 #[test]
 fn identifiers_have_ranks(rt: HostRuntime) {
     assert_eq!(rt;
@@ -101,8 +100,8 @@ fn keeps_a_word(alloc: Global) -> Result<bool, AllocError> {
     Ok(word.as_str() == "ana")
 }
 
-/// Returns whether pieces, the last of them an identifier that should be 65535, are put as their text, and whether
-/// `make_room` then makes room for 100 bytes after it.
+/// Puts pieces, the last of them the identifier `id`, which should be 65535, and then makes room for 100 bytes. Returns
+/// whether their text is right, and the vector has room for 100 bytes after it.
 fn are_put(alloc: Global, id: NodeId) -> Result<bool, Memory> {
     let mut out = Vec::new(alloc);
     let text = [
@@ -116,7 +115,7 @@ fn are_put(alloc: Global, id: NodeId) -> Result<bool, Memory> {
     Ok(out.capacity() >= 129 && out.as_slice() == b"at 18446744073709551615,65535".as_slice())
 }
 
-/// Returns whether a list and a word are kept as they were given, and whether pieces are put with the greatest
+/// Returns whether a list and a word are kept as they were given, and the result of `are_put` with the greatest
 /// identifier.
 fn told_of_texts(alloc: Global) -> Result<(bool, bool), Fail> {
     let id = NodeId::new(65535).ok_or("the greatest identifier")?;
@@ -124,7 +123,7 @@ fn told_of_texts(alloc: Global) -> Result<(bool, bool), Fail> {
     Ok((are_kept, are_put(alloc, id)?))
 }
 
-/// Fails if a list, a word or the text of pieces isn't what was put in, or room lacks after that text.
+/// Fails if a list, a word or the text of pieces isn't what was put in, or there is no room after that text.
 #[test]
 fn lists_words_and_pieces(rt: HostRuntime) -> Result<(), Fail> {
     assert_eq!(rt; told_of_texts(rt.alloc())?, (true, true));

@@ -11,7 +11,7 @@ use mml_rules::{Regs, Rule};
 use std::alloc::Global;
 use std::test::Fail;
 
-/// Returns the move of a node by a rule, by the student with the index `who`, who need not own the node.
+/// Returns a move of a node by a rule, as a move of the student with the index `who`, who need not own the node.
 fn grant(who: u16, node: Rank, rule: Rule) -> Event {
     Event::Grant {
         who: Student::new(who),
@@ -20,7 +20,7 @@ fn grant(who: u16, node: Rank, rule: Rule) -> Event {
     }
 }
 
-/// Returns the error that says why a line is no event of this lab, or `None` if it is one.
+/// Returns why a line spells no event of this lab, or `None` if it spells one.
 fn journal_error_of(lab: &Lab, line: &[u8]) -> Option<JournalFault> {
     match read_event(line, lab.ids(), lab.roster()) {
         Ok(_) => None,
@@ -50,7 +50,7 @@ const SHAPES: &str = "
 1 0 fault 9 - True
 1 0 link 1";
 
-/// Lines of events that name no student or no node of the lab.
+/// Lines of events that name a student or a node that the lab doesn't have.
 const UNKNOWNS: &str = "1 0 release 0
 1 0 release 4
 1 0 release 18446744073709551616
@@ -60,7 +60,7 @@ const UNKNOWNS: &str = "1 0 release 0
 1 0 fault 1 9 true
 1 0 cut 1 4";
 
-/// Returns whether each of the lines is no event of this lab, for the error `fault`.
+/// Returns whether none of the lines spells an event of this lab, each with the error `fault`.
 fn have_fault(lab: &Lab, lines: &str, fault: JournalFault) -> bool {
     for line in lines.split('\n') {
         if journal_error_of(lab, line.as_bytes()) != Some(fault) {
@@ -70,7 +70,7 @@ fn have_fault(lab: &Lab, lines: &str, fault: JournalFault) -> bool {
     true
 }
 
-/// Lines of the kinds of events that `TEN_LINES` lacks, and of a move by a student who doesn't own the node; the events
+/// Lines of the kinds of events that `TEN_LINES` lacks, and of a move by a student who doesn't own the node. The events
 /// need not be legal.
 const OTHERS: [&[u8]; 6] = [
     b"18446744073709551615 18446744073709551615 release 3",
@@ -81,7 +81,7 @@ const OTHERS: [&[u8]; 6] = [
     b"1 0 grant ana 3 update",
 ];
 
-/// Returns the events that the lines of `OTHERS` say, in their order.
+/// Returns the events that the lines of `OTHERS` spell, in their order.
 fn other_events() -> [Event; 6] {
     let (first, second, third) = (Rank::at(0), Rank::at(1), Rank::at(2));
     [
@@ -103,7 +103,8 @@ fn other_events() -> [Event; 6] {
     ]
 }
 
-/// Returns the event that a line says, and whether the line is that event's text, or `None` if it says none.
+/// Returns the event that a line spells, and whether the event is written as just this line, or `None` if the line
+/// spells none.
 fn read_and_written(
     alloc: Global,
     lab: &Lab,
@@ -116,12 +117,12 @@ fn read_and_written(
     Ok(Some((found, text.as_slice() == line)))
 }
 
-/// Returns whether a line says just this event, and is its text.
+/// Returns whether a line spells just this event, and the event is written as just this line.
 fn is_line_of(alloc: Global, lab: &Lab, line: &[u8], event: &Event) -> Result<bool, Memory> {
     Ok(read_and_written(alloc, lab, line)? == Some((*event, true)))
 }
 
-/// Returns whether each line of `OTHERS` says its event of `other_events`, and is that one's text.
+/// Returns whether each line of `OTHERS` is read as its event of `other_events`, and the event is written as the line.
 fn are_read_and_written(alloc: Global, lab: &Lab) -> Result<bool, Fail> {
     for (line, event) in OTHERS.iter().zip(other_events().iter()) {
         if !is_line_of(alloc, lab, line, event)? {
@@ -131,16 +132,16 @@ fn are_read_and_written(alloc: Global, lab: &Lab) -> Result<bool, Fail> {
     Ok(true)
 }
 
-/// Returns whether each line of `SHAPES` has the error `Shape`, whether each of `UNKNOWNS` has `Unknown`, and whether
-/// each of `OTHERS` is read and written as its event.
+/// Returns whether each line of `SHAPES` is rejected as `Shape`, whether each of `UNKNOWNS` is rejected as `Unknown`,
+/// and the result of `are_read_and_written` for `OTHERS`.
 fn are_rows_read(alloc: Global, lab: &Lab) -> Result<(bool, bool, bool), Fail> {
     let shapes = have_fault(lab, SHAPES, JournalFault::Shape);
     let unknowns = have_fault(lab, UNKNOWNS, JournalFault::Unknown);
     Ok((shapes, unknowns, are_read_and_written(alloc, lab)?))
 }
 
-/// Over the path of three: the result of `are_rows_read`, and whether the lines of `TEN_LINES`, each with each of its
-/// bytes replaced, are read as `replaced::REPLACED` marks.
+/// Returns, over the path of three, the result of `are_rows_read`, and whether the lines of `TEN_LINES`, each with each
+/// of its bytes replaced, are read as `replaced::REPLACED` marks.
 fn are_lines_read(alloc: Global) -> Result<((bool, bool, bool), bool), Fail> {
     let lab = boxed_lab(alloc, PATH_OF_THREE)?;
     Ok((
@@ -149,8 +150,8 @@ fn are_lines_read(alloc: Global) -> Result<((bool, bool, bool), bool), Fail> {
     ))
 }
 
-/// Fails if a line of no event is read as one or has another error, or an event's line isn't read or written as it
-/// stands. What is wanted is by hand, except for replaced bytes: there it is by the plain model.
+/// Fails if a line that spells no event is read as one, or is rejected with another error, or if an event's line isn't
+/// read or written as such. The wanted results are by hand; for replaced bytes they are the plain model's.
 #[test]
 fn lines_are_read_and_written(rt: HostRuntime) -> Result<(), Fail> {
     assert_eq!(rt; are_lines_read(rt.alloc())?, ((true, true, true), true));

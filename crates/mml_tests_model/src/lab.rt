@@ -8,8 +8,8 @@ use mml_rules::Network;
 use std::alloc::{AllocError, Global};
 use std::test::Fail;
 
-/// Returns how a node stands to another: `-` if the two are linked, `>` if they are and the node points at the other,
-/// `!` if it points there without a link, `.` if neither.
+/// Returns how one node relates to another: `-` if the two are linked, `>` if they are and the node points at the
+/// other, `!` if it points there without a link, `.` if neither.
 fn mark(lab: &Lab, node: Rank, other: Rank) -> &'static str
     requires { node < length lab.now.ids }
 {
@@ -22,7 +22,7 @@ fn mark(lab: &Lab, node: Rank, other: Rank) -> &'static str
     }
 }
 
-/// Adds the names of a node's owners to a text, with nothing between them, in the order of the lab's students.
+/// Appends the names of a node's owners to a text, with nothing between them, in the order of the lab's students.
 fn push_owners(text: &mut String, lab: &Lab, node: Rank) -> Result<(), AllocError> {
     let roster = lab.roster();
     for index in 0..roster.student_count() {
@@ -34,7 +34,7 @@ fn push_owners(text: &mut String, lab: &Lab, node: Rank) -> Result<(), AllocErro
     Ok(())
 }
 
-/// Adds to a text the `mark` that says how a node stands to each node, in the order of ranks.
+/// Appends to a text the `mark` of a node for each node of the lab, in the order of ranks.
 fn push_marks(text: &mut String, lab: &Lab, node: Rank) -> Result<(), AllocError>
     requires { node < length lab.now.ids }
 {
@@ -44,7 +44,7 @@ fn push_marks(text: &mut String, lab: &Lab, node: Rank) -> Result<(), AllocError
     Ok(())
 }
 
-/// Adds a node's line to a text: its identifier, m, its owners, and how it stands to each node.
+/// Appends a node's line to a text: its identifier, m, its owners, and its marks.
 fn push_node(text: &mut String, lab: &Lab, node: Rank) -> Result<(), AllocError>
     requires { node < length lab.now.ids }
 {
@@ -56,7 +56,8 @@ fn push_node(text: &mut String, lab: &Lab, node: Rank) -> Result<(), AllocError>
     push_marks(text, lab, node)
 }
 
-/// Returns a lab as text: on a line its events, connections, nodes, links and students, and then a line for each node.
+/// Returns a lab as text: a line with the numbers of its events, connections, nodes, links and students, and then a
+/// line for each node.
 fn shown(alloc: Global, lab: &Lab) -> Result<String, AllocError> {
     let mut text = String::new(alloc);
     for count in [
@@ -108,7 +109,7 @@ const INDEXES: [(&str, Option<u16>); 7] = [
     ("", None),
 ];
 
-/// Returns the first name of `INDEXES` whose student in a roster has another index than there, or `None` if none has.
+/// Returns the first name of `INDEXES` whose student in a roster has another index, or `None` if there is none.
 fn first_other_index(roster: &Roster) -> Option<&'static str> {
     for (name, index) in INDEXES {
         if roster.student_named(name).map(Student::index) != index {
@@ -118,8 +119,8 @@ fn first_other_index(roster: &Roster) -> Option<&'static str> {
     None
 }
 
-/// Returns whether a network has the links and registers of another at a node, and `false` too if one of them lacks the
-/// node.
+/// Returns whether two networks have the same links and registers at a node. Returns `false` too if one of them lacks
+/// the node.
 fn is_same_at(network: &Network, other: &Network, node: Rank) -> bool {
     if node.index() >= network.size() || node.index() >= other.size() {
         return false;
@@ -129,7 +130,7 @@ fn is_same_at(network: &Network, other: &Network, node: Rank) -> bool {
     is_linked_so && network.registers(node) == other.registers(node)
 }
 
-/// Returns whether a copy of a network has its nodes, links and registers.
+/// Returns whether a copy of a network has the same nodes, links and registers.
 fn is_copied(alloc: Global, network: &Network) -> Result<bool, Memory> {
     let copy = network.try_copy(alloc)?;
     for index in 0..network.size() {
@@ -140,8 +141,7 @@ fn is_copied(alloc: Global, network: &Network) -> Result<bool, Memory> {
     Ok(copy.size() == network.size())
 }
 
-/// Returns a lab as text, whether its network is copied as it is, and the first name with another index than in
-/// `INDEXES`, if any.
+/// Returns a lab as text, whether its network is copied as it is, and the result of `first_other_index` for its roster.
 fn shown_of_lab(alloc: Global, lab: &Lab) -> Result<(String, bool, Option<&'static str>), Fail> {
     let text = shown(alloc, lab)?;
     Ok((
@@ -151,8 +151,8 @@ fn shown_of_lab(alloc: Global, lab: &Lab) -> Result<(String, bool, Option<&'stat
     ))
 }
 
-/// Returns whether the lab of a document is the text `wanted`, whether its network is copied as it is, and the first
-/// name with another index than in `INDEXES`, if any.
+/// Returns whether the text of a document's lab is `wanted`, whether the lab's network is copied as it is, and the
+/// result of `first_other_index` for its roster.
 fn is_document_shown(
     alloc: Global,
     document: &str,

@@ -9,7 +9,7 @@ use mml_rules::Scene;
 use std::alloc::Global;
 use std::test::Fail;
 
-/// Returns the name of what is ruled.
+/// Returns the name of a ruling.
 fn ruling_name(ruling: &Ruling) -> &'static str {
     match ruling {
         Ruling::Denied(_) => "denied",
@@ -22,10 +22,11 @@ fn ruling_name(ruling: &Ruling) -> &'static str {
     }
 }
 
-/// How many events may happen, whether the journal is halted, and a command.
+/// The limit of events, whether the journal is halted, and a command.
 type Case = (u64, bool, Command);
 
-/// Returns the name of what is ruled on a case of `who`; `another size` where board and lab aren't of one size.
+/// Returns the name of the ruling on the command of a case, asked for by `who`. Returns `another size` if board and lab
+/// aren't of one size.
 fn ruled(
     alloc: Global,
     lab: &Lab,
@@ -43,7 +44,8 @@ fn ruled(
     Ok(ruling_name(&ruling))
 }
 
-/// Returns the names of what is ruled on ana's command in each case, in a row; `nobody` for each if the lab has no ana.
+/// Returns the names of the rulings on each case, asked for by ana, with a space after each. A name is `nobody` if the
+/// lab has no ana.
 fn rulings(alloc: Global, lab: &Lab, board: &Board, cases: &[Case]) -> Result<String, Fail> {
     let mut text = String::new(alloc);
     for case in cases {
@@ -56,13 +58,13 @@ fn rulings(alloc: Global, lab: &Lab, board: &Board, cases: &[Case]) -> Result<St
     Ok(text)
 }
 
-/// Returns the names of what is ruled on ana's command in each case, at the beginning of a lab's run.
+/// Returns the result of `rulings` at the beginning of a lab's run.
 fn first_rulings(alloc: Global, lab: &Lab, cases: &[Case]) -> Result<String, Fail> {
     let board = boxed_board(alloc, lab)?;
     rulings(alloc, lab, &board, cases)
 }
 
-/// Returns the names of what is ruled on ana's command in each case, at the beginning of a run over the path of three.
+/// Returns the result of `rulings` at the beginning of a run over the path of three.
 fn rulings_over_the_path(alloc: Global, cases: &[Case]) -> Result<String, Fail> {
     let lab = boxed_lab(alloc, PATH_OF_THREE)?;
     first_rulings(alloc, &lab, cases)
@@ -77,8 +79,8 @@ fn seduction(node: u64) -> Command {
     }
 }
 
-/// Fails if a legal move isn't granted, or isn't reported `journal` once the journal is halted, or `full` if the limit
-/// is reached too; or if what is denied, a see or a look is answered by one of these in a halted journal.
+/// Fails if a legal move isn't granted, isn't answered `journal` if the journal is halted, or `full` if the limit is
+/// reached as well. Fails too if a halted journal changes the answer to a denied command, a see or a look.
 #[test]
 fn a_halted_journal_comes_after_the_limit(rt: HostRuntime) -> Result<(), Fail> {
     let told = rulings_over_the_path(

@@ -7,14 +7,14 @@ use mml_stable::{OpenLink, Report, report};
 use std::alloc::{AllocError, Global};
 use std::test::Fail;
 
-/// Returns a report as text: its configuration's number, whether it is stable, and its four lists, by ranks.
+/// Returns a report as text: its configuration's number, whether it is stable, and its four lists, with nodes as ranks.
 fn report_text(alloc: Global, report: &Report) -> Result<String, Fail> {
     let mut text = format!(in alloc; "{} {};", report.at, report.stable)?;
     push_lists(&mut text, report)?;
     Ok(text)
 }
 
-/// Adds the lists of a report to a text: its pairs, free nodes, privileged nodes and open links.
+/// Appends the lists of a report to a text: its pairs, free nodes, privileged nodes and open links.
 fn push_lists(text: &mut String, report: &Report) -> Result<(), AllocError> {
     push_pairs(text, report.pairs.as_slice())?;
     push_free(text, report.free.as_slice())?;
@@ -25,7 +25,7 @@ fn push_lists(text: &mut String, report: &Report) -> Result<(), AllocError> {
     Ok(())
 }
 
-/// Adds a report's pairs to a text, each as its two ranks with `=` between, and `;` after them.
+/// Appends a report's pairs to a text, each as its two ranks with `=` between them, and then `;`.
 fn push_pairs(text: &mut String, pairs: &[(Rank, Rank)]) -> Result<(), AllocError> {
     for (lower, greater) in pairs {
         write!(text, " {}={}", lower.index(), greater.index())?;
@@ -33,7 +33,7 @@ fn push_pairs(text: &mut String, pairs: &[(Rank, Rank)]) -> Result<(), AllocErro
     text.push_str(";")
 }
 
-/// Adds the ranks of a report's nodes in no pair to a text, and `;` after them.
+/// Appends the ranks of a report's free nodes, which are in no pair, to a text, and then `;`.
 fn push_free(text: &mut String, nodes: &[Rank]) -> Result<(), AllocError> {
     for node in nodes {
         write!(text, " {}", node.index())?;
@@ -41,7 +41,7 @@ fn push_free(text: &mut String, nodes: &[Rank]) -> Result<(), AllocError> {
     text.push_str(";")
 }
 
-/// Adds the ranks of a report's privileged nodes to a text, each with its enabled rule, and `;` after them.
+/// Appends the ranks of a report's privileged nodes to a text, each with its enabled rule, and then `;`.
 fn push_privileged(text: &mut String, nodes: &[(Rank, Kind)]) -> Result<(), AllocError> {
     for (node, kind) in nodes {
         write!(text, " {} {kind:?}", node.index())?;
@@ -49,14 +49,13 @@ fn push_privileged(text: &mut String, nodes: &[(Rank, Kind)]) -> Result<(), Allo
     text.push_str(";")
 }
 
-/// Adds an open link (one between two nodes in no pair) to a text, with its privileged witness and the rule enabled
-/// there.
+/// Appends an open link, which joins two free nodes, to a text, with its privileged witness and the rule enabled there.
 fn push_link(text: &mut String, link: &OpenLink) -> Result<(), AllocError> {
     let [a, b, node] = [link.a.index(), link.b.index(), link.node.index()];
     write!(text, " {a}-{b} {node} {:?}", link.kind)
 }
 
-// Two pairs, in one of which a node's m doesn't say so yet, and a link between two free nodes.
+// Two pairs, in one of which a node has m still false, and a link between two free nodes.
 const DOCUMENT: &str = r#"
 events = 100
 sessions = 1
@@ -82,15 +81,15 @@ fn board_report_text(alloc: Global, board: &Board) -> Result<String, Fail> {
     report_text(alloc, &report)
 }
 
-/// Returns the report of the board at the beginning of a run over a document's lab, as text.
+/// Returns the report at the beginning of a run over a document's lab, as text.
 fn lab_report_text(alloc: Global, document: &str) -> Result<String, Fail> {
     let lab = boxed_lab(alloc, document)?;
     let board = boxed_board(alloc, &lab)?;
     board_report_text(alloc, &board)
 }
 
-/// Fails if the report at the beginning over `DOCUMENT` has another number, is stable, or has other pairs, free nodes,
-/// privileged nodes or open links than `TOLD` says.
+/// Fails if the report at the beginning of a run over `DOCUMENT` differs from `TOLD` in its number, its stability, or
+/// one of its four lists.
 #[test]
 fn report_of_two_pairs_and_an_open_link(rt: HostRuntime) -> Result<(), Fail> {
     assert_eq!(rt; lab_report_text(rt.alloc(), DOCUMENT)?.as_str(), TOLD);

@@ -1,7 +1,8 @@
 //! Sets of ranks, beside plain lists.
 use mml_ids::{MAX_NODES, NodeSet, Rank};
 
-/// Returns whether `ranks` are what is taken out of a set, one by one and in their order, and nothing is left then.
+/// Takes the ranks out of a set from the least to the greatest, and returns whether they are just `ranks`, in this
+/// order.
 fn gives_in_order(set: NodeSet, ranks: &[u64]) -> bool {
     let mut left = set;
     for index in ranks {
@@ -12,13 +13,13 @@ fn gives_in_order(set: NodeSet, ranks: &[u64]) -> bool {
     least_taken(&mut left).is_none()
 }
 
-/// Takes the least rank out of a set, and returns it, or `None` if the set is empty.
+/// Takes the least rank out of a set and returns it, or returns `None` if the set is empty.
 fn least_taken(left: &mut NodeSet) -> Option<u64> {
     Some(left.take_least()?.index())
 }
 
-/// Returns whether a set has just `ranks`, given from the least to the greatest: by membership, length, least,
-/// greatest, and the order in which they are taken out.
+/// Returns whether a set has just `ranks`, given from the least to the greatest. Compares membership, length, the least
+/// and the greatest rank, and the order in which ranks are taken out.
 fn has_only(set: NodeSet, ranks: &[u64]) -> bool {
     ranks.iter().all(|index| has(set, *index))
         && set.len() == ranks.len() as u64
@@ -27,8 +28,8 @@ fn has_only(set: NodeSet, ranks: &[u64]) -> bool {
         && gives_in_order(set, ranks)
 }
 
-/// Returns the index of the first of seven sets that has other ranks than stand beside it, `None` if none has; and how
-/// many ranks are above 63.
+/// Returns the index of the first of seven sets that doesn't have just the ranks beside it, or `None` if all have; and
+/// how many ranks are above 63.
 fn told_of_sets() -> (Option<usize>, u64) {
     let none = NodeSet::empty();
     let some = none
@@ -51,7 +52,7 @@ fn told_of_sets() -> (Option<usize>, u64) {
     (other, above.len())
 }
 
-/// Returns whether a rank is in the set drawn by a seed, which has many ranks of some words (of 64 ranks) and few of
+/// Returns whether a rank is in the set drawn by a seed. The set has many ranks in some words (of 64 ranks) and few in
 /// others.
 fn is_drawn(seed: u64, index: u64) -> bool {
     let spread = seed.wrapping_add(index.wrapping_mul(37));
@@ -69,7 +70,7 @@ fn drawn_set(seed: u64) -> NodeSet {
     set
 }
 
-/// Returns whether a set has the rank with this index, and `false` too if there is no such rank.
+/// Returns whether a set has the rank with this index. Returns `false` too if there is no such rank.
 fn has(set: NodeSet, index: u64) -> bool {
     match Rank::new(index) {
         Some(rank) => set.has(rank),
@@ -77,19 +78,19 @@ fn has(set: NodeSet, index: u64) -> bool {
     }
 }
 
-/// Returns the least rank of a set, if it has one.
+/// Returns the least rank of a set, or `None` if the set is empty.
 fn least_of(set: NodeSet) -> Option<u64> {
     let mut left = set;
     least_taken(&mut left)
 }
 
-/// Returns the greatest rank of a set, if it has one.
+/// Returns the greatest rank of a set, or `None` if the set is empty.
 fn greatest_of(set: NodeSet) -> Option<u64> {
     Some(set.greatest()?.index())
 }
 
-/// Returns whether a set has just the ranks whose indices are true in a list of all ranks, by membership, length, least
-/// and greatest.
+/// Returns whether a set has just the ranks whose indices are true in a list of all ranks. Compares membership, length,
+/// and the least and the greatest rank.
 fn is_list(set: NodeSet, list: &[bool]) -> bool {
     let (mut count, mut least, mut greatest) = (0u64, None, None);
     for (index, there) in list.iter().enumerate() {
@@ -105,8 +106,8 @@ fn is_list(set: NodeSet, list: &[bool]) -> bool {
     (set.len(), least_of(set), greatest_of(set)) == (count, least, greatest)
 }
 
-/// Returns whether the set drawn by seed `a`, what it shares with that of `b`, what it has alone, and the ranks above
-/// `rank` are as in plain lists.
+/// Returns whether four sets have the same ranks as plain lists: the set drawn by seed `a`, the ranks that it shares
+/// with the set of `b`, those that it has alone, and all ranks above `rank`.
 fn sets_are_lists(a: u64, b: u64, rank: Rank) -> bool {
     let mut first = [false; 256];
     let mut both = [false; 256];
@@ -138,7 +139,7 @@ const SEEDS: [(u64, u64, u64); 8] = [
     (15, 4, 255),
 ];
 
-/// Returns the first row of `SEEDS` whose sets aren't as plain lists say, or `None` if all are.
+/// Returns the first row of `SEEDS` for which `sets_are_lists` is false, or `None` if there is none.
 fn first_unlike_lists() -> Option<(u64, u64, u64)> {
     for (a, b, index) in SEEDS {
         let agree = match Rank::new(index) {
@@ -152,9 +153,8 @@ fn first_unlike_lists() -> Option<(u64, u64, u64)> {
     None
 }
 
-/// Fails if a set has other ranks, another length, or another least or greatest rank than a list: for each of seven
-/// sets one by hand, in whose order it also gives its ranks; for drawn sets plain lists, by `is_drawn`. Fails too if
-/// not 192 ranks are above 63.
+/// Fails if one of seven sets differs from its list, which is by hand, or a drawn set from its list, which is by
+/// `is_drawn`. Fails too if there aren't 192 ranks above 63.
 #[test]
 fn sets_of_ranks(rt: HostRuntime) {
     assert_eq!(rt; (told_of_sets(), first_unlike_lists()), ((None, 192), None));

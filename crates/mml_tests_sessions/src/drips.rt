@@ -9,8 +9,8 @@ use std::alloc::Global;
 use std::sync::Wait;
 use std::test::Fail;
 
-/// Returns whether an answer to the act with this place is right, if the sink fails at the line of event `last`:
-/// granted before that, refused for the journal at it, and denied or refused so after it.
+/// Returns whether an answer to the act with this place is right if the sink fails at the line of event `last`. Acts
+/// before that are granted, the act at it is refused for the journal, and acts after it are denied or refused so.
 fn is_right_answer(answer: &Answer, place: u64, last: u64) -> bool {
     match answer {
         Answer::Granted { place: granted, .. } => place < last && *granted == place,
@@ -19,7 +19,7 @@ fn is_right_answer(answer: &Answer, place: u64, last: u64) -> bool {
     }
 }
 
-/// Asks for the ten acts in their order, if the sink fails at the line of event `last`: whether the answer to each is
+/// Asks for the ten acts in their order, if the sink fails at the line of event `last`. Returns whether each answer is
 /// right, and the window's number after it is that of the configuration to which the granted acts lead.
 fn plays<H: House, R: Wait>(seat: &mut Seat<'_, Drip, H, R>, last: u64) -> bool {
     for place in 1..=ACTS {
@@ -32,22 +32,23 @@ fn plays<H: House, R: Wait>(seat: &mut Seat<'_, Drip, H, R>, last: u64) -> bool 
     true
 }
 
-/// All ten acts, if the sink fails at the line of event `last`, or at none if that is 11.
+/// A visit that asks for all ten acts, if the sink fails at the line of event `last`, or at none if that is 11.
 #[derive(Clone, Copy)]
 struct Acts {
     last: u64,
 }
 
 impl Visit<Drip> for Acts {
+    /// Whether each act is answered as it should be.
     type Told = bool;
 
-    // Asks for all ten acts through the first seat: whether each is answered as it should be by such a sink.
+    // Asks for the ten acts through the first seat, and returns the result of `plays`.
     fn visit<H: House, R: Wait>(self, seats: &mut Pair<'_, Drip, H, R>) -> bool {
         plays(&mut seats.one, self.last)
     }
 }
 
-/// Returns how a house ends that was asked for all ten acts, and whose sink failed at the line of event `last`, or at
+/// Returns the ending of a house that was asked for all ten acts, if its sink failed at the line of event `last`, or at
 /// none if that is 11.
 fn ending_at(last: u64) -> Ending {
     Ending::Log {
@@ -57,8 +58,8 @@ fn ending_at(last: u64) -> Ending {
     }
 }
 
-/// Returns whether a house ended with a log, with these bytes in its sink, and with one failed put there if it halted,
-/// else none.
+/// Returns whether a house ended with a log, its sink holds exactly these bytes, and one put failed there if the
+/// journal halted, else none.
 fn has_dripped(end: &Result<Log<Drip>, Astray>, wanted: &[u8]) -> bool {
     match end {
         Ok(log) => {
@@ -68,8 +69,8 @@ fn has_dripped(end: &Result<Log<Drip>, Astray>, wanted: &[u8]) -> bool {
     }
 }
 
-/// Returns whether a house over a sink that takes `puts` bytes answers the ten acts as it should, and ends with just so
-/// many bytes of their journal, and with the events of the whole lines in them.
+/// Plays the ten acts in a house whose sink takes `puts` bytes. Returns whether they are answered as they should be,
+/// and the house ends with exactly so many bytes of their journal and the events of the whole lines in them.
 fn drips<R: Wait>(rt: &R, alloc: Global, puts: usize) -> Result<bool, Fail> {
     let (wanted, _) = TEN_LINES.as_bytes().split_at(puts.min(TEN_LINES.len()));
     let last = (ended_lines(wanted) as u64).saturating_add(1);
@@ -77,8 +78,8 @@ fn drips<R: Wait>(rt: &R, alloc: Global, puts: usize) -> Result<bool, Fail> {
     Ok(plays == Some(true) && ending_of(&end) == ending_at(last) && has_dripped(&end, wanted))
 }
 
-/// Returns the first number of bytes, up to those of the journal of ten acts, such that a house whose sink takes so
-/// many answers or ends otherwise than it should, if there is one.
+/// Returns the first number of bytes, from 0 to all of the journal of the ten acts, for which `drips` is false, or
+/// `None` if there is none.
 fn first_byte_told_otherwise<R: Wait>(rt: &R, alloc: Global) -> Result<Option<usize>, Fail> {
     for puts in 0..=TEN_LINES.len() {
         if !drips(rt, alloc, puts)? {
@@ -88,8 +89,8 @@ fn first_byte_told_otherwise<R: Wait>(rt: &R, alloc: Global) -> Result<Option<us
     Ok(None)
 }
 
-/// Fails if a sink that takes the journal up to some byte is left with other bytes, or its house with other events, or
-/// an act there is answered otherwise.
+/// Fails if a sink that fails after some byte of the journal is left with other bytes, or its house with other events,
+/// or an act there is answered otherwise.
 #[test]
 fn each_byte_of_a_house_may_be_the_last(rt: HostRuntime) -> Result<(), Fail> {
     assert_eq!(rt; first_byte_told_otherwise(&rt, rt.alloc())?, None);

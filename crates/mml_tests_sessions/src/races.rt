@@ -25,13 +25,13 @@ use std::thread::Threads;
 use std::vec::IntoIter;
 use steps::{Holds, Steps};
 
-/// What a connection sends, and what it is sent.
+/// The two ends of a connection: what it sends, and what it is sent.
 type Ends<'a> = (Bytewise<'a>, Vec<u8>);
 
-/// A house whose sessions have ended, or why there is none.
+/// A house whose sessions have ended, or the fault because of which there is none.
 type Ended<'a, S> = Result<ServedHouse<S, Bytewise<'a>, Vec<u8>>, ServeFault>;
 
-/// Connections that send these scripts, in their order.
+/// Returns connections that send these scripts, in their order. Returns an error if memory runs out.
 fn arrivals_of<'a>(alloc: Global, scripts: &[&'a str]) -> Result<IntoIter<Ends<'a>>, AllocError> {
     let mut coming = Vec::new(alloc);
     for script in scripts {
@@ -43,22 +43,22 @@ fn arrivals_of<'a>(alloc: Global, scripts: &[&'a str]) -> Result<IntoIter<Ends<'
     Ok(coming.into_iter())
 }
 
-/// Returns the document of the path of three with sixteen sessions, as many as there may be, and with node 2 of ben and
-/// ana.
+/// Returns the lab file of the path of three with sixteen sessions, the most that a lab may have, and with ben and ana
+/// as the owners of node 2.
 fn document_of_sixteen(alloc: Global) -> Result<String, AllocError> {
     let file = PATH_OF_THREE.replacen(alloc, "sessions = 4", "sessions = 16", 1)?;
     file.replacen(alloc, "owner = \"ben\"", "owners = [\"ben\", \"ana\"]", 1)
 }
 
-/// Returns the lab of the path of three with sixteen sessions, as many as there may be, and with node 2 of ben and ana.
+/// Returns the lab of `document_of_sixteen`.
 fn lab_of_sixteen(alloc: Global) -> Result<Lab, Fail> {
     let file = document_of_sixteen(alloc)?;
     Ok(read_lab(alloc, file.as_bytes())?)
 }
 
-/// Returns what comes of the first `connections` of these scripts over the path of three and a sink, with as many
-/// sessions as there may be: the house or why there is none; a failure if the test itself goes wrong. The server's last
-/// line goes to `out`.
+/// Serves the first `connections` of these scripts over `lab_of_sixteen` and a sink, and writes the server's last line
+/// to `out`. Returns the finished house, or the fault because of which there is none. Returns an error (`Fail`) if the
+/// test itself goes wrong.
 fn serve<'a, S: Sink + Send + Drop, R: Threads + Wait + Sync, G: Gate + Sync>(
     rt: &R,
     alloc: Global,
@@ -79,7 +79,7 @@ fn serve<'a, S: Sink + Send + Drop, R: Threads + Wait + Sync, G: Gate + Sync>(
     Ok(serve_arrivals(rt, alloc, lab, arrivals, connections, sink, gate, out))
 }
 
-/// Returns whether the connections have the numbers from 1 on in their order, and were sent just these replies.
+/// Returns whether the connections have the numbers from 1 on in their order, and each was sent exactly its replies.
 fn are_answered<S: Drop>(house: &ServedHouse<S, Bytewise<'_>, Vec<u8>>, replies: &[&str]) -> bool {
     let mut number = 0u8;
     for session in house.sessions.iter() {
@@ -94,10 +94,10 @@ fn are_answered<S: Drop>(house: &ServedHouse<S, Bytewise<'_>, Vec<u8>>, replies:
     usize::from(number) == replies.len()
 }
 
-/// What comes of sessions: what each is answered, the journal, and the last line.
+/// An outcome of sessions: the replies to each, the journal, and the server's last line.
 type Outcome = (&'static [&'static str], &'static str, &'static str);
 
-/// Scripts, how they are held and how many steps each takes, and the results that they may have.
+/// Scripts, how their sessions are held, how many steps each session takes, and the outcomes that are allowed.
 type Race = (
     &'static [&'static str],
     Holds<'static>,
@@ -105,8 +105,8 @@ type Race = (
     &'static [Outcome],
 );
 
-/// Returns whether the outcome `wanted` came of the sessions of a house: its journal, the replies to each, and the
-/// server's last line, which is `out`.
+/// Returns whether a house has the outcome `wanted`: its journal, the replies to each session, and the server's last
+/// line, which is `out`.
 fn is_outcome(
     house: &ServedHouse<MemorySink, Bytewise<'_>, Vec<u8>>,
     out: &[u8],
@@ -118,7 +118,7 @@ fn is_outcome(
         && are_answered(house, replies)
 }
 
-/// Returns whether one of these outcomes came of the sessions of a house.
+/// Returns whether a house has one of these outcomes.
 fn is_some_outcome(
     house: &ServedHouse<MemorySink, Bytewise<'_>, Vec<u8>>,
     out: &[u8],
@@ -132,8 +132,8 @@ fn is_some_outcome(
     false
 }
 
-/// Returns whether one of a race's outcomes comes of it, and each session was held as the race says, and passed as many
-/// steps. Returns `false` if the sessions couldn't be served to their end.
+/// Runs a race. Returns whether it has one of its outcomes, each session was held as the race says, and each passed the
+/// race's number of steps. Returns `false` if the sessions couldn't be served to their end.
 fn is_run<R: Threads + Wait + Sync>(rt: &R, alloc: Global, race: &Race) -> Result<bool, Fail> {
     let (scripts, holds, steps, outcomes) = race;
     let connections = u8::try_from(scripts.len()).map_err(|_| "too many scripts")?;
@@ -146,29 +146,37 @@ fn is_run<R: Threads + Wait + Sync>(rt: &R, alloc: Global, race: &Race) -> Resul
     Ok(is_some_outcome(&house, &out, outcomes) && gate.were_kept(*steps))
 }
 
-// `scripts::ANA_MOVES`, and a bye.
+// The lines of `scripts::ANA_MOVES`, and a bye.
 const ANA_MOVES: &str = lines!(hello("ana", "a-key"), seduction(1), bye);
 
-// What is answered to `ANA_MOVES` if the move is the first event.
+// The replies to `ANA_MOVES` if the move is the first event.
 const ANA_GRANTED: &str = lines!(welcome("ana"), granted(1, 1), left);
 
-// What is answered to a move of ana's between a greeting and a bye if a move of the node is chosen already.
+// The replies to ana's greeting, a move, and a bye if a move of that node is chosen already.
 const ANA_DENIED: &str = lines!(welcome("ana"), chosen, left);
 
+/// The last line of a house with one move and no close.
 const ONE_MOVED: &str = "done: 1 events, configuration 0\n";
 
+/// Ana's greeting, a move of node 2, and a bye.
 const ANA_MOVES_THE_SECOND: &str = lines!(hello("ana", "a-key"), seduction(2), bye);
 
+/// The replies to `ANA_MOVES_THE_SECOND` if the move is the first event.
 const ANA_MOVED_THE_SECOND: &str = lines!(welcome("ana"), granted(2, 1), left);
 
+/// The replies to `BEN_MOVES` if the move is the first event.
 const BEN_MOVED: &str = lines!(welcome("ben"), granted(2, 1), left);
 
+/// The replies to `BEN_MOVES` if a move of node 2 is chosen already.
 const BEN_DENIED: &str = lines!(welcome("ben"), chosen, left);
 
+/// The replies to `TESS_CLOSES` if the close is the second event, and applies a move of node 1.
 const TESS_CLOSED: &str = lines!(welcome("tess"), closed, left);
 
+/// Ana's greeting, and sees of nodes 2, 3 and 99.
 const LOOKS: &str = lines!(hello("ana", "a-key"), see(2), see(3), see(99));
 
+/// The replies to `LOOKS`: ana owns node 2 here, so its neighbour 3 is shown to her. There is no node 99.
 const LOOKED: &str = lines!(
     welcome("ana"),
     seen(0, false, 2, "null"),
@@ -176,14 +184,17 @@ const LOOKED: &str = lines!(
     hidden
 );
 
+/// The teacher's greeting.
 const HELLO: &str = lines!(hello("tess", "chalk"));
 
+/// The reply to `HELLO`.
 const WELCOME: &str = lines!(welcome("tess"));
 
+/// The last line of a house without an event.
 const NOTHING_DONE: &str = "done: 0 events, configuration 0\n";
 
-/// The second and the third connection meet at each step, at their second line once the first one has had
-/// two replies.
+/// The second and the third connection wait for each other at each step. At their second line they also wait until the
+/// first one has come to its second reply.
 const AFTER_A_MOVE: &[(u8, u64, u8, u64)] = &[
     (2, 0, 3, 1),
     (3, 0, 2, 1),
@@ -197,10 +208,11 @@ const AFTER_A_MOVE: &[(u8, u64, u8, u64)] = &[
     (3, 3, 2, 4),
 ];
 
-/// The second connection comes to its second line before the first goes on from its first reply, and has
-/// that line judged once the first one's move was answered.
+/// The first connection waits at its first reply until the second has come to its second line. The second waits there
+/// until the first has come to its second reply.
 const IN_ORDER: &[(u8, u64, u8, u64)] = &[(1, 1, 2, 3), (2, 2, 1, 4)];
 
+/// Races, each with the outcomes that it may have.
 const RACES: &[Race] = &[
     // Views of one configuration.
     (
@@ -271,8 +283,7 @@ const RACES: &[Race] = &[
     ),
 ];
 
-/// Returns the index of the first of `RACES` of which none of its outcomes comes, or whose sessions aren't held as it
-/// says, if there is one.
+/// Returns the index of the first of `RACES` for which `is_run` is false, or `None` if there is none.
 fn first_other<R: Threads + Wait + Sync>(rt: &R, alloc: Global) -> Result<Option<usize>, Fail> {
     for (number, race) in RACES.iter().enumerate() {
         if !is_run(rt, alloc, race)? {
@@ -282,16 +293,15 @@ fn first_other<R: Threads + Wait + Sync>(rt: &R, alloc: Global) -> Result<Option
     Ok(None)
 }
 
-/// Fails if sessions that are held at their steps are answered, written to the journal or ended as by no order of their
-/// lines that their holds allow, or one gave up waiting.
+/// Fails if a race has an outcome that no order of its lines allows, or a session gave up waiting or took other steps.
 #[test]
 fn held_sessions_are_answered_one_by_one(rt: HostRuntime) -> Result<(), Fail> {
     assert_eq!(rt; first_other(&rt, rt.alloc())?, None);
     Ok(())
 }
 
-/// Returns whether of three connections, if two are wanted, the first two alone are served, answered as they should be,
-/// and left in their order.
+/// Serves two of three connections. Returns whether the first two alone are served, answered as they should be, and
+/// left in their order.
 fn are_two_left<R: Threads + Wait + Sync>(rt: &R, alloc: Global) -> Result<bool, Fail> {
     let mut out = Vec::new(alloc);
     let sink = MemorySink::new(alloc, None);
@@ -303,7 +313,7 @@ fn are_two_left<R: Threads + Wait + Sync>(rt: &R, alloc: Global) -> Result<bool,
     }
 }
 
-/// Returns whether a server to which one connection comes, if two are wanted, ends with the error of an accept, and
+/// Returns whether a server that wants two connections, of which only one comes, ends with the fault `Accept` and
 /// writes no last line.
 fn is_lack_told<R: Threads + Wait + Sync>(rt: &R, alloc: Global) -> Result<bool, Fail> {
     let mut out = Vec::new(alloc);
@@ -312,13 +322,13 @@ fn is_lack_told<R: Threads + Wait + Sync>(rt: &R, alloc: Global) -> Result<bool,
     Ok(matches!(one, Err(ServeFault::Accept)) && out.is_empty())
 }
 
-/// Returns whether connections are left in their order, and whether too few of them are an error.
+/// Returns the results of `are_two_left` and of `is_lack_told`.
 fn told_of_arrivals<R: Threads + Wait + Sync>(rt: &R, alloc: Global) -> Result<(bool, bool), Fail> {
     Ok((are_two_left(rt, alloc)?, is_lack_told(rt, alloc)?))
 }
 
-/// Fails if the third of three connections is served if two are wanted, the first two are left in another order, or one
-/// that comes if two are wanted is no error.
+/// Fails if two connections are wanted and a third one is served, or the first two are left in another order; or if too
+/// few connections are no error.
 #[test]
 fn connections_are_left_in_the_order_in_which_they_came(rt: HostRuntime) -> Result<(), Fail> {
     assert_eq!(rt; told_of_arrivals(&rt, rt.alloc())?, (true, true));

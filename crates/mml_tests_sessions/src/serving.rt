@@ -18,7 +18,7 @@ use std::sync::atomic::{AtomicU64, Ordering};
 use std::test::Fail;
 use std::thread::Threads;
 
-/// Holds each connection but the first until the first has had `wanted` replies.
+/// A gate that holds each connection but the first until the first has had `wanted` replies.
 #[derive(Drop)]
 struct After {
     replies: AtomicU64,
@@ -38,7 +38,8 @@ impl Gate for After {
     }
 }
 
-/// Connects a client to this address, which sends this text and then nothing more: the stream of its replies.
+/// Connects a client to this address, sends the text, and then shuts down the sending side. Returns the stream with the
+/// replies.
 fn client<R: Net<Listener = TcpListener, Stream = TcpStream>>(
     rt: &R,
     address: SocketAddr,
@@ -50,8 +51,8 @@ fn client<R: Net<Listener = TcpListener, Stream = TcpStream>>(
     Ok(stream)
 }
 
-/// Serves two connections of a listener over the path of three, and returns whether that went well and the server wrote
-/// just `last`.
+/// Serves two connections of a listener over the path of three, the second held until the first has had two replies.
+/// Returns whether that went well, and the server wrote exactly `last`.
 fn is_served<R: Threads + Wait + Sync>(
     rt: &R,
     alloc: Global,
@@ -72,18 +73,20 @@ fn is_served<R: Threads + Wait + Sync>(
     Ok(ended == Ok(()) && out.as_slice() == last.as_bytes())
 }
 
-/// Returns whether a client was sent just these replies before its connection ended.
+/// Returns whether a client was sent exactly these replies before its connection ended.
 fn is_answered(alloc: Global, stream: TcpStream, replies: &str) -> io::Result<bool> {
     let found = io::read_to_string(alloc, &stream)?;
     Ok(found.as_str() == replies)
 }
 
+/// The teacher's greeting and a close.
 const STEP: &str = lines!(hello("tess", "chalk"), close);
 
+/// The replies to `STEP` if the close is the second event, and applies a move of node 1.
 const STEP_REPLIES: &str = lines!(welcome("tess"), closed);
 
-/// Serves two clients, the second of which closes a step once the first one's move was answered. Returns whether they
-/// are served well, and whether the first and the second are answered as they should be.
+/// Serves two clients, the second of which closes a step once the first one's move was answered. Returns whether the
+/// server did well, whether the first client has its replies, and whether the second has.
 fn told_of_two<
     R: Net<Listener = TcpListener, Stream = TcpStream> + Threads + Wait + Sync + AllocGlobal,
 >(rt: &R) -> Result<(bool, bool, bool), Fail> {
@@ -97,8 +100,8 @@ fn told_of_two<
     Ok((is_served, is_granted, is_closed))
 }
 
-/// Fails if two clients aren't served or answered as they should be, as if the gate, which holds all but connection 1,
-/// gets other numbers: then the close comes first, and is answered otherwise.
+/// Fails if two clients aren't served or answered as they should be. If connections had other numbers, the gate would
+/// let the close come first, and that would be answered otherwise.
 #[test]
 fn connections_are_numbered_as_they_come(rt: HostRuntime) -> Result<(), Fail> {
     assert_eq!(rt; told_of_two(&rt)?, (true, true, true));

@@ -11,14 +11,14 @@ use std::alloc::{AllocError, Global};
 use std::sync::Wait;
 use std::test::Fail;
 
-/// A session between a reader and a writer.
+/// A visit that serves one session, between this reader and this writer.
 #[derive(Drop)]
 struct Session<'a> {
     reader: FakeReader<'a>,
     writer: FakeWriter,
 }
 
-/// What came of a session.
+/// The result of a session.
 #[derive(Drop)]
 struct Served<'a> {
     end: SessionEnd,
@@ -29,6 +29,7 @@ struct Served<'a> {
 }
 
 impl<'a> Visit<MemorySink> for Session<'a> {
+    /// The session's result, and whether the close after it applied its move.
     type Told = Served<'a>;
 
     // Serves the session through the first seat, and then asks for the teacher's close through the second.
@@ -48,8 +49,9 @@ impl<'a> Visit<MemorySink> for Session<'a> {
     }
 }
 
-/// Returns what came of a session over the path of three, and whether its house ended well, with a move and its close
-/// if the close applied that, else with no event. Returns an error if there were fewer than two windows.
+/// Serves a session over the path of three, and then asks for the teacher's close. Returns the session's result, and
+/// whether the house ended well: with a move and its close if the close applied a move, else with no event. Returns an
+/// error if there were fewer than two windows, or one couldn't be put back.
 fn serve<'a, R: Wait>(
     rt: &R,
     alloc: Global,
@@ -67,7 +69,7 @@ fn serve<'a, R: Wait>(
     }
 }
 
-/// Returns the end of a house that has a move and its close where `is_closed`, and else has no event.
+/// Returns the ending of a house with a move and its close if `is_closed`, else with no event.
 fn ending_after(is_closed: bool) -> Ending {
     Ending::Log {
         events: if is_closed { 2 } else { 0 },
@@ -76,7 +78,8 @@ fn ending_after(is_closed: bool) -> Ending {
     }
 }
 
-/// Returns the line of a bye with `spaces` spaces after it, and then the bytes of `end`.
+/// Returns the line of a bye with `spaces` spaces after it, and then the bytes of `end`. Returns an error if memory
+/// runs out.
 fn bye(alloc: Global, spaces: usize, end: &str) -> Result<Vec<u8>, AllocError> {
     let mut line = line!(bye).as_bytes().to_vec(alloc)?;
     for _ in 0..spaces {
@@ -86,12 +89,14 @@ fn bye(alloc: Global, spaces: usize, end: &str) -> Result<Vec<u8>, AllocError> {
     Ok(line)
 }
 
+/// The reply to a bye.
 const LEFT: &str = lines!(left);
 
-/// How many spaces are after a bye, and what ends its line and follows, all of which is read byte by byte; how the
-/// session ends, what it writes, how many reads it makes, and how many bytes it leaves.
+/// How many spaces follow a bye, and what comes after them; then how the session ends, what it writes, how many reads
+/// of one byte it makes, and how many bytes it leaves unread.
 type Row = (usize, &'static str, SessionEnd, &'static str, usize, usize);
 
+/// Byes at the limit of a line's length, one byte over it, without a newline, and with another line after them.
 const BYES: &[Row] = &[
     (4084, "\n", SessionEnd::Bye, LEFT, 4097, 0),
     (4085, "\n", SessionEnd::TooLong, "", 4097, 1),
@@ -100,7 +105,8 @@ const BYES: &[Row] = &[
     (0, "\n{\"do\":\"bye\"}\n", SessionEnd::Bye, LEFT, 13, 13),
 ];
 
-/// Returns whether a session over the line of a row ends, writes and reads as the row says, and its house ends well.
+/// Serves the line of a row. Returns whether the session ends, writes and reads as the row says, and its house ends
+/// well.
 fn ends_as_in<R: Wait>(rt: &R, alloc: Global, row: &Row) -> Result<bool, Fail> {
     let (spaces, after, end, written, reads, rest) = row;
     let line = bye(alloc, *spaces, after)?;
@@ -114,8 +120,7 @@ fn ends_as_in<R: Wait>(rt: &R, alloc: Global, row: &Row) -> Result<bool, Fail> {
     )
 }
 
-/// Returns the index of the first row of `BYES` whose session ends, writes or reads otherwise than it says, if there is
-/// one.
+/// Returns the index of the first row of `BYES` for which `ends_as_in` is false, or `None` if there is none.
 fn first_row_told_otherwise<R: Wait>(rt: &R, alloc: Global) -> Result<Option<usize>, Fail> {
     for (number, row) in BYES.iter().enumerate() {
         if !ends_as_in(rt, alloc, row)? {
@@ -125,22 +130,23 @@ fn first_row_told_otherwise<R: Wait>(rt: &R, alloc: Global) -> Result<Option<usi
     Ok(None)
 }
 
-/// Fails at a row of `BYES` whose session ends, writes or reads otherwise.
+/// Fails if a session over a row of `BYES` ends, writes or reads otherwise than the row says.
 #[test]
 fn lines_have_limits_and_nothing_is_read_after_a_bye(rt: HostRuntime) -> Result<(), Fail> {
     assert_eq!(rt; first_row_told_otherwise(&rt, rt.alloc())?, None);
     Ok(())
 }
 
-/// Returns a reader that gives `ANA_MOVES`, at most `step` bytes in a read.
+/// Returns a reader of `ANA_MOVES` that gives at most `step` bytes in a read.
 fn ana_moving(step: usize) -> FakeReader<'static> {
     let mut reader = FakeReader::failing_after(usize::MAX, ANA_MOVES.as_bytes());
     reader.step = step;
     reader
 }
 
-/// Returns whether a session whose writer fails after `good` bytes ends by that, or at its reader's end if they are
-/// all, has written just these, and its move stands even if its reply isn't out, so that the close applies it.
+/// Serves `ANA_MOVES` with a writer that fails after `good` bytes. Returns whether exactly these bytes are written, the
+/// session ends with `WriteFault`, or with `End` if they are all, and the move stands: the close applies it even if its
+/// reply isn't out.
 fn tells_a_write<R: Wait>(rt: &R, alloc: Global, good: usize) -> Result<bool, Fail> {
     let reader = ana_moving(usize::MAX);
     let mut writer = FakeWriter::failing_after(good, alloc);
@@ -160,8 +166,7 @@ fn tells_a_write<R: Wait>(rt: &R, alloc: Global, good: usize) -> Result<bool, Fa
     )
 }
 
-/// Returns the first number of good writes, of a byte each, after which a session ends or writes otherwise, if there is
-/// one.
+/// Returns the first number of bytes for which `tells_a_write` is false, or `None` if there is none.
 fn first_untold_write<R: Wait>(rt: &R, alloc: Global) -> Result<Option<usize>, Fail> {
     for good in 0..=ANA_GRANTED.len() {
         if !tells_a_write(rt, alloc, good)? {
@@ -172,15 +177,15 @@ fn first_untold_write<R: Wait>(rt: &R, alloc: Global) -> Result<Option<usize>, F
 }
 
 /// Fails if a session whose writer fails after some byte of the replies, or after all, ends or writes otherwise, or its
-/// move doesn't stand.
+/// move is lost.
 #[test]
 fn failed_writes_are_told(rt: HostRuntime) -> Result<(), Fail> {
     assert_eq!(rt; first_untold_write(&rt, rt.alloc())?, None);
     Ok(())
 }
 
-/// Returns what is answered to the whole lines among the first `good` bytes of `ANA_MOVES`, whose first line, the
-/// greeting, has 42 bytes with its newline.
+/// Returns the replies to the whole lines among the first `good` bytes of `ANA_MOVES`. Its first line, the greeting,
+/// has 42 bytes with its newline.
 fn replies_after(good: usize) -> &'static str {
     if good == ANA_MOVES.len() {
         ANA_GRANTED
@@ -191,8 +196,9 @@ fn replies_after(good: usize) -> &'static str {
     }
 }
 
-/// Returns whether a session whose reader fails after `good` bytes ends by that, exactly the whole lines among these
-/// are answered, and the close applies the move exactly if its line is among them.
+/// Serves `ANA_MOVES` with a reader that fails after `good` bytes. Returns whether the session ends with `ReadFault`,
+/// exactly the whole lines among these bytes are answered, and the close applies the move exactly if its line is among
+/// them.
 fn tells_a_read<R: Wait>(rt: &R, alloc: Global, good: usize) -> Result<bool, Fail> {
     let reader = FakeReader::failing_after(good, ANA_MOVES.as_bytes());
     let (served, is_ended) = serve(rt, alloc, reader, FakeWriter::patient(alloc))?;
@@ -204,8 +210,7 @@ fn tells_a_read<R: Wait>(rt: &R, alloc: Global, good: usize) -> Result<bool, Fai
     )
 }
 
-/// Returns the first number of good reads, of a byte each, after which a session ends or writes otherwise, if there is
-/// one.
+/// Returns the first number of bytes for which `tells_a_read` is false, or `None` if there is none.
 fn first_untold_read<R: Wait>(rt: &R, alloc: Global) -> Result<Option<usize>, Fail> {
     for good in 0..=ANA_MOVES.len() {
         if !tells_a_read(rt, alloc, good)? {
@@ -215,16 +220,16 @@ fn first_untold_read<R: Wait>(rt: &R, alloc: Global) -> Result<Option<usize>, Fa
     Ok(None)
 }
 
-/// Fails if a session whose reader fails after some byte of the lines ends or writes otherwise, or its move doesn't
-/// stand exactly if its whole line was read.
+/// Fails if a session whose reader fails after some byte of the lines ends or writes otherwise. Fails too if its move
+/// is lost though its line was read whole, or stands though it wasn't.
 #[test]
 fn failed_reads_are_told(rt: HostRuntime) -> Result<(), Fail> {
     assert_eq!(rt; first_untold_read(&rt, rt.alloc())?, None);
     Ok(())
 }
 
-/// Returns how many writes the replies to `ANA_MOVES` take if the reader gives at most `step` bytes in a read, or
-/// `None` if they are other replies, or the house doesn't end well.
+/// Serves `ANA_MOVES` with at most `step` bytes in a read. Returns how many writes the replies take, or `None` if they
+/// are other replies, or the house doesn't end well.
 fn writes_at<R: Wait>(rt: &R, alloc: Global, step: usize) -> Result<Option<usize>, Fail> {
     let reader = ana_moving(step);
     let (served, is_ended) = serve(rt, alloc, reader, FakeWriter::patient(alloc))?;

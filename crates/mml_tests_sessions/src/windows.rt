@@ -18,8 +18,8 @@ use std::alloc::Global;
 use std::sync::Wait;
 use std::test::Fail;
 
-/// Returns whether a move of node 1, asked for through the second window, and then the teacher's close, through the
-/// first, are granted, at places 1 and 2.
+/// Asks for a move of node 1 through the second window, and then for the teacher's close through the first. Returns
+/// whether both are granted, at places 1 and 2.
 fn plays<H: House, R: Wait>(seats: &mut Pair<'_, MemorySink, H, R>) -> bool {
     let granted = seats.two.ask(student(0), &seduction(1, 0));
     let closed = seats.one.ask(Who::Teacher, &Command::Close);
@@ -38,8 +38,8 @@ fn is_first_move(answer: &Answer) -> bool {
     }
 }
 
-/// Returns whether each view through the teacher's window, of which the look is a student's, is of configuration 1, in
-/// which node 1 points at node 2 and none of the three nodes is in a pair.
+/// Returns whether the number, a see, a student's look and a report, all through the teacher's window, show
+/// configuration 1: node 1 points at node 2, and all three nodes are free.
 fn sees_the_close<H: House, R: Wait>(teacher: &mut Seat<'_, MemorySink, H, R>) -> bool {
     let number = teacher.window.number() == Ok(1);
     let see = match teacher.window.see(Who::Teacher, 1) {
@@ -57,30 +57,30 @@ fn sees_the_close<H: House, R: Wait>(teacher: &mut Seat<'_, MemorySink, H, R>) -
     number && see && look && report
 }
 
-/// Returns whether the window through which a move was asked for shows the configuration that a close through another
-/// window has made, and denies the same move as stale then.
+/// Returns whether ana's window, through which the move was asked for, shows configuration 1, which a close through
+/// another window has made, and denies the same move as stale.
 fn meets_the_close<H: House, R: Wait>(ana: &mut Seat<'_, MemorySink, H, R>) -> bool {
     let number = ana.window.number() == Ok(1);
     let answer = ana.ask(student(0), &seduction(1, 0));
     number && matches!(answer, Answer::Denied(Denial::Stale(1)))
 }
 
-/// A move of ana's and a close of the teacher's, who sits at the first window.
+/// A visit in which ana moves at the second seat, and then the teacher closes at the first.
 #[derive(Clone, Copy)]
 struct MoveAndClose;
 
 impl Visit<MemorySink> for MoveAndClose {
-    /// Whether both are granted, and then seen through both windows.
+    /// Whether both acts are granted, and both windows then show the new configuration.
     type Told = bool;
 
-    // Plays the move and the close, then views through the first seat, and views and asks for the move again through
-    // the second.
+    // Plays the move and the close, checks the views through the first seat, and asks for the move again through the
+    // second.
     fn visit<H: House, R: Wait>(self, seats: &mut Pair<'_, MemorySink, H, R>) -> bool {
         plays(seats) && sees_the_close(&mut seats.one) && meets_the_close(&mut seats.two)
     }
 }
 
-/// Returns whether there are four windows, and each of them shows the configuration with this number.
+/// Returns whether there are exactly four windows, and each shows the configuration with this number.
 fn are_at<H: House>(windows: &mut [Window<H>], number: u64) -> bool {
     let mut count = 0usize;
     for window in windows.iter_mut() {
@@ -104,8 +104,8 @@ struct Told {
     has_journal: bool,
 }
 
-/// Starts a house, plays a move and a close in it, and ends it with all its windows if `with_all`, and else with all
-/// but ana's, the last; the result of that. Returns `Memory` if memory runs out.
+/// Starts a house, plays a move and a close in it, and ends it: with all its windows if `with_all`, else without the
+/// last one, which is ana's. Returns what came of it, or `Memory` if memory runs out.
 fn in_house<H: House, R: Wait>(
     rt: &R,
     alloc: Global,
@@ -130,14 +130,14 @@ fn in_house<H: House, R: Wait>(
     })
 }
 
-/// Returns the result of a house over the path of three that ends with all its windows if `with_all`, and else with all
-/// but ana's, through which a move was asked for.
+/// Returns the result of `in_house` over the path of three.
 fn ended_with<R: Wait>(rt: &R, alloc: Global, with_all: bool) -> Result<Told, Fail> {
     let blank = open_path(rt, alloc, None)?;
     Ok(in_house::<Brand, _>(rt, alloc, blank, with_all)?)
 }
 
-/// Returns the result of a house if all went well, with this end, and with the journal of a move and its close or not.
+/// Returns the result of a house in which all went well, with this ending. `has_journal`: whether it left the journal
+/// of a move and its close.
 fn good(ending: Ending, has_journal: bool) -> Told {
     Told {
         is_visited: true,
@@ -147,7 +147,7 @@ fn good(ending: Ending, has_journal: bool) -> Told {
     }
 }
 
-/// Fails if a house that ends with all its windows has no log, or one that lacks the window of a grant has one.
+/// Fails if a house that ends with all its windows has no log, or one that ends without the window of a grant has one.
 #[test]
 fn a_house_ends_with_all_its_windows(rt: HostRuntime) -> Result<(), Fail> {
     let all = ended_with(&rt, rt.alloc(), true)?;
@@ -162,7 +162,7 @@ fn a_house_ends_with_all_its_windows(rt: HostRuntime) -> Result<(), Fail> {
     Ok(())
 }
 
-/// Returns whether each view of a window says that it is closed.
+/// Returns whether the number, a see, a look and a report of a window all answer that it is closed.
 fn is_closed<H: House>(alloc: Global, window: &mut Window<H>) -> bool {
     let see = window.see(Who::Teacher, 1);
     let look = window.look(alloc, Who::Teacher, 1);
@@ -173,8 +173,8 @@ fn is_closed<H: House>(alloc: Global, window: &mut Window<H>) -> bool {
         && matches!(report, Err(SightFault::Closed))
 }
 
-/// Returns whether a window that asked and viewed nothing is closed once its house has ended without it (`None` if
-/// there was no window), and how the house ended.
+/// Ends a house without one of its windows, which was never used. Returns whether that window is closed then (`None` if
+/// there was no window), and how the house ended. Returns `Memory` if memory runs out.
 fn is_closed_after<H: House, R: Wait>(
     rt: &R,
     alloc: Global,
@@ -189,8 +189,7 @@ fn is_closed_after<H: House, R: Wait>(
     Ok((is_closed, ending))
 }
 
-/// Fails if a window still shows something once its house has ended without it, or the house doesn't end with an empty
-/// log.
+/// Fails if a window still shows something after its house has ended without it, or the house's log isn't empty.
 #[test]
 fn a_window_that_outlives_its_house_is_closed(rt: HostRuntime) -> Result<(), Fail> {
     let blank = open_path(&rt, rt.alloc(), None)?;
@@ -204,8 +203,8 @@ fn a_window_that_outlives_its_house_is_closed(rt: HostRuntime) -> Result<(), Fai
     Ok(())
 }
 
-/// Returns whether a book whose sink fails at its second line grants the first move, refuses the second for the
-/// journal, still denies a move of the node that is chosen, and has one event then.
+/// Decides three moves in a book whose sink fails at its second line. Returns whether the first is granted, the second
+/// is refused for the journal, the first is denied as chosen when asked again, and the book has one event.
 fn refuses_the_second<H: House, R: Wait>(
     rt: &R,
     alloc: Global,
@@ -220,8 +219,8 @@ fn refuses_the_second<H: House, R: Wait>(
         && book.events().len() == 1
 }
 
-/// Returns whether a house's book, whose sink fails at its second line, grants the first move alone, and how the house
-/// ends, whose windows keep no place. Returns `Memory` if memory runs out.
+/// Takes the book out of a house whose sink fails at its second line. Returns the result of `refuses_the_second`, and
+/// how the house ends, whose windows keep no place. Returns `Memory` if memory runs out.
 fn decides_alone<H: House, R: Wait>(
     rt: &R,
     alloc: Global,
@@ -235,7 +234,8 @@ fn decides_alone<H: House, R: Wait>(
     Ok((holds, ending_of(&book.finish_from(rt, windows, 0))))
 }
 
-/// Fails if a book without its lock decides otherwise, or a house ends well though no window keeps its event's place.
+/// Fails if a book without its lock decides otherwise, or a house ends with a log though no window keeps its event's
+/// place.
 #[test]
 fn a_book_decides_alone(rt: HostRuntime) -> Result<(), Fail> {
     let blank = open_path(&rt, rt.alloc(), Some(2))?;

@@ -7,7 +7,7 @@ use mml_plain::{Fields, LineScratch, read_fields};
 use std::alloc::{AllocError, Global};
 use std::test::Fail;
 
-/// Returns the text that `write_request` writes for the request that was read, or the name of the error instead.
+/// Returns the text that `write_request` writes for the request that was read, or the name of the error.
 fn text_or_fault(alloc: Global, read: Result<Request, LineFault>) -> Result<String, Fail> {
     match read {
         Ok(request) => written(alloc, &request),
@@ -15,15 +15,15 @@ fn text_or_fault(alloc: Global, read: Result<Request, LineFault>) -> Result<Stri
     }
 }
 
-/// Returns the text that `write_request` writes for a request instead of another text.
+/// Returns the text that `write_request` writes for a request, in place of older text.
 fn written(alloc: Global, request: &Request) -> Result<String, Fail> {
     let mut out = b"before".to_vec(alloc)?;
     write_request(alloc, request, &mut out)?;
     Ok(String::from_utf8(out)?)
 }
 
-// A line, and what it is read as, by hand: numbers as great as they may be, each kind of value of the registers p and
-// m, and lines that are no requests.
+// Lines, each with what it is read as, by hand. There are the greatest numbers, each kind of value of the registers p
+// and m, and lines that are no requests.
 const LINES: &[(&[u8], &str)] = &[
     (br#"{"do":"bye"}"#, r#"{"do":"bye"}"#),
     (
@@ -73,8 +73,8 @@ const LINES: &[(&[u8], &str)] = &[
     (b"[1]", "Malformed"),
 ];
 
-/// Returns whether a line is read as `wanted`, a request's text or an error's name, both with memory of its own and
-/// with kept memory.
+/// Returns whether a line is read as `wanted`, a request's text or an error's name, both by `read_request`, which takes
+/// its own memory, and by `read_request_with`, which uses kept memory.
 fn is_read_as(
     alloc: Global,
     scratch: &mut LineScratch,
@@ -86,7 +86,7 @@ fn is_read_as(
     Ok(own.as_str() == wanted && kept.as_str() == wanted)
 }
 
-/// Returns the first row of `LINES` whose line is read as something else than the row says, or `None` if none is.
+/// Returns the index of the first row of `LINES` whose line is read as something else, or `None` if there is none.
 fn first_line_read_otherwise(
     alloc: Global,
     scratch: &mut LineScratch,
@@ -99,10 +99,10 @@ fn first_line_read_otherwise(
     Ok(None)
 }
 
-/// A text, how it is written in a line, and how often it stands there.
+/// A text, how it is spelled in a line, and how often it is repeated there.
 type Repeated = (&'static str, &'static str, usize);
 
-/// A name, a key, and how many bytes the text of the greeting with them has.
+/// A name, a key, and the length in bytes of the greeting with them.
 type Hello = (Repeated, Repeated, usize);
 
 // Names and keys that are plain, that are escaped in a line, or that make a long line; the lengths are by hand.
@@ -115,8 +115,8 @@ const HELLOS: &[Hello] = &[
     (("\"", r#"\""#, 983), ("k", "k", 2001), 4000),
 ];
 
-/// Returns whether the greeting with a name and a key is written as `text`, and what is read from `text` is written so
-/// again.
+/// Returns whether the greeting with a name and a key is written as `text`, and `text` is read as a greeting that is
+/// written as `text` again.
 fn is_hello_written_as(
     alloc: Global,
     scratch: &mut LineScratch,
@@ -129,7 +129,7 @@ fn is_hello_written_as(
     Ok(written.as_str() == text && is_read_as(alloc, scratch, text.as_bytes(), text)?)
 }
 
-/// Returns the text that the greeting with the name and the key of a row is to have.
+/// Returns the text that the greeting with the name and the key of a row should have.
 fn hello_text(alloc: Global, row: &Hello) -> Result<String, AllocError> {
     let ((_, name, names), (_, key, keys), _) = row;
     let name = name.repeat(alloc, *names)?;
@@ -137,7 +137,7 @@ fn hello_text(alloc: Global, row: &Hello) -> Result<String, AllocError> {
     format!(in alloc; "{{\"do\":\"hello\",\"key\":\"{key}\",\"name\":\"{name}\"}}")
 }
 
-/// Returns whether the greeting of a row is written and read as its text, which is as long as the row says.
+/// Returns whether the greeting of a row is written and read as its text, and that is as long as the row says.
 fn is_hello_told(alloc: Global, scratch: &mut LineScratch, row: &Hello) -> Result<bool, Fail> {
     let text = hello_text(alloc, row)?;
     let ((name, _, names), (key, _, keys), length) = row;
@@ -146,8 +146,7 @@ fn is_hello_told(alloc: Global, scratch: &mut LineScratch, row: &Hello) -> Resul
     Ok(text.len() == *length && is_hello_written_as(alloc, scratch, name, key, text.as_str())?)
 }
 
-/// Returns the first row of `HELLOS` whose greeting is written or read otherwise than the row says, or `None` if none
-/// is.
+/// Returns the index of the first row of `HELLOS` for which `is_hello_told` is false, or `None` if there is none.
 fn first_hello_told_otherwise(
     alloc: Global,
     scratch: &mut LineScratch,
@@ -160,7 +159,7 @@ fn first_hello_told_otherwise(
     Ok(None)
 }
 
-/// Returns the number under `node` in a line, or `None` if the line isn't read as an object, or has no such number.
+/// Returns the number under `node` in a line, or `None` if the line isn't read as an object, or has no number there.
 fn named_node(scratch: &mut LineScratch, line: &[u8]) -> Result<Option<u64>, Fail> {
     let mut fields = Fields::empty();
     if read_fields(line, scratch, &mut fields)? {
@@ -172,8 +171,9 @@ fn named_node(scratch: &mut LineScratch, line: &[u8]) -> Result<Option<u64>, Fai
 /// The first row of `LINES` and the first of `HELLOS` that have another result, and the nodes that three lines name.
 type Told = (Option<usize>, Option<usize>, [Option<u64>; 3]);
 
-/// Returns the first rows of `LINES` and `HELLOS` that have another result, and the nodes of a plain line, of one with
-/// nested arrays and objects, and of one with a number too great to be read, all with the same kept memory.
+/// Returns the first rows of `LINES` and of `HELLOS` that have another result, and then the nodes named in three lines:
+/// a plain one, one with nested arrays and objects, and one with a number too great to be read. All are read with the
+/// same kept memory.
 fn told_with(alloc: Global, scratch: &mut LineScratch) -> Result<Told, Fail> {
     let line = first_line_read_otherwise(alloc, scratch)?;
     let hello = first_hello_told_otherwise(alloc, scratch)?;
@@ -183,8 +183,8 @@ fn told_with(alloc: Global, scratch: &mut LineScratch) -> Result<Told, Fail> {
     Ok((line, hello, [plain, nested, great]))
 }
 
-// Fails if a row of `LINES` or `HELLOS` is read or written otherwise, a node isn't found in a plain or a nested line,
-// or is found in one with a number that can't be read.
+// Fails if a row of `LINES` or `HELLOS` is read or written otherwise. Fails too if a node isn't found in a plain or in
+// a nested line, or is found in one with a number that can't be read.
 #[test]
 fn requests_are_read_and_written(rt: HostRuntime) -> Result<(), Fail> {
     let mut scratch = LineScratch::new(rt.alloc(), 4096)?;

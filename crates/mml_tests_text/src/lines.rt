@@ -7,13 +7,14 @@ use std::alloc::{AllocError, Global};
 use std::io::Read;
 use std::test::Fail;
 
+/// Two lines with text, an empty one between them, and a rest without a newline.
 const TEXT: &[u8] = b"ab\n\ncd\ne";
 
-/// The result of `TEXT`.
+/// The answers to `TEXT`, as `steps_text` writes them: its rest is no line.
 const TOLD: &str = "Line ab\nLine \nLine cd\nEnd \n";
 
-/// Returns the answers of `next` over a reader up to the first one that isn't `Line`, each with its bytes, as a text;
-/// at most ten answers.
+/// Calls `next` until its first answer that isn't `Line`, at most ten times. Returns each answer with its bytes, as a
+/// text.
 fn steps_text<R: Read>(
     lines: &mut Lines,
     alloc: Global,
@@ -30,8 +31,8 @@ fn steps_text<R: Read>(
     Ok(text)
 }
 
-/// Returns the answers of fresh lines over a reader up to the end, as a text, which has `and another end` after it if a
-/// later call doesn't repeat the last answer, or reads.
+/// Reads a reader to its end under this limit. Returns the answers of `next` as a text, and appends `and another end`
+/// if a later call gives another answer or reads on.
 fn steps_to_the_end<R: Read>(alloc: Global, limit: usize, reader: &mut R) -> Result<String, Fail> {
     let mut lines = Lines::new(alloc, limit.min(MAX_LIMIT))?;
     let mut text = steps_text(&mut lines, alloc, reader)?;
@@ -41,7 +42,7 @@ fn steps_to_the_end<R: Read>(alloc: Global, limit: usize, reader: &mut R) -> Res
     Ok(text)
 }
 
-/// Returns whether two more calls of `next`, with another reader, repeat the last answer of `text` and read nothing.
+/// Returns whether two more calls of `next`, with another reader, repeat the last answer in `text` and read nothing.
 fn is_repeated(lines: &mut Lines, alloc: Global, text: &str) -> Result<bool, AllocError> {
     let mut late = b"late\n".as_slice();
     let again = steps_text(lines, alloc, &mut late)?;
@@ -49,9 +50,10 @@ fn is_repeated(lines: &mut Lines, alloc: Global, text: &str) -> Result<bool, All
     Ok(text.ends_with(again.as_str()) && again == once_more && late.len() == 5)
 }
 
-/// A limit, how many digits there are, what ends them, whether they come as a line, and the last answer, as text.
+/// A limit, a number of digits, what ends them, whether they come as a line, and the last answer as text.
 type Length = (usize, usize, &'static str, bool, &'static str);
 
+/// Lines at their limit and over it, with a newline and without.
 const LENGTHS: &[Length] = &[
     (4096, 4096, "\n", true, "End \n"),
     (4096, 4097, "\n", false, "TooLong \n"),
@@ -62,7 +64,8 @@ const LENGTHS: &[Length] = &[
     (MAX_LIMIT, 65_537, "\n", false, "TooLong \n"),
 ];
 
-/// Returns a text of `len` digits.
+/// Returns a text of `len` digits, which repeats 7, 1, 1. The period of three doesn't divide 4,096, so that a block of
+/// that size in the wrong place changes the text.
 fn digits(alloc: Global, len: usize) -> Result<String, AllocError> {
     let mut text = String::new(alloc);
     for index in 0..len {
@@ -71,7 +74,7 @@ fn digits(alloc: Global, len: usize) -> Result<String, AllocError> {
     Ok(text)
 }
 
-/// Returns whether an input of a line and what ends it, under this limit, gives the answers in `wanted`.
+/// Returns whether a line, followed by `end` and read under this limit, gives the answers in `wanted`.
 fn are_steps(
     alloc: Global,
     limit: usize,
@@ -83,7 +86,7 @@ fn are_steps(
     Ok(steps_to_the_end(alloc, limit, &mut text.as_bytes())?.as_str() == wanted)
 }
 
-/// Returns the answers that are wanted, as a text: the line, if it comes as one, and the last answer.
+/// Returns the wanted answers as a text: the line if `is_line`, and then the last answer.
 fn wanted(alloc: Global, line: &str, is_line: bool, last: &str) -> Result<String, AllocError> {
     if is_line {
         format!(in alloc; "Line {line}\n{last}")
@@ -92,7 +95,7 @@ fn wanted(alloc: Global, line: &str, is_line: bool, last: &str) -> Result<String
     }
 }
 
-/// Returns whether as many digits as a row says, with its end and limit, give the answers that the row says.
+/// Returns whether the digits of a row, with the row's end and limit, give the row's answers.
 fn is_length_told(alloc: Global, row: &Length) -> Result<bool, Fail> {
     let (limit, len, end, is_line, last) = row;
     let line = digits(alloc, *len)?;
@@ -100,7 +103,7 @@ fn is_length_told(alloc: Global, row: &Length) -> Result<bool, Fail> {
     are_steps(alloc, *limit, line.as_str(), end, wanted.as_str())
 }
 
-/// Returns the first row of `LENGTHS` whose digits give other answers than the row says, or `None` if none does.
+/// Returns the index of the first row of `LENGTHS` for which `is_length_told` is false, or `None` if there is none.
 fn first_length_told_otherwise(alloc: Global) -> Result<Option<usize>, Fail> {
     for (number, row) in LENGTHS.iter().enumerate() {
         if !is_length_told(alloc, row)? {
@@ -110,14 +113,15 @@ fn first_length_told_otherwise(alloc: Global) -> Result<Option<usize>, Fail> {
     Ok(None)
 }
 
-// Fails if a line at its limit isn't given, a longer one isn't reported as too long, or one without its end is given.
+// Fails if a line at its limit isn't returned, a longer one isn't reported as too long, or one without a newline is
+// returned.
 #[test]
 fn a_line_is_as_long_as_the_limit(rt: HostRuntime) -> Result<(), Fail> {
     assert_eq!(rt; first_length_told_otherwise(rt.alloc())?, None);
     Ok(())
 }
 
-/// Returns whether `TEXT`, split at `cut`, is shown as `TOLD` says: the first part comes in one read, the second in
+/// Returns whether `TEXT`, split at `cut`, gives the answers in `TOLD`. The first part comes in one read, the second in
 /// reads of at most `step` bytes.
 fn is_told_in_parts(alloc: Global, cut: usize, step: usize) -> Result<bool, Fail> {
     let (first, second) = TEXT.split_at(cut.min(TEXT.len()));
@@ -129,8 +133,8 @@ fn is_told_in_parts(alloc: Global, cut: usize, step: usize) -> Result<bool, Fail
     Ok(steps_to_the_end(alloc, 2, &mut reader)?.as_str() == TOLD)
 }
 
-/// Returns the first offset at which a cut of `TEXT`, of which the second part is read by at most `step` bytes, changes
-/// the result, or `None` if there is none.
+/// Returns the first offset at which a cut of `TEXT` changes the answers, or `None` if there is none. The second part
+/// comes in reads of at most `step` bytes.
 fn first_cut_that_changes(alloc: Global, step: usize) -> Result<Option<usize>, Fail> {
     for cut in 0..=TEXT.len() {
         if !is_told_in_parts(alloc, cut, step)? {
@@ -140,9 +144,10 @@ fn first_cut_that_changes(alloc: Global, step: usize) -> Result<Option<usize>, F
     Ok(None)
 }
 
-/// How many bytes a read gives at most, how many reads are good, the result, and how many reads there are.
+/// The most bytes that a read gives, how many reads succeed, the answers, and how many reads are made.
 type Reads = (usize, usize, &'static str, usize);
 
+/// Readers of `TEXT` that fail after some reads, but for the row of `TOLD`, which comes to the end first.
 const READS: &[Reads] = &[
     (1, 0, "ReadFault \n", 1),
     (1, 1, "ReadFault \n", 2),
@@ -154,11 +159,11 @@ const READS: &[Reads] = &[
     (1, 7, "Line ab\nLine \nLine cd\nReadFault \n", 8),
     (1, 8, "Line ab\nLine \nLine cd\nReadFault \n", 9),
     (1, 9, TOLD, 9),
-    // What is held is given before a failed read.
+    // The lines that came in a good read are returned before the next read fails.
     (100, 1, "Line ab\nLine \nLine cd\nReadFault \n", 2),
 ];
 
-/// Returns whether `TEXT` from a reader that fails as a row says gives the answers that the row says, in as many reads.
+/// Returns whether `TEXT`, from the reader of a row, gives the row's answers in the row's number of reads.
 fn are_reads_told(alloc: Global, row: &Reads) -> Result<bool, Fail> {
     let (step, good, wanted, reads) = row;
     let mut reader = FakeReader::failing_after(*good, TEXT);
@@ -167,8 +172,7 @@ fn are_reads_told(alloc: Global, row: &Reads) -> Result<bool, Fail> {
     Ok(told.as_str() == *wanted && reader.reads == *reads)
 }
 
-/// Returns the first row of `READS` whose reader gives other answers or other reads than the row says, or `None` if
-/// none does.
+/// Returns the index of the first row of `READS` for which `are_reads_told` is false, or `None` if there is none.
 fn first_reads_told_otherwise(alloc: Global) -> Result<Option<usize>, Fail> {
     for (number, row) in READS.iter().enumerate() {
         if !are_reads_told(alloc, row)? {
@@ -178,23 +182,23 @@ fn first_reads_told_otherwise(alloc: Global) -> Result<Option<usize>, Fail> {
     Ok(None)
 }
 
-/// Returns the first cut of `TEXT` that changes the result in reads of one byte, the first one in greater reads, and
-/// the first row of `READS` that is answered otherwise: `None` each if there is none.
+/// Returns the first cut of `TEXT` that changes the answers in reads of one byte, the first one in reads of up to 100
+/// bytes, and the first row of `READS` that is answered otherwise; each is `None` if there is none.
 fn first_told_otherwise(alloc: Global) -> Result<[Option<usize>; 3], Fail> {
     let by_bytes = first_cut_that_changes(alloc, 1)?;
     let at_once = first_cut_that_changes(alloc, 100)?;
     Ok([by_bytes, at_once, first_reads_told_otherwise(alloc)?])
 }
 
-// Fails if a cut of the input changes the lines, a failed read isn't the last answer, or there are other reads.
+// Fails if a cut of the input changes the answers, a failed read isn't the last answer, or there are other reads.
 #[test]
 fn cuts_change_nothing_and_a_failed_read_ends_the_lines(rt: HostRuntime) -> Result<(), Fail> {
     assert_eq!(rt; first_told_otherwise(rt.alloc())?, [None; 3]);
     Ok(())
 }
 
-/// Returns how many lines come before the first answer that isn't `Line`, and then that answer; `u32::MAX` and `Line`
-/// if so many come.
+/// Counts the lines before the first answer that isn't `Line`. Returns the count and that answer, or `u32::MAX` and
+/// `Line` if that many lines come.
 fn count_lines(lines: &mut Lines, reader: &mut FakeReader) -> (u32, Step) {
     for count in 0..u32::MAX {
         match lines.next(reader) {
@@ -205,14 +209,14 @@ fn count_lines(lines: &mut Lines, reader: &mut FakeReader) -> (u32, Step) {
     (u32::MAX, Step::Line)
 }
 
-/// Returns how many empty lines come of one newline more than there may be reads, a byte a read, what answer ends them,
-/// and how many bytes are left unread.
+/// Reads one newline more than there may be reads, one byte a read. Returns how many empty lines come, the answer that
+/// ends them, and how many bytes are left unread.
 fn lines_of_many_newlines(alloc: Global) -> Result<(u32, Step, usize), Fail> {
     let breaks = vec![in alloc; b'\n'; MAX_READS as usize + 1]?;
     counted_in(alloc, breaks.as_slice())
 }
 
-/// Returns how many lines come of the bytes, read one by one, what answer ends them, and how many bytes are left
+/// Reads these bytes one by one. Returns how many lines come, the answer that ends them, and how many bytes are left
 /// unread.
 fn counted_in(alloc: Global, breaks: &[u8]) -> Result<(u32, Step, usize), Fail> {
     let mut reader = FakeReader::failing_after(usize::MAX, breaks);
@@ -221,16 +225,16 @@ fn counted_in(alloc: Global, breaks: &[u8]) -> Result<(u32, Step, usize), Fail> 
     Ok((count, step, reader.rest.len()))
 }
 
-/// Reads a line of 4,096 bytes, the limit, one byte a read: whether it comes whole, and then the end; and how many reads
-/// there were.
+/// Reads a line of 4,096 bytes, the limit, one byte a read. Returns whether it comes whole and then the end, and how
+/// many reads were made.
 fn longest_line_by_bytes(alloc: Global) -> Result<(bool, usize), Fail> {
     let mut text = digits(alloc, 4096)?;
     text.push('\n')?;
     line_by_bytes(alloc, text.as_bytes())
 }
 
-/// Reads a line, which `text` has with its newline, one byte a read: whether it comes whole, and then the end; and how
-/// many reads there were.
+/// Reads the line in `text`, which ends with a newline, one byte a read. Returns whether it comes whole and then the
+/// end, and how many reads were made.
 fn line_by_bytes(alloc: Global, text: &[u8]) -> Result<(bool, usize), Fail> {
     let mut reader = FakeReader::failing_after(usize::MAX, text);
     let mut lines = Lines::new(alloc, 4096)?;
@@ -240,12 +244,10 @@ fn line_by_bytes(alloc: Global, text: &[u8]) -> Result<(bool, usize), Fail> {
     Ok((is_line && is_whole && is_end, reader.reads))
 }
 
-/// For many short lines: how many came, what ended them, and how many bytes were left. For a long one: whether it came
-/// whole, and how many reads there were.
+/// The results of `lines_of_many_newlines` and of `longest_line_by_bytes`.
 type Counts = ((u32, Step, usize), (bool, usize));
 
-/// Returns the result of `lines_of_many_newlines` of one empty line more than there may be reads, and
-/// `longest_line_by_bytes` of one long line.
+/// Returns the results of `lines_of_many_newlines` and of `longest_line_by_bytes`.
 fn counts(alloc: Global) -> Result<Counts, Fail> {
     Ok((
         lines_of_many_newlines(alloc)?,
@@ -253,8 +255,8 @@ fn counts(alloc: Global) -> Result<Counts, Fail> {
     ))
 }
 
-// Fails if, of lines that take a read each more or fewer come than there may be reads, or if a long line doesn't come
-// whole by a read for each byte, and one more that finds the end.
+// Fails unless as many lines come as there may be reads if each line takes a read, and a line of 4,096 bytes comes
+// whole by a read for each byte, with one more that finds the end.
 #[test]
 fn reads_are_counted_over_all_lines(rt: HostRuntime) -> Result<(), Fail> {
     // One read for each byte, and one that finds the end.

@@ -5,15 +5,15 @@ use mml_program::Fault;
 use std::alloc::{AllocError, Global};
 use std::test::Fail;
 
-/// Returns whether the status of an error and its line, with a space between them, are the wanted text.
+/// Returns whether the status of an error and its line, with a space between them, are the text `wanted`.
 fn has_line(alloc: Global, fault: &Fault, wanted: &str) -> Result<bool, AllocError> {
     let status = fault.status();
     let told = format!(in alloc; "{status} {fault}")?;
     Ok(told.as_str() == wanted)
 }
 
-/// Fails if an error that no use meets has another status or line, or a lab's running out of memory isn't the
-/// program's.
+/// Fails if an error that no use of the program meets has another status or line, or if a lab's error of running out of
+/// memory doesn't become the program's.
 #[test]
 fn faults_that_are_not_met_have_lines(rt: HostRuntime) -> Result<(), Fail> {
     let astray = has_line(

@@ -3,8 +3,8 @@ use mml_program::read_words;
 use std::alloc::Global;
 use std::test::Fail;
 
-/// Returns the words between the spaces of a line: two spaces have an empty word between them, one at the end has one
-/// after it.
+/// Splits a line at each space, and returns the words. Two spaces in a row have an empty word between them, and a space
+/// at the end has one after it.
 fn given(alloc: Global, line: &str) -> Result<Vec<String>, Fail> {
     let mut words = Vec::new(alloc);
     for word in line.split(' ') {
@@ -14,7 +14,7 @@ fn given(alloc: Global, line: &str) -> Result<Vec<String>, Fail> {
     Ok(words)
 }
 
-/// A command line, and what it asks for.
+/// Command lines, each with the debug text of the task that it asks for.
 const FORMS: &[(&str, &str)] = &[
     ("mml", "BuiltIn"),
     ("mml check a", "Check { lab: \"a\" }"),
@@ -60,15 +60,14 @@ const FORMS: &[(&str, &str)] = &[
     ),
 ];
 
-/// Returns whether words ask for the task that has the wanted text for debugging. Returns an error if they ask for
-/// none.
+/// Returns whether words are read as the task whose debug text is `wanted`. Returns an error if they ask for no task.
 fn is_task(alloc: Global, words: &[String], wanted: &str) -> Result<bool, Fail> {
     let task = read_words(alloc, words)?;
     let found = format!(in alloc; "{task:?}")?;
     Ok(found.as_str() == wanted)
 }
 
-/// Returns the first line of `FORMS` that asks for something else, if there is one.
+/// Returns the first line of `FORMS` that is read as another task, or `None` if there is none.
 fn first_other(alloc: Global) -> Result<Option<&'static str>, Fail> {
     for (line, wanted) in FORMS {
         let words = given(alloc, line)?;
@@ -79,7 +78,7 @@ fn first_other(alloc: Global) -> Result<Option<&'static str>, Fail> {
     Ok(None)
 }
 
-/// Fails if a line of `FORMS` asks for another task, or no words ask for another one than the built-in lab.
+/// Fails if a line of `FORMS` is read as another task, or an empty list of words isn't read as the built-in lab.
 #[test]
 fn each_form_is_taken(rt: HostRuntime) -> Result<(), Fail> {
     let are_none_taken = is_task(rt.alloc(), &[], "BuiltIn")?;

@@ -3,14 +3,14 @@ use mml_serving::LetGo;
 use std::io;
 use std::io::Read;
 
-/// Gives these bytes one by one.
+/// A reader that gives these bytes one by one.
 #[derive(Drop)]
 pub struct Bytewise<'a> {
     pub rest: &'a [u8],
 }
 
 impl<'a> Read for Bytewise<'a> {
-    // Returns the next byte; nothing if none is left, or there is no room for it.
+    // Returns the next byte; 0 bytes if none is left, or there is no room for it.
     fn read(&mut self, buf: &mut [u8]) -> io::Result<usize> {
         let len = buf.len().min(1);
         self.rest.read(&mut buf[..len])
@@ -18,6 +18,6 @@ impl<'a> Read for Bytewise<'a> {
 }
 
 impl<'a> LetGo for Bytewise<'a> {
-    // A reader in memory holds nothing that could be given back.
+    // Does nothing: a reader in memory holds nothing that could be given back.
     fn let_go(&mut self) {}
 }

@@ -11,10 +11,11 @@ use std::test::Fail;
 use std::thread;
 use std::thread::Threads;
 
-/// The number under which the first put is held, beside those of three sessions.
+/// The number under which the first put is held; the three sessions have the numbers before it.
 const PUT: u8 = 4;
 
-/// How often the first put lets other threads run once the second session is about to ask and the third was answered.
+/// How often the first put lets other threads run, after the second session has come to its second line and the third
+/// to its second reply.
 const TURNS: u64 = 100_000;
 
 /// The second and the third session wait at their second line until the first put has begun, and the put waits there
@@ -26,7 +27,7 @@ const HOLDS: &[Hold] = &[
     (PUT, 0, 3, 4),
 ];
 
-/// Takes all that it is given; the first put is held as `HOLDS` says, and then for `TURNS` turns of other threads.
+/// A sink that takes all bytes. Its first put is held as `HOLDS` says, and then for `TURNS` turns of other threads.
 #[derive(Drop)]
 struct Slow<'a> {
     bytes: Vec<u8>,
@@ -41,8 +42,8 @@ impl<'a> Sink for Slow<'a> {
 
     ghost failures = { λ s. s.failures };
 
-    // Takes all bytes; the first put does so once the second session has its second line and the third one its second
-    // reply, and after a while more. If memory runs out, it fails and counts that.
+    // Takes all bytes. The first put waits until the second session has come to its second line and the third to its
+    // second reply, and then for `TURNS` turns more. If memory runs out, fails and counts that.
     fn put(&mut self, bytes: &[u8]) -> Result<usize, SinkFault> {
         if self.bytes.is_empty() {
             self.steps.come(PUT, Point::Line);
@@ -58,16 +59,21 @@ impl<'a> Sink for Slow<'a> {
     }
 }
 
+/// Cyd's greeting, a see of node 2, and a bye.
 const CYD_LOOKS: &str = lines!(hello("cyd", "c-key"), see(2), bye);
 
+/// The replies to `BEN_MOVES` if the move is the second event.
 const BEN: &str = lines!(welcome("ben"), granted(2, 2), left);
 
+/// The replies to `CYD_LOOKS`.
 const CYD: &str = lines!(welcome("cyd"), seen(0, false, 2, "null"), left);
 
+/// The journal of ana's move and then ben's.
 const JOURNAL: &str = "1 0 grant ana 1 seduction\n2 0 grant ben 2 seduction\n";
 
-/// Returns whether all three sessions are answered and the journal has both moves, as it should be, and whether the put
-/// and the sessions were held until the others were there; both false if they couldn't be served to their end.
+/// Serves three sessions over a sink whose first put is slow. Returns whether all are answered as they should be and
+/// the journal has both moves, and whether the put and the sessions were held until the others were there. Both are
+/// false if the sessions couldn't be served to their end.
 fn told_of_a_slow_put<R: Threads + Wait + Sync>(
     rt: &R,
     alloc: Global,
@@ -88,7 +94,8 @@ fn told_of_a_slow_put<R: Threads + Wait + Sync>(
     Ok((are_so, steps.were_led()))
 }
 
-/// Fails if a view waits for a lock that is held, an act doesn't, or one of the three is answered otherwise.
+/// Fails if a view waits for the lock while it is held, an act doesn't, or one of the three sessions is answered
+/// otherwise.
 #[test]
 fn a_lock_that_is_held_is_waited_for_by_acts_alone(rt: HostRuntime) -> Result<(), Fail> {
     assert_eq!(rt; told_of_a_slow_put(&rt, rt.alloc())?, (true, true));

@@ -4,8 +4,8 @@ use mml_session::{Gate, Point};
 use std::alloc::{AllocError, Global};
 use std::sync::atomic::{AtomicU64, Ordering};
 
-/// A connection, one of its steps from 0 on, and the connection that it waits for there until that one
-/// has come to so many steps.
+/// A connection, one of its steps from 0 on, another connection, and a number of steps: the first connection waits at
+/// that step until the other one has come to so many steps.
 pub type Hold = (u8, u64, u8, u64);
 
 /// How sessions are held.
@@ -17,7 +17,7 @@ pub enum Holds<'a> {
     Each(&'a [Hold]),
 }
 
-/// Holds sessions at the points of its list, and counts what each passes.
+/// A gate that holds sessions at their steps, and counts the steps that each has come to.
 #[derive(Drop)]
 pub struct Steps<'a> {
     holds: Holds<'a>,
@@ -30,7 +30,8 @@ pub struct Steps<'a> {
 }
 
 impl<'a> Steps<'a> {
-    /// Returns a gate for the connections 1 to `connections`, none of which has come to a step.
+    /// Returns a gate for the connections 1 to `connections`, none of which has come to a step. Returns an error if
+    /// memory runs out.
     pub fn new(alloc: Global, connections: u8, holds: Holds<'a>) -> Result<Steps<'a>, AllocError> {
         let mut steps = Vec::new(alloc);
         for _ in 0..connections {
@@ -44,13 +45,13 @@ impl<'a> Steps<'a> {
         })
     }
 
-    /// Returns the count of the steps that a connection, from 1 on, has come to, or `None` if there are fewer
-    /// connections.
+    /// Returns the count of the steps that a connection, numbered from 1, has come to, or `None` if there is no such
+    /// connection.
     fn count_of(&self, connection: u8) -> Option<&AtomicU64> {
         self.steps.get(usize::from(connection.saturating_sub(1)))
     }
 
-    /// Waits until the count of a connection's steps is at least `wanted`; notes that it gave up if that takes too
+    /// Waits until the count of a connection's steps is at least `wanted`. Counts a wait that gave up if that takes too
     /// long, or there is no such connection.
     fn wait_until(&self, come: Option<&AtomicU64>, wanted: u64) {
         let has_come = match come {
@@ -62,14 +63,14 @@ impl<'a> Steps<'a> {
         }
     }
 
-    /// Waits until all connections have come to this step, or gives up and notes that.
+    /// Waits until all connections have come to this step, or gives up on each that hasn't, and counts that.
     fn hold_together(&self, step: u64) {
         for come in self.steps.iter() {
             self.wait_until(Some(come), step.saturating_add(1));
         }
     }
 
-    /// Waits at a step of a connection as each hold says that names this connection and step, one after another.
+    /// Waits at a step of a connection for each hold that names this connection and step, one after another.
     fn hold_each(&self, holds: &[Hold], connection: u8, step: u64) {
         for (held, at, other, wanted) in holds.iter() {
             if *held == connection && *at == step {
@@ -86,12 +87,13 @@ impl<'a> Steps<'a> {
         }
     }
 
-    /// Returns whether all passed lines and replies in turn, and nobody gave up.
+    /// Returns whether lines and replies came in turn at each connection, and no wait gave up.
     pub fn were_led(&self) -> bool {
         self.given_up.load(Ordering::SeqCst) == 0 && self.misled.load(Ordering::SeqCst) == 0
     }
 
-    /// Returns whether all passed lines and replies in turn, nobody gave up, and each connection passed `steps` steps.
+    /// Returns whether lines and replies came in turn at each connection, no wait gave up, and each connection came to
+    /// exactly `steps` steps.
     pub fn were_kept(&self, steps: u64) -> bool {
         self.were_led()
             && self
@@ -100,9 +102,9 @@ impl<'a> Steps<'a> {
                 .all(|come| come.load(Ordering::SeqCst) == steps)
     }
 
-    /// Counts the next step of a connection, notes if it is a line instead of a reply, or a reply instead of a line,
-    /// and waits as long as the connection is held there. If there is no such connection, no step is counted, and its
-    /// step is `u64::MAX`.
+    /// Counts the next step of a connection, and waits as long as the connection is held there. Counts it as misled if
+    /// a line comes instead of a reply, or a reply instead of a line. For a connection that doesn't exist no step is
+    /// counted, and its step is `u64::MAX`.
     pub fn come(&self, connection: u8, point: Point) {
         let step = match self.count_of(connection) {
             Some(come) => come.fetch_add(1, Ordering::SeqCst),
@@ -117,7 +119,7 @@ impl<'a> Steps<'a> {
 }
 
 impl<'a> Gate for Steps<'a> {
-    // Each point that a session comes to is its connection's next step, at which it is held.
+    // Counts the point as the connection's next step, and holds the session there.
     fn pass(&self, connection: u8, point: Point) {
         self.come(connection, point);
     }

@@ -9,6 +9,7 @@ use mml_lab_file::read_lab;
 use std::alloc::Global;
 use std::test::Fail;
 
+/// The teacher's greeting.
 const HELLO: &str = r#"{"do":"hello","name":"tess","key":"chalk"}"#;
 
 // The reply to `HELLO`.
@@ -18,8 +19,8 @@ const WELCOME: &str = "{\"ok\":\"hello\",\"who\":\"tess\"}\n";
 const LOOK: &str =
     "{\"at\":0,\"chosen\":null,\"m\":false,\"near\":[{\"m\":false,\"node\":5,\"p\":3}],\"node\":9,\"ok\":\"look\",\"p\":null,\"rule\":null}\n";
 
-/// Returns the line of the reply to a request on the first connection, its newline with it; an empty list if the hall's
-/// lab has no connection.
+/// Returns the line of the reply to a request on the first connection, with its newline. Returns an empty list if the
+/// hall's lab has no connection.
 fn answer(alloc: Global, hall: &mut Hall<NullSink>, line: &str) -> Result<Vec<u8>, Fail> {
     let mut out = Vec::with_capacity(alloc, REPLY_ROOM)?;
     if hall.lab().sessions() < 1 {
@@ -31,8 +32,8 @@ fn answer(alloc: Global, hall: &mut Hall<NullSink>, line: &str) -> Result<Vec<u8
     Ok(out)
 }
 
-/// Returns whether a hall answers the teacher's hello and a look as `WELCOME` and `LOOK` say, and its board is then
-/// still in configuration 0, with no event.
+/// Returns whether a hall answers the teacher's hello and a look by `WELCOME` and `LOOK`, and its board is then still
+/// in configuration 0, with no event.
 fn is_answered(alloc: Global, hall: &mut Hall<NullSink>) -> Result<bool, Fail> {
     let hello = answer(alloc, hall, HELLO)?;
     let look = answer(alloc, hall, r#"{"do":"look","node":9}"#)?;
@@ -40,21 +41,20 @@ fn is_answered(alloc: Global, hall: &mut Hall<NullSink>) -> Result<bool, Fail> {
     Ok(are_so && hall.board().number() == 0 && hall.board().place() == 0)
 }
 
-/// Returns a hall over the lab that a document spells.
+/// Returns a new hall over the lab that a document spells.
 fn hall_of(alloc: Global, document: &str) -> Result<Box<Hall<NullSink>>, Fail> {
     let lab = read_lab(alloc, document.as_bytes())?;
     let hall = Hall::new(alloc, lab, NullSink::new())?;
     Ok(Box::new(alloc, hall)?)
 }
 
-/// Returns whether a hall over `PAIR` answers the teacher's hello and a look as `WELCOME` and `LOOK` say, and its board
-/// is then still in configuration 0, with no event.
+/// Returns the result of `is_answered` for a new hall over `PAIR`.
 fn is_look_answered(alloc: Global) -> Result<bool, Fail> {
     let mut hall = hall_of(alloc, PAIR)?;
     is_answered(alloc, &mut hall)
 }
 
-/// Returns whether a hall over the lab that a document spells begins in the same world as `board`, and with no event.
+/// Returns whether a hall over the lab that a document spells begins in the same world as `board`, with no event.
 fn begins_as(alloc: Global, document: &str, board: &Board) -> Result<bool, Fail> {
     let hall = hall_of(alloc, document)?;
     Ok(board.is_same(hall.board()) && hall.events().is_empty())
@@ -66,8 +66,8 @@ fn is_copied(alloc: Global, board: &Board) -> Result<bool, Fail> {
     Ok(board.is_same(&copy))
 }
 
-/// Returns whether a board of a lab, a copy of that board and the board of a hall over the document that spells the lab
-/// begin as the same world.
+/// Returns whether a board of a lab, a copy of it, and the board of a hall over the lab's document begin as the same
+/// world.
 fn are_one(alloc: Global, document: &str, lab: &Lab) -> Result<bool, Fail> {
     let board = &*boxed_board(alloc, lab)?;
     Ok(is_copied(alloc, board)? && begins_as(alloc, document, board)?)
@@ -80,13 +80,12 @@ fn is_one_beginning(alloc: Global) -> Result<bool, Fail> {
     are_one(alloc, document.as_str(), &lab)
 }
 
-/// Returns whether a hello and a look over `PAIR` are answered as they should be; and whether a board of the largest
-/// lab, its copy and a hall's board begin as the same world.
+/// Returns the results of `is_look_answered` and of `is_one_beginning`.
 fn are_looks_and_beginnings_right(alloc: Global) -> Result<(bool, bool), Fail> {
     Ok((is_look_answered(alloc)?, is_one_beginning(alloc)?))
 }
 
-// Fails if a hello or a look isn't answered as `WELCOME` or `LOOK` says, or changes the board, or if a board of the
+// Fails if a hello or a look isn't answered by `WELCOME` or `LOOK`, or changes the board. Fails too if a board of the
 // largest lab, its copy and the board of a hall aren't the same world.
 #[test]
 fn requests_are_answered(rt: HostRuntime) -> Result<(), Fail> {

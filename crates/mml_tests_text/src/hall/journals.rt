@@ -9,8 +9,8 @@ use mml_lab_file::read_lab;
 use std::alloc::Global;
 use std::test::Fail;
 
-/// Returns whether a hall's sink has the first `puts` bytes of `TEN_LINES`, the hall as many events as those have whole
-/// lines, and one failed put halted it, unless those bytes are all.
+/// Returns whether a hall's sink holds exactly the first `puts` bytes of `TEN_LINES`, and the hall has one event for
+/// each whole line in them. One failed put must have halted the hall, unless those bytes are all.
 fn has_dripped(hall: &Hall<Drip>, puts: usize) -> bool {
     let (wanted, _) = TEN_LINES.as_bytes().split_at(puts.min(TEN_LINES.len()));
     let lines = ended_lines(wanted);
@@ -21,7 +21,7 @@ fn has_dripped(hall: &Hall<Drip>, puts: usize) -> bool {
         && hall.board().place() == lines as u64
 }
 
-/// Returns whether the audit `audit` passes a journal over the hall's lab, and leaves the world of the hall's board.
+/// Returns whether `audit` passes a journal over the hall's lab, with the same board as the hall's.
 fn leads_to_board(alloc: Global, hall: &Hall<Drip>, journal: &[u8]) -> bool {
     match audit(alloc, hall.lab(), journal) {
         Ok(board) => board.is_same(hall.board()),
@@ -29,8 +29,7 @@ fn leads_to_board(alloc: Global, hall: &Hall<Drip>, journal: &[u8]) -> bool {
     }
 }
 
-/// Returns whether `audit_events` passes a journal over the hall's lab, with the hall's events, and the world of its
-/// board.
+/// Returns whether `audit_events` passes a journal over the hall's lab, with the hall's events and the same board.
 fn is_listed(alloc: Global, hall: &Hall<Drip>, journal: &[u8]) -> bool {
     match audit_events(alloc, hall.lab(), journal) {
         Ok(audited) => {
@@ -40,8 +39,8 @@ fn is_listed(alloc: Global, hall: &Hall<Drip>, journal: &[u8]) -> bool {
     }
 }
 
-/// Returns whether `audit` and `audit_events` both pass the journal in a hall's sink, with the hall's board and events,
-/// if its last line is whole, and neither does if it is torn.
+/// Returns whether `audit` and `audit_events` pass the journal in a hall's sink, with the hall's board and events, if
+/// its last line is whole, and neither does if that is torn.
 fn is_audited(alloc: Global, hall: &Hall<Drip>) -> bool {
     let journal = hall.sink().bytes.as_slice();
     let is_whole = match journal.last() {
@@ -51,8 +50,8 @@ fn is_audited(alloc: Global, hall: &Hall<Drip>) -> bool {
     leads_to_board(alloc, hall, journal) == is_whole && is_listed(alloc, hall, journal) == is_whole
 }
 
-/// Returns the hall that a script leaves, over the path of three and a sink that takes one byte a put and fails after
-/// `puts`.
+/// Runs a script over the path of three, with a sink that takes one byte a put and fails after `puts` of them. Returns
+/// the hall that the script leaves.
 fn hall_of(alloc: Global, script: &str, puts: usize) -> Result<Box<Hall<Drip>>, Fail> {
     let lab = read_lab(alloc, PATH_OF_THREE.as_bytes())?;
     let sink = Drip::failing_after(puts, alloc);
@@ -61,14 +60,14 @@ fn hall_of(alloc: Global, script: &str, puts: usize) -> Result<Box<Hall<Drip>>, 
     Ok(Box::new(alloc, hall)?)
 }
 
-/// Returns whether a script over a sink that fails after `puts` bytes leaves a hall with just those bytes and their
-/// events, and audits pass these bytes exactly if they are whole lines.
+/// Runs a script over a sink that fails after `puts` bytes. Returns whether `has_dripped` and `is_audited` are true of
+/// the hall that it leaves.
 fn drips(alloc: Global, script: &str, puts: usize) -> Result<bool, Fail> {
     let hall = hall_of(alloc, script, puts)?;
     Ok(has_dripped(&hall, puts) && is_audited(alloc, &hall))
 }
 
-/// Returns the first number of bytes for which `drips` is false of the script of the ten acts, or `None` if it is of
+/// Returns the first number of bytes for which `drips` is false of the script of the ten acts, or `None` if there is
 /// none.
 fn first_byte_told_otherwise(alloc: Global) -> Result<Option<usize>, Fail> {
     let script = format!(in alloc; "{GREETINGS}{TEN_ACTS}")?;
@@ -80,8 +79,8 @@ fn first_byte_told_otherwise(alloc: Global) -> Result<Option<usize>, Fail> {
     Ok(None)
 }
 
-// Fails if a sink that fails after any number of bytes is left with others, or the hall with other events than their
-// whole lines, or if an audit doesn't pass exactly those of whole lines.
+// Fails if a sink that fails after some number of bytes is left with other bytes, or the hall with other events than
+// those of their whole lines. Fails too if an audit passes a torn line, or doesn't pass whole lines.
 #[test]
 fn each_byte_of_a_journal_may_be_the_last(rt: HostRuntime) -> Result<(), Fail> {
     assert_eq!(rt; first_byte_told_otherwise(rt.alloc())?, None);

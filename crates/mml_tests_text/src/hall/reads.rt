@@ -12,10 +12,11 @@ use std::test::Fail;
 /// How a script ends: how many reads are good, the error (`None` if it ends well), and how many bytes are left unread.
 type End = (usize, Option<ScriptFault>, usize);
 
+/// The error of a script of which a read failed.
 const FAILED: Option<ScriptFault> = Some(ScriptFault::Read);
 
-/// Returns whether a script that comes in reads of `step` bytes has exactly the replies and the end that are given, and
-/// is read just as often as there are good reads, and once more if one fails.
+/// Runs a script that comes in reads of `step` bytes. Returns whether it has exactly these replies and this end, and is
+/// read as often as there are good reads, and once more if a read fails.
 fn is_script_answered(
     alloc: Global,
     script: &str,
@@ -34,8 +35,8 @@ fn is_script_answered(
     Ok(fault == wanted && reader.reads == reads && is_rest && is_answered)
 }
 
-/// Returns whether a script has just the given replies by a read for each byte, and by one for all, each time with one
-/// read more that finds the end.
+/// Returns whether a script has exactly these replies, both if it comes byte by byte and if it comes in one read, each
+/// time with one read more, which finds the end.
 fn is_read_once(alloc: Global, script: &str, replies: &str) -> Result<bool, Fail> {
     let by_bytes = (script.len().saturating_add(1), None, 0);
     let is_read_by_bytes = is_script_answered(alloc, script, replies, 1, by_bytes)?;
@@ -43,8 +44,8 @@ fn is_read_once(alloc: Global, script: &str, replies: &str) -> Result<bool, Fail
     Ok(is_read_by_bytes && is_read_at_once)
 }
 
-/// Returns the first number of good reads of `GREETING`, a byte each, after which a failed read isn't reported, or
-/// other lines are answered than those that came whole, or `None` if there is none.
+/// Returns the first number of good reads of `GREETING`, a byte each, after which the failed read isn't reported, or
+/// other lines are answered than those that came whole. Returns `None` if there is none.
 fn first_untold_read(alloc: Global) -> Result<Option<usize>, Fail> {
     let script = GREETING.as_bytes();
     for good in 0..=script.len() {
@@ -57,7 +58,7 @@ fn first_untold_read(alloc: Global) -> Result<Option<usize>, Fail> {
     Ok(None)
 }
 
-// How many of 600 byes, of 15 bytes each, are answered, and what comes of them in reads of a whole buffer, of 4,096
+// How many of 600 byes, of 15 bytes each, are answered, and how the script ends, in reads of a whole buffer, of 4,096
 // bytes.
 const BUFFERS: [(usize, End); 5] = [
     (0, (0, FAILED, 9000)),
@@ -67,8 +68,8 @@ const BUFFERS: [(usize, End); 5] = [
     (600, (4, None, 0)),
 ];
 
-/// Returns the first row of `BUFFERS` whose script ends, or is answered, otherwise than the row says, or `None` if none
-/// is.
+/// Returns the index of the first row of `BUFFERS` whose script ends or is answered otherwise, or `None` if there is
+/// none.
 fn first_other_buffer(alloc: Global) -> Result<Option<usize>, Fail> {
     let script = lines!("2 ", bye).repeat(alloc, 600)?;
     for (row, (answered, end)) in BUFFERS.iter().enumerate() {
@@ -80,33 +81,33 @@ fn first_other_buffer(alloc: Global) -> Result<Option<usize>, Fail> {
     Ok(None)
 }
 
-/// Returns a line of a script, of 4,036 bytes, that greets with a name and a key which nobody has.
+/// Returns a script line of 4,036 bytes: a greeting with a name and a key that nobody has.
 fn long_greeting(alloc: Global) -> Result<String, AllocError> {
     let (name, key) = ("n".repeat(alloc, 2000)?, "k".repeat(alloc, 2000)?);
     format!(in alloc; "1 {{\"do\":\"hello\",\"key\":\"{key}\",\"name\":\"{name}\"}}\n")
 }
 
+/// The reply to a greeting whose name and key don't match.
 const UNKNOWN: &str =
     "1 {\"clause\":2,\"deny\":\"unknown\",\"text\":\"name and key do not match\"}\n";
 
-/// Returns whether a greeting of 4,036 bytes is answered as `UNKNOWN` says, by one read and one more that finds the
-/// end.
+/// Returns whether the greeting of 4,036 bytes is answered by `UNKNOWN`, with one read and one more that finds the end.
 fn is_long_greeting_answered(alloc: Global) -> Result<bool, Fail> {
     let script = long_greeting(alloc)?;
     let is_told = is_script_answered(alloc, script.as_str(), UNKNOWN, usize::MAX, (2, None, 0))?;
     Ok(is_told && script.len() == 4036)
 }
 
-/// Returns whether an empty second line ends a script by its number, with the first line answered and nothing read
-/// after the empty one.
+/// Returns whether a script with an empty second line ends with `BadLine(2)`, with the first line answered and nothing
+/// read after the empty one.
 fn is_bad_line_told(alloc: Global) -> Result<bool, Fail> {
     let script = lines!("2 ", bye, "\n2 ", bye);
     let end = (16, Some(ScriptFault::BadLine(2)), 15);
     is_script_answered(alloc, script, lines!("2 ", left), 1, end)
 }
 
-/// Returns whether each read is made once, with the replies that there should be, of a script with looks, of one with
-/// greetings, of one with a long greeting, and of one with a bad line, in this order.
+/// Returns whether each read is made once, with the right replies, for four scripts: one with looks, one with
+/// greetings, one with a long greeting, and one with a bad line.
 fn are_read_once(alloc: Global) -> Result<[bool; 4], Fail> {
     let look = is_read_once(alloc, FIRST_LOOK, FIRST_LOOK_REPLIES)?;
     let greeting = is_read_once(alloc, GREETING, GREETING_REPLIES)?;
@@ -114,16 +115,16 @@ fn are_read_once(alloc: Global) -> Result<[bool; 4], Fail> {
     Ok([look, greeting, long, is_bad_line_told(alloc)?])
 }
 
-/// Returns the result of `are_read_once` of four scripts; and then the first number of good reads after which a failed
-/// one isn't reported, and the first row of `BUFFERS` that ends otherwise than it says: `None` each if there is none.
+/// Returns the results of `are_read_once`, `first_untold_read` and `first_other_buffer`. The last two are `None` if all
+/// is as it should be.
 fn reads_made(alloc: Global) -> Result<([bool; 4], [Option<usize>; 2]), Fail> {
     let are_read_once = are_read_once(alloc)?;
     let firsts = [first_untold_read(alloc)?, first_other_buffer(alloc)?];
     Ok((are_read_once, firsts))
 }
 
-// Fails if a script is read more or less often than it should be, or has other replies, or if a failed read or a bad
-// line isn't its error.
+// Fails if a script is read more or less often than it should be, or has other replies. Fails too if a failed read or a
+// bad line isn't its error.
 #[test]
 fn each_read_is_made_once(rt: HostRuntime) -> Result<(), Fail> {
     assert_eq!(rt; reads_made(rt.alloc())?, ([true; 4], [None; 2]));

@@ -9,15 +9,15 @@ use std::io;
 use std::io::{Read, Write};
 use std::test::Fail;
 
-/// What a reader and a writer both see: how many replies were written, and how many of their bytes
-/// aren't flushed.
+/// Counts that a reader and a writer share: how many replies were written, and how many of their bytes aren't flushed.
 #[derive(Drop)]
 struct Replies {
     count: Cell<usize>,
     unflushed: Cell<usize>,
 }
 
-/// Gives one line in each read, and notes whether by then a reply to each earlier line isn't written and flushed.
+/// A reader that returns one line of a script in each read. It notes in `is_late` whether, at some read, an earlier
+/// line's reply wasn't written and flushed yet.
 #[derive(Drop)]
 struct Asker<'a> {
     script: &'a str,
@@ -27,8 +27,8 @@ struct Asker<'a> {
 }
 
 impl<'a> Read for Asker<'a> {
-    // Returns what fits of the next line, and drops the rest of it; 0 bytes at the end. Sets `is_late` if not each line
-    // before has its reply written, or bytes of replies aren't flushed.
+    // Returns what fits of the next line, and drops the rest of it; 0 bytes at the end. Sets `is_late` if the replies
+    // written so far aren't one for each earlier read, or some of their bytes aren't flushed.
     fn read(&mut self, buf: &mut [u8]) -> io::Result<usize> {
         if self.replies.unflushed.get() > 0 || self.replies.count.get() != self.reads {
             self.is_late = true;
@@ -40,7 +40,7 @@ impl<'a> Read for Asker<'a> {
     }
 }
 
-/// Keeps the replies that it is given, and counts them and their unflushed bytes in `replies`.
+/// A writer that keeps the replies, and counts them and their unflushed bytes in `replies`.
 #[derive(Drop)]
 struct Answered<'a> {
     taken: Vec<u8>,
@@ -48,7 +48,7 @@ struct Answered<'a> {
 }
 
 impl<'a> Write for Answered<'a> {
-    // Takes all bytes, and counts them as unflushed, and their newlines as replies; fails if memory runs out.
+    // Takes all bytes. Counts them as unflushed, and their newlines as replies. Returns an error if memory runs out.
     fn write(&mut self, buf: &[u8]) -> io::Result<usize> {
         self.taken.extend_from_slice(buf)?;
         let count = &self.replies.count;
@@ -58,15 +58,15 @@ impl<'a> Write for Answered<'a> {
         Ok(buf.len())
     }
 
-    // Counts no byte as unflushed from then on, until the next write.
+    // Sets the count of unflushed bytes to 0.
     fn flush(&mut self) -> io::Result<()> {
         self.replies.unflushed.set(0);
         Ok(())
     }
 }
 
-/// Returns whether a script, read a line a read, ends well with just the wanted replies, each out and flushed before
-/// the next read, the last at the end; and how many reads there were.
+/// Runs a script that comes one line a read. Returns whether it ends well with exactly the replies in `wanted`, all
+/// written and flushed before each next read and at the end; and how many reads there were.
 fn asked(alloc: Global, script: &str, wanted: &str) -> Result<(bool, usize), Fail> {
     let replies = Replies {
         count: Cell::new(0),
@@ -90,7 +90,7 @@ fn asked(alloc: Global, script: &str, wanted: &str) -> Result<(bool, usize), Fai
     ))
 }
 
-/// Returns how often a writer that `FakeWriter::patient` made was written to, and how often it was flushed.
+/// Returns how many writes and how many flushes a writer made by `FakeWriter::patient` has had.
 fn calls(writer: &FakeWriter) -> (usize, usize) {
     (
         usize::MAX.saturating_sub(writer.good),
@@ -98,8 +98,8 @@ fn calls(writer: &FakeWriter) -> (usize, usize) {
     )
 }
 
-/// Returns whether `FIRST_LOOK`, cut in two parts that come in a read each, ends well with just its replies, in at most
-/// two writes and three flushes, one for each read.
+/// Runs `FIRST_LOOK`, cut in two parts that come in a read each. Returns whether it ends well with exactly its replies,
+/// in at most two writes and at most three flushes, one for each read.
 fn is_answered_in_parts(alloc: Global, cut: usize) -> Result<bool, Fail> {
     let (first, second) = FIRST_LOOK.as_bytes().split_at(cut.min(FIRST_LOOK.len()));
     let mut reader = Parts {
@@ -114,8 +114,8 @@ fn is_answered_in_parts(alloc: Global, cut: usize) -> Result<bool, Fail> {
     Ok(is_told && writes <= 2 && flushes <= 3)
 }
 
-/// Returns the first offset in `FIRST_LOOK` at which a cut leads to other replies, or more than two writes or three
-/// flushes, or `None` if there is none.
+/// Returns the first offset in `FIRST_LOOK` for which `is_answered_in_parts` is false, or `None` if no cut changes
+/// anything.
 fn first_cut_that_changes(alloc: Global) -> Result<Option<usize>, Fail> {
     for cut in 0..=FIRST_LOOK.len() {
         if !is_answered_in_parts(alloc, cut)? {
@@ -125,23 +125,22 @@ fn first_cut_that_changes(alloc: Global) -> Result<Option<usize>, Fail> {
     Ok(None)
 }
 
-/// For a script with looks, and then for one with greetings, whether it is answered in time and how many reads there
-/// were; and the first cut that changes something.
+/// The results of `asked` for `FIRST_LOOK` and for `GREETING`: whether the replies are right and in time, and how many
+/// reads there were. Then the first cut of `FIRST_LOOK` that changes something, or `None` if no cut does.
 type Writes = ((bool, usize), (bool, usize), Option<usize>);
 
-/// Returns the result of `asked` of a script with looks and of one with greetings, and the first cut of the former that
-/// changes its replies, or takes more writes or flushes.
+/// Returns the results of `asked` for `FIRST_LOOK` and for `GREETING`, and that of `first_cut_that_changes`.
 fn writes_before_reads(alloc: Global) -> Result<Writes, Fail> {
     let looks = asked(alloc, FIRST_LOOK, FIRST_LOOK_REPLIES)?;
     let greets = asked(alloc, GREETING, GREETING_REPLIES)?;
     Ok((looks, greets, first_cut_that_changes(alloc)?))
 }
 
-// Fails if a line is read before all replies are out and flushed, there are other replies or reads, or if a cut of what
-// comes in changes the replies, or takes more writes or flushes.
+// Fails if a line is read before all replies are written and flushed, or there are other replies or reads. Fails too if
+// a cut of the script changes the replies, or takes more writes or flushes.
 #[test]
 fn replies_go_out_before_the_next_read(rt: HostRuntime) -> Result<(), Fail> {
-    // A read for each line, and one that finds the end.
+    // Both scripts pass, with a read for each line and one that finds the end, and no cut changes anything.
     assert_eq!(rt;
         writes_before_reads(rt.alloc())?,
         ((true, 5), (true, 8), None)

@@ -8,15 +8,15 @@ use std::alloc::Global;
 use std::io::ErrorKind;
 use std::test::Fail;
 
-/// Returns how many of these bytes follow the last newline; all if there is none.
+/// Returns how many of these bytes follow the last newline; all of them if there is none.
 fn after_last_line(bytes: &[u8]) -> usize {
     let last = bytes.iter().rev().position(|byte| *byte == b'\n');
     last.unwrap_or(bytes.len())
 }
 
-/// Returns whether a writer that takes `step` bytes in each of `good` writes and then refuses is left with just as many
-/// bytes of the replies to `FIRST_LOOK`; the error says how many of them belong to a line that isn't wholly out, and
-/// there is none if all replies are out.
+/// Runs `FIRST_LOOK` with a writer that takes `step` bytes in each of `good` writes and then refuses. Returns whether
+/// exactly so many bytes of the replies are out, and the error says how many of them belong to a line that isn't wholly
+/// out. If all replies are out, there must be no error.
 fn tells_a_write(alloc: Global, step: usize, good: usize, refusal: Refusal) -> Result<bool, Fail> {
     let replies = FIRST_LOOK_REPLIES.as_bytes();
     let (out, rest) = replies.split_at(usize::saturating_mul(step, good).min(replies.len()));
@@ -33,13 +33,14 @@ fn tells_a_write(alloc: Global, step: usize, good: usize, refusal: Refusal) -> R
     Ok(fault == wanted && writer.taken.as_slice() == out)
 }
 
+/// A refusal by an error.
 const FAILS: Refusal = Refusal::Fails(ErrorKind::Other);
 
-// How many bytes a write takes, and what comes instead once it fails.
+// How many bytes each write takes, and what comes instead once writes are refused.
 const WRITERS: [(usize, Refusal); 3] = [(1, FAILS), (1, Refusal::TakesNothing), (7, FAILS)];
 
-/// Returns the first number of good writes for which `tells_a_write` is false over one of `WRITERS`, and how many bytes
-/// that takes a write, or `None` if there is none.
+/// Returns the first number of good writes for which `tells_a_write` is false, with how many bytes a write took there,
+/// or `None` if there is none.
 fn first_untold_write(alloc: Global) -> Result<Option<(usize, usize)>, Fail> {
     for good in 0..=FIRST_LOOK_REPLIES.len() {
         for (step, refusal) in WRITERS {
@@ -51,8 +52,8 @@ fn first_untold_write(alloc: Global) -> Result<Option<(usize, usize)>, Fail> {
     Ok(None)
 }
 
-/// Returns whether a flush of the replies to `GREETING` that fails after `good` good ones ends the script as a write of
-/// no bytes does, with whole lines of replies out, and one read before each good flush.
+/// Runs `GREETING` with a writer whose flush fails after `good` good ones. Returns whether the script ends with a write
+/// fault of no bytes, only whole lines of replies are out, and there were as many reads as good flushes.
 fn tells_a_flush(alloc: Global, good: usize) -> Result<bool, Fail> {
     let mut reader = FakeReader::failing_after(usize::MAX, GREETING.as_bytes());
     reader.step = 40;
@@ -65,8 +66,8 @@ fn tells_a_flush(alloc: Global, good: usize) -> Result<bool, Fail> {
     Ok(fault == Some(ScriptFault::Write { written: 0 }) && is_front && is_unread)
 }
 
-/// Returns the first number of good flushes below seven, as many as the script takes, for which `tells_a_flush` is
-/// false, or `None` if there is none.
+/// Returns the first number of good flushes for which `tells_a_flush` is false, or `None` if there is none. Tries all
+/// numbers below seven, the number of flushes that the script takes.
 fn first_untold_flush(alloc: Global) -> Result<Option<usize>, Fail> {
     for good in 0..7 {
         if !tells_a_flush(alloc, good)? {
@@ -76,17 +77,15 @@ fn first_untold_flush(alloc: Global) -> Result<Option<usize>, Fail> {
     Ok(None)
 }
 
-/// The result of `first_untold_write`, how many writes were good and how many bytes each took, and then how many
-/// flushes were good, by `first_untold_flush`; `None` each if all is as it should be.
+/// The results of `first_untold_write` and of `first_untold_flush`; each is `None` if all is as it should be.
 type Untold = (Option<(usize, usize)>, Option<usize>);
 
-/// Returns the first failed write and the first failed flush that are answered otherwise than they should be, `None`
-/// each if there is none.
+/// Returns the results of `first_untold_write` and of `first_untold_flush`.
 fn first_untold(alloc: Global) -> Result<Untold, Fail> {
     Ok((first_untold_write(alloc)?, first_untold_flush(alloc)?))
 }
 
-// Fails if a failed write or flush doesn't end a script, or other bytes are out by then than the error says.
+// Fails if a failed write or flush doesn't end a script, or other bytes are out than the error says.
 #[test]
 fn failed_writes_and_flushes_are_told(rt: HostRuntime) -> Result<(), Fail> {
     assert_eq!(rt; first_untold(rt.alloc())?, (None, None));

@@ -5,8 +5,8 @@ use std::alloc::Global;
 use std::io::ErrorKind;
 use std::test::Fail;
 
-/// Returns the result of `read_whole`, as a text, with a limit of six bytes over a reader that gives one byte a read
-/// and fails after `good` reads by an error of a kind: the bytes, or the name of the error.
+/// Calls `read_whole` with a limit of six bytes, over a reader that gives one byte a read and fails with `kind` after
+/// `good` reads. Returns the bytes as text, or the name of the error.
 fn bytes_or_fault(
     alloc: Global,
     input: &[u8],
@@ -21,12 +21,12 @@ fn bytes_or_fault(
     }
 }
 
-// An input, how many reads are good, the error after them, and the result.
+// Inputs, each with how many reads are good, the error after them, and the result of `bytes_or_fault`.
 const INPUTS: &[(&str, usize, ErrorKind, &str)] = &[
     ("", 100, ErrorKind::Other, ""),
     ("abc", 100, ErrorKind::Other, "abc"),
     ("abcdef", 100, ErrorKind::Other, "abcdef"),
-    // One byte more shows that there are too many, and no read comes after it.
+    // One byte over the limit shows that the input is too long, and no read comes after it.
     ("abcdefghi", 0, ErrorKind::Other, "Read"),
     ("abcdefghi", 6, ErrorKind::Other, "Read"),
     ("abcdefghi", 7, ErrorKind::Other, "TooLong"),
@@ -34,8 +34,8 @@ const INPUTS: &[(&str, usize, ErrorKind, &str)] = &[
     ("abc", 1, ErrorKind::OutOfMemory, "Memory"),
 ];
 
-/// Returns the first row of `INPUTS` for which `bytes_or_fault` gives another text than the row says, or `None` if none
-/// does.
+/// Returns the index of the first row of `INPUTS` for which `bytes_or_fault` returns another text, or `None` if there
+/// is none.
 fn first_told_otherwise(alloc: Global) -> Result<Option<usize>, Fail> {
     for (row, (input, good, kind, wanted)) in INPUTS.iter().enumerate() {
         if bytes_or_fault(alloc, input.as_bytes(), *good, *kind)?.as_str() != *wanted {
@@ -45,16 +45,17 @@ fn first_told_otherwise(alloc: Global) -> Result<Option<usize>, Fail> {
     Ok(None)
 }
 
-// Fails if a reader isn't read whole within a limit of six bytes, or a longer one or a failed read is answered
-// otherwise.
+// Fails if a reader isn't read whole within a limit of six bytes, or if a longer one or a failed read has another
+// result.
 #[test]
 fn readers_are_read_up_to_a_limit(rt: HostRuntime) -> Result<(), Fail> {
     assert_eq!(rt; first_told_otherwise(rt.alloc())?, None);
     Ok(())
 }
 
-/// Returns whether `put_all`, over a writer that takes `step` bytes in each of `good` writes and then refuses, puts
-/// just as many bytes and doesn't flush, and fails if bytes are left, with an error that says how many went out.
+/// Calls `put_all` over a writer that takes `step` bytes in each of `good` writes and then refuses. Returns whether
+/// exactly so many bytes are out and none is flushed. If bytes are left, the result must be an error that says how many
+/// are out.
 fn puts(alloc: Global, bytes: &[u8], step: usize, good: usize, refusal: Refusal) -> bool {
     let mut writer = FakeWriter::failing_after(good, alloc);
     writer.step = step;
@@ -69,7 +70,7 @@ fn puts(alloc: Global, bytes: &[u8], step: usize, good: usize, refusal: Refusal)
     told == wanted && writer.taken.as_slice() == out && writer.good_flushes == usize::MAX
 }
 
-// How often ten digits stand, how many bytes a write takes, and how many writes are good.
+// How often a text of ten digits is repeated, how many bytes a write takes, and how many writes are good.
 const PUTS: &[(usize, usize, usize)] = &[
     (1, 3, 1),
     (1, 1, 0),
@@ -94,7 +95,7 @@ const PUTS: &[(usize, usize, usize)] = &[
     (200, 7, 2001),
 ];
 
-/// Returns the first row of `PUTS` for which `puts` is false over a writer that refuses as `refusal` says, or `None` if
+/// Returns the index of the first row of `PUTS` for which `puts` is false over a writer with this refusal, or `None` if
 /// there is none.
 fn first_other_put(alloc: Global, refusal: Refusal) -> Result<Option<usize>, Fail> {
     for (row, (times, step, good)) in PUTS.iter().enumerate() {
@@ -106,8 +107,8 @@ fn first_other_put(alloc: Global, refusal: Refusal) -> Result<Option<usize>, Fai
     Ok(None)
 }
 
-/// Returns how many bytes of lines that go out together are out once 512 lines are put, of four bytes each, then after
-/// one line more, and then after a flush.
+/// Puts 512 lines of four bytes each into one `Outgoing`, then one line more, and then flushes it. Returns how many
+/// bytes are out after each of the three. Returns an error if memory runs out.
 fn sent(alloc: Global) -> Result<[usize; 3], Fail> {
     let mut outgoing = Outgoing::new(alloc)?;
     let mut writer = FakeWriter::patient(alloc);
@@ -123,20 +124,19 @@ fn sent(alloc: Global) -> Result<[usize; 3], Fail> {
     Ok(out)
 }
 
-/// The first row of `PUTS` that is put otherwise over writers that fail, the first over writers that take nothing
-/// (`None` if there is none), and how many bytes were out at each of three times, as `sent` has them.
+/// The results of `first_other_put` over writers that fail and over writers that take nothing, and that of `sent`.
 type Written = (Option<usize>, Option<usize>, [usize; 3]);
 
-/// Returns the first row of `PUTS` that is put otherwise over writers that fail, the first over writers that take
-/// nothing, and how many bytes of lines that go out together were out at each of the three times of `sent`.
+/// Returns the results of `first_other_put` over writers that fail and over writers that take nothing, and that of
+/// `sent`.
 fn told_of_writes(alloc: Global) -> Result<Written, Fail> {
     let failed = first_other_put(alloc, Refusal::Fails(ErrorKind::Other))?;
     let refused = first_other_put(alloc, Refusal::TakesNothing)?;
     Ok((failed, refused, sent(alloc)?))
 }
 
-// Fails if other bytes go out than a writer takes, an error doesn't say how many did, or held lines go out before 512
-// are held and one more comes, or then not at once.
+// Fails if other bytes are out than a writer takes, or an error doesn't say how many are. Fails too if 512 lines aren't
+// all held, or don't all go out once another line comes.
 #[test]
 fn writes_tell_what_went_out(rt: HostRuntime) -> Result<(), Fail> {
     assert_eq!(rt; told_of_writes(rt.alloc())?, (None, None, [0, 2048, 2052]));

@@ -1,0 +1,35 @@
+-- The limits that a class has, for programs to read.
+use Rattle.std.specs.Prelude.{ℕ, List, ◌++◌, codes, decimal}
+
+-- a line: what is limited, the greatest number that is allowed, and its unit
+abbrev pub limit_line : List ℕ → ℕ → List ℕ → List ℕ
+limit_line name most unit = name ++ (codes " " ++ (decimal most ++ (codes " " ++ (unit ++ codes "\n"))))
+
+-- how large a lab's network may be, and how many people may own a node
+abbrev pub network_limits : List ℕ
+network_limits = limit_line (codes "nodes") 256 (codes "count") ++ (limit_line (codes "identifier") 65535 (codes "number")
+    ++ (limit_line (codes "students") 256 (codes "count") ++ limit_line (codes "owners") 2 (codes "count")))
+
+-- how large a lab's class may be, and how long its names and keys
+abbrev pub class_limits : List ℕ
+class_limits = limit_line (codes "sessions") 16 (codes "count") ++ (limit_line (codes "events") 100000 (codes "count")
+    ++ (limit_line (codes "name") 32 (codes "characters") ++ limit_line (codes "key") 64 (codes "characters")))
+
+-- how long a request's line may be, and the files of a lab and of a journal
+abbrev pub text_limits : List ℕ
+text_limits = limit_line (codes "line") 4096 (codes "bytes") ++ (limit_line (codes "lab") 1048576 (codes "bytes")
+    ++ limit_line (codes "journal") 16777216 (codes "bytes"))
+
+-- how long one entry of a record may be, what a host writes to a seat's file, and what is read of one
+abbrev pub record_limits : List ℕ
+record_limits = limit_line (codes "entry") 8388608 (codes "bytes") ++ (limit_line (codes "seat-written") 1072693248 (codes "bytes")
+    ++ limit_line (codes "seat-read") 1073741824 (codes "bytes"))
+
+-- the deadlines of a connection: of its greeting at the students' port and at the desk, of its next line, and of a write to it
+abbrev pub deadlines : List ℕ
+deadlines = limit_line (codes "greeting") 10 (codes "seconds") ++ (limit_line (codes "desk-greeting") 5 (codes "seconds")
+    ++ (limit_line (codes "next-line") 600 (codes "seconds") ++ limit_line (codes "write") 10 (codes "seconds")))
+
+-- all limits
+abbrev pub limits_text : List ℕ
+limits_text = network_limits ++ (class_limits ++ (text_limits ++ (record_limits ++ deadlines)))
