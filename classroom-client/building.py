@@ -1,4 +1,4 @@
-"""Makes what pip installs: a wheel of client.py, by the metadata of pyproject.toml. It needs no other package."""
+"""Builds the wheel that pip installs: client.py with the metadata of pyproject.toml. Needs no other package."""
 from __future__ import annotations
 
 import base64
@@ -14,18 +14,18 @@ CLIENTS = (HERE / "client.py", HERE.parent / "classroom/client.py")
 
 
 def metadata() -> dict[str, str]:
-    """Returns the texts of pyproject.toml by their keys."""
+    """Returns the string values of pyproject.toml, by their keys."""
     return dict(re.findall(r'(?m)^([a-z-]+) = "(.*)"$', (HERE / "pyproject.toml").read_text(encoding="utf-8")))
 
 
 def build_wheel(wheel_directory: str, config_settings: object = None, metadata_directory: object = None) -> str:
-    """Writes the wheel into a folder, and returns its name."""
-    told = metadata()
-    name = f"{told['name'].replace('-', '_')}-{told['version']}"
-    head = f"Metadata-Version: 2.1\nName: {told['name']}\nVersion: {told['version']}\nSummary: {told['description']}\n"
+    """Writes the wheel into a folder. Returns its file name."""
+    values = metadata()
+    name = f"{values['name'].replace('-', '_')}-{values['version']}"
+    head = f"Metadata-Version: 2.1\nName: {values['name']}\nVersion: {values['version']}\nSummary: {values['description']}\n"
     files = {
         "client.py": next(path for path in CLIENTS if path.is_file()).read_bytes(),
-        f"{name}.dist-info/METADATA": f"{head}License: MIT\nRequires-Python: {told['requires-python']}\n".encode(),
+        f"{name}.dist-info/METADATA": f"{head}License: MIT\nRequires-Python: {values['requires-python']}\n".encode(),
         f"{name}.dist-info/WHEEL": f"Wheel-Version: 1.0\nGenerator: cenduwa\nRoot-Is-Purelib: true\nTag: {TAG}\n".encode(),
     }
     rows = [f"{file},sha256={digest(content)},{len(content)}" for file, content in files.items()]
@@ -37,5 +37,5 @@ def build_wheel(wheel_directory: str, config_settings: object = None, metadata_d
 
 
 def digest(content: bytes) -> str:
-    """Returns the digest of a file as a wheel's record has it."""
+    """Returns the digest of a file, in the form that a wheel's RECORD has."""
     return base64.urlsafe_b64encode(hashlib.sha256(content).digest()).decode().rstrip("=")

@@ -10,7 +10,7 @@ By hand each line that you type is sent, and the line that answers it is shown:
     python3 client.py PORT NAME KEYFILE         the same by port, name and key; KEYFILE - is the environment's CENDUWA_KEY
     python3 client.py PORT                      greets as nobody: type the hello
     python3 client.py --tunnel SLIP [PORT]      opens a port of this machine that leads through the slip's door, for any program
-Exit status: 0 the class is over, 1 wrong words, 2 wrong name or key, 3 wrong node or line, 4 no server, 5 no seat, 6 nothing is granted, 7 lost
+Exit status: 0 the class is over, 1 wrong command line, 2 wrong name or key, 3 wrong node or line, 4 no server, 5 no seat, 6 nothing is granted, 7 lost
 """
 from __future__ import annotations
 
@@ -29,9 +29,10 @@ from typing import Any, Literal
 
 Rule = Literal["update", "marriage", "seduction", "abandonment"]
 KEY, SLIP = "CENDUWA_KEY", "CENDUWA_SLIP"  # of the environment: others can't read it as they can a process's words
+MOST, DEEPEST, DEEP, GREETING, NEXT_LINE = 4096, 127, "nested deeper than 127", 10, 600  # bytes; lists in one another; seconds to a hello, and to a line
 LAST = {  # what a class's server says last when it ends a connection, in words
-    "late": "a hello has to be granted within ten seconds, and the next line to come within ten minutes",
-    "long": "a line has at most 4096 bytes",
+    "late": "a hello has to be granted within ten seconds, and each next line has to come within ten minutes",
+    "long": f"a line has at most {MOST} bytes",
     "over": "the class is over",
 }
 LOST, LOST_SO = 7, "the connection was lost: start again"
@@ -39,19 +40,18 @@ STOPS = {  # why a program stops, with its exit status; 0 is the run's end, 1 wr
     "unknown": (2, "name and key don't match: take both from your slip"),
     "not-owner": (3, "a node isn't yours: correct the nodes by your slip"),
     "hidden": (3, "a node isn't shown to you: correct the nodes by your slip"),
-    "not-teacher": (3, "this is the teacher's alone"),
-    "malformed": (3, "the server takes a line for no request: correct the program"),
+    "not-teacher": (3, "only the teacher may do this"),
+    "malformed": (3, "the server couldn't read a line as a request: correct the program"),
     "busy": (5, "all seats were taken for a minute: come again later"),
     **dict.fromkeys(("full", "journal"), (6, "nothing is granted any longer: tell your teacher")),
 }
-NODE, OPTIONS, TOLD = "a number", ("--log", "--tunnel"), "; --help tells the words"
+NODE, OPTIONS, TOLD, PASSING = "a number", ("--log", "--tunnel"), "; --help prints what to type", ("busy", "memory")
 KEYS: dict[str, dict[str, str]] = {  # of each request, with what they have to be
     "hello": {"name": "a string", "key": "a string"}, "bye": {}, "see": {"node": NODE}, "look": {"node": NODE},
     "move": {"node": NODE, "at": NODE, "rule": "a rule"}, "close": {}, "report": {}, "release": {"node": NODE},
     "fault": {"node": NODE, "p": "a number or null", "m": "true or false"}, "link": {"a": NODE, "b": NODE}, "cut": {"a": NODE, "b": NODE},
 }
 RULES = ("update", "marriage", "seduction", "abandonment")
-MOST, DEEPEST, DEEP = 4096, 127, "nested deeper than 127"  # bytes of a line; objects and lists in one another
 INSTEAD = {"none": "null", "nil": "null", "null": "null", "undefined": "null", "true": "true", "yes": "true", "false": "false", "no": "false"}
 
 
@@ -100,15 +100,15 @@ class NoDoor(NoServer):
 
 
 class NoSlip(Exception):
-    """A slip, or a word instead of one, that can't be taken."""
+    """A slip that can't be used, or an argument that is neither a slip nor anything else that is expected."""
 
 
 class NotReply(Closed):
-    """A line that is none of the server's."""
+    """A line that isn't a reply of the server."""
 
 
 class Moving(Exception):
-    """The nodes couldn't be seen in one configuration: steps were closed in between."""
+    """The nodes couldn't be read in one configuration, because steps were closed in between."""
 
 
 @dataclass(frozen=True)
@@ -127,7 +127,7 @@ class See(Near):
 
 @dataclass(frozen=True)
 class Look(See):
-    """What a node may read, its enabled rule, and its chosen move."""
+    """The values that a node may read, its enabled rule, and its chosen move."""
     rule: Rule | None
     chosen: Rule | None
     near: tuple[Near, ...]
@@ -148,7 +148,7 @@ class Move:
 
 @dataclass(frozen=True)
 class Close:
-    """A step that was closed, and who moved."""
+    """A closed step, and the nodes that moved."""
     at: int
     place: int
     moved: tuple[int, ...]
@@ -175,7 +175,7 @@ class Report:
 
 @dataclass(frozen=True)
 class Slip:
-    """What a student's sheet says: as a file a line each. A door takes the network's name, and is known by its certificate's SHA-256."""
+    """A student's slip: a file with one value per line. A door needs the network's name, and is identified by its certificate's SHA-256."""
     port: int
     name: str
     key: str
@@ -186,19 +186,19 @@ class Slip:
 
     @staticmethod
     def read(path: str | Path) -> Slip:
-        """Returns the slip of a file, or for `-` that of the environment."""
+        """Returns the slip in a file. For `-` returns the slip in the environment."""
         lines = [line.split(None, 1) for line in text_of(path, SLIP).splitlines() if not line.startswith("#")]
         it = {words[0]: words[1].strip() for words in lines if len(words) == 2}
         if missing := [word for word in ("port", "name", "key") if word not in it]:
-            raise NoSlip(f"{path}: no line `{missing[0]} ..`, so it is no slip")
+            raise NoSlip(f"{path}: no line `{missing[0]} ..`, so this isn't a slip")
         door, network, fingerprint = (it.get(word, "") for word in ("door", "network", "fingerprint"))
         if door and not (door_of(door) and network and re.fullmatch("[0-9a-f]{64}", fingerprint)):
-            raise NoSlip(f"{path}: a door, and no line `network ..`, or no `fingerprint ..` of 64 digits")
+            raise NoSlip(f"{path}: it names a door, but has no line `network ..`, or no line `fingerprint ..` with 64 digits")
         return Slip(port_of(it["port"]), it["name"], it["key"], nodes_of(it.get("nodes", "")), door, network, fingerprint)
 
     @staticmethod
     def of(words: list[str]) -> tuple[Slip, list[str]]:
-        """Returns the slip that the words of a program name, SLIP or PORT NAME KEYFILE NODE,.., and the words after it."""
+        """Returns the slip that the arguments name, SLIP or PORT NAME KEYFILE NODE,.., and the arguments after it."""
         if words and not words[0].isdecimal():
             return Slip.read(words[0]), words[1:]
         if len(words) < 3:
@@ -208,7 +208,7 @@ class Slip:
 
 
 def text_of(path: str | Path, variable: str = "") -> str:
-    """Returns the text of a file; if a variable is named, `-` is what the environment has there."""
+    """Returns the text of a file. If a variable is given, `-` stands for its value in the environment."""
     if variable and str(path) == "-":
         if variable not in os.environ:
             raise NoSlip(f"the environment has no {variable}")
@@ -220,43 +220,43 @@ def text_of(path: str | Path, variable: str = "") -> str:
 
 
 def key_of(word: str) -> str:
-    """Returns the key of a file, which has it alone or is a slip; of `-` that of the environment."""
+    """Returns the key in a file, which has only the key or is a slip. For `-` returns the key in the environment."""
     text = text_of(word, KEY)
     found = word != "-" and re.search(r"^key\s+(.+)$", text, re.MULTILINE)
     return found[1] if found else text if word == "-" else text.strip()
 
 
 def port_of(word: str) -> int:
-    """Returns the port whose number a word is. Raises NoSlip if it is none."""
+    """Returns the port that an argument names. Raises NoSlip if it isn't a port's number."""
     if not (word.isascii() and word.isdecimal() and 1 <= int(word) <= 65535):
-        raise NoSlip(f"{word} is no port: 1 to 65535")
+        raise NoSlip(f"{word} isn't a port: write a number from 1 to 65535")
     return int(word)
 
 
 def door_of(word: str) -> tuple[str, int]:
-    """Returns the host and port of a door, `class.example:4700`. Raises NoSlip if a word is none."""
+    """Returns the host and the port of a door, `class.example:4700`. Raises NoSlip for anything else."""
     host, _, port = word.rpartition(":")
     if not re.fullmatch(r"[A-Za-z0-9.-]+|\[[0-9A-Fa-f:.]+\]", host):
-        raise NoSlip(f"{word} is no door: HOST:PORT")
+        raise NoSlip(f"{word} isn't the address of a door: write HOST:PORT")
     return host.strip("[]"), port_of(port)
 
 
 def nodes_of(word: str = "") -> tuple[int, ...]:
-    """Returns the nodes whose numbers a word has, with commas or spaces between them. Raises NoSlip for anything else."""
+    """Returns the nodes in an argument, separated by commas or spaces. Raises NoSlip for anything else."""
     words = word.replace(",", " ").split()
     if not all(node.isascii() and node.isdecimal() for node in words):
-        raise NoSlip(f"nodes {word}: no numbers with commas between them")
+        raise NoSlip(f"nodes {word}: write numbers with commas between them, such as 5,6")
     return tuple(map(int, words))
 
 
-def want_certificate(certificate: bytes | None, slip: Slip) -> None:
-    """Raises NoDoor unless a certificate is the one whose fingerprint a slip has."""
+def require_certificate(certificate: bytes | None, slip: Slip) -> None:
+    """Raises NoDoor if the certificate doesn't have the slip's fingerprint."""
     if hashlib.sha256(certificate or b"").hexdigest() != slip.fingerprint:
         raise NoDoor(f"the certificate of the door at {slip.door} isn't the slip's, so nothing was sent")
 
 
 def tls() -> Any:
-    """Returns how a door is spoken to: only the fingerprint says who it is."""
+    """Returns the TLS settings for a door. Only the fingerprint identifies it, so no authority is asked."""
     import ssl
 
     it = ssl.SSLContext(ssl.PROTOCOL_TLS_CLIENT)
@@ -265,15 +265,14 @@ def tls() -> Any:
 
 
 def connected(port: int, limit: float, slip: Slip | None = None, host: str = "127.0.0.1") -> socket.socket:
-    """Returns a connection to a server's port, or through a slip's door, whose certificate is the slip's. One without room ends it: that is
-    `busy`."""
+    """Returns a connection to a server's port, or through a slip's door if it has one. Raises Refused (`busy`) if the door has no room."""
     it: Any = None
     try:
         if slip is None or not slip.door:
             return socket.create_connection((host, port), timeout=limit)
         it = socket.create_connection(door_of(slip.door), timeout=limit)
         it = tls().wrap_socket(it, server_hostname=slip.network)
-        want_certificate(it.getpeercert(True), slip)
+        require_certificate(it.getpeercert(True), slip)
         return it  # type: ignore[no-any-return]
     except (OSError, NoDoor) as error:
         if it is not None:
@@ -285,10 +284,10 @@ def connected(port: int, limit: float, slip: Slip | None = None, host: str = "12
 
 
 class Client:
-    """A connection that has said hello. Not for several threads at once."""
+    """A connection after its hello. Not for several threads at once."""
 
     def __init__(self, port: int, name: str, key: str, host: str = "127.0.0.1", limit: float = 30.0, connection: socket.socket | None = None) -> None:
-        """`limit` is how many seconds an answer may take. `connection` is an open one to the port, if there is one already."""
+        """Connects and says hello. A reply may take `limit` seconds. `connection` is an open connection to use, if there is one."""
         self.name, self.port, self.limit, self._rest, self._ended = name, port, limit, b"", False
         self._socket = connection or connected(port, limit, host=host)
         try:
@@ -299,20 +298,20 @@ class Client:
 
     @staticmethod
     def from_slip(path: str | Path, limit: float = 30.0) -> Client:
-        """Returns a connection as a slip says."""
+        """Returns a connection by the slip in a file."""
         return Client.of(Slip.read(path), limit)
 
     @staticmethod
     def of(slip: Slip, limit: float = 30.0) -> Client:
-        """Returns a connection as a slip says that was read."""
+        """Returns a connection by a slip."""
         return Client(slip.port, slip.name, slip.key, limit=limit, connection=connected(slip.port, limit, slip))
 
     def own_port(self) -> int:
-        """Returns the port of this end."""
+        """Returns the local port of the connection."""
         return int(self._socket.getsockname()[1])
 
     def hang_up(self) -> None:
-        """Ends the connection without a word."""
+        """Closes the connection without a bye."""
         self._ended = True
         self._socket.close()
 
@@ -345,10 +344,10 @@ class Client:
         return line
 
     def ask(self, **request: object) -> dict[str, Any]:
-        """Sends a request, and returns the reply `ok` as it came. Raises Malformed before it sends, or Denied, Refused or Closed after the
+        """Sends a request, and returns its reply if that is `ok`. Raises Malformed before sending, and Denied, Refused or Closed after the
         reply."""
         if self._ended:
-            raise Closed("this connection has ended: greet again by another Client")
+            raise Closed("this connection has ended: make another Client, and say hello again")
         line = line_of(request)
         try:
             self._socket.settimeout(self.limit)
@@ -370,13 +369,13 @@ class Client:
         return See(it["node"], it["p"], it["m"], it["at"])
 
     def look(self, node: int) -> Look:
-        """Returns what your node may read."""
+        """Returns the values that your node may read."""
         it = self.ask(do="look", node=node)
         near = tuple(Near(each["node"], each["p"], each["m"]) for each in it["near"])
         return Look(it["node"], it["p"], it["m"], it["at"], it["rule"], it["chosen"], near)
 
     def snapshot(self, nodes: Iterable[int], tries: int = 20) -> dict[int, Look]:
-        """Looks at several nodes in one configuration; looks again until all have one number."""
+        """Returns looks at several nodes in one configuration. Looks again, up to `tries` times, until all have the same number."""
         wanted = list(nodes)
         for _ in range(tries):
             looks = {node: self.look(node) for node in wanted}
@@ -385,20 +384,20 @@ class Client:
         raise Moving(f"{tries} times a step was closed between two looks")
 
     def move(self, look: Look, rule: Rule | None = None, partner: int | None = None) -> Move:
-        """Asks for a look's enabled rule, or the one that you name. A marriage is with your partner, or the highest who points at the node."""
+        """Asks for the enabled rule of a look, or for `rule`. A marriage is with `partner`, or else with the highest node that points here."""
         if rule is None and look.rule is None:
-            raise Malformed(f"no rule is enabled at {look.node} by this look: there is nothing to ask")
+            raise Malformed(f"by this look no rule is enabled at node {look.node}: there is nothing to ask for")
         request: dict[str, object] = {"do": "move", "node": look.node, "at": look.at, "rule": rule or look.rule}
         if request["rule"] == "marriage":
             suitors = [near.node for near in look.near if near.p == look.node]
             if partner is None and not suitors:
-                raise Malformed(f"nobody whom {look.node} may marry points at it: a marriage names its partner")
+                raise Malformed(f"no neighbour of node {look.node} points at it: a marriage needs such a partner")
             request["with"] = partner if partner is not None else max(suitors)
         it = self.ask(**request)
         return Move(it["at"], it["place"], it["node"], it["rule"])
 
     def bye(self) -> None:
-        """Ends the conversation, and the connection."""
+        """Says bye, and closes the connection."""
         self.ask(do="bye")
         self.hang_up()
 
@@ -436,14 +435,14 @@ class Client:
 
 
 def no_server(port: int, error: BaseException) -> NoServer | None:
-    """Returns the error to raise instead of one that a hello met, if no class's server is at the port, or None if one may be."""
+    """Returns the error to raise if a hello failed because no server of a class is at the port, or None for any other error."""
     if isinstance(error, NotReply):
         return NoServer(f"at port {port} is another program: it answers {error}")
     return NoServer(f"no server at port {port} answers a hello: {error}") if isinstance(error, Silent) else None
 
 
 def line_of(request: dict[str, object]) -> bytes:
-    """Returns the line of a request. Raises Malformed if the server would take it for none."""
+    """Returns the line of a request. Raises Malformed if the server would refuse it."""
     try:
         line = json.dumps(request)
     except (TypeError, ValueError) as error:
@@ -454,7 +453,7 @@ def line_of(request: dict[str, object]) -> bytes:
 
 
 def reply_of(line: bytes) -> dict[str, Any]:
-    """Returns the reply that a line is. Raises NotReply if it is none."""
+    """Returns the reply in a line. Raises NotReply if it isn't one."""
     try:
         reply = json.loads(line)
     except ValueError:
@@ -465,7 +464,7 @@ def reply_of(line: bytes) -> dict[str, Any]:
 
 
 def stop(error: Exception) -> tuple[int, str]:
-    """Returns the status and the sentence by which a program ends."""
+    """Returns the exit status and the message of a program that stops because of this error."""
     if isinstance(error, Denied | Refused) and error.word in STOPS:
         status, sentence = STOPS[error.word]
         return status, str(error) if isinstance(error, Malformed) else sentence
@@ -479,38 +478,38 @@ def stop(error: Exception) -> tuple[int, str]:
 
 
 def goes_on(error: Denied | Refused) -> bool:
-    """Returns whether a bot looks again after this: a right bot meets it too, or memory was short. Else it stops."""
+    """Returns whether a bot looks again after this error, because correct bots meet it too or memory was short. Otherwise the bot stops."""
     return error.word not in STOPS
 
 
 def enter(slip: Slip, patience: float = 60.0) -> Client:
-    """Greets; if no seat is free, again each second, for so many seconds."""
+    """Connects and says hello. If no seat is free or the server is out of memory, tries again each second for `patience` seconds."""
     end = time.monotonic() + patience
     while True:
         try:
             return Client.of(slip)
         except Refused as refused:
-            if refused.word != "busy" or time.monotonic() >= end:
+            if refused.word not in PASSING or time.monotonic() >= end:
                 raise
         time.sleep(1)
 
 
 def again(slip: Slip, lost: Closed | Refused, patience: float = 60.0) -> Client:
-    """Greets again after a connection was lost, each second for so many seconds, while no seat is free or no server is there.
-    Then it raises `lost`; that the class is over, or any other refusal, it raises at once."""
+    """Connects again after a connection was lost. Tries each second while no server, seat or memory is available, and raises `lost` after
+    `patience` seconds. Raises any other refusal, and the end of the class, at once."""
     end = time.monotonic() + patience
     while not isinstance(lost, Over) and time.monotonic() < end:
         time.sleep(1)
         try:
             return Client.of(slip)
         except (Closed, Refused) as error:
-            if isinstance(error, Over | NoDoor) or isinstance(error, Refused) and error.word != "busy":
+            if isinstance(error, Over | NoDoor) or isinstance(error, Refused) and error.word not in PASSING:
                 raise
     raise lost
 
 
 def run(program: Callable[[list[str]], None], usage: str) -> None:
-    """Runs a program with the command line's words, or prints the usage. An error ends it with a line and an exit status."""
+    """Runs a program with the arguments of the command line, or prints its usage. After an error, prints one line and exits with a status."""
     words = sys.argv[1:]
     if not words or words[0] in ("-h", "--help"):
         sys.exit(usage)
@@ -528,20 +527,20 @@ def run(program: Callable[[list[str]], None], usage: str) -> None:
 
 
 def is_a(kind: str, value: object) -> bool:
-    """Returns whether a value is of that kind."""
+    """Returns whether a value has that kind."""
     number = type(value) is int and 0 <= value < 2**64
     return {"a number": number, "a number or null": number or value is None, "a string": isinstance(value, str),
             "true or false": isinstance(value, bool), "a rule": value in RULES}[kind]
 
 
 def said(value: object) -> str:
-    """Returns what a value of the wrong kind is, in a word or two. An integer below 0 or from 2^64 on is out of range."""
+    """Returns the kind of a value in words, for a message about a wrong kind. A number out of range is named as such."""
     kinds = {bool: "true or false", str: "a string", type(None): "null", dict: "an object", list: "a list", float: "no whole number"}
     return NODE if is_a(NODE, value) else kinds.get(type(value), "out of range")
 
 
 def wrong(line: str) -> str | None:
-    """Returns what is wrong with a line as a request, also that a key stands twice, or None if nothing is."""
+    """Returns what is wrong with a line as a request, or None if nothing is. A key that occurs twice is wrong too."""
     if len(sent(line)) >= MOST:
         return f"more than {MOST} bytes: the server ends the connection"
     if line.startswith("\ufeff"):
@@ -552,27 +551,27 @@ def wrong(line: str) -> str | None:
         return f"not UTF-8 at byte {len(sent(line[:foreign.start()])) + 1}"
     doubled, strange = list[str](), list[str]()
 
-    def once(pairs: list[tuple[str, Any]]) -> dict[str, Any]:
-        """Returns an object's values; of a name that stands twice the last one, and the name is noted."""
+    def noting_doubled(pairs: list[tuple[str, Any]]) -> dict[str, Any]:
+        """Returns a JSON object as a dict. If a key occurs twice, keeps the last value, and adds the key to `doubled`."""
         names = [name for name, _ in pairs]
         doubled.extend(name for name in names if names.count(name) > 1)
         return dict(pairs)
 
     try:
-        asked = json.loads(line, object_pairs_hook=once, parse_int=whole, parse_constant=strange.append)
+        asked = json.loads(line, object_pairs_hook=noting_doubled, parse_int=whole, parse_constant=strange.append)
     except json.JSONDecodeError as error:
         if error.pos >= len(line.rstrip()) and line.strip():
-            return "not JSON: it isn't closed at its end, and a request is one line"
+            return "not JSON: the object isn't closed at its end, and a request is one line"
         return f"not JSON at byte {len(sent(line[:error.pos])) + 1}{mend(line, error)}"
     except RecursionError:
         return DEEP
     if strange:
         return f"not JSON: {strange[0]} is no number"
-    return wrong_value(asked) or wrong_keys(asked) or (f"{doubled[0]} stands twice, and the last counts" if doubled else None)
+    return wrong_value(asked) or wrong_keys(asked) or (f"{doubled[0]} is there twice, and the last one counts" if doubled else None)
 
 
 def mend(line: str, error: json.JSONDecodeError) -> str:
-    """Returns in parentheses how to mend a line that is no JSON, or nothing if that isn't known."""
+    """Returns a correction of a line that isn't JSON, in parentheses, or an empty text if none is known."""
     rest, before = line[error.pos:], line[:error.pos].rstrip()
     word = (re.match(r"\w*", rest) or [""])[0]
     rows = (
@@ -598,13 +597,13 @@ def mend(line: str, error: json.JSONDecodeError) -> str:
 
 
 def meant(word: str, known: Iterable[str]) -> str:
-    """Asks in parentheses for the known word that is most like another one; returns nothing if none is."""
+    """Returns the known word that is most similar to another, as a question in parentheses, or an empty text."""
     found = difflib.get_close_matches(word.lower(), list(known), 1, 0.6)
     return f" (did you mean {found[0]}?)" if found else ""
 
 
 def mend_value(kind: str, value: object) -> str:
-    """Returns in parentheses what to write for a value that isn't of its kind, or nothing if that isn't known."""
+    """Returns a correction of a value that has the wrong kind, in parentheses, or an empty text if none is known."""
     text = value.strip() if isinstance(value, str) else ""
     if isinstance(value, list) and len(value) == 1 and is_a(kind, value[0]):
         return f" (write {json.dumps(value[0])}, without brackets)"
@@ -621,7 +620,7 @@ def mend_value(kind: str, value: object) -> str:
 
 
 def mend_key(key: str, asked: dict[str, Any]) -> str:
-    """Returns in parentheses what stands there instead of a key, or nothing if nothing is like it."""
+    """Returns what was probably written in place of a missing key, in parentheses, or an empty text."""
     if key == "do" and (word := next((each for each in asked if each in KEYS), None)):
         return f' (write {{"do":"{word}"}} for {word})'
     near = next((each for each in asked if each not in ("do", key) and (each.lower() == key or meant(each, [key]))), None)
@@ -629,17 +628,17 @@ def mend_key(key: str, asked: dict[str, Any]) -> str:
 
 
 def sent(line: str) -> bytes:
-    """Returns the bytes of a line: as they were read, if they are no UTF-8."""
+    """Returns the bytes of a line. Bytes that weren't UTF-8 when it was read are restored."""
     return line.encode(errors="surrogateescape")
 
 
 def whole(text: str) -> int | float:
-    """Returns the integer of a text: -1 for any with a sign, since they are out of range; infinite past the greatest double."""
+    """Returns the integer in a text: -1 for any number with a sign, since it is out of range, and infinity beyond the greatest double."""
     return -1 if text.startswith("-") else int(text) if float(text) < float("inf") else float("inf")
 
 
 def wrong_value(value: object, deep: int = 1) -> str | None:
-    """Returns what is wrong with a value under whatever key it stands, or None if nothing is."""
+    """Returns what is wrong with a value, whatever its key is, or None if nothing is."""
     if isinstance(value, str) and any("\ud800" <= char <= "\udfff" for char in value):
         return "half of a surrogate pair"
     if isinstance(value, float) and abs(value) == float("inf"):
@@ -672,7 +671,7 @@ def wrong_keys(asked: object) -> str | None:
 
 
 class ByHand:
-    """A conversation by hand."""
+    """A conversation of which each line is typed."""
 
     def __init__(self, slip: Slip | None, port: int, log: Path | None, limit: float = 30.0) -> None:
         self.log, self.port, self.since, self.greeted, self.ended = log, port, time.monotonic(), False, False
@@ -683,21 +682,21 @@ class ByHand:
         self.connection.settimeout(None)
 
     def keep(self, line: str) -> None:
-        """Adds a line to the log, as long as that can be written."""
+        """Appends a line to the log. If that fails, prints a note and stops logging."""
         try:
             if self.log is not None:
                 with self.log.open("a", encoding="utf-8", errors="surrogateescape") as it:
                     it.write(f"{time.strftime('%H:%M:%S')} {line}\n")
         except OSError as error:
-            self.note(f"{self.log}: {error.strerror}: nothing more is written to it")
+            self.note(f"{self.log}: {error.strerror}: the log ends here")
             self.log = None
 
     def note(self, text: str) -> None:
-        """Prints what the server doesn't."""
+        """Prints a note of the client to standard error."""
         print(f"client: {text}", file=sys.stderr, flush=True)
 
     def send(self, line: str, typed: bool = True) -> None:
-        """Sends a line, and shows what answers it; before, what is wrong with it if it was typed. The log has no key."""
+        """Sends a line and prints the reply. If the line was typed and is wrong, prints that first. No key is written to the log."""
         if typed and (note := wrong(line)):
             self.note(note)
             self.keep(f"! {note}")
@@ -716,8 +715,8 @@ class ByHand:
         self.greeted = self.greeted or '"ok":"hello"' in answer
 
     def why(self, line: str, answer: str, waited: float) -> str | None:
-        """Returns why the connection ended by this answer to a line, or without one, `waited` seconds after the line before, or None if it
-        goes on. An answer that is no reply is raised as an error; without any, and before a hello was granted, NoServer may be."""
+        """Returns why the connection ended, or None if it continues. `answer` is the reply to `line`, or empty, and `waited` are the seconds
+        since the line before. Raises NotReply or NoServer if another program seems to be at the port."""
         try:
             if answer:
                 return LAST.get(reply_of(answer.encode()).get("refuse", ""))
@@ -725,36 +724,36 @@ class ByHand:
             raise (no_server(self.port, error) if not self.greeted else None) or error from None
         if len(sent(line)) >= MOST:
             return LAST["long"]
-        if not self.greeted and waited < 10:
+        if not self.greeted and waited < GREETING:
             raise NoServer(f"no server at port {self.port} answers a hello")
         if not self.greeted:
-            return "the first line came later than ten seconds"
-        return "no line came for ten minutes" if waited >= 600 else "the class is over, or it was cut off"
+            return "the first line came after more than ten seconds"
+        return "no line came for ten minutes" if waited >= NEXT_LINE else "the class is over, or the connection was cut off"
 
 
 async def carry(reader: Any, writer: Any) -> None:
-    """Passes bytes on until they end."""
+    """Copies bytes from a reader to a writer until they end."""
     while more := await reader.read(65536):
         writer.write(more)
         await writer.drain()
 
 
 async def tunnel(slip: Slip, port: int) -> None:
-    """Leads each connection to a port of this machine through the slip's door, for ever."""
+    """Listens on a local port, and forwards each connection through the slip's door. Runs until it is interrupted."""
     import asyncio
 
     async def lead(reader: Any, writer: Any) -> None:
-        """Leads one connection there. Once a program has ended its side, replies are waited for a little."""
+        """Forwards one connection. After the program ends its side, waits up to five seconds for the last replies."""
         try:
             far, near = await asyncio.open_connection(*door_of(slip.door), ssl=tls(), server_hostname=slip.network)
-            want_certificate(near.get_extra_info("ssl_object").getpeercert(True), slip)
+            require_certificate(near.get_extra_info("ssl_object").getpeercert(True), slip)
             both = asyncio.ensure_future(carry(reader, near)), asyncio.ensure_future(carry(far, writer))
             await asyncio.wait(both, return_when=asyncio.FIRST_COMPLETED)
             await asyncio.wait(both[1:], timeout=5.0)
             await asyncio.gather(*(it for it in both if it.cancel() or it.done()), return_exceptions=True)
             near.close()
         except (OSError, NoDoor) as error:
-            print(f"client: no way through the door at {slip.door}: {error}", file=sys.stderr, flush=True)
+            print(f"client: can't connect through the door at {slip.door}: {error}", file=sys.stderr, flush=True)
         writer.close()
 
     connected(port, 30.0, slip).close()
@@ -767,7 +766,7 @@ async def tunnel(slip: Slip, port: int) -> None:
 
 
 def by_hand(words: list[str]) -> None:
-    """Sends each line of standard input, and shows the line that answers it."""
+    """Sends each line of standard input, and prints its reply."""
     if strange := [word for word in words if word.startswith("--") and word not in OPTIONS]:
         raise NoSlip(f"{strange[0]}: there is no such option{meant(strange[0], OPTIONS)}{TOLD}")
     if words[0] == "--tunnel":
@@ -775,17 +774,17 @@ def by_hand(words: list[str]) -> None:
 
         far, rest = Slip.of(words[1:])
         if not far.door or len(rest) > 1:
-            raise NoSlip(f"--tunnel SLIP [PORT]: the slip names a door{TOLD}")
+            raise NoSlip(f"--tunnel SLIP [PORT]: the slip has to name a door{TOLD}")
         return asyncio.run(tunnel(far, port_of(rest[0]) if rest else far.port))
     log = None
     if "--log" in words:
         index = words.index("--log")
         if index + 1 == len(words):
-            raise NoSlip(f"--log FILE: the file is missing{TOLD}")
+            raise NoSlip(f"--log needs the name of a file{TOLD}")
         log, words = Path(words[index + 1]), words[:index] + words[index + 2:]
     given: tuple[Slip | None, list[str]] = (None, []) if len(words) == 1 and words[0].isdecimal() else Slip.of(words)
     if given[1]:
-        raise NoSlip(f"{given[1][0]}: no word is taken there{TOLD}")
+        raise NoSlip(f"{given[1][0]}: nothing more is expected{TOLD}")
     talk = ByHand(given[0], given[0].port if given[0] else port_of(words[0]), log)
     for line in [] if talk.ended else open(0, encoding="utf-8", errors="surrogateescape", newline="\n", closefd=False):
         talk.send(line.rstrip("\r\n"))

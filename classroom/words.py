@@ -1,4 +1,4 @@
-"""The words of `./class`."""
+"""The command line of `./class`: its subcommands and their options."""
 from __future__ import annotations
 
 import argparse
@@ -18,11 +18,11 @@ from classroom.run.typed import HELP
 
 
 class Parser(argparse.ArgumentParser):
-    """Words that aren't understood have the status of usage, and statuses stand below all words."""
+    """A parser that exits with the status of usage on a bad command line."""
 
     def error(self, message: str) -> NoReturn:
-        """Ends the program with a line and the status of usage."""
-        self.exit(USAGE, f"{self.prog}: {printable(message)}; {self.prog} --help prints the words\n")
+        """Prints the message, and exits with the status of usage."""
+        self.exit(USAGE, f"{self.prog}: {printable(message)}; {self.prog} --help prints what to type\n")
 
 
 def version() -> str:
@@ -32,34 +32,34 @@ def version() -> str:
 
 
 def add_new(words: argparse.ArgumentParser) -> None:
-    """Adds the words of `new`."""
+    """Adds the options of `new`."""
     from classroom.core import lists, networks
     from classroom.setup import handing, new
 
-    words.add_argument("lab", help="the lab's file to make, NAME.toml; the slips are NAME-slips.html")
-    words.add_argument("--students", required=True, help="a file of names, one a line, or a table (CSV) as a platform exports it")
+    words.add_argument("lab", help="the file of the lab, NAME.toml; the slips are NAME-slips.html")
+    words.add_argument("--students", required=True, help="a file with one name per line, or a table (CSV) that a platform exported")
     lists.add_words(words)
     network = words.add_mutually_exclusive_group()
     network.add_argument("--family", default="cycle", help=f"{networks.NAMED} (cycle)")
-    network.add_argument("--links", help="a file of links, one a line: 1 2")
-    words.add_argument("--nodes", type=positive, help="how many nodes (as many as students)")
+    network.add_argument("--links", help="a file with one link per line, as 1 2")
+    words.add_argument("--nodes", type=positive, help="the number of nodes (as many as students)")
     words.add_argument("--pairs", action="store_true", help="two owners for each node")
-    words.add_argument("--stand-in", action="store_true", help="a second owner, the house, for each node: it plays for who is absent")
+    words.add_argument("--stand-in", action="store_true", help="give each node a second owner, the house, which can play for absent students")
     words.add_argument("--start", choices=networks.STARTS, default="clean", help="registers at the beginning (clean)")
-    words.add_argument("--seed", type=int, default=1, help="for random networks and starts (1); keys don't follow from it")
-    words.add_argument("--events", type=positive, help="the limit of events (100000)")
-    words.add_argument("--sessions", type=positive, help="how many seats, one of them the teacher's (16)")
+    words.add_argument("--seed", type=int, default=1, help="the seed of random networks and starts (1); keys don't depend on it")
+    words.add_argument("--events", type=positive, help="the limit of events (as many as a lab may have)")
+    words.add_argument("--sessions", type=positive, help="the number of seats, one of them the teacher's (as many as a lab may have)")
     words.add_argument("--teacher", default="teacher", help="the teacher's name")
-    words.add_argument("--groups", type=positive, help="so many labs, each for a part of the class (1)")
+    words.add_argument("--groups", type=positive, help="make this number of labs, each for a part of the class (1)")
     words.add_argument("--groups-by", metavar="COL",
-                       help="the column of the table that says who sits in which room: labs of one room each, as many as give all a seat")
-    words.add_argument("--email", metavar="COL", help="the column of e-mail addresses, for the table beside the slips")
-    words.add_argument("--strict", action="store_true", help="refuse more students than nodes")
+                       help="the column of the table with each student's room: make separate labs for each room, enough to give every student a seat")
+    words.add_argument("--email", metavar="COL", help="the column of e-mail addresses; they are copied to the table for a mail merge")
+    words.add_argument("--strict", action="store_true", help="refuse the list if there are more students than nodes")
     handing.add_way(words)
     words.set_defaults(work=new.new)
 
 
-# An example of each word; of those that hold a desk also what is typed there.
+# An example of each subcommand, and the commands that can be typed while `run` or `attach` runs.
 TYPED = f"Typed there: {HELP}."
 EXAMPLES = {
     "new": "Example: class new maths.toml --students names.csv --family grid:4x3 --start hurt --stand-in",
@@ -80,26 +80,26 @@ EXAMPLES = {
 
 
 def add_mark(words: argparse.ArgumentParser) -> None:
-    """Adds the words of `mark`."""
+    """Adds the options of `mark`."""
     from classroom.core import lists
     from classroom.marks import mark
 
-    words.add_argument("runs", nargs="*", metavar="FOLDER.. or LAB JOURNAL..", help="folders of runs or of classes, or a lab and its journals")
+    words.add_argument("runs", nargs="*", metavar="FOLDER.. or LAB JOURNAL..", help="folders of runs or of classes; or a lab and its journals")
     form = words.add_mutually_exclusive_group()
     form.add_argument("--csv", action="store_true")
     form.add_argument("--json", action="store_true")
-    form.add_argument("--total", action="store_true", help="a row a person over all runs (CSV)")
+    form.add_argument("--total", action="store_true", help="one row for each person, with sums over all runs (CSV)")
     words.add_argument("--roster", metavar="FILE",
-                       help="the class list: its own rows with the totals, to go back into the platform")
-    words.add_argument("--rule", metavar="FILE", help="lines NAME = EXPRESSION over the columns, as pass = applied_per_node >= 1: more columns")
-    words.add_argument("--columns", action="store_true", help="explain each column in a line")
-    words.add_argument("--second", action="store_true", help="say whether the plain model (docs/TRUST.md) reads all of it alike")
+                       help="the class list: print its rows with the totals, for import into the platform")
+    words.add_argument("--rule", metavar="FILE", help="a file of lines NAME = EXPRESSION, as pass = applied_per_node >= 1: each adds a column")
+    words.add_argument("--columns", action="store_true", help="explain each column in one line")
+    words.add_argument("--second", action="store_true", help="count with the plain model too (docs/TRUST.md), and say whether both agree")
     lists.add_words(words)
     words.set_defaults(work=mark.mark)
 
 
 def add_check(words: argparse.ArgumentParser) -> None:
-    """Adds the words of `check`."""
+    """Adds the options of `check`."""
     from classroom.setup import check
 
     words.add_argument("lab")
@@ -107,54 +107,55 @@ def add_check(words: argparse.ArgumentParser) -> None:
 
 
 def add_demo(words: argparse.ArgumentParser) -> None:
-    """Adds the words of `demo`."""
+    """Adds the options of `demo`."""
     from classroom.run import demo
 
-    words.add_argument("--into", default="runs", help="where the run's folder is made (runs)")
+    words.add_argument("--into", default="runs", help="the folder in which the run's folder is made (runs)")
     words.set_defaults(work=demo.demo)
 
 
 def add_play(words: argparse.ArgumentParser) -> None:
-    """Adds the words of `play`."""
+    """Adds the options of `play`."""
     from classroom.pages import play
 
     words.add_argument("run", nargs="+", metavar="FOLDER or LAB JOURNAL")
     words.add_argument("-o", "--output", help="the file to write (run.html, or PLACE.svg)")
-    words.add_argument("--svg", type=play.places, metavar="PLACE,..", help="the configuration after this place, as SVG, or several in one")
-    words.add_argument("--dark", action="store_true", help="the picture in the colours of a dark page")
+    words.add_argument("--svg", type=play.places, metavar="PLACE,..", help="draw the configuration after this place as SVG, or several in one picture")
+    words.add_argument("--dark", action="store_true", help="draw the picture in the colours of a dark page")
     words.set_defaults(work=play.play)
 
 
-def of(module: str) -> Callable[[argparse.ArgumentParser], None]:
-    """Returns what adds the words of a module, which is loaded then."""
+def options_of(module: str) -> Callable[[argparse.ArgumentParser], None]:
+    """Returns a function that imports `classroom.MODULE` and adds its options to a parser. The module is imported only
+    when that function is called."""
     def add(words: argparse.ArgumentParser) -> None:
-        """Loads the module, and adds its words."""
+        """Imports the module, and adds its options."""
         import_module(f"classroom.{module}").add_words(words)
 
     return add
 
 
-# What each word does, and what adds its own words.
+# The description of each subcommand, and the function that adds its options.
 EACH: dict[str, tuple[str, Callable[[argparse.ArgumentParser], None]]] = {
     "new": ("make a lab from a class list, and slips to print", add_new),
-    "check": ("what mml says of a lab, and what a teacher would want to know", add_check),
-    "run": ("run a class over a lab, in a folder of its own, or go on with it", of("run.run")),
-    "attach": ("take the desk of a class whose run is gone, or has lost its terminal", of("run.attach")),
-    "slips": ("the slips of labs anew, for another way in", of("setup.handing")),
-    "key": ("another key and slip for a student, in mid-course", of("setup.rekey")),
-    "mark": ("the marks of each student, from journals", add_mark),
-    "history": ("every line that a student's connections sent, its reply, and the steps between; at one place seat by seat", of("marks.history")),
-    "play": ("a run as one page that shows it, or a configuration as a picture", add_play),
-    "practise": ("play alone: bots of the house play the other nodes, and each denial is explained", of("bots.practise")),
-    "grade": ("try bots over many labs, daemons and seeds, within limits", of("bots.grade")),
-    "experiment": ("how many moves, closes and rounds runs take: a table and a chart", of("bots.experiment")),
-    "demo": ("a class in a box: four bots, a run, marks", add_demo),
+    "check": ("check a lab: where it is wrong, and what a teacher should know about it", add_check),
+    "run": ("run a class, or resume one; each run has a folder of its own", options_of("run.run")),
+    "attach": ("control a class again after `run` was killed or its terminal was closed", options_of("run.attach")),
+    "slips": ("make the slips of labs again, with another address", options_of("setup.handing")),
+    "key": ("give a student another key and slip, between classes", options_of("setup.rekey")),
+    "mark": ("count the marks of each student from journals", add_mark),
+    "history": ("show each line that a student sent, its reply, and the steps in between", options_of("marks.history")),
+    "play": ("make a page that plays a run, or a picture of a configuration", add_play),
+    "practise": ("try a bot, or play by hand: built-in bots play the other nodes, and each denial is explained", options_of("bots.practise")),
+    "grade": ("test bots in many labs, with several daemons and seeds, within limits", options_of("bots.grade")),
+    "experiment": ("measure how many moves, closes and rounds runs take: a table and a chart", options_of("bots.experiment")),
+    "demo": ("run a small class with four bots, and count its marks", add_demo),
 }
 
 
 def parser(asked: str | None = None) -> argparse.ArgumentParser:
-    """Returns all words; if one is asked for, what follows it is there for that one alone, and no other module is
-    loaded."""
+    """Returns the parser with all subcommands. If `asked` names one, only its options are added, and the modules of
+    the others aren't imported."""
     every = Parser(prog="class", description="A class from its list of names to its marks.", epilog=TABLE)
     every.add_argument("--version", action="store_true", help="show version, commit and toolchain, and exit")
     each = every.add_subparsers(title="words", required=True)
@@ -166,7 +167,7 @@ def parser(asked: str | None = None) -> argparse.ArgumentParser:
 
 
 def main(words: list[str] | None = None) -> int:
-    """Does what the words say, and returns the exit status."""
+    """Runs the subcommand that the arguments name, and returns the exit status."""
     given = sys.argv[1:] if words is None else words
     if given[:1] == ["--version"]:
         print(f"class {version()}")
@@ -180,7 +181,7 @@ def main(words: list[str] | None = None) -> int:
     except Fault as fault:
         print(f"class: {printable(str(fault))}", file=sys.stderr)
         return fault.status
-    except BrokenPipeError:  # Who reads has what was wanted.
+    except BrokenPipeError:  # The reader of the output has closed it.
         with open(os.devnull, "w", encoding="utf-8") as nowhere:
             os.dup2(nowhere.fileno(), sys.stdout.fileno())
         return FAILED

@@ -22,24 +22,23 @@ def rule_of(look: Look) -> Rule | None:
 
 
 def play(me: Client, nodes: tuple[int, ...]) -> None:
-    """Looks at each node, and asks."""
+    """Looks at each node, and asks for the rule that `rule_of` returns."""
     while True:
         for node in nodes:
-            look = me.look(node)
-            rule = rule_of(look)
-            if rule is None or look.chosen is not None:
-                continue  # There is nothing to ask, or a move of this node waits for the step to close.
             try:
-                print(me.move(look, rule), flush=True)
-            except Denied as denied:  # `stale` and `chosen` happen to a right bot too: look again. Others are mistakes.
-                print(denied, flush=True)
-                if denied.name not in ("stale", "chosen"):
+                look = me.look(node)
+                rule = rule_of(look)
+                if rule is not None and look.chosen is None:  # Else nothing is to ask, or a move of this node waits for the step to close.
+                    print(me.move(look, rule), flush=True)
+            except (Denied, Refused) as no:  # These three happen to a right bot too: look again. Others are mistakes.
+                print(no, flush=True)
+                if no.word not in ("stale", "chosen", "memory"):
                     raise
         time.sleep(0.1)
 
 
 def main(words: list[str]) -> None:
-    """Greets, plays, and greets again if the connection is lost, until the class is over."""
+    """Connects and plays. Connects again if the connection is lost, until the class is over."""
     slip = Slip.read(words[0])
     me = enter(slip)
     while True:

@@ -1,7 +1,7 @@
-"""Namespaces of its own for a program under test: it sees its own processes, a loopback where only its server listens,
-and of the files those that it needs, which it can't change. It needs no right of the superuser.
+"""Namespaces for a program under test. The program sees only its own processes, a loopback on which only its
+server listens, and the files that it needs, which it can't change. No superuser rights are needed.
 
-What a program writes is kept in memory, in a file system of limited size, and goes with it.
+The files that the program writes are kept in memory, in a file system of limited size, and disappear with it.
 """
 from __future__ import annotations
 
@@ -34,7 +34,7 @@ LIBC = ctypes.CDLL(None, use_errno=True)
 
 @dataclass(frozen=True)
 class World:
-    """What a program sees of this machine."""
+    """What a program can see of this machine."""
 
     shown: tuple[tuple[str, str], ...]  # files and folders that it reads: the path at which it sees each, and its own path
     hidden: tuple[str, ...]  # what of these it doesn't see
@@ -42,27 +42,27 @@ class World:
     port: int  # the port of its server
 
 
-def done(result: int, what: str) -> None:
-    """Raises the error of a call of the system that failed."""
+def require_success(result: int, what: str) -> None:
+    """Raises the `OSError` of a failed system call. `what` is the object of the call."""
     if result < 0:
         number = ctypes.get_errno()
         raise OSError(number, os.strerror(number), what)
 
 
 def mount(source: str, target: str, kind: str | None, flags: int, options: str = "") -> None:
-    """Mounts a file system, or a folder at a second place."""
+    """Mounts a file system, or binds a file or folder to a second path."""
     words = [None if word is None else os.fsencode(word) for word in (source, target, kind)]
-    done(LIBC.mount(*words, ctypes.c_ulong(flags), options.encode() or None), target)
+    require_success(LIBC.mount(*words, ctypes.c_ulong(flags), options.encode() or None), target)
 
 
-def lock(target: str) -> None:
-    """Makes what is mounted at a place, and below it, read-only."""
+def make_read_only(target: str) -> None:
+    """Makes the mount at a path, and all mounts below it, read-only."""
     wanted = struct.pack("4Q", READ_ONLY | NO_SETUID, 0, 0, 0)
-    done(LIBC.syscall(MOUNT_SETATTR, HERE, os.fsencode(target), ALL_BELOW, wanted, ctypes.c_size_t(len(wanted))), target)
+    require_success(LIBC.syscall(MOUNT_SETATTR, HERE, os.fsencode(target), ALL_BELOW, wanted, ctypes.c_size_t(len(wanted))), target)
 
 
 def show(target: str, source: str) -> None:
-    """Shows a file or folder of the host, read-only; one that isn't there is left out."""
+    """Binds a file or folder of the host to a path, read-only. Does nothing if it doesn't exist."""
     if os.path.isdir(HOST + source):
         os.makedirs(target, exist_ok=True)
     elif os.path.exists(HOST + source):
@@ -72,30 +72,31 @@ def show(target: str, source: str) -> None:
     else:
         return
     mount(HOST + source, target, None, BIND | DEEP)
-    lock(target)
+    make_read_only(target)
 
 
 def hide(target: str) -> None:
-    """Covers a file or folder with an empty one, if it is seen."""
+    """Covers a file or folder with an empty one, if it exists."""
     if os.path.isdir(target):
         mount("none", target, "tmpfs", READ_ONLY | NO_SETUID | NO_DEVICES, "size=4k")
     elif os.path.exists(target):
         mount("/dev/null", target, None, BIND)
 
 
-def own_users(user: int, group: int) -> None:
-    """Names this process's user and group in its namespace, and nobody else."""
+def map_user(user: int, group: int) -> None:
+    """Maps only this process's user and group into its namespace."""
     for name, text in (("setgroups", "deny"), ("uid_map", f"{user} {user} 1"), ("gid_map", f"{group} {group} 1")):
         Path(f"/proc/self/{name}").write_text(text, encoding="ascii")
 
 
-def own_files(world: World, folder: str, megabytes: int) -> None:
-    """Makes a root of its own, with what is shown; the program's folder is as it was called before."""
+def enter_own_root(world: World, folder: str, megabytes: int) -> None:
+    """Makes a new root with the files that are shown, and moves this process there. The program's folder keeps its
+    path."""
     mount("none", "/", None, DEEP | PRIVATE)
     mount("none", folder, "tmpfs", NO_SETUID | NO_DEVICES, f"size={megabytes + SPARE}m,nr_inodes={MOST_FILES},mode=0755")
     os.chdir(folder)
     os.mkdir(HOST[1:])
-    done(LIBC.pivot_root(b".", os.fsencode(HOST[1:])), folder)
+    require_success(LIBC.pivot_root(b".", os.fsencode(HOST[1:])), folder)
     os.chdir("/")
     for each in ("/proc", *OWN, folder):
         os.makedirs(each, exist_ok=True)
@@ -109,25 +110,26 @@ def own_files(world: World, folder: str, megabytes: int) -> None:
         show(target, source)
     for each in world.hidden:
         hide(each)
-    own_processes()
-    done(LIBC.umount2(os.fsencode(HOST), DETACH), HOST)
+    mount_own_processes()
+    require_success(LIBC.umount2(os.fsencode(HOST), DETACH), HOST)
     os.rmdir(HOST)
     Path(folder, "bot.slip").write_text(world.slip, encoding="utf-8")
     os.chdir(folder)
 
 
-def own_processes() -> None:
-    """Shows the processes of this namespace, whose programs can't have further ones; of the kernel nothing is changed."""
+def mount_own_processes() -> None:
+    """Mounts /proc for this namespace. Its programs can't make further namespaces, and can't change settings of
+    the kernel."""
     mount("proc", "/proc", "proc", NO_SETUID | NO_DEVICES | NO_PROGRAMS)
     Path("/proc/sys/user/max_user_namespaces").write_text("0", encoding="ascii")
     for name in OF_KERNEL:
         if os.path.exists(f"/proc/{name}"):
             mount(f"/proc/{name}", f"/proc/{name}", None, BIND | DEEP)
-            lock(f"/proc/{name}")
+            make_read_only(f"/proc/{name}")
 
 
-def own_server(port: int, channel: int) -> None:
-    """Listens at a port of this namespace's loopback, and passes the listener on."""
+def pass_listener(port: int, channel: int) -> None:
+    """Listens on a port of this namespace's loopback, and sends the listener through the channel."""
     with socket.socket() as it:
         fcntl.ioctl(it, SET_FLAGS, struct.pack("16sh22x", b"lo", UP))
     with socket.socket(fileno=channel) as its, socket.create_server(("127.0.0.1", port), backlog=32) as listener:
@@ -135,25 +137,26 @@ def own_server(port: int, channel: int) -> None:
 
 
 def enter(world: World, folder: str, megabytes: int, channel: int) -> None:
-    """Goes on in namespaces of its own, as the first process there: when it ends, so do all others. The process that
-    called this waits for it, and has no other use. Raises an `OSError` with what the system refused."""
+    """Moves this process into new namespaces, as the first process there. When it ends, all other processes there
+    end too. The calling process only waits for it, and then exits. Raises the `OSError` of a call that the system
+    refused."""
     user, group = os.geteuid(), os.getegid()
-    done(LIBC.unshare(NAMESPACES), "unshare")
-    own_users(user, group)
+    require_success(LIBC.unshare(NAMESPACES), "unshare")
+    map_user(user, group)
     child = os.fork()
     if child:
         sys.stdin.close()
         os.close(channel)
         os._exit(max(0, os.waitstatus_to_exitcode(os.waitpid(child, 0)[1])))
     LIBC.prctl(DEATH_SIGNAL, signal.SIGKILL, 0, 0, 0)
-    own_files(world, folder, megabytes)
-    own_server(world.port, channel)
+    enter_own_root(world, folder, megabytes)
+    pass_listener(world.port, channel)
 
 
 def drop_rights() -> None:
-    """Gives up what the first process of the namespaces may do there, for a program and all that it starts."""
+    """Drops the rights that the first process has in its namespaces, for this process and all that it starts."""
     for right in range(MOST_RIGHTS):
         LIBC.prctl(DROP_BOUND, right, 0, 0, 0)
     LIBC.prctl(AMBIENT, CLEAR_ALL, 0, 0, 0)
-    done(LIBC.capset(struct.pack("Ii", RIGHTS_VERSION, 0), bytes(24)), "capset")
-    done(LIBC.prctl(NO_NEW_RIGHTS, 1, 0, 0, 0), "prctl")
+    require_success(LIBC.capset(struct.pack("Ii", RIGHTS_VERSION, 0), bytes(24)), "capset")
+    require_success(LIBC.prctl(NO_NEW_RIGHTS, 1, 0, 0, 0), "prctl")

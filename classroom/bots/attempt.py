@@ -1,4 +1,5 @@
-"""A bot in a case: it is started, what it does is looked at, and the first thing that a right bot wouldn't do ends it."""
+"""A bot in a case: starting it, observing it, and ending the case at the first action that a correct bot wouldn't
+take."""
 from __future__ import annotations
 
 import os
@@ -12,28 +13,30 @@ from typing import IO
 from classroom.bots import explaining
 from classroom.bots.apart import World
 from classroom.bots.bots import Bot, Kept, last_line
-from classroom.bots.conduct import FLOODS, MINUTE, most_connections
+from classroom.bots.conduct import FLOODS, MINUTE, most_connections, most_open, most_quits
 from classroom.bots.playing import No, Playing
 from classroom.bots.suites import Case
 from classroom.core.program import call
 from classroom.setup import slips
 
-ALLOWED = ("stale", "chosen")
+ALLOWED = ("stale", "chosen", "memory")
 HINTS = {
-    "not-greeted": "each connection begins with a hello, a new one too",
+    "not-greeted": "each connection begins with a hello, even if an earlier one had a hello",
     "greeted": "one hello on each connection is enough",
-    "unknown": "name and key stand on the slip",
-    "not-owner": "its nodes stand on the slip",
+    "unknown": "name and key are on the slip",
+    "not-owner": "its nodes are on the slip",
     "hidden": "it sees its own nodes and their neighbours",
 }
-IN_PIECES = "; replies are long here and come in pieces: a bot reads on until the newline"
+IN_PIECES = "; replies are long here and arrive in pieces: a bot reads until the newline"
+ON = "; a bot keeps running until the class is over"
+AGAIN = "a bot connects again, says hello and looks again; if no server listens, it tries again for a minute"
 LATEST = 120.0  # seconds in which a bot's namespaces are made
 MOST_KEPT = 1 << 20  # bytes of what a bot printed
 Seen = tuple[tuple[tuple[str, str], ...], tuple[str, ...]]  # what is shown, where and what, and what of it is hidden
 
 
 class Fails(Exception):
-    """Why a case isn't passed."""
+    """The reason why a bot fails a case."""
 
 
 class NotStarted(Fails):
@@ -46,7 +49,7 @@ class Stopped(Exception):
 
 @dataclass(frozen=True)
 class Limits:
-    """What a bot may take in a case."""
+    """The limits of a bot in a case."""
 
     seconds: float = 20.0
     megabytes: int = 512
@@ -55,8 +58,8 @@ class Limits:
 
 @dataclass(frozen=True)
 class Room:
-    """The place in which a bot runs: its own folder, which is empty, a file outside all folders for what it prints, and
-    what it sees of other files, and doesn't, if it is kept apart."""
+    """The surroundings of a bot: its folder, which is empty at first, a file outside all folders for its output,
+    and, if it is kept apart, the other files that it sees and those that are hidden."""
 
     folder: Path
     output: IO[bytes]
@@ -64,7 +67,7 @@ class Room:
 
 
 class Attempt:
-    """A bot in a case."""
+    """One bot in one case."""
 
     def __init__(self, bot: Bot, case: Case, limits: Limits, room: Room, stop: threading.Event) -> None:
         self.bot, self.case, self.limits, self.room, self.stop = bot, case, limits, room, stop
@@ -73,7 +76,7 @@ class Attempt:
         self.heard = self.playing.heard[case.who]
         self.wrong = ""
         self.doing = ""  # what is done to the bot, for the line of one that ends
-        self.playing.on_no = self.denied
+        self.playing.on_no = self.note_denial
         self.chance = random.Random(f"{case.name()} faults")
         self.kept: Kept | None = None
         self.slip = room.folder / "bot.slip"
@@ -92,57 +95,65 @@ class Attempt:
         """Returns the nodes of the bot."""
         return self.case.made.nodes_of(self.case.who)
 
-    def alone(self) -> list[int]:
+    def nodes_owned_alone(self) -> list[int]:
         """Returns the nodes of which the bot is the only owner."""
         return [node.id for node in self.case.made.nodes if node.owners == [self.case.who]]
 
-    def denied(self, no: No) -> None:
-        """Keeps what is wrong with the first line that a right bot wouldn't have sent."""
+    def note_denial(self, no: No) -> None:
+        """Records why a denied line is wrong, if a correct bot wouldn't have sent it and it is the first such
+        line."""
         if no.word in ALLOWED or self.wrong:
             return
         hint = f"; {HINTS[no.word]}" if no.word in HINTS else ""
         self.wrong = no.text + hint + (explaining.of_denial(self.playing, no.line) if no.word == "guard" else "")
 
     def launch(self) -> None:
-        """Starts the bot; if it is kept apart, its world has the class's port."""
+        """Starts the bot. If it is kept apart, the relay listens on the port of its namespace from then on."""
         self.kept = Kept(self.bot, self.slip, self.room.folder, self.limits.seconds, self.limits.megabytes, self.room.output.fileno(), self.world)
         end = time.monotonic() + LATEST
         while self.world is not None:
             listener = self.kept.listener()
             if listener is not None:
-                return self.playing.relay.move(listener)
+                return self.playing.relay.listen_at(listener)
             if how := self.kept.ended():
-                raise Fails(self.told(how))
+                raise Fails(self.end_reason(how))
             if self.stop.is_set():
                 raise Stopped
             if time.monotonic() > end:
-                raise Fails(f"it can't be started: its namespaces aren't made after {LATEST:g} seconds")
+                raise Fails(f"it can't be started: its namespaces weren't ready after {LATEST:g} seconds")
 
-    def turn(self, may_end: bool = False) -> None:
-        """Lets the class go on, and looks at what the bot did; raises what is wrong."""
+    def turn(self) -> None:
+        """Runs the class for a moment, and checks what the bot did. Raises `Fails` if something is wrong, and
+        `Stopped` after an interrupt."""
         self.playing.turn()
         if self.stop.is_set():
             raise Stopped
-        if wrong := self.wrong or self.heard.conduct.wrong or self.crowds():
+        if wrong := self.wrong or self.heard.conduct.wrong or self.connections_fault():
             raise Fails(wrong)
-        if self.heard.conduct.floods(len(self.nodes())):
+        if self.heard.conduct.is_flooding(len(self.nodes())):
             raise Fails(FLOODS)
         assert self.kept is not None
         how = self.kept.ended()
-        if how and not may_end:
-            raise Fails(self.told(how))
+        if how:
+            raise Fails(self.end_reason(how))
 
-    def crowds(self) -> str:
-        """Returns what is wrong with the bot's connections, or nothing."""
-        relay, most = self.playing.relay, most_connections(len(self.nodes()))
-        if relay.full:
-            return f"it took all {len(relay.callers)} seats, so that nobody else can come in: a bot needs one connection for all its nodes"
+    def connections_fault(self) -> str:
+        """Returns what is wrong with the bot's connections, or an empty text."""
+        nodes = len(self.nodes())
+        relay, most = self.playing.relay, most_connections(nodes)
+        if len(relay.callers) > most_open(nodes):
+            return (f"it has {len(relay.callers)} connections open at once, and others need the seats: a bot needs only one, and closes those "
+                    "that it doesn't use")
+        if relay.quits > most_quits(nodes):
+            return (f"it ended {relay.quits} connections by itself, and connected again: a bot keeps its connection until the class is over"
+                    f"{IN_PIECES * bool(self.case.piece)}")
         if relay.connections(MINUTE) > most:
             return f"it connected more than {most} times in a minute: a bot keeps its connection, and after `busy` waits a second"
         return ""
 
-    def told(self, how: str) -> str:
-        """Returns how the bot ended, with what was done to it then and what it printed last."""
+    def end_reason(self, how: str) -> str:
+        """Returns how the bot ended, what was being done to it at that time, and its last line of output. Raises
+        `NotStarted` if its command couldn't be run."""
         kind, _, what = how.partition(" ")
         if kind == "killed" and what.startswith(f"{self.bot.words[0]}: "):
             raise NotStarted(f"it can't be started: {what}")
@@ -152,52 +163,48 @@ class Attempt:
         return f"{text}; it printed last: {last}" if last else text
 
     def until_stable(self, what: str) -> None:
-        """Waits until no node is privileged."""
+        """Runs the class until no node is privileged. Raises `Fails`, with `what`, after the time limit."""
         end = time.monotonic() + self.limits.seconds
         while not self.playing.is_stable():
             if time.monotonic() > end:
                 raise Fails(f"{what} after {self.limits.seconds:g} seconds: waiting for {self.playing.waiting() or 'a close'}"
-                            f"{self.playing.silence(self.case.who)}{IN_PIECES * bool(self.case.piece)}"
+                            f"{self.playing.explain_silence(self.case.who)}{IN_PIECES * bool(self.case.piece)}"
                             f"{explaining.of_waiting(self.playing, self.case.who)}")
             self.turn()
 
-    def until_greeted(self, before: int = 0) -> None:
-        """Waits until a hello is granted, after so many were granted before."""
+    def until_greeted(self) -> None:
+        """Runs the class until the bot's hello is granted. Raises `Fails` after the time limit."""
         end = time.monotonic() + self.limits.seconds
-        while self.heard.greeted == before:
+        while not self.heard.greeted:
             if time.monotonic() > end:
-                again = " again, after its connection was closed," if before else ""
-                raise Fails(f"it said no hello{again} in {self.limits.seconds:g} seconds{self.playing.silence(self.case.who)}")
+                raise Fails(f"it said no hello in {self.limits.seconds:g} seconds{self.playing.explain_silence(self.case.who)}")
             self.turn()
 
-    def watch(self, seconds: float) -> None:
-        """Lets that time go by."""
+    def run_for(self, seconds: float) -> None:
+        """Runs the class for that time."""
         end = time.monotonic() + seconds
         while time.monotonic() < end:
             self.turn()
 
-    def comes_again(self, before: int, what: str) -> None:
-        """Waits until the bot has greeted again, which it had done so many times before. One that ends is started again, as
-        its student would."""
-        assert self.kept is not None
+    def until_greeted_again(self, before: int, what: str) -> None:
+        """Runs the class until the bot has greeted again. It had greeted `before` times, and `what` was done to
+        it. Raises `Fails` after the time limit."""
+        self.doing = f", after {what} ({AGAIN})"
         end = time.monotonic() + self.limits.seconds
-        while self.heard.greeted == before and not self.kept.ended():
+        while self.heard.greeted == before:
             if time.monotonic() > end:
-                raise Fails(f"{what}, and in {self.limits.seconds:g} seconds it neither came again nor ended")
-            self.turn(may_end=True)
-        if self.heard.greeted == before:
-            self.kept.stop()
-            self.launch()
-            self.until_greeted(before)
+                raise Fails(f"{what}, and in {self.limits.seconds:g} seconds it didn't connect again ({AGAIN})")
+            self.turn()
+        self.doing = ON
 
     def close(self) -> None:
-        """Ends bot and class."""
+        """Ends the bot and the class."""
         if self.kept is not None:
             self.kept.stop()
         self.playing.end()
 
-    def evidence(self, folder: Path) -> None:
-        """Leaves the case's record and page."""
+    def write_evidence(self, folder: Path) -> None:
+        """Writes the case's record, output and page to `folder`."""
         folder.mkdir(parents=True)
         self.playing.write(folder)
         (folder / "output.txt").write_bytes(os.pread(self.room.output.fileno(), MOST_KEPT, 0))

@@ -1,5 +1,5 @@
-"""A student's program under test: a process with limits, in a folder of its own, that is ended with all that it
-started."""
+"""A student's program under test: a process with limits, in its own folder, that is ended together with all that
+it started."""
 from __future__ import annotations
 
 import json
@@ -31,7 +31,7 @@ AGAIN = 0.1  # seconds after which a keeper is sent the signal to go on again: i
 
 @dataclass(frozen=True)
 class Bot:
-    """A command, to which a slip's path is added."""
+    """A command. The path of a slip is added to it."""
 
     name: str
     words: tuple[str, ...]
@@ -39,15 +39,15 @@ class Bot:
 
     @staticmethod
     def of(word: str) -> Bot:
-        """Returns the command that a word is, split as a shell does it; its first word may also be a file here. A file
-        alone whose name ends in .py, .java or .js, and that can't be run as it is, is run by Python, Java or Node. What
-        can't be run has a fault."""
+        """Returns the bot of a command, split as a shell does it. Its first word may also be a file in this
+        folder. A single file that ends in .py, .java or .js, and that can't be run as it is, is run by Python,
+        Java or Node. If the command can't be run, the bot has a fault."""
         try:
             words = shlex.split(word)
         except ValueError as error:
             return Bot(word, (), f"{word}: {error}")
         if not words:
-            return Bot(word, (), "an empty word is no command")
+            return Bot(word, (), "a BOT is empty: name a program or a command")
         name = " ".join(Path(each).name for each in words)
         is_file = Path(words[0]).is_file()
         if len(words) == 1 and is_file and not runs_itself(Path(words[0])):
@@ -64,8 +64,8 @@ class Bot:
 
 
 def runs_itself(file: Path) -> bool:
-    """Returns whether a file can be run as it is: it is executable, and begins with `#!` if its name is a source's and
-    it can be read."""
+    """Returns whether a file can be run directly: it is executable, and if its name is that of a source, it begins
+    with `#!` or can't be read."""
     if not os.access(file, os.X_OK):
         return False
     if file.suffix not in RUN_BY or not os.access(file, os.R_OK):
@@ -75,12 +75,12 @@ def runs_itself(file: Path) -> bool:
 
 
 class Kept:
-    """A bot that runs, kept within limits."""
+    """A running bot with its limits."""
 
     def __init__(self, bot: Bot, slip: Path, folder: Path, seconds: float | None, megabytes: int, output: int = 2,
                  world: World | None = None) -> None:
-        """It runs in `folder`, and what it prints goes to `output`, a file's descriptor. Without a limit of seconds it is
-        its student's own, at home, and has this process's environment. With a world it is kept apart."""
+        """Starts the bot in `folder`. Its output goes to the file descriptor `output`. Without a limit of seconds
+        the bot is the student's own, and gets the environment of this process. With a world, it is kept apart."""
         self.how = ""
         self.channel, theirs = socket.socketpair()
         at_home = seconds is None
@@ -95,10 +95,10 @@ class Kept:
         except OSError as error:
             self.channel.close()
             raise Fault(f"{error.filename or folder}: {error.strerror}", 4) from None
-        self.tell(json.dumps(plan))
+        self.send_to_keeper(json.dumps(plan))
 
-    def tell(self, line: str) -> None:
-        """Writes a line to the keeper; one that is gone is seen at once."""
+    def send_to_keeper(self, line: str) -> None:
+        """Writes a line to the keeper. Ignores the error if the keeper has ended, since `ended` notices that."""
         assert self.process.stdin is not None
         try:
             self.process.stdin.write(line.encode() + b"\n")
@@ -107,30 +107,30 @@ class Kept:
             pass
 
     def listener(self) -> socket.socket | None:
-        """Returns the listener in the bot's world; none while it isn't made."""
+        """Returns the listener in the bot's namespace, or None if it isn't open yet. Waits a moment for it."""
         if not select.select([self.channel], [], [], AGAIN)[0]:
             return None
         files = socket.recv_fds(self.channel, 1, 1)[1]
         return socket.socket(fileno=files[0]) if files else None
 
     def ended(self) -> str:
-        """Returns how the bot has ended, `ended STATUS` or `killed REASON`, or an empty text while it runs. Ends a bot
-        that halts its keeper."""
+        """Returns how the bot has ended, `ended STATUS` or `killed REASON`, or an empty text while it runs. Kills
+        a bot that has halted its keeper."""
         if self.process.poll() is None:
             if not is_halted(self.process.pid):
                 return ""
-            self.how = "killed it stopped its keeper"
-            self.force()
+            self.how = "killed it halted the process that watches it"
+            self.kill_keeper()
         assert self.process.stdout is not None
         if not self.process.stdout.closed:
             end_strays()
-            self.how = self.how or self.told() or "killed it killed its keeper"
+            self.how = self.how or self.last_output() or "killed it killed the process that watches it"
             self.process.stdout.close()
         return self.how
 
-    def told(self) -> str:
-        """Returns what the keeper printed before it ended, or an empty text if it was killed. A bot may hold its pipe
-        too, so nothing is waited for."""
+    def last_output(self) -> str:
+        """Returns what the keeper printed before it ended, or an empty text if it was killed. Never waits, since
+        the bot may hold the pipe open too."""
         assert self.process.stdout is not None
         os.set_blocking(self.process.stdout.fileno(), False)
         try:
@@ -139,8 +139,9 @@ class Kept:
             return ""
         return line.decode(errors="replace").strip() if self.process.returncode == 0 else ""
 
-    def force(self) -> None:
-        """Kills the keeper, whatever it waits for: first all below it, for which this process would be the parent then."""
+    def kill_keeper(self) -> None:
+        """Kills the keeper, whatever it waits for. Kills all its descendants first, because they would become
+        children of this process."""
         end_below(self.process.pid)
         self.process.kill()
         self.process.wait()
@@ -162,12 +163,12 @@ class Kept:
             except subprocess.TimeoutExpired:
                 continue
         if self.process.poll() is None:
-            self.how = "killed it stopped its keeper"
-            self.force()
+            self.how = "killed it halted the process that watches it"
+            self.kill_keeper()
         return self.ended()
 
 
-def no_worlds() -> str:
+def namespaces_refusal() -> str:
     """Returns why bots can't be kept apart on this system, or an empty text if they can."""
     it = Bot("true", ("/bin/true",))
     try:
@@ -184,7 +185,7 @@ def no_worlds() -> str:
 
 
 def last_line(output: int) -> str:
-    """Returns the last line that a bot printed into such a file, or an empty text if there is none."""
+    """Returns the last line in a bot's output file, or an empty text if there is none."""
     size = os.fstat(output).st_size
     lines = os.pread(output, SHOWN, max(0, size - SHOWN)).decode(errors="replace").strip().splitlines()
     return lines[-1] if lines else ""

@@ -1,4 +1,4 @@
-"""The chart of an experiment: moves, closes and rounds over the number of nodes, beside what is proved."""
+"""The chart of an experiment: moves, closes and rounds by number of nodes, together with the proved bounds."""
 from __future__ import annotations
 
 import statistics
@@ -38,23 +38,23 @@ svg text.title { font-weight: bold; font-size: 14px; }
 
 
 class Scale:
-    """From numbers to spots on a panel."""
+    """A mapping from numbers of nodes and counts to positions in a panel."""
 
     def __init__(self, least: int, most: int, high: int) -> None:
         self.least, self.most, self.high = least, max(most, least + 1), max(high, 1)
 
     def x(self, nodes: float) -> float:
-        """Returns how far from the left a number of nodes stands."""
+        """Returns the horizontal position of a number of nodes."""
         return LEFT + (nodes - self.least) / (self.most - self.least) * (WIDE - LEFT - RIGHT)
 
     def y(self, count: float) -> float:
-        """Returns how far from the top a count stands."""
+        """Returns the vertical position of a count."""
         return HIGH - BELOW - count / self.high * (HIGH - ABOVE - BELOW)
 
 
 def tick_distance(high: int, parts: int = 5) -> int:
-    """Returns how far apart the numbers on an axis of that length are: the first of 1, 2, 5, 10, 20, 50 and so on by
-    which the axis has at most so many parts."""
+    """Returns the distance of the ticks on an axis from 0 to `high`: the first of 1, 2, 5, 10, 20, 50 and so on
+    that gives at most so many parts."""
     step = 1
     while True:
         for factor in (1, 2, 5):
@@ -64,7 +64,7 @@ def tick_distance(high: int, parts: int = 5) -> int:
 
 
 def line(points: Sequence[tuple[float, float]], kind: str, colour: str = "", theme: str = colours.LIGHT) -> str:
-    """The path through points; a short line through a single point."""
+    """Returns the SVG path through some points. A single point becomes a short line."""
     if len(points) == 1:
         points = [(points[0][0] - 8, points[0][1]), (points[0][0] + 8, points[0][1])]
     path = " ".join(f"{'M' if index == 0 else 'L'}{x:.1f} {y:.1f}" for index, (x, y) in enumerate(points))
@@ -73,7 +73,7 @@ def line(points: Sequence[tuple[float, float]], kind: str, colour: str = "", the
 
 
 def axes(scale: Scale) -> list[str]:
-    """Axes with their numbers."""
+    """Returns the axes with their numbers, as SVG."""
     parts = [line([(LEFT, ABOVE), (LEFT, HIGH - BELOW), (WIDE - RIGHT, HIGH - BELOW)], "axis")]
     for count in range(0, scale.high + 1, tick_distance(scale.high)):
         y = scale.y(count)
@@ -87,14 +87,14 @@ def axes(scale: Scale) -> list[str]:
 
 
 def panel(title: str, rows: list[Row], theme: str) -> str:
-    """The drawing of one family under one daemon: the bounds, and of each measure the runs, the greatest and the
-    median."""
+    """Returns the drawing of one family under one daemon: the bounds, and for each measure all runs, their maximum
+    and their median."""
     sizes = sorted({row.nodes for row in rows})
     links = {size: max(row.links for row in rows if row.nodes == size) for size in sizes}
     most = {size: bounds.of(size, links[size]) for size in sizes}
     loose = {size: 3 * size + 2 * links[size] for size in sizes}
     scale = Scale(sizes[0], sizes[-1], max(loose.values()))
-    parts = [f'<text class="title" x="{WIDE / 2}" y="18">{escape(title)}</text>', *told_worst(rows), *axes(scale)]
+    parts = [f'<text class="title" x="{WIDE / 2}" y="18">{escape(title)}</text>', *closest_lines(rows), *axes(scale)]
     parts.append(line([(scale.x(size), scale.y(loose[size])) for size in sizes], "bound loose"))
     parts.append(line([(scale.x(size), scale.y(most[size].moves)) for size in sizes], "bound"))
     parts.append(line([(scale.x(size), scale.y(most[size].rounds)) for size in sizes], "bound least"))
@@ -104,7 +104,7 @@ def panel(title: str, rows: list[Row], theme: str) -> str:
         by_size = {size: [of(row) for row in rows if row.nodes == size] for size in sizes}
         parts.append(line([(scale.x(size), scale.y(max(by_size[size]))) for size in sizes], f"most {name}", colour, theme))
         parts.append(line([(scale.x(size), scale.y(statistics.median(by_size[size]))) for size in sizes], f"median {name}", colour, theme))
-    for name, row, count, bound in worst(rows):
+    for name, row, count, bound in closest_to_bounds(rows):
         parts.append(f'<circle class="worst" cx="{scale.x(row.nodes):.1f}" cy="{scale.y(count):.1f}" r="5"><title>{count} of {bound} {name}</title></circle>')
     last = sizes[-1]
     for count, name in ((most[last].moves, "moves"), (most[last].rounds, "rounds")):
@@ -112,21 +112,22 @@ def panel(title: str, rows: list[Row], theme: str) -> str:
     return "".join(parts)
 
 
-def worst(rows: list[Row]) -> list[tuple[str, Row, int, int]]:
-    """Returns the run that came closest to its bound of moves, and that of rounds: each with its count and the bound."""
+def closest_to_bounds(rows: list[Row]) -> list[tuple[str, Row, int, int]]:
+    """Returns the run that came closest to its bound of moves, and the one that came closest to its bound of
+    rounds. Each has the measure's name, its count and the bound."""
     every = [(name, row, count, bound) for row in rows for most in (bounds.of(row.nodes, row.links),)
              for name, count, bound in (("moves", row.moves, most.moves), ("rounds", row.rounds, most.rounds))]
     return [max((each for each in every if each[0] == name), key=lambda each: each[2] / each[3]) for name in ("moves", "rounds")]
 
 
-def told_worst(rows: list[Row]) -> list[str]:
-    """Returns which runs came closest to their bounds, as lines below a panel's title."""
-    texts = [f"{count} of {bound} {name} (n {row.nodes}, seed {row.seed})" for name, row, count, bound in worst(rows)]
+def closest_lines(rows: list[Row]) -> list[str]:
+    """Returns the text lines below a panel's title: which runs came closest to their bounds."""
+    texts = [f"{count} of {bound} {name} (n {row.nodes}, seed {row.seed})" for name, row, count, bound in closest_to_bounds(rows)]
     return [f'<text x="{WIDE / 2}" y="{18 + LINE * number}">{text}</text>' for number, text in enumerate([f"closest: {texts[0]}", *texts[1:]], 1)]
 
 
 def key(runs: int, theme: str) -> str:
-    """What the lines and points of all panels stand for, to be drawn below them."""
+    """Returns the legend that explains the lines and points of all panels."""
     parts = []
     for column, (name, colour, _) in enumerate(MEASURES):
         x = 12 + 84 * column
@@ -140,7 +141,7 @@ def key(runs: int, theme: str) -> str:
 
 
 def chart(rows: list[Row], theme: str = colours.LIGHT) -> str:
-    """A panel for each family and daemon: families side by side, daemons below each other."""
+    """Returns the SVG document: families side by side, daemons below each other, and the legend."""
     families = list(dict.fromkeys(row.family.partition(":")[0] for row in rows))
     daemons = list(dict.fromkeys(row.daemon for row in rows))
     wide, high = max(WIDE * len(families), WIDE), HIGH * len(daemons) + KEY + 8

@@ -1,6 +1,8 @@
-"""What a program knows by the replies that it got, and the first line of it that a right one wouldn't have sent.
+"""What a program knows from the replies that it got, and the first of its lines that a correct program wouldn't
+have sent.
 
-Each rule here is one that `docs/STUDENT.md` asks a bot to keep. Guards aren't among them: the program denies those.
+Each rule here is one that `docs/STUDENT.md` asks a bot to keep. Guards aren't among them, because the server
+denies those.
 """
 from __future__ import annotations
 
@@ -9,9 +11,13 @@ from dataclasses import dataclass, field
 from typing import Any
 
 MOST_AGAIN = 2  # moves for nodes that it knows to be chosen, and `stale` answers for one node under one number
+MOST_BEHIND, SHARE = 9, 4  # moves under another number than that of the last look, and one in how many they may be: threads may cross
+MOST_ACROSS = 4  # moves on a new connection by a look on one that was lost, but for those that were sent before: threads may cross
 FLOOD = 200  # lines over which pauses are counted
+RATE = 50  # lines a second for each node and one more, at rest
+QUITS = 4  # connections that a bot may end by itself, beside one for each node
 MINUTE = 60.0
-FLOODS = "it floods: line after line without a pause; a bot waits when it has looked at its nodes"
+FLOODS = "it floods the server: it sends line after line without a pause; a bot waits when it has looked at its nodes"
 
 
 def number_of(value: object) -> int:
@@ -19,17 +25,43 @@ def number_of(value: object) -> int:
     return value if isinstance(value, int) and not isinstance(value, bool) else 0
 
 
+def most_open(nodes: int) -> int:
+    """Returns how many connections a bot with so many nodes may have open at once: two for each node, and at least
+    two more than it has nodes."""
+    return max(2 * nodes, nodes + 2)
+
+
+def most_quits(nodes: int) -> int:
+    """Returns how many connections a bot with so many nodes may close by itself."""
+    return nodes + QUITS
+
+
+def polling_fault(lines: int, seconds: float, nodes: int) -> str:
+    """Returns what is wrong with a bot of so many nodes that sent so many lines while nothing changed, or an empty
+    text."""
+    if lines <= RATE * (nodes + 1) * seconds:
+        return ""
+    return f"it sent {lines / seconds:.0f} lines a second while nothing changed: a bot waits a tenth of a second when it has looked at its nodes"
+
+
 def most_connections(nodes: int) -> int:
-    """Returns how many connections a minute a bot of so many nodes may open: one for each node, and again some times."""
+    """Returns how many connections a bot with so many nodes may open in a minute."""
     return 20 + 10 * nodes
 
 
 @dataclass
 class Conduct:
-    """The lines of one student's program, on all of its connections."""
+    """The behaviour of one student's program, on all of its connections."""
 
     looked: set[tuple[int, int]] = field(default_factory=set)  # node and number of each look
+    before: set[tuple[int, int]] = field(default_factory=set)  # the same of connections that were lost
+    unanswered: set[tuple[int, int]] = field(default_factory=set)  # node and number of each move whose reply was lost
+    across: int = 0  # moves on a new connection by a look on one that was lost
+    newest: dict[int, int] = field(default_factory=dict)  # by node the number of its last look
+    behind: int = 0  # moves under another number than that
+    asked: int = 0  # moves
     seen: set[int] = field(default_factory=set)  # nodes that it looked at
+    recent: set[int] = field(default_factory=set)  # the same since the class has come to rest
     chosen: dict[int, int] = field(default_factory=dict)  # by node the number under which it knows of a chosen move
     in_vain: int = 0  # moves for nodes that it knew to be chosen
     stale: Counter[tuple[int, int]] = field(default_factory=Counter)  # `stale` answers by node and number
@@ -37,47 +69,66 @@ class Conduct:
     rules_hidden: int = 0  # looks in which the rule was blanked
     wrong: str = ""
 
-    def line(self, asked: dict[str, Any], told: dict[str, Any], paused: bool) -> None:
-        """Takes a line with the reply that the program got; an empty reply is one that was lost on its way."""
+    def take(self, asked: dict[str, Any], told: dict[str, Any], paused: bool) -> None:
+        """Checks a line and the reply that the program got. An empty reply means that the reply was lost."""
         self.pauses.append(paused)
         node, at = number_of(asked.get("node")), number_of(asked.get("at"))
         if told.get("ok") in ("look", "see"):
-            self.looks(told)
+            self.take_look(told)
         elif asked.get("do") == "move" and told.get("deny") not in ("not-greeted", "not-owner") and "refuse" not in told:
-            self.moves(node, at, told)
+            self.check_move(node, at, told)
 
-    def looks(self, told: dict[str, Any]) -> None:
-        """Takes the reply to a look: whether the node has a chosen move is known from then on."""
+    def take_look(self, told: dict[str, Any]) -> None:
+        """Notes what the program knows from a reply to `look` or `see`."""
         node, at = told["node"], told["at"]
         self.looked.add((node, at))
         self.seen.add(node)
+        self.recent.add(node)
+        self.newest[node] = at
         if told.get("chosen") is not None:
             self.chosen[node] = at
         elif told["ok"] == "look":
             self.chosen.pop(node, None)
 
-    def moves(self, node: int, at: int, told: dict[str, Any]) -> None:
-        """Takes a move with its reply."""
-        if (node, at) not in self.looked:
-            self.fault(f"it asks for a move of {node} under {at}, and never looked at {node} under that number: look first, and ask "
-                       "with the `at` of that look")
+    def check_move(self, node: int, at: int, told: dict[str, Any]) -> None:
+        """Checks a request for a move against what the program knew, and notes its reply."""
+        if not told:
+            self.unanswered.add((node, at))
+        if (node, at) not in self.looked and (node, at) in self.before:
+            self.across += 1
+            if (node, at) in self.unanswered or self.across > MOST_ACROSS:
+                self.note_fault(f"on a new connection it asks for a move of node {node} by a look from the lost connection: after the hello, look at "
+                                f"node {node} again")
+        elif (node, at) not in self.looked:
+            self.note_fault(f"it asks for a move of node {node} with `at` {at}, and no look at node {node} had that number: look first, and ask "
+                            "with the `at` of that look")
+        self.asked += 1
+        self.behind += at != self.newest.get(node, at)
+        if self.behind > MOST_BEHIND and SHARE * self.behind > self.asked:
+            self.note_fault("it asks again and again with a number that isn't that of its last look, for instance for "
+                            f"node {node} with `at` {at}: ask with the `at` of your last look at node {node}, which is {self.newest[node]}")
         if self.chosen.get(node) == at:
             self.in_vain += 1
             if self.in_vain > MOST_AGAIN:
-                self.fault(f"it asks again and again for nodes that have a chosen move, as for {node} under {at}, though a reply said so: "
-                           "after a grant look again a little later, and ask only if `chosen` is null")
+                self.note_fault("it asks again and again for nodes that have a chosen move, though a reply said so, for instance for "
+                                f"node {node} with `at` {at}: after a grant look again a little later, and ask only if `chosen` is null")
         if told.get("deny") == "stale":
             self.stale[node, at] += 1
             if self.stale[node, at] > MOST_AGAIN:
-                self.fault(f"it asks again and again for {node} under {at}, which is stale: after `stale` look again")
+                self.note_fault(f"it asks again and again for node {node} with `at` {at}, which is stale: after `stale` look again")
         elif told.get("ok") == "move" or told.get("deny") == "chosen":
             self.chosen[node] = at
 
-    def fault(self, why: str) -> None:
-        """Keeps why a right bot wouldn't have sent a line, if it is the first one."""
+    def forget_looks(self) -> None:
+        """Forgets all looks after the last connection has ended: a program has to look again."""
+        self.before |= self.looked
+        self.looked.clear()
+
+    def note_fault(self, why: str) -> None:
+        """Records why a line is wrong, if it is the first."""
         self.wrong = self.wrong or why
 
-    def floods(self, nodes: int) -> bool:
-        """Returns whether the last lines came almost without pauses: a bot of so many nodes waits when it has looked at
-        all, so one pause in four lines a node and four more is enough."""
+    def is_flooding(self, nodes: int) -> bool:
+        """Returns whether the last lines came almost without pauses. A bot waits after it has looked at all its
+        nodes. So one pause is enough for each four lines per node, and four more."""
         return len(self.pauses) == FLOOD and sum(self.pauses) * (4 * nodes + 4) < FLOOD

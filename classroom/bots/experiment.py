@@ -1,4 +1,5 @@
-"""`./class experiment`: how many moves, closes and rounds runs take, beside what is proved."""
+"""`./class experiment`: measures how many moves, closes and rounds runs take, and compares them with the proved
+bounds."""
 from __future__ import annotations
 
 import argparse
@@ -21,7 +22,7 @@ from pathlib import Path
 from classroom.bots import chart, parts
 from classroom.bots.measuring import SIZED, Row, Setting, drawn, runs
 from classroom.core import lab as labs
-from classroom.core import bounds, networks
+from classroom.core import bounds, limits, networks
 from classroom.core.answering import answerer
 from classroom.core.bounds import MOVES
 from classroom.core.counts import positive
@@ -32,44 +33,48 @@ from classroom.run.daemons import Daemon, daemons
 
 COLUMNS = [each.name for each in fields(Row)]
 CHUNK = 20  # runs of a task
-OTHER = "--csv names another file; the same words go on with the table"
+OTHER = "name another file by --csv; the same command continues this table"
 DIES = 1  # prctl's PR_SET_PDEATHSIG
 Key = tuple[str, int, str, str, int]
 
 
 def sizes(word: str) -> range:
-    """Returns the numbers of nodes that a word names: `A..B`, `A..B/STEP`, or one number."""
-    found = re.fullmatch(r"(\d+)(?:\.\.(\d+))?(?:/(\d+))?", word)
-    if not found or not 1 <= int(found[1]) <= int(found[2] or found[1]) <= networks.MOST_NODES or found[3] == "0":
-        raise argparse.ArgumentTypeError(f"{word} is no A..B within 1..{networks.MOST_NODES}, or A..B/STEP")
-    return range(int(found[1]), int(found[2] or found[1]) + 1, int(found[3] or 1))
+    """Returns the numbers of nodes in an argument: `A..B`, `A..B/STEP`, or one number. If the programs aren't built yet,
+    `settings` compares the greatest with the limit."""
+    found, known = re.fullmatch(r"(\d+)(?:\.\.(\d+))?(?:/(\d+))?", word), limits.known()
+    least, most = (int(found[1]), int(found[2] or found[1])) if found else (0, 0)
+    if not found or not 1 <= least <= most <= (known.nodes if known else most) or found[3] == "0":
+        raise argparse.ArgumentTypeError(f"{word} isn't A..B or A..B/STEP with numbers from 1{f' to {known.nodes}' if known else ' on'}")
+    return range(least, most + 1, int(found[3] or 1))
 
 
 def add_words(words: argparse.ArgumentParser) -> None:
-    """Adds the words of `experiment`."""
+    """Adds the arguments of `experiment`."""
     words.add_argument("--family", default="path,cycle,random", metavar="F,..",
-                       help=f"{networks.NAMED}, or random of 1.5 links a node (path,cycle,random)")
-    words.add_argument("--nodes", type=sizes, default=range(4, 17), metavar="A..B", help="how many nodes; A..B/STEP leaves some out (4..16)")
+                       help=f"{networks.NAMED}; random without numbers has 1.5 links for each node (path,cycle,random)")
+    words.add_argument("--nodes", type=sizes, default=range(4, 17), metavar="A..B", help="the numbers of nodes; with A..B/STEP each STEP-th number (4..16)")
     words.add_argument("--daemon", type=daemons, default=[Daemon("central"), Daemon("synchronous")], metavar="D,..",
                        help="central, synchronous, random:P, schedule and adversary, which make runs long, and every:S and when-idle:S, where a node "
                        "asks after a second on average (central,synchronous)")
     words.add_argument("--start", choices=networks.STARTS, default="random", help="registers at the beginning (random)")
     words.add_argument("--runs", type=positive, default=20, metavar="K",
-                       help="runs of each family, size and daemon (20)")
-    words.add_argument("--seed", type=int, default=1, help="the first run's; each further run has the next (1)")
-    words.add_argument("--csv", default="experiment.csv", metavar="FILE", help="a row a run; one that is there already is gone on with")
-    words.add_argument("--plot", metavar="FILE.svg", help="the chart")
-    words.add_argument("--dark", action="store_true", help="the chart in the colours of a dark page")
+                       help="the number of runs for each family, size and daemon (20)")
+    words.add_argument("--seed", type=int, default=1, help="the seed of the first run; each further run has the next one (1)")
+    words.add_argument("--csv", default="experiment.csv", metavar="FILE",
+                       help="the table, one row for each run; if the file exists, the missing runs are added")
+    words.add_argument("--plot", metavar="FILE.svg", help="draw a chart")
+    words.add_argument("--dark", action="store_true", help="draw the chart in the colours of a dark page")
     parts.add_words(words, "runs", "tables")
-    words.add_argument("--at-once", type=positive, help="how many processes (as many as processors)")
+    words.add_argument("--at-once", type=positive, help="the number of processes (as many as processors)")
     words.set_defaults(work=experiment)
 
 
 def settings(words: argparse.Namespace) -> list[Setting]:
-    """Returns each family at each size under each daemon; a size at which a family has no network is left out."""
+    """Returns the setting of each family, size and daemon. Leaves out sizes for which a family has no network."""
     for how in words.daemon:
         if how.kind == "by-hand":
-            raise Fault("--daemon by-hand: nobody is here to close a step")
+            raise Fault("--daemon by-hand: an experiment has nobody to close steps; name another daemon")
+    networks.within(words.nodes[-1])
     found = []
     for family in words.family.split(","):
         for nodes in words.nodes if not family.startswith(SIZED) else [0]:
@@ -87,37 +92,37 @@ def settings(words: argparse.Namespace) -> list[Setting]:
 
 
 def links_of(nodes: int) -> int:
-    """Returns how many links a random network gets: three for two nodes, but at least those of a tree, and at most
-    all."""
+    """Returns the number of links of a random network: three for two nodes, but at least those of a tree, and at
+    most all."""
     return max(nodes - 1, min(3 * nodes // 2, nodes * (nodes - 1) // 2))
 
 
 def row_of(words: dict[str, str]) -> Row:
-    """Returns the run's row in the cells of a line, by their heads."""
+    """Returns the row with these cells."""
     numbers = {name: int(words[name]) for name in ("nodes", "links", "seed", "moves", "closes", "rounds")}
     return Row(family=words["family"], daemon=words["daemon"], start=words["start"], stable=words["stable"] == "true", **numbers)
 
 
 def read_rows(path: Path) -> list[Row]:
-    """Returns the rows that are there already. A torn last line is taken away."""
+    """Returns the rows of the table if it exists. Removes an incomplete last line from the file."""
     if not path.exists():
         return []
     text = path.read_text(encoding="utf-8")
     whole = text[:text.rfind("\n") + 1]
     reader = csv.DictReader(io.StringIO(whole))
     if whole and reader.fieldnames != COLUMNS:
-        raise Fault(f"{path} is no table of an experiment, and isn't overwritten: --csv names another file")
+        raise Fault(f"{path} isn't the table of an experiment, so it isn't overwritten: name another file by --csv")
     try:
         rows = [row_of(each) for each in reader]
     except (ValueError, TypeError, KeyError):
-        raise Fault(f"{path}: line {reader.line_num} is no row of an experiment") from None
+        raise Fault(f"{path}: line {reader.line_num} isn't a row of an experiment") from None
     if whole != text:
         path.write_text(whole, encoding="utf-8")
     return rows
 
 
 def key(row: Row) -> Key:
-    """Returns the values that distinguish a run from others."""
+    """Returns the values that identify a run."""
     return row.family, row.nodes, row.daemon, row.start, row.seed
 
 
@@ -127,17 +132,16 @@ def line_of(row: Row) -> str:
     return ",".join(values) + "\n"
 
 
-def ends_with_parent() -> None:
-    """Has this worker process end with its parent, and leave an interrupt to the parent."""
+def follow_parent() -> None:
+    """Makes this worker process end with its parent, and ignore interrupts."""
     ctypes.CDLL(None).prctl(DIES, signal.SIGKILL, 0, 0, 0)
     signal.signal(signal.SIGINT, signal.SIG_IGN)
 
 
-def measured(tasks: list[tuple[Setting, list[int]]], at_once: int) -> Iterator[tuple[Row, bytes]]:
-    """Yields each run with its script, when its task is done, by so many processes, which are killed if this ends
-    early."""
+def measure(tasks: list[tuple[Setting, list[int]]], at_once: int) -> Iterator[tuple[Row, bytes]]:
+    """Yields each run with its script as its task ends. Uses so many processes, and kills them if it ends early."""
     context = multiprocessing.get_context("fork")
-    with concurrent.futures.ProcessPoolExecutor(at_once, context, ends_with_parent) as pool:
+    with concurrent.futures.ProcessPoolExecutor(at_once, context, follow_parent) as pool:
         going = [pool.submit(runs, *task) for task in tasks]
         try:
             for each in concurrent.futures.as_completed(going):
@@ -149,8 +153,8 @@ def measured(tasks: list[tuple[Setting, list[int]]], at_once: int) -> Iterator[t
             raise
 
 
-def keep_news(path: Path, row: Row, script: bytes) -> Path:
-    """Keeps a run that breaks what is proved, whole: its lab, script and row. Returns the folder."""
+def save_counterexample(path: Path, row: Row, script: bytes) -> Path:
+    """Saves a run that exceeds a proved bound: its lab, script and row. Returns the folder."""
     folder = path.with_name(f"{path.stem}-broken") / f"{row.family.replace(':', '-')}-{row.nodes}-{row.daemon.replace(':', '-')}-{row.seed}"
     folder.mkdir(parents=True, exist_ok=True)
     how = Daemon.of(row.daemon)
@@ -161,14 +165,14 @@ def keep_news(path: Path, row: Row, script: bytes) -> Path:
 
 
 class Progress:
-    """How far it is, on a terminal."""
+    """The progress line on a terminal."""
 
     def __init__(self, of: int) -> None:
         self.of, self.done, self.begun, self.due = of, 0, time.monotonic(), 0.0
         self.shown = sys.stderr.isatty()
 
-    def one(self) -> None:
-        """Counts one more run, and shows on a terminal how far it is, twice a second at most and at the end."""
+    def advance(self) -> None:
+        """Counts one more run. On a terminal, shows the progress, at most twice a second and at the end."""
         self.done += 1
         now = time.monotonic()
         if self.shown and (now >= self.due or self.done == self.of):
@@ -178,8 +182,9 @@ class Progress:
 
 
 def table(rows: list[Row]) -> str:
-    """Returns a row for each family, daemon and number of nodes: its runs, and the median, the greatest and the bound of
-    moves and of rounds. A line for each family and daemon says which run came closest to its bound."""
+    """Returns a row for each family, daemon and number of nodes: the number of runs, and the median, the maximum
+    and the bound of moves and of rounds. For each family and daemon, one more line names the runs that came
+    closest to their bounds."""
     lines = [f"{'family':10} {'daemon':14} {'nodes':>5} {'runs':>6}  moves: median, greatest, bound  rounds: median, greatest, bound"]
     groups: dict[tuple[str, str], list[Row]] = {}
     for row in rows:
@@ -195,54 +200,54 @@ def table(rows: list[Row]) -> str:
 
 
 def spread(counts: list[int], bound: int) -> str:
-    """Returns the median and the greatest of some counts, and their bound."""
+    """Returns the median and the maximum of some counts, and their bound, as text."""
     return f"{statistics.median(counts):>13g} {max(counts):9} {bound:6}"
 
 
 def closest(family: str, daemon: str, own: list[Row]) -> str:
-    """Returns which runs came closest to the bounds of their networks."""
-    (_, by_moves, moves, most_moves), (_, by_rounds, rounds, most_rounds) = chart.worst(own)
+    """Returns the line about the runs that came closest to the bounds of their networks."""
+    (_, by_moves, moves, most_moves), (_, by_rounds, rounds, most_rounds) = chart.closest_to_bounds(own)
     return (f"{family:10} {daemon:14} closest to the bound {MOVES}: {moves} of {most_moves} moves (n {by_moves.nodes}, seed {by_moves.seed}); "
             f"to that of rounds: {rounds} of {most_rounds} (n {by_rounds.nodes}, seed {by_rounds.seed})")
 
 
-def new_file(path: Path) -> None:
-    """Writes a table without rows, if there is none."""
+def make_table(path: Path) -> None:
+    """Writes a table without rows if there is none."""
     if not path.exists() or path.stat().st_size == 0:
         path.write_text(",".join(COLUMNS) + "\n", encoding="utf-8")
 
 
 def key_of(it: Setting, seed: int) -> Key:
-    """Returns the values that distinguish a run from the others, before it is made."""
+    """Returns the values that identify a run before it is made."""
     return it.family, it.nodes, it.daemon.spelled(), it.start, seed
 
 
-def settle(path: Path, rows: list[Row]) -> None:
-    """Writes the table in its order, which doesn't depend on what was measured first, or by which part."""
+def write_sorted(path: Path, rows: list[Row]) -> None:
+    """Writes all rows in their order, which doesn't depend on the order in which they were measured."""
     new = path.with_name(f"{path.name}.new")
     new.write_text(",".join(COLUMNS) + "\n" + "".join(map(line_of, sorted(rows, key=key))), encoding="utf-8")
     new.replace(path)
 
 
 def merge(words: argparse.Namespace, asked: set[Key]) -> int:
-    """Joins the tables of all parts, and draws all of it. Returns the exit status."""
+    """Joins the tables of all parts, prints the result and draws the chart. Returns the exit status."""
     rows: dict[Key, Row] = {key(row): row for row in read_rows(Path(words.csv))}
     for file in map(Path, words.merge):
         if not file.exists():
             raise Fault(f"{file}: no such file", FAILED)
         for row in read_rows(file):
             if rows.setdefault(key(row), row) != row:
-                raise Fault(f"{file}: another table has this run with other numbers: {line_of(row).strip()}", FAILED)
-    with named(words.csv, OTHER):
-        settle(Path(words.csv), list(rows.values()))
-    broken = [row for row in rows.values() if row.breaks()]
+                raise Fault(f"{file}: this run is in another table with different numbers: {line_of(row).strip()}", FAILED)
+    with naming_file(words.csv, OTHER):
+        write_sorted(Path(words.csv), list(rows.values()))
+    broken = [row for row in rows.values() if row.exceeds_bounds()]
     own = sorted((row for row in rows.values() if key(row) in asked), key=key)
-    told(own, len(asked), words, [Path(f"{words.csv}: {line_of(row).strip()}") for row in broken])
+    print_results(own, len(asked), words, [Path(f"{words.csv}: {line_of(row).strip()}") for row in broken])
     return WARNED if broken or len(own) < len(asked) else 0
 
 
-def left(every: list[Setting], seeds: range, done: set[Key]) -> list[tuple[Setting, list[int]]]:
-    """Returns the runs that aren't in the table yet, some in each task; large networks first."""
+def missing(every: list[Setting], seeds: range, done: set[Key]) -> list[tuple[Setting, list[int]]]:
+    """Returns the runs that aren't in the table yet, as tasks of several runs each. Large networks come first."""
     tasks = []
     for it in sorted(every, key=lambda setting: -setting.nodes):
         more = [seed for seed in seeds if key_of(it, seed) not in done]
@@ -250,21 +255,21 @@ def left(every: list[Setting], seeds: range, done: set[Key]) -> list[tuple[Setti
     return tasks
 
 
-def told(own: list[Row], asked: int, words: argparse.Namespace, broken: list[Path]) -> None:
-    """Prints the table, and whether all is within what is proved; writes the chart, if one is asked for."""
+def print_results(own: list[Row], asked: int, words: argparse.Namespace, broken: list[Path]) -> None:
+    """Prints the table, and whether all runs are within the proved bounds. Draws the chart if one is asked for."""
     if own:
         print(table(own))
-    print(f"NEWS: {len(broken)} runs break what is proved; kept whole: {', '.join(map(str, broken))}" if broken else
-          f"{len(own)} of {asked} runs, all within what is proved; table: {words.csv}")
+    print(f"NEWS: {len(broken)} runs exceed a proved bound; their folders are: {', '.join(map(str, broken))}" if broken else
+          f"{len(own)} of {asked} runs, all within the proved bounds; table: {words.csv}")
     if own and words.plot:
-        with named(words.plot, "--plot names another file, and the same words draw what is in the table"):
+        with naming_file(words.plot, "name another file by --plot: the same command draws the table"):
             Path(words.plot).write_text(chart.chart(own, colours.DARK if words.dark else colours.LIGHT), encoding="utf-8")
         print(f"chart: {words.plot}")
 
 
 @contextlib.contextmanager
-def named(file: str, remedy: str) -> Iterator[None]:
-    """Raises a fault that names the file, and what helps, if it couldn't be written."""
+def naming_file(file: str, remedy: str) -> Iterator[None]:
+    """Turns an `OSError` into a fault that names the file and a remedy."""
     try:
         yield
     except OSError as error:
@@ -272,7 +277,7 @@ def named(file: str, remedy: str) -> Iterator[None]:
 
 
 def experiment(words: argparse.Namespace) -> int:
-    """Runs what isn't in the table yet, and draws all of it."""
+    """Runs what isn't in the table yet, prints all of it, and draws the chart. Returns the exit status."""
     answerer()
     every, path = settings(words), Path(words.csv)
     seeds = range(words.seed, words.seed + words.runs)
@@ -282,29 +287,29 @@ def experiment(words: argparse.Namespace) -> int:
     asked = set(parts.of(order, words.part))
     rows = read_rows(path)
     done = {key(row) for row in rows}
-    with named(words.csv, OTHER):
-        new_file(path)
+    with naming_file(words.csv, OTHER):
+        make_table(path)
     if asked & done:
         print(f"{len(asked & done)} runs are in {path} already")
-    tasks = left(every, seeds, done | (set(order) - asked))
+    tasks = missing(every, seeds, done | (set(order) - asked))
     progress = Progress(sum(len(task[1]) for task in tasks))
     broken: list[Path] = []
     interrupted = False
     try:
-        with named(words.csv, OTHER), path.open("a", encoding="utf-8") as it:
-            for row, script in measured(tasks, words.at_once or os.cpu_count() or 1):
+        with naming_file(words.csv, OTHER), path.open("a", encoding="utf-8") as it:
+            for row, script in measure(tasks, words.at_once or os.cpu_count() or 1):
                 rows.append(row)
                 it.write(line_of(row))
                 it.flush()
-                if row.breaks():
-                    broken.append(keep_news(path, row, script))
-                progress.one()
+                if row.exceeds_bounds():
+                    broken.append(save_counterexample(path, row, script))
+                progress.advance()
     except KeyboardInterrupt:
         interrupted = True
-    with named(words.csv, OTHER):
-        settle(path, rows)
-    told(sorted((row for row in rows if key(row) in asked), key=key), len(asked), words, broken)
+    with naming_file(words.csv, OTHER):
+        write_sorted(path, rows)
+    print_results(sorted((row for row in rows if key(row) in asked), key=key), len(asked), words, broken)
     if interrupted:
-        print("interrupted; the same words go on with it")
+        print("interrupted; run the same command again to continue")
         return FAILED
     return WARNED if broken else 0

@@ -1,4 +1,4 @@
-"""`./class grade`: each bot over many labs, daemons and seeds."""
+"""`./class grade`: tries each bot with many labs, daemons and seeds."""
 from __future__ import annotations
 
 import argparse
@@ -15,10 +15,10 @@ from pathlib import Path
 
 from classroom.bots import graded, parts, seen, suites
 from classroom.bots.attempt import Limits, Seen
-from classroom.bots.bots import Bot, no_worlds
+from classroom.bots.bots import Bot, namespaces_refusal
 from classroom.bots.playing import OWN_RULE
 from classroom.bots.suites import Case
-from classroom.bots.trial import Result, tried
+from classroom.bots.trial import Result, try_bot
 from classroom.core.answering import answerer
 from classroom.core.counts import positive, seconds
 from classroom.core.folders import new_folder
@@ -35,22 +35,24 @@ SPARING = 9  # times as long as writing took they aren't written, if it takes lo
 
 
 def add_words(words: argparse.ArgumentParser) -> None:
-    """Adds the words of `grade`."""
+    """Adds the arguments of `grade`."""
     words.add_argument("bots", nargs="+", metavar="BOT",
-                       help="a command, to which a slip's path is added: 'python3 bot.py'; of bot.py, Bot.java or bot.js alone the file")
+                       help="a command, such as 'python3 bot.py'; the path of a slip is added to it. For bot.py, Bot.java and bot.js the name of the "
+                            "file is enough")
     cases = words.add_mutually_exclusive_group()
-    cases.add_argument("--suite", choices=sorted(suites.SUITES), default="small", help="cases that come with the release (small)")
-    cases.add_argument("--labs", metavar="FOLDER", help="your own labs")
-    words.add_argument("--daemon", type=daemons, metavar="D,..", help="instead of the suite's: central, synchronous, random:P, ..")
-    words.add_argument("--seeds", type=positive, default=1, metavar="K", help="each case with the seeds 1 to K (1)")
-    words.add_argument("--timeout", type=seconds, default=20.0, metavar="SECONDS", help="what a case may take (20)")
+    cases.add_argument("--suite", choices=sorted(suites.SUITES), default="small", help="a set of cases that comes with the release (small)")
+    cases.add_argument("--labs", metavar="FOLDER", help="a folder of your own labs, in place of a suite")
+    words.add_argument("--daemon", type=daemons, metavar="D,..", help="use these daemons in place of the suite's: central, synchronous, random:P, ..")
+    words.add_argument("--seeds", type=positive, default=1, metavar="K", help="try each case with the seeds 1 to K (1)")
+    words.add_argument("--timeout", type=seconds, default=20.0, metavar="SECONDS", help="the longest time for a case (20)")
     words.add_argument("--memory", type=positive, default=512, metavar="MB",
-                       help="what a bot may take, with all that it starts (512)")
-    words.add_argument("--at-once", type=positive, help="how many cases run side by side")
-    words.add_argument("--own-rule", action="store_true", help="no look shows a bot the enabled rule, so that it has to decide by itself")
-    words.add_argument("--show", action="append", default=[], metavar="FOLDER", help="what bots may read beside their own folders and programs")
-    words.add_argument("--not-apart", action="store_true", help="bots run one after another, as you, and see your files")
-    words.add_argument("--into", default="grades", help="where the cases' records and pages are kept (grades)")
+                       help="the most memory for a bot and all processes that it starts (512)")
+    words.add_argument("--at-once", type=positive, help="the number of cases that run at the same time")
+    words.add_argument("--own-rule", action="store_true", help="don't show the enabled rule in looks, so that a bot has to decide by itself")
+    words.add_argument("--show", action="append", default=[], metavar="FOLDER",
+                       help="a folder that bots may read, in addition to their own folders and programs")
+    words.add_argument("--not-apart", action="store_true", help="run bots one after another, as your user, so that they can read your files")
+    words.add_argument("--into", default="grades", help="the folder for the records and pages of the cases (grades)")
     for form, what in (("json", "a list of cases"), ("junit", "JUnit's form"), ("gradescope", "Gradescope's form")):
         words.add_argument(f"--{form}", metavar="FILE", help=what)
     parts.add_words(words, "cases", "files of --json")
@@ -58,14 +60,14 @@ def add_words(words: argparse.ArgumentParser) -> None:
 
 
 def folder_of(top: Path, bot: Bot, case: Case) -> Path:
-    """Returns the folder in which a case's record is kept."""
+    """Returns the folder for a case's record."""
     plain = [re.sub(r"[^A-Za-z0-9._:-]+", "-", word).strip(".-") or "bot" for word in (bot.name, case.name())]
     return top / plain[0] / plain[1]
 
 
 @contextmanager
 def own_room() -> Iterator[Path]:
-    """Yields a new folder, which goes with all that a bot made in it, however deep that is. No link is followed."""
+    """Yields a new folder. Removes it at the end with all that a bot made in it, at any depth. Follows no link."""
     folder = Path(tempfile.mkdtemp(prefix="bot-"))
     ROOMS.add(folder)
     try:
@@ -81,21 +83,22 @@ def own_room() -> Iterator[Path]:
 
 def results_of(bots: list[Bot], cases: list[Case], words: argparse.Namespace, top: Path, stop: threading.Event,
                seen_by: dict[str, Seen] | None = None) -> Iterator[Result]:
-    """Yields the result of each case of each bot as it ends, and none of a case that was interrupted. Bots run side by
-    side if it is known what each sees, and else one after another."""
+    """Yields the result of each bot in each case as it ends, but none of a case that was interrupted. Bots run at
+    the same time if `seen_by` says what each of them sees, and else one after another."""
     limits = Limits(words.timeout, words.memory, words.own_rule)
     at_once = words.at_once or min(MOST_AT_ONCE, 3 * (os.cpu_count() or 1))
 
     def one(bot: Bot, case: Case) -> Result | None:
-        """Returns how a bot does in a case, failed if no folder can be made for it, or None if it was interrupted."""
+        """Returns how a bot did in a case, or None if it was interrupted. The bot fails if no folder can be made
+        for it."""
         if stop.is_set():
             return None
         why = "not tried: "
         try:
             with own_room() as room:
-                return tried(bot, case, limits, room, folder_of(top, bot, case), stop, seen_by[bot.name] if seen_by else None)
+                return try_bot(bot, case, limits, room, folder_of(top, bot, case), stop, seen_by[bot.name] if seen_by else None)
         except OSError as error:
-            why += f"{error.filename or tempfile.gettempdir()}: {error.strerror}; TMPDIR names another folder"
+            why += f"{error.filename or tempfile.gettempdir()}: {error.strerror}; name another folder by the variable TMPDIR"
         except Exception as error:  # It takes no other result away.
             why += f"{type(error).__name__}: {error}"
         return Result(bot.name, case.lab, case.daemon.spelled(), case.seed, False, why)
@@ -110,29 +113,30 @@ def results_of(bots: list[Bot], cases: list[Case], words: argparse.Namespace, to
 
 
 def kept_apart(bots: list[Bot], words: argparse.Namespace, top: Path) -> dict[str, Seen] | None:
-    """Returns what each bot sees, or None, and prints a line, if the system doesn't keep them apart."""
-    why = "--not-apart" if words.not_apart else no_worlds()
+    """Returns what each bot sees. If the system doesn't keep bots apart, prints a line and returns None."""
+    why = "--not-apart" if words.not_apart else namespaces_refusal()
     if why:
-        print(f"class: bots aren't kept apart ({printable(why)}): they run one after another, as you, and see your files (docs/COURSE.md)", flush=True)
+        print(f"class: bots aren't kept apart ({printable(why)}): they run one after another, with your rights, and see your files "
+              "(docs/COURSE.md)", flush=True)
         return None
     into = Path(words.into).resolve()
     more = [Path(each).resolve() for each in words.show]
     for folder in more:
-        if not folder.exists() or seen.holds(folder, [Path(tempfile.gettempdir())]):
-            raise Fault(f"--show {folder}: a folder that is there, and not above that of temporary files")
+        if not folder.exists() or seen.contains_any(folder, [Path(tempfile.gettempdir())]):
+            raise Fault(f"--show {folder}: name an existing folder that doesn't contain the folder of temporary files")
     found = {}
     for bot in bots:
         others = [other.words for other in bots if other is not bot]
-        results = top.resolve() if seen.holds(into, seen.files_of(bot.words)) else into
+        results = top.resolve() if seen.contains_any(into, seen.files_of(bot.words)) else into
         found[bot.name] = seen.shown(bot.words, more), seen.hidden(bot.words, others, results)
     return found
 
 
 class Written:
-    """The results so far, in the order of bots and cases, and the files that have them."""
+    """The results so far, in the order of bots and cases, and the files that they are written to."""
 
     def __init__(self, words: argparse.Namespace, bots: list[Bot], cases: list[Case], results: list[Result]) -> None:
-        """`results` are those of bots that can't be run."""
+        """`results` has the results of bots that can't be run."""
         self.files = {form: Path(getattr(words, form)) for form in graded.FORMS if getattr(words, form)}
         pairs = [(bot.name, case.name()) for bot in bots for case in cases]
         self.order = {pair: index for index, pair in enumerate(pairs)}
@@ -140,7 +144,7 @@ class Written:
         self.next = 0.0  # when they are written again
 
     def add(self, result: Result) -> None:
-        """Writes the results with one more. If that takes long, they are written now and then."""
+        """Adds a result, and writes all results. If writing takes long, writes only now and then."""
         self.results.append(result)
         begun = time.monotonic()
         if begun >= self.next:
@@ -149,35 +153,36 @@ class Written:
             self.next = time.monotonic() + SPARING * taken * (taken > LONG)
 
     def write(self) -> list[str]:
-        """Writes the results in the forms that were asked for. Returns a line for each that couldn't be written."""
-        self.results.sort(key=lambda result: self.order[result.bot, graded.named(result)])
+        """Writes the results in all forms that were asked for. Returns an error line for each file that couldn't
+        be written."""
+        self.results.sort(key=lambda result: self.order[result.bot, graded.case_name(result)])
         faults = []
         for form, file in self.files.items():
             try:
                 graded.write(form, file, self.results)
             except Fault as fault:
-                faults.append(f"{fault}; what stood there stays: make room, or name another file")
+                faults.append(f"{fault}; the old file is unchanged: make room, or name another file")
         return faults
 
 
-def tell_each(found: Iterator[Result], written: Written) -> None:
-    """Prints and writes each result as it comes. Says once that a record isn't kept."""
+def print_and_write(found: Iterator[Result], written: Written) -> None:
+    """Prints and writes each result as it comes. Prints once that a record couldn't be kept."""
     full = False
     for result in found:
         written.add(result)
-        print(graded.told(result), flush=True)
+        print(graded.result_line(result), flush=True)
         if result.unkept and not full:
-            print(f"class: {printable(result.unkept)}; --into names another folder", flush=True)
+            print(f"class: {printable(result.unkept)}; name another folder by --into", flush=True)
         full = full or bool(result.unkept)
 
 
 def interruptible() -> threading.Event:
-    """Returns the event that an interrupt sets. After a second one all is killed, whatever is waited for, and the
-    results are written."""
+    """Returns an event that is set by an interrupt. A second interrupt kills all bots at once and ends this
+    process."""
     stop, first = threading.Event(), threading.Event()
 
     def interrupt(*_: object) -> None:
-        """Sets it, or ends at once."""
+        """Sets the event, or ends this process at the second call."""
         if first.is_set():
             end_at_once(FAILED, list(ROOMS))
         first.set()
@@ -189,7 +194,7 @@ def interruptible() -> threading.Event:
 
 
 def numbered(bots: list[Bot]) -> list[Bot]:
-    """Returns the bots, of which all but the first of a name have a number after it."""
+    """Returns the bots, with a number after each name that occurred before."""
     names: dict[str, int] = {}
     found = []
     for bot in bots:
@@ -200,7 +205,7 @@ def numbered(bots: list[Bot]) -> list[Bot]:
 
 
 def grade(words: argparse.Namespace) -> int:
-    """Tries each bot in each case. Returns the exit status."""
+    """Tries each bot in each case, and prints and writes the results. Returns the exit status."""
     program(), answerer()
     bots = numbered([Bot.of(word) for word in words.bots])
     faults: list[str] = []
@@ -224,7 +229,7 @@ def grade(words: argparse.Namespace) -> int:
                for bot in bots for case in cases if bot.fault]
     written = Written(words, bots, cases, results)
     try:
-        tell_each(results_of(runnable, cases, words, top, stop, seen_by), written)
+        print_and_write(results_of(runnable, cases, words, top, stop, seen_by), written)
     finally:
         stop.set()
         unwritten = written.write()

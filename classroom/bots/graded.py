@@ -1,4 +1,4 @@
-"""The results of a grade: a table for people, and the forms that autograders read."""
+"""The results of a grade: a table for people, and the file formats of autograders."""
 from __future__ import annotations
 
 import json
@@ -16,26 +16,26 @@ NEVER = "not tried: it can't be started"
 ABOUT = ("bot", "lab", "daemon", "seed", "passed", "why", "moves", "denied")
 
 
-def named(result: Result) -> str:
-    """Returns a case's name, as `Case.name` has it."""
+def case_name(result: Result) -> str:
+    """Returns the name of a result's case, as `Case.name` returns it."""
     return f"{result.lab} {result.daemon} {result.seed}"
 
 
 def as_json(results: list[Result]) -> str:
-    """Returns the results as JSON, a list of cases."""
+    """Returns the results as a JSON list of cases."""
     cases = [{key: value for key, value in asdict(result).items() if key in ABOUT} for result in results]
     return json.dumps(cases, indent=1, ensure_ascii=False) + "\n"
 
 
 def as_junit(results: list[Result]) -> str:
-    """Returns the results in JUnit's form: a suite a bot."""
+    """Returns the results in JUnit's format: a test suite for each bot."""
     top = ElementTree.Element("testsuites")
     for bot in dict.fromkeys(result.bot for result in results):
         own = [result for result in results if result.bot == bot]
         suite = ElementTree.SubElement(top, "testsuite", name=printable(bot), tests=str(len(own)),
                                        failures=str(sum(not result.passed for result in own)))
         for result in own:
-            case = ElementTree.SubElement(suite, "testcase", classname=printable(bot), name=named(result), time=str(result.seconds))
+            case = ElementTree.SubElement(suite, "testcase", classname=printable(bot), name=case_name(result), time=str(result.seconds))
             if not result.passed:
                 ElementTree.SubElement(case, "failure", message=printable(result.why))
     ElementTree.indent(top)
@@ -43,9 +43,9 @@ def as_junit(results: list[Result]) -> str:
 
 
 def as_gradescope(results: list[Result]) -> str:
-    """Returns the results in Gradescope's form: a point a case."""
+    """Returns the results in Gradescope's format: one point for each case."""
     tests: list[dict[str, Any]] = [
-        {"name": f"{result.bot}: {named(result)}", "score": int(result.passed), "max_score": 1,
+        {"name": f"{result.bot}: {case_name(result)}", "score": int(result.passed), "max_score": 1,
          "status": "passed" if result.passed else "failed", "output": printable(result.why) or "passed"}
         for result in results
     ]
@@ -56,7 +56,7 @@ FORMS: dict[str, Callable[[list[Result]], str]] = {"json": as_json, "junit": as_
 
 
 def write(form: str, path: Path, results: list[Result]) -> None:
-    """Writes a form into a file, which is whole or isn't changed."""
+    """Writes the results into a file. The old file is unchanged if that fails."""
     new = path.with_name(f"{path.name}.new")
     try:
         new.write_text(FORMS[form](results), encoding="utf-8")
@@ -66,16 +66,16 @@ def write(form: str, path: Path, results: list[Result]) -> None:
         raise Fault(f"{path}: {error.strerror}", 4) from None
 
 
-def told(result: Result) -> str:
-    """Returns a case as a line, and below it why it isn't passed."""
+def result_line(result: Result) -> str:
+    """Returns a result as a line, and the reason on a second line if the case isn't passed."""
     denied = ", ".join(f"{count} {word}" for word, count in result.denied.items())
     tail = "".join(f"; {it}" for it in (f"{result.moves} moves", denied) if it)
-    return printable(f"{'passed' if result.passed else 'FAILED'}  {result.bot}: {named(result)}{tail}"
+    return printable(f"{'passed' if result.passed else 'FAILED'}  {result.bot}: {case_name(result)}{tail}"
                      + (f"\n        {result.why}" if result.why else ""))
 
 
 def table(results: list[Result]) -> str:
-    """Returns how many of its cases each bot passed. Of one that was never started, returns that."""
+    """Returns a line for each bot: how many of its cases it passed, or that it was never started."""
     rows = []
     for bot in dict.fromkeys(result.bot for result in results):
         own = [result for result in results if result.bot == bot]

@@ -1,9 +1,9 @@
-"""Keeps a program within limits. The first line of standard input is a plan.
+"""Keeps a program within its limits. The first line of standard input is a plan.
 
-All that the program starts, whatever session it goes to, is this process's to end: it is ended when the program ends,
-when it takes more memory or room for files than it may or is more than 64 processes, or when standard input ends, which
-happens when the process that started this has gone.
-Then prints a line about how it ended: `ended STATUS`, or `killed REASON`.
+This process ends the program and all that it started, in whatever session, if the program ends, uses too much
+memory or too much room for files, or consists of more than 64 processes. It does so too if standard input ends, as
+it does when the process that started this one is gone. Then it prints how the program ended: `ended STATUS` or
+`killed REASON`.
 """
 from __future__ import annotations
 
@@ -36,7 +36,8 @@ Identity = tuple[int, int]
 
 @dataclass(frozen=True)
 class Plan:
-    """A program with its limits; of seconds 0 is none, and its student's own is kept within memory alone."""
+    """A program with its limits. With 0 seconds only its memory is limited, as for a student's own program at
+    home."""
 
     words: list[str]
     folder: str
@@ -47,7 +48,7 @@ class Plan:
 
     @staticmethod
     def read() -> Plan:
-        """Returns the plan that standard input begins with."""
+        """Returns the plan in the first line of standard input. Exits if there is none."""
         line = b""
         while not line.endswith(b"\n"):
             more = os.read(0, 1 << 16)
@@ -60,12 +61,12 @@ class Plan:
 
 
 def identity(of: os.stat_result) -> Identity:
-    """Returns the numbers that distinguish a file from all others."""
+    """Returns the numbers that identify a file."""
     return of.st_dev, of.st_ino
 
 
 def resident(process: int) -> int:
-    """Returns how many bytes a process has in memory, or 0 if it has ended."""
+    """Returns the resident memory of a process in bytes, or 0 if it has ended."""
     try:
         with open(f"/proc/{process}/statm", "rb") as it:
             return int(it.read().split()[1]) * resource.getpagesize()
@@ -73,8 +74,9 @@ def resident(process: int) -> int:
         return 0
 
 
-def nameless(process: int) -> dict[Identity, int]:
-    """Returns the bytes of the files without a name that a process holds, as those of `memfd_create`."""
+def sizes_of_unnamed_files(process: int) -> dict[Identity, int]:
+    """Returns the size in bytes of each unlinked file that a process has open, for example one from `memfd_create`, by
+    the identity of the file."""
     found = {}
     try:
         for each in os.scandir(f"/proc/{process}/fd"):
@@ -89,8 +91,8 @@ def nameless(process: int) -> dict[Identity, int]:
     return found
 
 
-def shared() -> int:
-    """Returns the bytes of the memory that processes share by number, in this namespace."""
+def shared_memory() -> int:
+    """Returns the size in bytes of all System V shared memory in this namespace."""
     try:
         rows = Path("/proc/sysvipc/shm").read_text(encoding="ascii").splitlines()
         return sum(int(row.split()[rows[0].split().index("rss")]) for row in rows[1:])
@@ -98,9 +100,9 @@ def shared() -> int:
         return 0
 
 
-def room_of(folder: str) -> int:
-    """Returns the bytes of all files of a folder. No link is followed; what lies too deep to be named counts as too
-    much."""
+def size_of_folder(folder: str) -> int:
+    """Returns the size in bytes of all files in a folder. Doesn't follow links. A path that is too long counts as
+    more than the limit."""
     total, left = 0, [folder]
     while left:
         try:
@@ -116,14 +118,14 @@ def room_of(folder: str) -> int:
     return total
 
 
-def room_here() -> int:
-    """Returns the bytes of all files of this namespace's own root."""
+def size_of_root() -> int:
+    """Returns the size in bytes of all files in this namespace's own root."""
     it = os.statvfs("/")
     return (it.f_blocks - it.f_bfree) * it.f_frsize
 
 
 def end_all() -> None:
-    """Ends all that descend from this process; they are stopped first, so that none is faster."""
+    """Kills all descendants of this process, until none is left."""
     while True:
         kill(below(os.getpid()))
         try:
@@ -134,9 +136,9 @@ def end_all() -> None:
         time.sleep(PAUSE)
 
 
-def limits(plan: Plan) -> None:
-    """Limits what the program's process, and each that it starts, may use, and begins a session for them; without
-    seconds there is no limit but on core files."""
+def apply_limits(plan: Plan) -> None:
+    """Limits what the program's process, and each that it starts, may use, and begins a new session for them.
+    Without seconds, only core files are limited."""
     resource.setrlimit(resource.RLIMIT_CORE, (0, 0))
     if plan.seconds:
         resource.setrlimit(resource.RLIMIT_CPU, (plan.seconds, plan.seconds + 1))
@@ -147,7 +149,7 @@ def limits(plan: Plan) -> None:
 
 
 class Watch:
-    """What a program takes, as it is looked at."""
+    """Measures what a program uses."""
 
     def __init__(self, plan: Plan) -> None:
         self.plan = plan
@@ -155,40 +157,42 @@ class Watch:
         self.seldom = 0.0
 
     def memory(self, every: set[int]) -> int:
-        """Returns the bytes that these processes have in memory."""
+        """Returns the memory of these processes in bytes."""
         if not self.plan.seconds:
             return sum(map(resident, every))
         own = os.stat("/").st_dev if self.plan.world else -1  # counted as room for files
         files: dict[Identity, int] = {}
         for process in every:
-            files |= nameless(process)
+            files |= sizes_of_unnamed_files(process)
         held = sum(size for it, size in files.items() if it != self.output and it[0] != own)
-        return sum(map(resident, every)) + held + (shared() if self.plan.world else 0)
+        return sum(map(resident, every)) + held + (shared_memory() if self.plan.world else 0)
 
-    def room(self) -> int:
-        """Returns the bytes of the files that the program made; of a folder of the host's it is seldom looked at."""
+    def files_size(self) -> int:
+        """Returns the size in bytes of the files that the program made. If they are in a folder of this machine,
+        which takes long to measure, returns 0 without measuring it within SELDOM seconds after the last time.
+        Always returns 0 if only memory is limited."""
         if self.plan.world:
-            return room_here()
+            return size_of_root()
         if not self.plan.seconds or time.monotonic() < self.seldom:
             return 0
-        found = room_of(self.plan.folder)
+        found = size_of_folder(self.plan.folder)
         self.seldom = time.monotonic() + SELDOM
         return found
 
     def fault(self) -> str:
-        """Returns the limit that is passed, or an empty text if none is."""
+        """Returns the limit that is exceeded, or an empty text."""
         every = below(os.getpid())
         if len(every) > MOST_PROCESSES:
             return f"more than {MOST_PROCESSES} processes"
         if self.memory(every) > self.plan.megabytes << 20:
             return f"more than {self.plan.megabytes} megabytes of memory"
-        if self.room() > FOLDER_MEGABYTES << 20:
+        if self.files_size() > FOLDER_MEGABYTES << 20:
             return f"more than {FOLDER_MEGABYTES} megabytes in files"
         return ""
 
 
-def watched(process: subprocess.Popen[bytes], fault: Callable[[], str]) -> str:
-    """Waits for its end, or for a reason to end it. Returns `ended STATUS`, or `killed REASON`."""
+def wait_for_end(process: subprocess.Popen[bytes], fault: Callable[[], str]) -> str:
+    """Waits until a process ends, or until there is a reason to end it. Returns `ended STATUS` or `killed REASON`."""
     while True:
         if select.select([sys.stdin], [], [], LOOK)[0] and not os.read(0, 4096):
             return "killed asked"
@@ -199,8 +203,8 @@ def watched(process: subprocess.Popen[bytes], fault: Callable[[], str]) -> str:
             return f"killed {why}"
 
 
-def kept(plan: Plan) -> str:
-    """Keeps the program. Returns how it ended."""
+def keep(plan: Plan) -> str:
+    """Runs the program within its limits. Returns how it ended."""
     if plan.world:
         try:
             apart.enter(plan.world, plan.folder, FOLDER_MEGABYTES, plan.channel)
@@ -208,22 +212,22 @@ def kept(plan: Plan) -> str:
             return f"killed no namespaces of its own: {error.filename}: {error.strerror}"
     reap_orphans()
     try:
-        process = subprocess.Popen(plan.words, stdin=subprocess.DEVNULL, preexec_fn=lambda: limits(plan))
+        process = subprocess.Popen(plan.words, stdin=subprocess.DEVNULL, preexec_fn=lambda: apply_limits(plan))
     except OSError as error:
         how = f"killed {plan.words[0]}: {error.strerror}"
     else:
-        how = watched(process, Watch(plan).fault)
+        how = wait_for_end(process, Watch(plan).fault)
     end_all()
     return how
 
 
 def main() -> None:
-    """Keeps the program, and prints how it ended."""
+    """Runs the program of the plan, and prints how it ended."""
     for number in (signal.SIGINT, signal.SIGHUP, signal.SIGTERM):
         signal.signal(number, signal.SIG_IGN)
     said = os.dup(1)
     os.dup2(2, 1)
-    how = kept(Plan.read())
+    how = keep(Plan.read())
     try:
         os.write(said, f"{how}\n".encode())
     except OSError:

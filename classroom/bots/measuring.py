@@ -1,4 +1,5 @@
-"""One run of an experiment: registers are set, a daemon lets nodes move, and each answer is the program's."""
+"""One run of an experiment: sets the registers, and lets a daemon choose the nodes that move. Each reply is the
+program's."""
 from __future__ import annotations
 
 import contextlib
@@ -21,7 +22,7 @@ SIZED = ("grid:", "random:")
 
 @dataclass(frozen=True)
 class Setting:
-    """What several runs have in common."""
+    """The values that several runs have in common."""
 
     family: str
     nodes: int
@@ -31,7 +32,7 @@ class Setting:
 
 @dataclass(frozen=True)
 class Row:
-    """The result of a run."""
+    """The result of a run: a row of the table."""
 
     family: str
     nodes: int
@@ -44,14 +45,14 @@ class Row:
     rounds: int
     stable: bool
 
-    def breaks(self) -> bool:
-        """Returns whether the run would be news: what is proved doesn't hold of it."""
+    def exceeds_bounds(self) -> bool:
+        """Returns whether the run contradicts a proved bound, or isn't stable at its end."""
         most = bounds.of(self.nodes, self.links)
         return not self.stable or self.moves > most.moves or self.rounds > most.rounds
 
 
 def drawn(setting: Setting, seed: int) -> labs.Lab:
-    """Returns the network and the registers of a run: the same for each daemon."""
+    """Returns the network and the registers of a run. They are the same for each daemon."""
     chance = random.Random(f"{setting.family} {setting.nodes} {setting.start} {seed}")
     count = None if setting.family.startswith(SIZED) else setting.nodes
     nodes, links = networks.family(setting.family, count, 0, chance)
@@ -60,19 +61,19 @@ def drawn(setting: Setting, seed: int) -> labs.Lab:
     return made
 
 
-def taker(how: Daemon, chance: random.Random) -> Callable[[Sequence[int]], int]:
-    """Returns who of several is married under a daemon: the lowest if it makes runs long, else one that is drawn."""
+def partner_chooser(how: Daemon, chance: random.Random) -> Callable[[Sequence[int]], int]:
+    """Returns the function that chooses a node's partner among those that point at it. It takes the lowest if the
+    daemon makes runs long, and else a random one."""
     if how.kind in SEARCHING:
         return min
     return chance.choice
 
 
 def run(bench: Bench, setting: Setting, made: labs.Lab, seed: int) -> Row:
-    """Runs from the registers to the stable end, or until there are more moves than there can be. Returns the run's
-    row."""
+    """Runs a network until it is stable, or until there are more moves than the bound. Returns the run's row."""
     named = f"{setting.family} {setting.nodes} {setting.start} {seed} {setting.daemon.spelled()}"
     chance = random.Random(named)
-    partner_of = taker(setting.daemon, chance)
+    partner_of = partner_chooser(setting.daemon, chance)
     report = bench.begin(made)
     recovery = Recovery(node for node, _ in report["privileged"])
     most = bounds.of_lab(made).moves
@@ -87,7 +88,7 @@ def run(bench: Bench, setting: Setting, made: labs.Lab, seed: int) -> Row:
 
 
 def runs(setting: Setting, seeds: list[int]) -> list[tuple[Row, bytes]]:
-    """Returns a row a seed, each with the script of the run if it would be news, and else with nothing."""
+    """Returns the row of each seed. A run that exceeds a bound has its script too."""
     bench: Bench | None = None
     rows: list[tuple[Row, bytes]] = []
     try:
@@ -98,7 +99,7 @@ def runs(setting: Setting, seeds: list[int]) -> list[tuple[Row, bytes]]:
                     bench.close()
                 bench = Bench(made)
             row = run(bench, setting, made, seed)
-            rows.append((row, bench.script() if row.breaks() else b""))
+            rows.append((row, bench.script() if row.exceeds_bounds() else b""))
     except (Denied, Refused) as error:
         raise Fault(f"{setting}: {error}", 4) from None
     finally:

@@ -1,4 +1,4 @@
-"""A part of many cases or runs, as several machines take one each, and the table of all parts: `--part K/N`, `--merge FILE..`."""
+"""Sharing cases or runs among several machines, and joining the results: `--part K/N`, `--merge FILE..`."""
 from __future__ import annotations
 
 import argparse
@@ -24,45 +24,45 @@ MOST_NAMED = 3  # cases that no part has
 
 
 def part(word: str) -> Part:
-    """Returns the number of a part and the number of parts that a word of the command line names, as `2/8`."""
+    """Returns the part that an argument names, as `2/8`: its number, and the number of parts."""
     found = re.fullmatch(r"(\d{1,6})/(\d{1,6})", word, re.ASCII)
     if not found or not 1 <= int(found[1]) <= int(found[2]):
-        raise argparse.ArgumentTypeError(f"{word} is no part: K/N, as 2/8, with K from 1 to N")
+        raise argparse.ArgumentTypeError(f"{word} isn't a part: write K/N with K from 1 to N, such as 2/8")
     return int(found[1]), int(found[2])
 
 
 def add_words(words: argparse.ArgumentParser, what: str, files: str) -> None:
-    """Adds the words of parts."""
+    """Adds the arguments `--part` and `--merge`."""
     either = words.add_mutually_exclusive_group()
-    either.add_argument("--part", type=part, metavar="K/N", help=f"only each N-th of the {what}, from the K-th on: N machines take a part each")
-    either.add_argument("--merge", nargs="+", metavar="FILE", help=f"run nothing: join the parts' {files}, as if one run had made them all")
+    either.add_argument("--part", type=part, metavar="K/N", help=f"do only each N-th of the {what}, from the K-th on, so that N machines can share the work")
+    either.add_argument("--merge", nargs="+", metavar="FILE", help=f"join the {files} of all parts, as if one run had made them, and run nothing")
 
 
 def of(every: Sequence[Each], which: Part | None) -> list[Each]:
-    """Returns each N-th of them from the K-th on, or all of them."""
+    """Returns each N-th item from the K-th on, or all items without a part."""
     return list(every) if which is None else list(every[which[0] - 1::which[1]])
 
 
 def results_in(file: Path) -> list[Result]:
-    """Returns the results of a file that `grade --json` wrote."""
+    """Returns the results in a file of `grade --json`."""
     try:
         cases = json.loads(plain.read(file, MOST))
         return [Result(**each) for each in cases]
     except (ValueError, TypeError, RecursionError):
-        raise Fault(f"{file}: it has no results of grade --json", FAILED) from None
+        raise Fault(f"{file}: this file has no results of grade --json", FAILED) from None
 
 
 def joined(files: Iterable[Path], order: Sequence[Case]) -> tuple[list[Result], list[Case]]:
-    """Returns the results of all parts in the order of one run, and the cases that no part has. A case that isn't one of this
-    run, or of which two parts have other results, is a fault."""
+    """Returns the results of all parts in the order of one run, and the cases that no part has. Raises `Fault` if
+    a case isn't one of this run, or if two parts have different results of it."""
     found: dict[Case, Result] = {}
     for file in files:
         for result in results_in(file):
-            case = result.bot, graded.named(result)
+            case = result.bot, graded.case_name(result)
             if case not in order:
-                raise Fault(f"{file}: {' '.join(case)} is no case of this grade: the words have to be those of the parts", FAILED)
+                raise Fault(f"{file}: {' '.join(case)} isn't a case of this command: name the same bots and options as for the parts", FAILED)
             if found.setdefault(case, result) != result:
-                raise Fault(f"{file}: another part has {' '.join(case)} with another result", FAILED)
+                raise Fault(f"{file}: {' '.join(case)} is also in another part, with a different result", FAILED)
     return [found[case] for case in order if case in found], [case for case in order if case not in found]
 
 
@@ -73,9 +73,9 @@ def merged(words: argparse.Namespace, order: Sequence[Case]) -> int:
         if getattr(words, form):
             graded.write(form, Path(getattr(words, form)), results)
     for result in results:
-        print(graded.told(result))
+        print(graded.result_line(result))
     print(graded.table(results))
     if missing:
         some = ", ".join(" ".join(case) for case in missing[:MOST_NAMED])
-        print(printable(f"class: {plural(len(missing), 'case')} without a result in any part: {some}{' ..' if len(missing) > MOST_NAMED else ''}"))
+        print(printable(f"class: no part has a result of {plural(len(missing), 'case')}: {some}{' ..' if len(missing) > MOST_NAMED else ''}"))
     return WARNED if missing or not all(result.passed for result in results) else 0

@@ -1,7 +1,7 @@
-"""A class without a server: programs of students play some nodes, the house plays the others, and a daemon closes
+"""A class without a server: students' programs play some nodes, the house plays the others, and a daemon closes
 steps.
 
-What is granted, denied, shown and reported is the program's answer, line by line.
+Each reply is the program's, line by line.
 """
 from __future__ import annotations
 
@@ -34,14 +34,15 @@ SHARED = 0.05  # how often the house asks at such a look for a node that a progr
 KEPT_LINES = 20_000  # of a conversation
 KEPT_ROWS = 2_000  # of a program's own page
 SHOWN, SHOWN_LINE = 40, 120  # characters of a word and of a line that was asked
-OWN_RULE = "no look shows a program the enabled rule (--own-rule): it has to decide by p, m and near, as STUDENT.md says"
+OWN_RULE = "with --own-rule no look shows the enabled rule: a program has to decide by p, m and near, as STUDENT.md says"
+MEMORY = b'{"refuse":"memory"}'
 RULE = re.compile(rb',"rule":"[a-z]+"}$')  # at the end of a look
 PATIENCE = 0.5  # seconds without a grant after which the random daemon tosses
 
 
 @dataclass
 class Heard:
-    """What a program asked, as far as it was answered."""
+    """What a program asked, and the replies that it got."""
 
     lines: int = 0
     asked: int = 0
@@ -58,7 +59,7 @@ class Heard:
 
 @dataclass(frozen=True)
 class No:
-    """A line that wasn't granted, and the program's reason."""
+    """A line that wasn't granted, and the reason."""
 
     who: str
     word: str
@@ -69,7 +70,7 @@ class No:
 
 @dataclass(frozen=True)
 class Step:
-    """A step that was closed: its number, who moved by which rule, and what the report says."""
+    """A closed step: its number, who moved by which rule, and the report after it."""
 
     at: int
     moved: list[tuple[int, str, str]]
@@ -77,7 +78,7 @@ class Step:
 
 
 def request_of(line: bytes) -> dict[str, Any]:
-    """Returns the values of the request that a line is; none if it is no object."""
+    """Returns the values of the request in a line, or none if it isn't an object."""
     try:
         asked = json.loads(line)
     except (ValueError, RecursionError):
@@ -86,18 +87,18 @@ def request_of(line: bytes) -> dict[str, Any]:
 
 
 def kind_of(asked: dict[str, Any], told: dict[str, Any]) -> str:
-    """Returns what a denial has in common with others, whatever the numbers are: what was asked, of a rule's guard also
-    the rule, and the denial."""
+    """Returns the kind of a denial, which is the same for all numbers: the request, the denial, and for a guard
+    also the rule."""
     what = " ".join(str(asked[key])[:SHOWN] for key in ("do", "rule")[: 2 if told["deny"] == "guard" else 1] if key in asked)
     return f"{what} is denied as {told['deny']}, clause {told['clause']}"
 
 
 class Playing:
-    """A lab that is played."""
+    """A lab in which programs and the house play."""
 
     def __init__(self, lab: labs.Lab, programs: list[str], daemon: Daemon, seed: str, port: int = 0, own_rule: bool = False) -> None:
-        """`programs` are the students that programs play; the house is all others. With `own_rule` no look shows them
-        the enabled rule."""
+        """Students' programs play `programs`, and the house plays all other students. With `own_rule` no look
+        shows a program the enabled rule."""
         self.lab, self.programs, self.daemon = lab, programs, daemon
         self.chance, self.pace_chance = random.Random(f"{seed} daemon"), random.Random(f"{seed} house")
         self.adversary = Adversary(seed, max)
@@ -112,7 +113,10 @@ class Playing:
         self.on_step: Callable[[Step], None] = lambda step: None
         self.own_rule = own_rule
         self.is_held = False  # whether no step is closed, whatever is chosen
+        self.links = lab.links  # as they are
         self.overtakes = 0  # moves that come next, before each of which a step is closed
+        self.turns = 0  # moves that come next, before each of which their node is changed so that another rule is enabled
+        self.short: Counter[str] = Counter()  # by `do` how many of the next lines are refused as if out of memory
         self.forestalls = False  # whether the house asks for a node at once before another owner of it does
         self.loses, self.has_lost = False, False  # whether the next granted move's reply is lost, and whether one was
         self.closes = self.moves = self.since_moves = 0
@@ -121,7 +125,7 @@ class Playing:
         try:
             self.program.greet(TEACHER, lab.teacher[0])
             self.report = self.program.ask(TEACHER, do="report")
-            self.relay = Relay(self.answer, self.part, range(FIRST, lab.sessions + 1), port)
+            self.relay = Relay(self.answer, self.say_bye, range(FIRST, lab.sessions + 1), port)
         except BaseException:
             self.program.close()
             raise
@@ -129,51 +133,71 @@ class Playing:
     # What programs ask.
 
     def answer(self, connection: int, line: bytes, paused: bool) -> bytes:
-        """Returns the reply that a program gets to a line that came, which is counted, or nothing if the reply is
-        lost."""
-        asked = request_of(line)
-        if asked.get("do") == "move" and asked.get("at") == self.report["at"]:
-            self.come_before(number_of(asked.get("node")))
-        reply = self.program.answers([(connection, line)])[0]
-        told = reply_of(reply)
-        self.program.keep(connection, line, told)
-        if told.get("ok") == "hello":
-            self.names[connection] = told["who"]
-            self.heard.setdefault(told["who"], Heard()).greeted += 1
-        who = self.names.get(connection, self.programs[0])
-        is_lost = self.loses and told.get("ok") == "move"
+        """Answers a program's line, and records it. Returns the reply that the program gets, or nothing if the
+        reply is to be lost."""
+        request = request_of(line)
+        if request.get("do") == "move" and request.get("at") == self.report["at"]:
+            self.interfere(number_of(request.get("node")), str(request.get("rule")))
+        raw = MEMORY if self.take_refusal(str(request.get("do"))) else self.program.answers([(connection, line)])[0]
+        reply = reply_of(raw)
+        self.program.keep(connection, line, reply)
+        who = self.speaker(connection, reply)
+        is_lost = self.take_loss(reply)
+        shown = b"" if is_lost else self.hide_rule(who, raw, reply)
+        self.log_conversation(connection, line, shown)
+        self.heard[who].conduct.take(request, {} if is_lost else reply, paused)
+        self.record_line(who, request, b"%d %s" % (connection, line), reply)
+        if reply.get("ok") == "bye":
+            self.forget(connection)
+        return shown
+
+    def speaker(self, connection: int, reply: dict[str, Any]) -> str:
+        """Returns the student of a connection, which a granted hello names. Without a hello, returns the first program."""
+        if reply.get("ok") == "hello":
+            self.names[connection] = reply["who"]
+            self.heard.setdefault(reply["who"], Heard()).greeted += 1
+        return self.names.get(connection, self.programs[0])
+
+    def take_loss(self, reply: dict[str, Any]) -> bool:
+        """Returns whether this reply is the granted move's that is to be lost, and notes that it was."""
+        is_lost = self.loses and reply.get("ok") == "move"
         if is_lost:
             self.loses, self.has_lost = False, True
-        given = b"" if is_lost else self.without_rule(who, reply, told)
-        self.converse(connection, line, given)
-        self.heard[who].conduct.line(asked, {} if is_lost else told, paused)
-        self.count(who, asked, b"%d %s" % (connection, line), told)
-        if told.get("ok") == "bye":
-            self.names.pop(connection, None)
-        return given
+        return is_lost
 
-    def come_before(self, node: int) -> None:
-        """Does what is to come before a move of a node, in mid-run."""
+    def take_refusal(self, do: str) -> bool:
+        """Uses up one of the refusals that are to come for such a request. Returns whether there was one."""
+        is_refused = self.short[do] > 0
+        self.short[do] -= is_refused
+        return is_refused
+
+    def interfere(self, node: int, rule: str) -> None:
+        """Does what is to happen between a program's look and its move: closes a step, changes the node, or lets
+        the house ask first."""
         if self.overtakes:
             self.overtakes -= 1
-            self.renew()
+            self.next_configuration()
+        elif self.turns and self.house_owner(node) is None:
+            self.turns -= 1
+            self.turn_to_another(node, rule)
         elif self.forestalls and node not in self.chosen and self.house_owner(node):
             self.house_move(node)
 
-    def without_rule(self, who: str, reply: bytes, told: dict[str, Any]) -> bytes:
-        """Returns a reply as a program gets it: with `own_rule` a look shows no enabled rule."""
+    def hide_rule(self, who: str, reply: bytes, told: dict[str, Any]) -> bytes:
+        """Returns a reply as the program gets it. With `own_rule`, a look shows no enabled rule, and it is counted
+        that one was hidden."""
         if not self.own_rule or told.get("ok") != "look" or told["rule"] is None:
             return reply
         self.heard[who].conduct.rules_hidden += 1
         return RULE.sub(b',"rule":null}', reply)
 
-    def converse(self, connection: int, line: bytes, reply: bytes) -> None:
-        """Keeps a line and its reply for the conversation, as far as that has room."""
+    def log_conversation(self, connection: int, line: bytes, reply: bytes) -> None:
+        """Appends a line and its reply to the conversation, unless that is full."""
         if len(self.conversation) < KEPT_LINES:
             self.conversation += [f"{connection} > {line.decode(errors='backslashreplace')}", f"{connection} < {reply.decode() or '(lost)'}"]
 
-    def count(self, who: str, asked: dict[str, Any], sent: bytes, told: dict[str, Any]) -> None:
-        """Counts a line of a student's program with its reply; `sent` has the connection before it."""
+    def record_line(self, who: str, asked: dict[str, Any], sent: bytes, told: dict[str, Any]) -> None:
+        """Records a line of a student's program and its reply. `sent` is the line after its connection's number."""
         heard, line = self.heard[who], sent.partition(b" ")[2]
         self.note_row(who, sent, told)
         heard.lines += 1
@@ -184,10 +208,10 @@ class Playing:
         if told.get("ok") == "move":
             heard.granted += 1
             heard.rules[told["rule"]] += 1
-            self.grant(told["node"], who, told["rule"])
+            self.note_grant(told["node"], who, told["rule"])
         elif "deny" in told:
             heard.denied[told["deny"]] += 1
-            self.on_no(No(who, told["deny"], self.explained(asked, told), kind_of(asked, told), sent))
+            self.on_no(No(who, told["deny"], self.explain_denial(asked, told), kind_of(asked, told), sent))
         elif "refuse" in told:
             heard.denied[told["refuse"]] += 1
             note = wrong(line.decode(errors="surrogateescape").replace("\r", " ")) if told["refuse"] == "malformed" else None
@@ -196,7 +220,7 @@ class Playing:
             self.on_no(No(who, told["refuse"], f"{text}: {line[:SHOWN_LINE].decode(errors='backslashreplace')}", kind, sent))
 
     def note_row(self, who: str, sent: bytes, told: dict[str, Any]) -> None:
-        """Keeps a move that was asked for, or a line that was denied or refused, with its place among the events."""
+        """Appends a requested move, or a line that was denied or refused, to the rows of the programs' own pages."""
         if told.get("ok") not in ("move", None) or len(self.rows) >= KEPT_ROWS:
             return
         connection, _, line = sent.partition(b" ")
@@ -206,15 +230,15 @@ class Playing:
         self.owners.append(who)
 
     def own_rows(self, who: str) -> list[Row]:
-        """Returns what a program asked for, in its order."""
+        """Returns the rows of one program, in their order."""
         return [row for row, owner in zip(self.rows, self.owners) if owner == who]
 
-    def explained(self, asked: dict[str, Any], told: dict[str, Any]) -> str:
-        """Returns a denial with its clause, the node's registers, and what would be granted there."""
+    def explain_denial(self, asked: dict[str, Any], told: dict[str, Any]) -> str:
+        """Returns a denial with its clause, the node's registers, and the rule that would be granted there."""
         what = " ".join(str(asked[key]) for key in ("do", "node", "rule", "with") if key in asked)
         text = f"{what} is denied as {told['deny']}, clause {told['clause']}: {told['text']}"
         if "at" in told:
-            text += f"; it was asked under {asked.get('at')}, and the number is {told['at']}"
+            text += f"; it was asked with `at` {asked.get('at')}, and the current number is {told['at']}"
         node = number_of(asked.get("node"))
         if told["deny"] in ("not-owner", "hidden", "stale") or node not in {each.id for each in self.lab.nodes}:
             return text
@@ -225,39 +249,46 @@ class Playing:
             return f"{text}; its move {look['chosen']} waits for the step to close"
         return f"{text}; {look['rule'] or 'nothing'} would be granted there"
 
-    def silence(self, who: str) -> str:
-        """Returns why nothing comes from a program, as far as its port can tell, after a semicolon, or empty if it
-        can't."""
-        if self.relay.has_unended():
-            return "; a line came that has no newline at its end"
+    def explain_silence(self, who: str) -> str:
+        """Returns why no line of a program comes, as far as its port shows that, after a semicolon. Returns an
+        empty text if it isn't known."""
+        if self.relay.has_partial_line():
+            return "; it sent a line without a newline at the end"
         if self.heard[who].greeted:
             return self.last_words(who)
         strangers = self.relay.came > sum(heard.greeted for heard in self.heard.values())
         return "; it connected, but no hello was granted" if strangers else f"; it never connected to port {self.relay.port}"
 
     def last_words(self, who: str) -> str:
-        """Returns when a program's last line came and what it was, and at which of its nodes it never looked."""
+        """Returns when a program's last line came, the line, and the nodes of the program at which it never
+        looked."""
         heard = self.heard[who]
         ago = time.monotonic() - heard.last_at
         never = [node for node in self.lab.nodes_of(who) if node not in heard.conduct.seen]
-        text = f"; its last line came {ago:.1f} seconds before: {heard.last}"
+        text = f"; its last line came {ago:.1f} seconds earlier: {heard.last}"
         text += f"; it never looked at {' and '.join(map(str, never))}" * bool(never)
-        return text + "; no look shows it the rule (--own-rule): it has to decide by p, m and near" * bool(heard.conduct.rules_hidden)
+        return text + "; with --own-rule no look shows the rule: the bot has to decide by p, m and near" * bool(heard.conduct.rules_hidden)
 
-    def part(self, connection: int) -> None:
+    def say_bye(self, connection: int) -> None:
         """Says bye for a connection that has ended."""
         self.program.ask(connection, do="bye")
-        self.names.pop(connection, None)
+        self.forget(connection)
+
+    def forget(self, connection: int) -> None:
+        """Forgets who a connection was. If it was a program's last one, the program's looks are forgotten too."""
+        who = self.names.pop(connection, None)
+        if who is not None and who not in self.names.values():
+            self.heard[who].conduct.forget_looks()
 
     # What is granted.
 
-    def grant(self, node: int, who: str, rule: str) -> None:
-        """Notes a move that was granted: its node is chosen."""
+    def note_grant(self, node: int, who: str, rule: str) -> None:
+        """Notes a granted move: its node is chosen."""
         self.chosen[node] = (who, rule)
         self.news = time.monotonic()
 
-    def changed(self) -> None:
-        """Takes a new configuration: nothing is chosen, and the report is asked for."""
+    def renew_report(self) -> None:
+        """Asks for the report after a new configuration, in which nothing is chosen."""
         self.chosen.clear()
         self.report = self.program.ask(TEACHER, do="report")
 
@@ -265,16 +296,36 @@ class Playing:
         """Sets a node's registers."""
         self.program.ask(TEACHER, do="fault", node=node, p=p, m=m)
         self.since_moves = 0
-        self.changed()
+        self.renew_report()
+        self.news = time.monotonic()
+
+    def turn_to_another(self, node: int, rule: str) -> None:
+        """Sets a node's registers so that a rule other than this one is enabled there, if there are such
+        registers."""
+        look = self.program.ask(TEACHER, do="look", node=node)
+        for p in (None, *(each["node"] for each in look["near"])):
+            for m in (False, True):
+                self.fault(node, p, m)
+                if dict(self.report["privileged"]).get(node) not in (None, rule):
+                    return
+
+    def relink(self, do: str, a: int, b: int) -> None:
+        """Adds or removes a link. `do` is `link` or `cut`."""
+        self.program.ask(TEACHER, do=do, a=a, b=b)
+        ends = min(a, b), max(a, b)
+        self.links = [*self.links, ends] if do == "link" else [link for link in self.links if set(link) != set(ends)]
+        self.since_moves = 0
+        self.renew_report()
         self.news = time.monotonic()
 
     def release(self, node: int) -> None:
-        """Takes a chosen move back, without a close."""
+        """Takes a chosen move back without a close."""
         self.program.ask(TEACHER, do="release", node=node)
         self.chosen.pop(node)
 
-    def renew(self) -> None:
-        """Makes the next configuration: closes what is chosen, or else sets a node's registers to what they are."""
+    def next_configuration(self) -> None:
+        """Makes the next configuration: closes the chosen moves, or if there are none sets a node's registers to
+        their present values."""
         if self.chosen:
             return self.close(list(self.chosen))
         node = next((each for each in self.lab.nodes if not set(each.owners) & set(self.programs)), self.lab.nodes[0])
@@ -282,7 +333,7 @@ class Playing:
         self.fault(node.id, it["p"], it["m"])
 
     def close(self, nodes: list[int]) -> None:
-        """Closes a step in which these move; the other chosen moves are released."""
+        """Closes a step in which these nodes move. Other chosen moves are released."""
         for node in self.chosen.keys() - set(nodes):
             self.release(node)
         told = self.program.ask(TEACHER, do="close")
@@ -291,19 +342,19 @@ class Playing:
             if who in self.heard:
                 self.heard[who].moved += 1
         self.closes, self.moves, self.since_moves = self.closes + 1, self.moves + len(moved), self.since_moves + len(moved)
-        self.changed()
+        self.renew_report()
         self.news = self.closed = time.monotonic()
         self.on_step(Step(told["at"], moved, self.report))
 
     # Who plays.
 
     def house_owner(self, node: int) -> str | None:
-        """Returns the owner in whose name the house asks, or None if programs play for all owners."""
+        """Returns the owner for whom the house asks at a node, or None if programs play for all its owners."""
         return next((name for name in self.lab.owners(node) if name not in self.programs), None)
 
-    def house(self) -> None:
-        """Asks for the house's nodes: for one if a close applies one, and else for all; but only now and then for a
-        node that a program plays too."""
+    def move_house(self) -> None:
+        """Lets the house ask for its nodes: for one if a close applies one move, and else for all. For a node that
+        a program plays too, the house asks only now and then."""
         nodes = [node for node, _ in self.report["privileged"] if node not in self.chosen and self.house_owner(node)]
         own = [node for node in nodes if len(self.lab.owners(node)) == 1 or not set(self.lab.owners(node)) & set(self.programs)]
         shared = [node for node in nodes if node not in own and self.pace_chance.random() < SHARED]
@@ -314,7 +365,7 @@ class Playing:
             self.house_move(node)
 
     def house_move(self, node: int) -> None:
-        """Asks for what is enabled at a node, as a look shows it."""
+        """Asks for the enabled rule at a node of the house, if there is one."""
         name = self.house_owner(node)
         assert name is not None
         self.program.greet(HOUSE, name)
@@ -326,48 +377,48 @@ class Playing:
             move["with"] = self.pace_chance.choice([each["node"] for each in look["near"] if each["p"] == node])
         try:
             self.program.ask(HOUSE, **move)
-            self.grant(node, name, look["rule"])
+            self.note_grant(node, name, look["rule"])
         except Denied:
             pass
 
     def turn(self) -> None:
-        """Answers what comes, lets the house ask, and lets the daemon close."""
+        """Runs the class for a moment: answers lines, lets the house ask, and lets the daemon close."""
         self.relay.turn(PACE / 2)
         now = time.monotonic()
         if now - self.paced >= PACE:
             self.paced = now
-            self.house()
+            self.move_house()
         if self.is_held:
             return
         sight = Sight([node for node, _ in self.report["privileged"]], list(self.chosen), now - self.news, now - self.closed)
         rules = {node: rule for node, (_, rule) in self.chosen.items()}
-        nodes = applied(self.daemon, sight, self.chance, PATIENCE, self.adversary.search_of(self.daemon, rules, self.seen))
+        nodes = applied(self.daemon, sight, self.chance, PATIENCE, self.adversary.search_of(self.daemon, rules, self.present_lab))
         if nodes:
             self.close(nodes)
 
-    def seen(self) -> labs.Lab:
-        """Returns the network with its registers as they are."""
+    def present_lab(self) -> labs.Lab:
+        """Returns the network with its present registers and links."""
         seen = [self.program.ask(TEACHER, do="see", node=node.id) for node in self.lab.nodes]
-        return network([labs.Node(it["node"], [], it["p"], it["m"]) for it in seen], self.lab.links)
+        return network([labs.Node(it["node"], [], it["p"], it["m"]) for it in seen], self.links)
 
     def is_stable(self) -> bool:
         """Returns whether no node is privileged."""
         return bool(self.report["stable"])
 
     def waiting(self) -> str:
-        """Returns whose nodes are privileged and have no chosen move."""
+        """Returns the privileged nodes without a chosen move, with their owners and rules."""
         return ", ".join(f"{node} ({' and '.join(self.lab.owners(node))}): {rule}"
                          for node, rule in self.report["privileged"] if node not in self.chosen)
 
     def write(self, folder: Path) -> None:
-        """Leaves the lab, the script that does the run again, and the conversation."""
+        """Writes the lab, the script that repeats the run, and the conversation into a folder."""
         (folder / "lab.toml").write_text(labs.text(self.lab), encoding="utf-8")
         (folder / "script").write_bytes(self.program.script())
         (folder / "conversation.txt").write_text("".join(f"{line}\n" for line in self.conversation), encoding="utf-8")
 
     def own_page(self, folder: Path, who: str) -> str:
-        """Returns the page of a program's own run, which was written into a folder and played again: what it asked for, and
-        each denial at its moment."""
+        """Returns the page of a program's own run: its requests, and each denial at its moment. The run was
+        written into the folder, with its journal."""
         lab, journal = folder / "lab.toml", folder / "journal"
         return own_page(f"{who}: {title(lab, journal)}", who, lab, journal, [], self.own_rows(who))
 

@@ -1,4 +1,4 @@
-"""`./class practise`: a student alone, with bots of the house at the other nodes."""
+"""`./class practise`: a student practises alone, with the house at the other nodes."""
 from __future__ import annotations
 
 import argparse
@@ -19,7 +19,7 @@ from classroom.bots.playing import OWN_RULE, No, Playing, Step
 from classroom.bots.suites import HOUSE, TEACHER, key
 from classroom.client import RULES
 from classroom.core import lab as labs
-from classroom.core import bounds, networks
+from classroom.core import bounds, limits, networks
 from classroom.core.answering import answerer
 from classroom.core.counts import plural, positive, seconds
 from classroom.core.folders import new_folder
@@ -42,32 +42,32 @@ SEED = 5503  # over seven nodes in a cycle, hurt, both nodes that it deals out n
 
 
 def add_words(words: argparse.ArgumentParser) -> None:
-    """Adds the words of `practise`."""
+    """Adds the arguments of `practise`."""
     words.add_argument("bots", nargs="*", metavar="BOT",
-                       help="a command, to which a slip's path is added: 'python3 bot.py'; without one, a port waits for a program")
+                       help="a command, such as 'python3 bot.py'; the path of a slip is added to it. Without a BOT, it waits for your program at a port")
     words.add_argument("--family", default="cycle", help=f"{networks.NAMED} (cycle)")
-    words.add_argument("--nodes", type=positive, help="how many nodes (7)")
-    words.add_argument("--node", metavar="I,..", help="your nodes, dealt out to the BOTs in turn (two for each, by the seed)")
+    words.add_argument("--nodes", type=positive, help="the number of nodes (7)")
+    words.add_argument("--node", metavar="I,..", help="your nodes; the BOTs get them in turn (two random nodes for each BOT)")
     words.add_argument("--start", choices=networks.STARTS, default="hurt", help="registers at the beginning (hurt)")
     words.add_argument("--daemon", type=daemon, default=Daemon("when-idle", 0.5), metavar="D", help=f"{FORMS} (when-idle:0.5)")
-    words.add_argument("--seed", type=int, default=SEED, help=f"for network, start and daemon ({SEED})")
+    words.add_argument("--seed", type=int, default=SEED, help=f"the seed of network, start and daemon ({SEED})")
     words.add_argument("--timeout", type=seconds, default=60.0, metavar="SECONDS",
-                       help="end after so long without news, if a BOT is named (60)")
-    words.add_argument("--own-rule", action="store_true", help="no look shows the enabled rule, so that your program has to decide by itself")
-    words.add_argument("--port", type=positive, help="the port, or else the next that is free (4711; with a BOT any)")
-    words.add_argument("--page", action="store_true", help="play by hand at a page in your browser, without a BOT")
-    words.add_argument("--into", default="runs", help="where the run's folder is made (runs)")
+                       help="if you name a BOT, end after this time without an event (60)")
+    words.add_argument("--own-rule", action="store_true", help="don't show the enabled rule in looks, so that your program has to decide by itself")
+    words.add_argument("--port", type=positive, help="use this port or the next free one (4711; with a BOT any free port)")
+    words.add_argument("--page", action="store_true", help="play by hand on a page in your browser, without a BOT")
+    words.add_argument("--into", default="runs", help="the folder in which the run's folder is made (runs)")
     words.set_defaults(work=practise)
 
 
 def own_nodes(word: str | None, identifiers: list[int], bots: int, chance: random.Random) -> list[int]:
-    """Returns the nodes that are the student's: those that the word names, or two for each bot, drawn."""
+    """Returns the student's nodes: those in the argument, or two random nodes for each bot."""
     if word is None:
         return sorted(chance.sample(identifiers, min(2 * bots, len(identifiers))))
     try:
         nodes = [int(each) for each in word.replace(",", " ").split()]
     except ValueError:
-        raise Fault(f"--node {word}: numbers with commas between them") from None
+        raise Fault(f"--node {word}: write the numbers with commas between them, such as 5,6") from None
     wrong = [node for node in nodes if node not in identifiers]
     if wrong or not nodes:
         raise Fault(f"--node {word}: the nodes are {identifiers[0]} to {identifiers[-1]}")
@@ -75,7 +75,7 @@ def own_nodes(word: str | None, identifiers: list[int], bots: int, chance: rando
 
 
 def made(words: argparse.Namespace, names: list[str]) -> labs.Lab:
-    """Returns the lab: the students' nodes in turn, and the house's."""
+    """Returns the lab. The students get their nodes in turn, and the house gets the others."""
     chance = random.Random(f"practise {words.seed}")
     sized = words.family.startswith(("grid:", "random:"))
     nodes, links = networks.family(words.family, words.nodes or (None if sized else 7), 0, chance)
@@ -86,13 +86,14 @@ def made(words: argparse.Namespace, names: list[str]) -> labs.Lab:
     owner = {node: names[index % len(names)] for index, node in enumerate(own)}
     keys = {name: key() for name in [*names, HOUSE]}
     dealt = [labs.Node(node, [owner.get(node, HOUSE)]) for node in identifiers]
-    it = labs.Lab(labs.MOST_EVENTS, labs.MOST_SESSIONS, (TEACHER, key()), keys, dealt, links)
+    most = limits.allowed()
+    it = labs.Lab(most.events, most.sessions, (TEACHER, key()), keys, dealt, links)
     start(it, words.start, chance)
     return it
 
 
 def opened(lab: labs.Lab, names: list[str], words: argparse.Namespace) -> Playing:
-    """Returns the class at a port: the one that is named, or the next that is free."""
+    """Returns the class, at the port of the argument or the next free one."""
     def at(port: int) -> Playing | None:
         """Returns the class at that port, or None if the port is taken."""
         try:
@@ -107,7 +108,7 @@ def opened(lab: labs.Lab, names: list[str], words: argparse.Namespace) -> Playin
 
 @dataclass
 class Practice:
-    """A class with its programs, and what is printed about it."""
+    """A class with its programs, and the lines that are printed about it."""
 
     playing: Playing
     tell: Callable[[str], None]
@@ -122,19 +123,19 @@ class Practice:
     def __post_init__(self) -> None:
         self.recovery = Recovery(node for node, _ in self.playing.report["privileged"])
         self.most = bounds.of_lab(self.playing.lab).moves  # asked for now, so that it holds up no step
-        self.playing.on_no, self.playing.on_step = self.no, self.step
+        self.playing.on_no, self.playing.on_step = self.explain, self.print_step
 
-    def no(self, no: No) -> None:
-        """Explains a line that wasn't granted. Of its kind only the first is explained; at the tenth, the hundredth and
-        so on it prints how many they are."""
+    def explain(self, no: No) -> None:
+        """Explains a line that wasn't granted. Explains only the first of its kind, and prints the count at the
+        tenth, the hundredth and so on."""
         self.times[no.who, no.kind] += 1
         times = self.times[no.who, no.kind]
         if times == 1:
             self.tell(f"{no.who}: {no.text}{explaining.of_denial(self.playing, no.line) if no.word == 'guard' else ''}")
         elif str(times).strip("0") == "1":
-            self.tell(f"{no.who}: {times} times by now: {no.kind}")
+            self.tell(f"{no.who}: {times} times so far: {no.kind}")
 
-    def step(self, step: Step) -> None:
+    def print_step(self, step: Step) -> None:
         """Prints a step as a line."""
         privileged = [node for node, _ in step.report["privileged"]]
         self.recovery.step([node for node, _, _ in step.moved], privileged)
@@ -144,12 +145,12 @@ class Practice:
         self.told = ""
 
     def turn(self) -> None:
-        """Lets the class go on, and sees who floods."""
+        """Runs the class for a moment, and notes which programs flood it."""
         self.playing.turn()
-        self.floods |= {name for name in self.playing.programs if self.playing.heard[name].conduct.floods(len(self.playing.lab.nodes_of(name)))}
+        self.floods |= {name for name in self.playing.programs if self.playing.heard[name].conduct.is_flooding(len(self.playing.lab.nodes_of(name)))}
 
     def summary(self, name: str) -> str:
-        """Returns what a program did in all."""
+        """Returns the line about all that a program did."""
         heard = self.playing.heard[name]
         moves = ", ".join(rule for rule in RULES if heard.rules[rule])
         denied = {word: times for word, times in sorted(heard.denied.items()) if word != MALFORMED}
@@ -159,16 +160,16 @@ class Practice:
         if heard.denied[MALFORMED]:
             text += f", {plural(heard.denied[MALFORMED], 'malformed line')}"
         never = ", ".join(rule for rule in RULES if rule not in heard.wanted)
-        text += f"; never asked: {never}" * bool(never) + f"; {FLOODS}" * (name in self.floods)
+        text += f"; it never asked for: {never}" * bool(never) + f"; {FLOODS}" * (name in self.floods)
         return text + f"; {heard.conduct.wrong}" * bool(heard.conduct.wrong)
 
-    def silence(self) -> str:
-        """Returns why nothing comes from programs, if that can be said."""
-        hints = {name: self.playing.silence(name).removeprefix("; ") for name in self.playing.programs}
+    def explain_silence(self) -> str:
+        """Returns why no lines come from the programs, as far as that is known."""
+        hints = {name: self.playing.explain_silence(name).removeprefix("; ") for name in self.playing.programs}
         return "".join(f"; {name}: {hint}" for name, hint in hints.items() if hint)
 
     def run(self) -> bool:
-        """Plays until the class is stable, hangs or is stopped. Returns whether it is stable."""
+        """Runs the class until it is stable, hangs or is stopped. Returns whether it is stable."""
         playing, news = self.playing, self.playing.news
         while not playing.is_stable() and not self.stop:
             self.turn()
@@ -179,7 +180,7 @@ class Practice:
                     kind, _, what = how.partition(" ")
                     self.tell(f"{name}: the program " + (f"has ended, status {what}" if kind == "ended" else f"was ended: {what}"))
                     self.kept.remove((name, kept))
-            waiting = (playing.waiting() or "a close") + self.silence()
+            waiting = (playing.waiting() or "a close") + self.explain_silence()
             gone = not self.kept and self.timeout is not None
             if self.timeout is not None and (idle > self.timeout or gone and idle > REST):
                 adds = "".join(explaining.of_waiting(playing, name) for name in playing.programs)
@@ -194,20 +195,20 @@ class Practice:
         return playing.is_stable()
 
 
-def leave(playing: Playing, folder: Path, tell: Callable[[str], None]) -> None:
-    """Leaves record and page, and says where."""
+def write_run(playing: Playing, folder: Path, tell: Callable[[str], None]) -> None:
+    """Writes the record and the page of each program into the folder, and prints their paths."""
     playing.write(folder)
     answer = call("script", folder / "lab.toml", folder / "script", folder / "journal")
     if answer.status != 0:
-        raise Fault(f"{folder}: the run can't be played again: {answer.error}", 4)
+        raise Fault(f"{folder}: no page can be made from this run: {answer.error}", 4)
     names = playing.programs
     for name, file in zip(names, [folder / "run.html", *(folder / f"{name}.html" for name in names[1:])]):
         file.write_text(playing.own_page(folder, name), encoding="utf-8")
-    tell(f"page: {folder / 'run.html'}; what was said: {folder / 'conversation.txt'}")
+    tell(f"page: {folder / 'run.html'}; all lines and replies: {folder / 'conversation.txt'}")
 
 
 def practise(words: argparse.Namespace) -> int:
-    """Plays a class of one student to its end."""
+    """Runs a class of one student to its end. Returns the exit status."""
     program(), answerer()
     if words.page and words.bots:
         raise Fault("--page is for playing by hand: leave the BOT out")
@@ -221,25 +222,25 @@ def practise(words: argparse.Namespace) -> int:
     folder = new_folder(Path(words.into), Path("practise"))
     with contextlib.closing(ClassWithPrograms(opened(lab, names, words))) as it:
         try:
-            return played(it, bots, words, folder)
+            return play(it, bots, words, folder)
         except OSError as error:
-            raise Fault(f"{error.filename or folder}: {error.strerror}; --into names another folder", 4) from None
+            raise Fault(f"{error.filename or folder}: {error.strerror}; name another folder by --into", 4) from None
 
 
-def for_its_owner(path: str, flags: int) -> int:
-    """Opens a file. One that it makes can be read only by its owner."""
+def open_private(path: str, flags: int) -> int:
+    """Opens a file. If that makes a new file, only its owner can read it."""
     return os.open(path, flags, 0o600)
 
 
-def played(it: ClassWithPrograms, bots: list[Bot], words: argparse.Namespace, folder: Path) -> int:
-    """Plays it in a folder of its own. Returns the exit status."""
+def play(it: ClassWithPrograms, bots: list[Bot], words: argparse.Namespace, folder: Path) -> int:
+    """Runs the class to its end, with its files in a folder. Returns the exit status."""
     lab, names, tell = it.playing.lab, it.playing.programs, Teller(folder)
     practice = Practice(it.playing, tell, words.timeout if bots else None)
     for number in (signal.SIGINT, signal.SIGTERM, signal.SIGHUP):
         signal.signal(number, lambda *_: setattr(practice, "stop", True))
     files = [folder / f"{name}.slip" for name in names]
     for name, file in zip(names, files):
-        with open(file, "x", encoding="utf-8", opener=for_its_owner) as slip_file:
+        with open(file, "x", encoding="utf-8", opener=open_private) as slip_file:
             slip_file.write("".join(f"{line}\n" for line in slips.slip(lab, name, it.playing.relay.port)))
     size = f"{words.family} of {len(lab.nodes)} nodes, {words.start}, daemon {words.daemon.spelled()}"
     tell(f"{size}; " + "; ".join(f"{name}: {', '.join(map(str, lab.nodes_of(name)))}" for name in names))
@@ -257,7 +258,7 @@ def played(it: ClassWithPrograms, bots: list[Bot], words: argparse.Namespace, fo
     if stable:
         pairs = ", ".join(f"{a}-{b}" for a, b in it.playing.report["pairs"])
         tell(f"stable: pairs {pairs or 'none'}; {practice.recovery.told(len(lab.nodes), len(lab.links))}")
-    leave(it.playing, folder, tell)
+    write_run(it.playing, folder, tell)
     for name in names:
         tell(practice.summary(name))
     return 0 if stable else WARNED
@@ -265,12 +266,12 @@ def played(it: ClassWithPrograms, bots: list[Bot], words: argparse.Namespace, fo
 
 @contextlib.contextmanager
 def served(practice: Practice, lab: labs.Lab, name: str, is_asked: bool) -> Iterator[None]:
-    """Serves the page to play by as long as the class goes on, if that is asked for. The key stands after the `#` of its
-    address, which no browser sends on."""
+    """Serves the page to play by while the class runs, if it is asked for. The key is after the `#` of the page's
+    address, which browsers send nowhere."""
     if not is_asked:
         yield
         return
-    hands = by_hand.open_hands(PAGE_PORT, f"practise, {len(lab.nodes)} nodes", lab)
+    hands = by_hand.open_play_page(PAGE_PORT, f"practise, {len(lab.nodes)} nodes", lab)
     hands.show(practice.playing.relay.port, practice.tell)
     practice.tell(f"page to play {hands.address}#name={name}&key={lab.students[name]}")
     try:
@@ -281,7 +282,7 @@ def served(practice: Practice, lab: labs.Lab, name: str, is_asked: bool) -> Iter
 
 @dataclass
 class ClassWithPrograms:
-    """The class and its programs, which are ended together."""
+    """A class and its programs, which are ended together."""
 
     playing: Playing
     kept: list[Kept] = field(default_factory=list)
@@ -292,6 +293,6 @@ class ClassWithPrograms:
             each.stop()
 
     def close(self) -> None:
-        """Ends programs and class."""
+        """Ends the programs and the class."""
         self.stop_programs()
         self.playing.end()

@@ -1,6 +1,7 @@
-"""The port at which programs under test connect: each line is answered by `mml answer`, and read over on its way.
+"""The port to which programs under test connect. `mml answer` answers each line, and the relay watches the lines.
 
-What a class's server does in mid-run is done here too: it turns newcomers away, ends with its class, or is gone for a while.
+The relay also imitates what a class's server does during a run: it turns newcomers away, ends with its class, or
+is gone for a while.
 """
 from __future__ import annotations
 
@@ -11,7 +12,8 @@ import time
 from collections import deque
 from collections.abc import Callable
 
-LONGEST = 4096  # bytes of a line, as the server takes them
+from classroom.core import limits
+
 MOST_WAITING = 1 << 16  # bytes of replies that aren't taken, from which on nothing more is read
 PAUSE = 2  # turns without a line are a pause
 Answer = Callable[[int, bytes, bool], bytes]
@@ -21,39 +23,41 @@ APART = 0.02  # seconds between two pieces of a reply that is sent in pieces
 
 
 class Caller:
-    """A connection, with the number that it has in the script."""
+    """A connection, with its number in the script."""
 
     def __init__(self, its: socket.socket, number: int) -> None:
         self.socket, self.number = its, number
         self.rest, self.out = b"", b""
-        self.parts = False  # Whether it ends when its replies are taken.
+        self.is_leaving = False  # Whether it ends when its replies are taken.
         self.quiet = PAUSE + 1  # turns without a line of its; the first line comes after a pause
         self.held = 0.0  # until when the next piece of a reply waits
 
 
 class Relay:
-    """A listener, and who called."""
+    """A listener and its connections."""
 
     def __init__(self, answer: Answer, left: Callable[[int], None], numbers: range, port: int = 0) -> None:
-        """`answer` returns the reply to a line of a connection, and is called with whether it came after a pause; if it
-        returns none, the connection is lost. `left` is called with the number of a connection that has ended."""
+        """`answer` returns the reply to a connection's line, and is told whether the line came after a pause. If
+        it returns nothing, the connection is lost. `left` is called with the number of a connection that has
+        ended."""
         self.answer, self.left = answer, left
         self.free = list(numbers)
+        self.longest = limits.allowed().line
         self.callers: list[Caller] = []
         self.came = 0  # how many were let in
         self.calls: deque[float] = deque(maxlen=MOST_CALLS)  # when somebody connected
-        self.full = 0  # how many found no seat, since all were taken
         self.busy = False  # whether everybody is turned away
         self.piece = 0  # the most bytes of a reply that are sent at once; 0 is no limit
         self.overlong = False  # whether somebody was hung up on whose line had no end
+        self.quits = 0  # how many connections were ended by who called
         self.listener = socket.create_server(("127.0.0.1", port), backlog=32)
         self.listener.setblocking(False)
         self.port: int = self.listener.getsockname()[1]
         self.selector = selectors.DefaultSelector()
         self.selector.register(self.listener, selectors.EVENT_READ)
 
-    def move(self, listener: socket.socket) -> None:
-        """Listens there from now on, and no longer if it did."""
+    def listen_at(self, listener: socket.socket) -> None:
+        """Closes the present listener, and uses this one from then on."""
         self.selector.unregister(self.listener)
         self.listener.close()
         self.listener = listener
@@ -61,40 +65,39 @@ class Relay:
         self.selector.register(self.listener, selectors.EVENT_READ)
 
     def turn(self, seconds: float) -> None:
-        """Answers what is there; if nothing is, waits for it so many seconds at most."""
+        """Answers the lines that have come. If none has, waits so many seconds at most."""
         for each in list(self.callers):
             each.quiet += 1
             if each.held:
-                self.served(each, 0)
+                self.serve(each, 0)
         for key, events in self.selector.select(seconds):
             if key.fileobj is self.listener:
                 self.accept()
                 continue
-            self.served(key.data, events)
+            self.serve(key.data, events)
 
-    def served(self, caller: Caller, events: int) -> None:
-        """Does what there is to do for a caller."""
+    def serve(self, caller: Caller, events: int) -> None:
+        """Reads from a caller if there is something to read, and sends it replies. Hangs up on an error."""
         try:
             if events & selectors.EVENT_READ:
                 self.read(caller)
-            self.follow(caller)
+            self.send_replies(caller)
         except OSError:
-            self.end(caller)
+            self.hang_up(caller)
 
     def connections(self, seconds: float) -> int:
-        """Returns how many connected in the last seconds, turned away or not."""
+        """Returns how many connections came in the last seconds, turned away or not."""
         since = time.monotonic() - seconds
         return sum(when >= since for when in self.calls)
 
     def accept(self) -> None:
-        """Accepts a connection if a number is free, and else answers `busy`."""
+        """Accepts a connection if a number is free. Else answers `busy` and closes it."""
         try:
             its, _ = self.listener.accept()
         except OSError:
             return
         its.setblocking(False)
         self.calls.append(time.monotonic())
-        self.full += not self.free
         if self.busy or not self.free:
             try:
                 its.send(BUSY)
@@ -108,25 +111,29 @@ class Relay:
         self.selector.register(its, selectors.EVENT_READ, caller)
 
     def read(self, caller: Caller) -> None:
-        """Answers the lines that came; after a bye, a line that is too long, or its end, a caller parts."""
+        """Answers a caller's lines. The caller leaves after a bye, after a line that is too long, and at the end
+        of its lines."""
         more = caller.socket.recv(MOST_WAITING)
         *lines, caller.rest = (caller.rest + more).split(b"\n")
         for line in lines:
-            if len(line) > LONGEST or caller.parts:
-                caller.parts = True
+            if len(line) > self.longest or caller.is_leaving:
+                caller.is_leaving = True
                 return
             reply = self.answer(caller.number, line, caller.quiet > PAUSE)
             caller.quiet = 0
             if not reply:
                 raise ConnectionError
             caller.out += reply + b"\n"
-            caller.parts = reply == b'{"ok":"bye"}'
-        self.overlong = self.overlong or len(caller.rest) > LONGEST
-        caller.parts = caller.parts or not more or len(caller.rest) > LONGEST
+            caller.is_leaving = reply == b'{"ok":"bye"}'
+            self.quits += caller.is_leaving
+        has_quit, is_overlong = not more and not caller.is_leaving, len(caller.rest) > self.longest
+        self.quits += has_quit
+        self.overlong = self.overlong or is_overlong
+        caller.is_leaving = caller.is_leaving or has_quit or is_overlong
 
-    def follow(self, caller: Caller) -> None:
-        """Sends what a caller takes of its replies, and chooses what to wait for next; hangs up if it parts and has
-        taken all."""
+    def send_replies(self, caller: Caller) -> None:
+        """Sends as much of the replies as a caller takes, and chooses the events to wait for. Hangs up if the
+        caller leaves and has taken all."""
         now = time.monotonic()
         if caller.out and now >= caller.held:
             try:
@@ -134,47 +141,51 @@ class Relay:
             except BlockingIOError:
                 pass
             caller.held = now + APART if self.piece and caller.out else 0.0
-        if caller.parts and not caller.out:
-            self.end(caller)
+        if caller.is_leaving and not caller.out:
+            self.hang_up(caller)
             return
         wants = selectors.EVENT_WRITE if caller.out and not caller.held else 0
-        wants |= selectors.EVENT_READ if len(caller.out) < MOST_WAITING and not caller.parts else 0
+        wants |= selectors.EVENT_READ if len(caller.out) < MOST_WAITING and not caller.is_leaving else 0
         self.selector.modify(caller.socket, wants, caller)
 
-    def has_unended(self) -> bool:
-        """Returns whether somebody sent a part of a line and no newline after it."""
+    def has_partial_line(self) -> bool:
+        """Returns whether somebody sent a part of a line without a newline."""
         return self.overlong or any(caller.rest for caller in self.callers)
 
-    def end(self, caller: Caller) -> None:
-        """Hangs up on a caller, frees its number and notes that it has left."""
+    def hang_up(self, caller: Caller) -> None:
+        """Closes a caller's connection, frees its number, and reports that it has left."""
         self.selector.unregister(caller.socket)
         caller.socket.close()
         self.callers.remove(caller)
         self.free.append(caller.number)
         self.left(caller.number)
 
-    def cut(self) -> None:
-        """Hangs up on everybody."""
+    def hang_up_all(self) -> None:
+        """Closes all connections."""
         for caller in list(self.callers):
-            self.end(caller)
+            self.hang_up(caller)
 
-    def over(self) -> None:
-        """Tells everybody that the class is over, hangs up, and listens no longer."""
+    def end_all(self, last: bytes) -> None:
+        """Sends a last line on all connections, and closes them."""
         for caller in list(self.callers):
             try:
-                caller.socket.send(caller.out + OVER)
+                caller.socket.send(caller.out + last)
             except OSError:
                 pass
-            self.end(caller)
+            self.hang_up(caller)
+
+    def end_class(self) -> None:
+        """Sends everybody the line that the class is over, closes all connections, and stops listening."""
+        self.end_all(OVER)
         self.pause()
 
     def pause(self) -> None:
-        """Listens no longer, as if nobody were at the port; `resume` listens again, in the same namespace."""
+        """Stops listening, as if the server were gone. `resume` listens again, in the same namespace."""
         self.selector.unregister(self.listener)
         self.listener.shutdown(socket.SHUT_RDWR)
 
     def resume(self) -> None:
-        """Listens at the port again. Raises an `OSError` if somebody else has it by now."""
+        """Listens at the port again. Raises an `OSError` if another program has the port by now."""
         try:
             self.listener.bind(("127.0.0.1", self.port))
         except OSError as error:
@@ -184,7 +195,7 @@ class Relay:
         self.selector.register(self.listener, selectors.EVENT_READ)
 
     def close(self) -> None:
-        """Hangs up on everybody, without noting that they have left, and closes the port."""
+        """Closes all connections, without reporting that they have left, and the port."""
         for caller in list(self.callers):
             self.selector.unregister(caller.socket)
             caller.socket.close()

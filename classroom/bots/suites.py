@@ -1,4 +1,4 @@
-"""The cases by which a bot is tried: suites that come with the release, and a teacher's own labs."""
+"""The cases for grading a bot: suites that come with the release, and a teacher's own labs."""
 from __future__ import annotations
 
 import random
@@ -7,24 +7,27 @@ from dataclasses import dataclass, replace
 from pathlib import Path
 
 from classroom.core import lab as labs
-from classroom.core import networks
+from classroom.core import limits, networks
 from classroom.core.program import Fault
 from classroom.run.daemons import Daemon
 from classroom.setup.new import start
 
 BOT, HOUSE = "bot", "house"
 TEACHER = "teacher"
-# What comes in mid-run, each with a fault at a node of the bot's: nothing more, closed connections before it, five seconds
-# of rest before it, a step that stays open, a move that is taken back, a step closed between look and move, a reply that
-# is lost with its server, another owner who is quicker; and many configurations, one after another.
+# The troubles of a case, each with a fault at a node of the bot: nothing more; closed connections; some seconds of rest; a
+# step that stays open; a move that is taken back; a step closed between look and move; a reply that is lost with its server;
+# another owner who is faster; many configurations, one after another.
+# Then: a change between look and move that enables another rule; a fault elsewhere that drops a grant; a new link and a cut;
+# the refusal `memory`; a seat that goes to a newcomer; a minute of rest.
 FAULT, CUT, REST, OPEN, RELEASE, OVERTAKE, LOST, TAKEN, RULES = "fault", "cut", "rest", "open", "release", "overtake", "lost", "taken", "rules"
+TURN, DROP, RELINK, MEMORY, SEAT, LONG_REST = "turn", "drop", "relink", "memory", "seat", "long-rest"
 BUSY, OVER = "busy", "over"  # no seat is free at first; the class ends, and the bot with it
 USUAL = [Daemon("central"), Daemon("synchronous"), Daemon("random", 0.5)]
 
 
 @dataclass(frozen=True)
 class Plan:
-    """A lab's shape, which nodes are the bot's, and what comes in mid-run."""
+    """The plan of a case: the lab's shape, the bot's nodes, and the troubles during the run."""
 
     name: str
     family: str
@@ -41,7 +44,7 @@ class Plan:
 
 @dataclass(frozen=True)
 class Case:
-    """A lab whose student `who` the bot plays, under a daemon, with what comes in mid-run."""
+    """A lab whose student `who` is played by the bot, with a daemon and the troubles during the run."""
 
     lab: str
     made: labs.Lab
@@ -52,7 +55,7 @@ class Case:
     piece: int = 0
 
     def name(self) -> str:
-        """Returns the text that distinguishes it from others, and that its coins are drawn from."""
+        """Returns the text that identifies the case. It is also the seed of its random choices."""
         return f"{self.lab} {self.daemon.spelled()} {self.seed}"
 
 
@@ -60,22 +63,23 @@ IDLE = Daemon("when-idle", 0.2)
 LINKED, HUB = "linked", "hub"  # of Plan.takes
 DIGITS = (8, 9, 10, 11)  # as texts they are in another order
 SMALL = [
-    Plan("path-4", "path", 4, "clean", 2, 0, (RELEASE, OVER), Daemon("central")),
-    Plan("cycle-5", "cycle", 5, "hurt", 2, 0, (OVERTAKE, RULES), Daemon("synchronous")),
-    Plan("hub-70", "star", 70, "clean", 1, 0, (FAULT,), Daemon("synchronous"), takes=HUB, piece=600),
+    Plan("path-4", "path", 4, "clean", 2, 0, (RELEASE, MEMORY, OVER), Daemon("central")),
+    Plan("cycle-5", "cycle", 5, "hurt", 2, 0, (OVERTAKE, TURN, RULES), Daemon("synchronous")),
+    Plan("hub-70", "star", 70, "clean", 1, 0, (FAULT, CUT), Daemon("synchronous"), takes=HUB, piece=600),
     Plan("complete-4", "complete", 4, "clean", 2, 0, (RULES,), Daemon("synchronous"), named=DIGITS),
     Plan("alone-path-4", "path", 4, "random", 4, 0, (OVERTAKE,), Daemon("synchronous"), named=DIGITS),
-    Plan("alone-cycle-4", "cycle", 4, "hurt", 4, 0, (OPEN,), IDLE),
+    Plan("alone-cycle-4", "cycle", 4, "hurt", 4, 0, (OPEN, DROP), IDLE),
     Plan("pairs-path-5", "path", 5, "random", 1, 2, (BUSY, RELEASE), Daemon("central")),
     Plan("pairs-cycle-6", "cycle", 6, "clean", 1, 2, (FAULT, TAKEN), Daemon("random", 0.5)),
-    Plan("tree-7", "tree", 7, "random", 3, 0, (RULES,), Daemon("synchronous")),
+    Plan("tree-7", "tree", 7, "random", 3, 0, (RULES, RELINK), Daemon("synchronous")),
     Plan("grid-6", "grid:3x2", None, "hurt", 2, 0, (REST, OPEN), IDLE, takes=LINKED),
     Plan("random-6", "random:6:9", None, "random", 2, 0, (CUT, LOST), Daemon("synchronous")),
-    Plan("two-faults-5", "path", 5, "clean", 2, 0, (FAULT, CUT, OVER), Daemon("random", 0.5)),
+    Plan("two-faults-5", "path", 5, "clean", 2, 0, (FAULT, CUT, CUT, CUT, OVER), Daemon("random", 0.5)),
 ]
 FAMILIES = [("path", 6), ("cycle", 7), ("star", 7), ("complete", 5), ("tree", 9), ("grid:4x3", None), ("random:10:15", None)]
 FULL = SMALL + [
     Plan("hub-200", "star", 200, "clean", 1, 0, (FAULT, CUT), Daemon("synchronous"), named=tuple(range(60000, 60200)), takes=HUB, piece=4000),
+    Plan("rest-path-5", "path", 5, "random", 2, 0, (LONG_REST, OVER), Daemon("central")),
 ] + [
     Plan(f"{family.partition(':')[0]}-{start}-{kind}", family, nodes, start, own, shared, troubles, daemon, takes=takes)
     for family, nodes in FAMILIES
@@ -87,26 +91,27 @@ FULL = SMALL + [
         ("hurt", 1, 2, (TAKEN,), "shared", Daemon("synchronous"), ""),
         ("random", 4, 0, (FAULT,), "many", Daemon("random", 0.8), ""),
         ("clean", 3, 1, (CUT, FAULT), "both", Daemon("central"), ""),
-        ("random", 2, 0, (RULES, RELEASE, OVERTAKE), "open", Daemon("synchronous"), LINKED),
-        ("hurt", 2, 1, (BUSY, REST, LOST, OVER), "gone", Daemon("random", 0.5), ""),
+        ("random", 2, 0, (RULES, RELEASE, OVERTAKE, TURN, DROP, RELINK), "open", Daemon("synchronous"), LINKED),
+        ("hurt", 2, 1, (BUSY, REST, LOST, SEAT, MEMORY, OVER), "gone", Daemon("random", 0.5), ""),
     )
 ]
 SUITES = {"small": SMALL, "full": FULL}
 
 
 def key() -> str:
-    """Returns a key that can't be guessed."""
+    """Returns a random key."""
     return secrets.token_hex(16)
 
 
 def dealt(count: int, links: networks.Links, own: list[int], shared: list[int]) -> labs.Lab:
-    """Returns a lab of the bot's nodes, those that it shares with the house, and the house's."""
+    """Returns a lab in which the bot owns some nodes, shares some with the house, and the house owns the others."""
     nodes = [labs.Node(node, [BOT] if node in own else [BOT, HOUSE] if node in shared else [HOUSE]) for node in range(1, count + 1)]
-    return labs.Lab(labs.MOST_EVENTS, labs.MOST_SESSIONS, (TEACHER, key()), {BOT: key(), HOUSE: key()}, nodes, links)
+    most = limits.allowed()
+    return labs.Lab(most.events, most.sessions, (TEACHER, key()), {BOT: key(), HOUSE: key()}, nodes, links)
 
 
-def taken(plan: Plan, count: int, links: networks.Links, chance: random.Random) -> list[int]:
-    """Returns the nodes of the bot: first those that are its alone, and then the shared ones."""
+def choose_nodes(plan: Plan, count: int, links: networks.Links, chance: random.Random) -> list[int]:
+    """Returns the bot's nodes: first those that it owns alone, and then the shared ones."""
     nodes = list(range(1, count + 1))
     first: list[int] = []
     if plan.takes == HUB:
@@ -119,17 +124,17 @@ def taken(plan: Plan, count: int, links: networks.Links, chance: random.Random) 
 
 
 def renamed(made: labs.Lab, named: tuple[int, ...]) -> labs.Lab:
-    """Returns a lab whose nodes, from 1 on, get other identifiers in the same order."""
+    """Returns a lab whose nodes, numbered from 1, get these identifiers in the same order."""
     name = dict(zip((node.id for node in made.nodes), named))
     nodes = [replace(node, id=name[node.id], p=None if node.p is None else name[node.p]) for node in made.nodes]
     return replace(made, nodes=nodes, links=[(name[a], name[b]) for a, b in made.links])
 
 
 def planned(plan: Plan, seed: int, how: Daemon) -> Case:
-    """Returns the case of a plan with a seed."""
+    """Returns the case of a plan with a seed and a daemon."""
     chance = random.Random(f"{plan.name} {seed}")
     count, links = networks.family(plan.family, plan.nodes, 0, chance)
-    nodes = taken(plan, count, links, chance)
+    nodes = choose_nodes(plan, count, links, chance)
     made = dealt(count, links, nodes[:plan.own], nodes[plan.own:])
     start(made, plan.start, chance)
     if plan.named:
@@ -138,30 +143,32 @@ def planned(plan: Plan, seed: int, how: Daemon) -> Case:
 
 
 def own_lab(path: Path, seed: int, how: Daemon) -> Case:
-    """Returns the case of a teacher's own lab: one of its students is the bot, with keys of its own."""
+    """Returns the case of a teacher's lab. The bot plays one of the students, and all keys are replaced by new
+    ones."""
     made = labs.read(path)
     chance = random.Random(f"{path.stem} {seed}")
     alone = {name: [node.id for node in made.nodes if node.owners == [name]] for name in made.students}
     who = chance.choice([name for name, nodes in alone.items() if nodes] or [made.nodes[0].owners[0]])
     students = {name: key() for name in made.students}
-    made = replace(made, events=labs.MOST_EVENTS, sessions=labs.MOST_SESSIONS, teacher=(made.teacher[0], key()), students=students)
+    most = limits.allowed()
+    made = replace(made, events=most.events, sessions=most.sessions, teacher=(made.teacher[0], key()), students=students)
     return Case(path.stem, made, who, how, seed, (FAULT, CUT) if alone[who] else ())
 
 
 def of_suite(name: str, how: list[Daemon] | None, seeds: int) -> list[Case]:
-    """Returns the cases of a suite that comes with the release, with the seeds 1 to `seeds`; each plan has its own
-    daemon if none are named."""
+    """Returns the cases of a suite of the release, with the seeds 1 to `seeds`. If `how` is None, each plan has
+    its own daemon."""
     plans = SUITES[name]
     return [planned(plan, seed, each) for seed in range(1, seeds + 1) for plan in plans for each in how or [plan.daemon]]
 
 
 def of_folder(folder: Path, how: list[Daemon] | None, seeds: int) -> tuple[list[Case], list[str]]:
-    """Returns the cases of a folder's labs, with the seeds 1 to `seeds`, under the usual daemons if none are named; and
-    a line for each file that is no lab."""
+    """Returns the cases of the labs in a folder, with the seeds 1 to `seeds`, and an error line for each file that
+    isn't a lab. If `how` is None, the cases have the usual daemons."""
     try:
         files = sorted(each for each in folder.iterdir() if each.suffix == ".toml")
     except OSError as error:
-        raise Fault(f"{folder}: {error.strerror}; it is a folder of labs, NAME.toml", 4) from None
+        raise Fault(f"{folder}: {error.strerror}; --labs takes a folder of labs, NAME.toml", 4) from None
     cases: list[Case] = []
     faults: list[str] = []
     for file in files:

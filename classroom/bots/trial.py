@@ -1,4 +1,4 @@
-"""One case of a grade: a bot plays a student of a lab, up to a stable end or to what is wrong."""
+"""One case of a grade: runs a bot until the class is stable, or until something is wrong."""
 from __future__ import annotations
 
 import tempfile
@@ -16,7 +16,7 @@ from classroom.core.program import Fault
 
 @dataclass
 class Result:
-    """How a bot did in a case."""
+    """The result of a bot in a case."""
 
     bot: str
     lab: str
@@ -31,19 +31,20 @@ class Result:
     started: bool = True
 
 
-def tried(bot: Bot, case: Case, limits: Limits, own: Path, folder: Path, stop: threading.Event, seen: Seen | None = None) -> Result | None:
-    """Tries a bot in a case, in a folder of its own. Its record goes into `folder`. Returns the result, or None if it
-    was interrupted."""
+def try_bot(bot: Bot, case: Case, limits: Limits, own: Path, folder: Path, stop: threading.Event, seen: Seen | None = None) -> Result | None:
+    """Runs a bot in a case, in its own folder `own`, and writes the record into `folder`. Returns the result, or
+    None after an interrupt."""
     with tempfile.TemporaryFile() as output:
-        return tried_with(Attempt(bot, case, limits, Room(own, output, seen), stop), folder)
+        return run_attempt(Attempt(bot, case, limits, Room(own, output, seen), stop), folder)
 
 
-def tried_with(trial: Attempt, folder: Path) -> Result | None:
-    """Runs a trial to its end. Its record goes into `folder`. Returns the result, or None if it was interrupted."""
-    begun, case = time.monotonic(), trial.case
-    result = Result(trial.bot.name, case.lab, case.daemon.spelled(), case.seed, False, "")
+def run_attempt(attempt: Attempt, folder: Path) -> Result | None:
+    """Runs an attempt to its end, and writes the record into `folder`. Returns the result, or None after an
+    interrupt."""
+    begun, case = time.monotonic(), attempt.case
+    result = Result(attempt.bot.name, case.lab, case.daemon.spelled(), case.seed, False, "")
     try:
-        troubles.run(trial)
+        troubles.run(attempt)
         result.passed = True
     except Fails as fails:
         result.why, result.started = str(fails), not isinstance(fails, NotStarted)
@@ -52,11 +53,11 @@ def tried_with(trial: Attempt, folder: Path) -> Result | None:
     except Stopped:
         return None
     finally:
-        trial.close()
-    result.moves, result.denied = trial.heard.moved, dict(sorted(trial.heard.denied.items()))
+        attempt.close()
+    result.moves, result.denied = attempt.heard.moved, dict(sorted(attempt.heard.denied.items()))
     result.seconds = round(time.monotonic() - begun, 2)
     try:
-        trial.evidence(folder)
+        attempt.write_evidence(folder)
     except (OSError, Fault) as fault:
         result.unkept = f"{folder}: no record: {getattr(fault, 'strerror', None) or fault}"
     return result

@@ -1,252 +1,378 @@
-"""The run of a case: a stable class, and what comes in mid-run. Each trouble is one that a bot meets in a class too."""
+"""The run of a case: a class that becomes stable, and the troubles during the run. A bot meets each trouble in
+real classes too."""
 from __future__ import annotations
 
 import itertools
 import time
 from collections.abc import Callable
 
-from classroom.bots import explaining
-from classroom.bots.attempt import Attempt, Fails, Stopped
+from classroom.bots import explaining, relay
+from classroom.bots.attempt import AGAIN, ON, Attempt, Fails, Stopped
+from classroom.bots.conduct import polling_fault
 from classroom.bots.playing import TEACHER
-from classroom.bots.suites import BUSY, CUT, FAULT, LOST, OPEN, OVER, OVERTAKE, RELEASE, REST, RULES, TAKEN
+from classroom.bots.suites import (
+    BUSY, CUT, DROP, FAULT, LONG_REST, LOST, MEMORY, OPEN, OVER, OVERTAKE, RELEASE, RELINK, REST, RULES, SEAT, TAKEN, TURN,
+)
 from classroom.core import networks
 from classroom.core.program import Fault
 
 QUIET = 0.6  # seconds that a bot is watched at rest
 LATE = 0.2  # seconds after which it is looked at what a bot asks at rest
-LONG_REST, LONG_OPEN, GONE, TURNED_AWAY = 5.0, 2.0, 1.5, 2.0  # seconds
-OVERTAKES, ROUNDS = 2, 4  # moves that a step overtakes, and faults after which it is given up to find as many
+RESTING, LONGEST_REST, LONG_OPEN, GONE, TURNED_AWAY = 12.0, 65.0, 2.0, 8.0, 3.0  # seconds
+MOST_FAULTS = 4  # nodes of the bot that are hurt one after another
+OVERTAKES, ROUNDS = 5, 8  # moves that a step overtakes, and faults after which it is given up to find as many
+TURNS = 2  # moves before which their node is changed
 DRAWS, TRIES = 20, 12  # configurations at a node, and how often one is drawn for each
 LOOKED = 0.15  # seconds after its look in which a bot asks, if it asks at all
-ON = "; a bot goes on until the class is over"
 
 
-def run(trial: Attempt) -> None:
-    """Plays the whole case. Raises what is wrong."""
-    troubles = trial.case.troubles
-    trial.playing.relay.busy = BUSY in troubles
-    trial.launch()
+def run(attempt: Attempt) -> None:
+    """Runs the whole case. Raises `Fails` with what is wrong."""
+    troubles = attempt.case.troubles
+    attempt.playing.relay.busy = BUSY in troubles
+    attempt.launch()
     if BUSY in troubles:
-        turned_away(trial)
-    trial.until_greeted()
-    trial.doing = ON
-    trial.until_stable("it isn't stable")
-    rests(trial, QUIET)
+        turned_away(attempt)
+    attempt.until_greeted()
+    attempt.doing = ON
+    attempt.until_stable("it isn't stable")
+    check_rest(attempt, QUIET)
     for trouble in troubles:
         if trouble in EACH:
-            EACH[trouble](trial)
-    rests(trial, QUIET)
+            EACH[trouble](attempt)
+    check_rest(attempt, QUIET)
     if OVER in troubles:
-        over(trial)
+        over(attempt)
 
 
-def rests(trial: Attempt, seconds: float) -> None:
-    """Checks that a bot for which there is nothing to ask asks for nothing, except for what it saw before: a move for
-    each of its nodes."""
-    trial.watch(LATE)
-    before = trial.heard.asked
-    trial.watch(seconds)
-    asked = trial.heard.asked - before
-    if asked > len(trial.nodes()):
+def check_rest(attempt: Attempt, seconds: float) -> None:
+    """Checks that a bot asks for nothing while there is nothing to ask for. One move for each of its nodes is
+    accepted, because it may follow from an earlier look."""
+    attempt.run_for(LATE)
+    before, lines, since = attempt.heard.asked, attempt.heard.lines, time.monotonic()
+    attempt.run_for(seconds)
+    if wrong := polling_fault(attempt.heard.lines - lines, time.monotonic() - since, len(attempt.nodes())):
+        raise Fails(wrong)
+    asked = attempt.heard.asked - before
+    if asked > len(attempt.nodes()):
         raise Fails(f"it asked for {asked} moves though there was nothing to ask for: if `rule` is null, there is nothing to do now")
 
 
-def hurt(trial: Attempt, of: list[int] | None = None) -> int:
-    """Sets registers of a node, one of the bot alone or one of these, so that it is privileged, as the program says;
-    returns the node."""
-    playing, nodes = trial.playing, trial.alone() if of is None else of
-    for node in trial.chance.sample(nodes, len(nodes)):
+def hurt(attempt: Attempt, of: list[int] | None = None) -> int:
+    """Sets the registers of a node so that it is privileged: a node of the bot alone, or one in `of`. Returns the
+    node."""
+    playing, nodes = attempt.playing, attempt.nodes_owned_alone() if of is None else of
+    for node in attempt.chance.sample(nodes, len(nodes)):
         look = playing.program.ask(TEACHER, do="look", node=node)
         ways = list(itertools.product([None, *(each["node"] for each in look["near"])], (True, False)))
-        for p, m in trial.chance.sample(ways, len(ways)):
+        for p, m in attempt.chance.sample(ways, len(ways)):
             playing.fault(node, p, m)
-            if node in privileged(trial):
+            if node in privileged(attempt):
                 return node
     raise Fails("no fault makes a node of the bot privileged")
 
 
-def privileged(trial: Attempt) -> dict[int, str]:
+def privileged(attempt: Attempt) -> dict[int, str]:
     """Returns the privileged nodes with their rules, as the program reports them."""
-    return dict(trial.playing.report["privileged"])
+    return dict(attempt.playing.report["privileged"])
 
 
-def granted(trial: Attempt, node: int, what: str) -> None:
-    """Waits until the bot's move of a node is granted."""
-    end = time.monotonic() + trial.limits.seconds
-    while node not in trial.playing.chosen:
+def until_granted(attempt: Attempt, node: int, what: str) -> None:
+    """Runs the class until the bot's move of a node is granted. Raises `Fails` with `what` after the time limit."""
+    end = time.monotonic() + attempt.limits.seconds
+    while node not in attempt.playing.chosen:
         if time.monotonic() > end:
-            raise Fails(f"{what} in {trial.limits.seconds:g} seconds{trial.playing.silence(trial.case.who)}"
-                        f"{explaining.of_waiting(trial.playing, trial.case.who)}")
-        trial.turn()
+            raise Fails(f"{what} in {attempt.limits.seconds:g} seconds{attempt.playing.explain_silence(attempt.case.who)}"
+                        f"{explaining.of_waiting(attempt.playing, attempt.case.who)}")
+        attempt.turn()
 
 
-def fault(trial: Attempt) -> None:
-    """Hurts a node of the bot's."""
-    node = hurt(trial)
-    trial.until_stable(f"a fault at {node} isn't handled")
+def fault(attempt: Attempt) -> None:
+    """Hurts several nodes of the bot, one after another."""
+    for each in attempt.chance.sample(attempt.nodes_owned_alone(), min(MOST_FAULTS, len(attempt.nodes_owned_alone()))):
+        node = hurt(attempt, [each])
+        attempt.until_stable(f"a fault at {node} isn't handled")
 
 
-def cut(trial: Attempt) -> None:
-    """Closes the bot's connections, and hurts a node."""
-    before = trial.heard.greeted
-    trial.playing.relay.cut()
-    trial.comes_again(before, "its connection was closed")
-    node = hurt(trial)
-    trial.until_stable(f"after its connection was closed a fault at {node} isn't handled")
+def cut(attempt: Attempt) -> None:
+    """Closes the bot's connections, in the middle of a reply if replies come in pieces, and hurts a node."""
+    before, port, end = attempt.heard.greeted, attempt.playing.relay, time.monotonic() + attempt.limits.seconds
+    while attempt.case.piece and not any(caller.held for caller in port.callers) and time.monotonic() < end:
+        attempt.turn()
+    port.hang_up_all()
+    attempt.until_greeted_again(before, "its connection was closed")
+    if attempt.case.piece:
+        attempt.doing = f", after its connection was closed in the middle of a reply (a part of a reply doesn't count){ON}"
+    node = hurt(attempt)
+    attempt.until_stable(f"a fault at {node}, after the bot's connection was closed, isn't handled")
+    attempt.doing = ON
 
 
-def rest(trial: Attempt) -> None:
-    """Leaves the class at rest for some seconds, and hurts a node."""
-    trial.doing = f", after the class was at rest for some seconds{ON}"
-    rests(trial, LONG_REST)
-    node = hurt(trial)
-    trial.until_stable(f"after {LONG_REST:g} seconds at rest a fault at {node} isn't handled")
-    trial.doing = ON
+def rest(attempt: Attempt, seconds: float = RESTING) -> None:
+    """Leaves the class at rest for some seconds, and hurts a node. Raises `Fails` if the bot didn't look at all
+    its nodes meanwhile."""
+    attempt.doing = f", after the class was at rest for some seconds{ON}"
+    recent = attempt.heard.conduct.recent
+    recent.clear()
+    check_rest(attempt, seconds)
+    if missed := [str(node) for node in attempt.nodes() if node not in recent]:
+        raise Fails(f"the class was at rest for {seconds:g} seconds, and it didn't look at {' and '.join(missed)}: look at all nodes again and again, since a "
+                    "fault may come at any time")
+    node = hurt(attempt)
+    attempt.until_stable(f"a fault at {node}, after {seconds:g} seconds at rest, isn't handled")
+    attempt.doing = ON
 
 
-def open_step(trial: Attempt) -> None:
-    """Closes no step for long after a move was granted."""
-    trial.playing.is_held = True
-    node = hurt(trial)
-    granted(trial, node, f"it didn't ask for {node}, which a fault made privileged,")
-    trial.doing = f", while the step stayed open after a grant (the teacher closes it, maybe much later){ON}"
-    trial.watch(LONG_OPEN)
-    trial.playing.is_held, trial.doing = False, ON
-    trial.until_stable(f"a fault at {node}, after which the step stayed open for long, isn't handled")
+def long_rest(attempt: Attempt) -> None:
+    """Leaves the class at rest for more than a minute, and hurts a node."""
+    rest(attempt, LONGEST_REST)
 
 
-def release(trial: Attempt) -> None:
-    """Takes the bot's move back without a close: the number stays."""
-    playing = trial.playing
+def open_step(attempt: Attempt) -> None:
+    """Leaves a step open for long after a move was granted."""
+    attempt.playing.is_held = True
+    node = hurt(attempt)
+    until_granted(attempt, node, f"it didn't ask for {node}, which a fault made privileged,")
+    attempt.doing = f", while the step stayed open after a grant (the teacher closes it, maybe much later){ON}"
+    attempt.run_for(LONG_OPEN)
+    attempt.playing.is_held, attempt.doing = False, ON
+    attempt.until_stable(f"a fault at {node}, after which the step stayed open for long, isn't handled")
+
+
+def release(attempt: Attempt) -> None:
+    """Takes the bot's move back without a close, so that the number of the configuration stays the same."""
+    playing = attempt.playing
     playing.is_held = True
-    node = hurt(trial)
-    granted(trial, node, f"it didn't ask for {node}, which a fault made privileged,")
-    trial.watch(LATE)
+    node = hurt(attempt)
+    until_granted(attempt, node, f"it didn't ask for {node}, which a fault made privileged,")
+    attempt.run_for(LATE)
     playing.release(node)
-    granted(trial, node, f"the teacher took its move of {node} back under {playing.report['at']}, and it didn't ask again (after a grant look "
-                         "again a little later: the number stays the same)")
+    until_granted(attempt, node, f"the teacher took its move of {node} back in configuration {playing.report['at']}, and it didn't ask again "
+                                 "(after a grant look again a little later: the number stays the same)")
     playing.is_held = False
-    trial.until_stable(f"a fault at {node}, where the teacher took a move back, isn't handled")
+    attempt.until_stable(f"a fault at {node}, after which the teacher took a move back, isn't handled")
 
 
-def overtake(trial: Attempt) -> None:
-    """Closes a step between a look and the move that follows from it, which is stale then."""
-    trial.doing = f", after a step was closed between its look and its move (`stale` is no error: look again){ON}"
-    trial.playing.overtakes = OVERTAKES
+def overtake(attempt: Attempt) -> None:
+    """Closes a step between the bot's look and its move, so that the move is stale."""
+    attempt.doing = f", after a step was closed between its look and its move (`stale` is no error: look again){ON}"
+    attempt.playing.overtakes = OVERTAKES
     for _ in range(ROUNDS):
-        node = hurt(trial)
-        trial.until_stable(f"a fault at {node}, with a step closed between look and move, isn't handled")
-        if not trial.playing.overtakes:
+        node = hurt(attempt)
+        attempt.until_stable(f"a fault at {node}, with a step closed between look and move, isn't handled")
+        if not attempt.playing.overtakes:
             break
-    trial.playing.overtakes, trial.doing = 0, ON
+    attempt.playing.overtakes, attempt.doing = 0, ON
 
 
-def taken(trial: Attempt) -> None:
-    """Has another owner of a shared node move it first: before the bot looks, and then between its look and its move."""
-    playing, shared = trial.playing, [node for node in trial.nodes() if node not in trial.alone()]
-    trial.doing = f", after somebody else moved a node that it shares (`chosen` is no error: wait for the next number){ON}"
+def turn(attempt: Attempt) -> None:
+    """Changes a node between the bot's look and its move, so that another rule is enabled there."""
+    attempt.doing = f", after a step was closed between its look and its move (`stale` is no error: look again){ON}"
+    for _ in range(TURNS):
+        attempt.playing.turns = 1
+        node = hurt(attempt)
+        attempt.until_stable(f"a fault at {node}, with another fault between look and move, isn't handled")
+    attempt.playing.turns, attempt.doing = 0, ON
+
+
+def drop(attempt: Attempt) -> None:
+    """Drops the bot's granted move by a fault at another node, which sets that node's registers to their present
+    values."""
+    playing = attempt.playing
     playing.is_held = True
-    playing.house_move(hurt(trial, shared))
-    trial.watch(3 * LATE)
+    node = hurt(attempt)
+    until_granted(attempt, node, f"it didn't ask for {node}, which a fault made privileged,")
+    attempt.run_for(LATE)
+    other = next(each.id for each in reversed(attempt.case.made.nodes) if each.id != node)
+    it = playing.program.ask(TEACHER, do="see", node=other)
+    playing.fault(other, it["p"], it["m"])
+    until_granted(attempt, node, f"a fault at {other} dropped its granted move of {node}, and it didn't ask again (a grant is no step: look again, and "
+                         "ask if `chosen` is null)")
     playing.is_held = False
-    trial.until_stable("after another owner moved a node it isn't stable")
+    attempt.until_stable(f"a fault at {node}, whose granted move was dropped, isn't handled")
+
+
+def link_nodes(attempt: Attempt, node: int, other: int) -> None:
+    """Links a node of the bot with another node, which is then the only one that points at it."""
+    playing = attempt.playing
+    playing.is_held = True
+    playing.relink("link", node, other)
+    for each in near_of(attempt, node):
+        playing.fault(each, node if each == other else None, each != other)
+    playing.fault(node, None, False)
+    until_granted(attempt, node, f"the teacher linked {node} and {other}, which points at {node}, and it didn't ask for the marriage (neighbours change in a "
+                         "run: take them from your last look)")
+    playing.is_held = False
+    attempt.until_stable(f"a new link between {node} and {other} isn't handled")
+
+
+def cut_pair(attempt: Attempt, node: int, other: int) -> None:
+    """Cuts the link between a node of the bot and the node that it is married to, after the bot has looked at it."""
+    playing = attempt.playing
+    playing.is_held = True
+    for each in near_of(attempt, node):
+        playing.fault(each, node if each == other else None, True)
+    playing.fault(node, other, True)
+    until_looked(attempt, node)
+    playing.relink("cut", node, other)
+    until_granted(attempt, node, f"the teacher cut the link between {node} and {other}, which were married, and it didn't ask for {node}")
+    playing.is_held = False
+    attempt.until_stable(f"a cut between {node} and {other} isn't handled (neighbours change in a run: take them from your last look)")
+
+
+def relink(attempt: Attempt) -> None:
+    """Adds a link at a node of the bot and cuts it. If the node is linked with all others, cuts a link first and
+    adds it again."""
+    node = attempt.chance.choice(attempt.nodes_owned_alone())
+    near = near_of(attempt, node)
+    far = [each.id for each in attempt.case.made.nodes if each.id not in (node, *near)]
+    other = attempt.chance.choice(far or near)
+    for what in (link_nodes, cut_pair) if far else (cut_pair, link_nodes):
+        what(attempt, node, other)
+
+
+def memory(attempt: Attempt) -> None:
+    """Refuses a few looks and moves with `memory`."""
+    attempt.doing = f", after the refusal `memory`, which means: ask again a little later{ON}"
+    attempt.playing.short.update({"look": 2, "move": 1})
+    node = hurt(attempt)
+    attempt.until_stable(f"a fault at {node}, after the refusal `memory`, isn't handled")
+    attempt.playing.short.clear()
+    attempt.doing = ON
+
+
+def seat(attempt: Attempt) -> None:
+    """Gives the bot's seats to newcomers, and hurts a node."""
+    before = attempt.heard.greeted
+    attempt.playing.relay.end_all(relay.BUSY)
+    attempt.until_greeted_again(before, "its seat went to a newcomer, so that its last line was `busy`")
+    node = hurt(attempt)
+    attempt.until_stable(f"a fault at {node}, after the bot's seat went to a newcomer, isn't handled")
+
+
+def taken(attempt: Attempt) -> None:
+    """Lets another owner of a shared node ask first: before the bot looks, and then between its look and its move."""
+    playing, shared = attempt.playing, [node for node in attempt.nodes() if node not in attempt.nodes_owned_alone()]
+    attempt.doing = f", after somebody else moved a node that it shares (`chosen` is no error: wait for the next number){ON}"
+    playing.is_held = True
+    playing.house_move(hurt(attempt, shared))
+    attempt.run_for(3 * LATE)
+    playing.is_held = False
+    attempt.until_stable("after another owner moved a node, the class isn't stable")
     playing.forestalls = True
-    node = hurt(trial, shared)
-    trial.until_stable(f"a fault at {node}, which another owner moved first, isn't handled")
-    playing.forestalls, trial.doing = False, ON
+    node = hurt(attempt, shared)
+    attempt.until_stable(f"a fault at {node}, which another owner moved first, isn't handled")
+    playing.forestalls, attempt.doing = False, ON
 
 
-def lost(trial: Attempt) -> None:
-    """Loses the reply to a granted move, and is gone for a moment, as a class that is resumed."""
-    playing = trial.playing
+def lost(attempt: Attempt) -> None:
+    """Loses the reply to a granted move and stops the server for a moment, like a class that is resumed."""
+    playing = attempt.playing
     playing.is_held = playing.loses = True
-    node, before = hurt(trial), trial.heard.greeted
-    end = time.monotonic() + trial.limits.seconds
+    node, before = hurt(attempt), attempt.heard.greeted
+    end = time.monotonic() + attempt.limits.seconds
     while not playing.has_lost:
         if time.monotonic() > end:
-            raise Fails(f"it didn't ask for {node}, which a fault made privileged, in {trial.limits.seconds:g} seconds"
-                        f"{playing.silence(trial.case.who)}{explaining.of_waiting(playing, trial.case.who)}")
-        trial.turn()
-    playing.relay.cut()
+            raise Fails(f"it didn't ask for {node}, which a fault made privileged, in {attempt.limits.seconds:g} seconds"
+                        f"{playing.explain_silence(attempt.case.who)}{explaining.of_waiting(playing, attempt.case.who)}")
+        attempt.turn()
+    what = f"its server was gone for {GONE:g} seconds, and came back"
+    attempt.doing = f", after {what} ({AGAIN})"
+    playing.relay.hang_up_all()
     playing.relay.pause()
     end = time.monotonic() + GONE
     while time.monotonic() < end:
-        trial.turn(may_end=True)
+        attempt.turn()
     try:
         playing.relay.resume()
     except OSError as error:
         raise Fault(f"port {playing.relay.port}: {error.strerror}", 4) from None
-    trial.comes_again(before, "its server was gone for a moment, and went on")
+    attempt.until_greeted_again(before, what)
     playing.is_held = playing.loses = playing.has_lost = False
-    trial.until_stable(f"after its server was gone for a moment a fault at {node} isn't handled")
+    attempt.until_stable(f"a fault at {node}, after the server was gone for a moment, isn't handled")
 
 
-def turned_away(trial: Attempt) -> None:
-    """Tells the bot `busy` for some seconds."""
-    relay, end = trial.playing.relay, time.monotonic() + trial.limits.seconds
-    while not relay.calls:
+def turned_away(attempt: Attempt) -> None:
+    """Answers the bot's connections with `busy` for some seconds."""
+    port, end = attempt.playing.relay, time.monotonic() + attempt.limits.seconds
+    while not port.calls:
         if time.monotonic() > end:
-            raise Fails(f"it said no hello in {trial.limits.seconds:g} seconds{trial.playing.silence(trial.case.who)}")
-        trial.turn()
-    trial.doing = ", after the reply `busy`: all seats are taken, so a bot comes again in a second"
-    trial.watch(TURNED_AWAY)
-    relay.busy, trial.doing = False, ""
-    trial.until_greeted()
+            raise Fails(f"it said no hello in {attempt.limits.seconds:g} seconds{attempt.playing.explain_silence(attempt.case.who)}")
+        attempt.turn()
+    attempt.doing = ", after the reply `busy`: all seats are taken, so a bot connects again a second later"
+    came, since = len(port.calls), time.monotonic()
+    attempt.run_for(TURNED_AWAY)
+    most = len(attempt.nodes()) * (time.monotonic() - since + 2)
+    if len(port.calls) - came > most:
+        raise Fails(f"it connected {len(port.calls) - came} times in {TURNED_AWAY:g} seconds in which the reply was `busy`: connect again a second later")
+    port.busy, attempt.doing = False, ""
+    attempt.until_greeted()
 
 
-def over(trial: Attempt) -> None:
+def over(attempt: Attempt) -> None:
     """Ends the class, and checks that the bot ends too."""
-    assert trial.kept is not None
-    trial.playing.relay.over()
-    end = time.monotonic() + trial.limits.seconds
-    while not (how := trial.kept.ended()):
+    assert attempt.kept is not None
+    attempt.playing.relay.end_class()
+    end = time.monotonic() + attempt.limits.seconds
+    while not (how := attempt.kept.ended()):
         if time.monotonic() > end:
-            raise Fails(f"it got the line that the class is over, and still runs after {trial.limits.seconds:g} seconds: a bot ends then")
-        if trial.stop.is_set():
+            raise Fails(f"it got the line that says that the class is over, and still runs after {attempt.limits.seconds:g} seconds: a bot ends then")
+        if attempt.stop.is_set():
             raise Stopped
-        trial.playing.turn()
+        attempt.playing.turn()
     if how.startswith("killed"):
-        raise Fails(trial.told(how))
+        raise Fails(attempt.end_reason(how))
 
 
-def drawn(trial: Attempt, node: int, known: set[tuple[str | None, int, bool]]) -> None:
-    """Draws the registers of a node and its neighbours so that a rule with these registers is new, as the program reports
-    it, if one is found in some tries."""
-    near = networks.neighbours([each.id for each in trial.case.made.nodes], trial.case.made.links)
+def near_of(attempt: Attempt, node: int) -> list[int]:
+    """Returns the present neighbours of a node."""
+    return networks.neighbours([each.id for each in attempt.case.made.nodes], attempt.playing.links)[node]
+
+
+def until_looked(attempt: Attempt, node: int) -> None:
+    """Runs the class until the bot has looked at a node in this configuration. Raises `Fails` after the time
+    limit."""
+    at, end = attempt.playing.report["at"], time.monotonic() + attempt.limits.seconds
+    while (node, at) not in attempt.heard.conduct.looked:
+        if time.monotonic() > end:
+            raise Fails(f"it didn't look at {node} again in {attempt.limits.seconds:g} seconds{attempt.playing.explain_silence(attempt.case.who)}")
+        attempt.turn()
+
+
+def draw_registers(attempt: Attempt, node: int, known: set[tuple[str | None, int, bool]]) -> None:
+    """Draws the registers of a node and its neighbours until the program reports a combination of rule and
+    registers that isn't in `known`. Gives up after some tries."""
+    near = networks.neighbours([each.id for each in attempt.case.made.nodes], attempt.case.made.links)
     for _ in range(TRIES):
         for each in (*near[node], node):
-            p, m = trial.chance.choice([None, trial.chance.choice(near[each]), node if each != node else None]), trial.chance.random() < 0.5
-            trial.playing.fault(each, p, m)
-        sign = (privileged(trial).get(node), 0 if p is None else 1 if p > node else -1, m)
+            p, m = attempt.chance.choice([None, attempt.chance.choice(near[each]), node if each != node else None]), attempt.chance.random() < 0.5
+            attempt.playing.fault(each, p, m)
+        sign = (privileged(attempt).get(node), 0 if p is None else 1 if p > node else -1, m)
         if sign not in known:
             known.add(sign)
             return
 
 
-def rules(trial: Attempt) -> None:
-    """Draws configurations around a node of the bot's, one after another without a close: if the program reports a rule
-    there, the bot asks for it, and else for nothing."""
-    playing, links = trial.playing, trial.case.made.links
-    node = max(trial.alone(), key=lambda node: (any(node == b for a, b in links) + any(node == a for a, b in links), -node))
+def rules(attempt: Attempt) -> None:
+    """Draws configurations around a node of the bot, one after another without a close. The bot has to ask for the
+    rule that the program reports, and for nothing if there is none."""
+    playing, links = attempt.playing, attempt.case.made.links
+    node = max(attempt.nodes_owned_alone(), key=lambda node: (any(node == b for a, b in links) + any(node == a for a, b in links), -node))
     known: set[tuple[str | None, int, bool]] = set()
     playing.is_held = True
     for _ in range(DRAWS):
-        drawn(trial, node, known)
-        rule, at = privileged(trial).get(node), playing.report["at"]
+        draw_registers(attempt, node, known)
+        rule = privileged(attempt).get(node)
         if rule is not None:
-            granted(trial, node, f"it didn't ask for {rule} at {node}, which is privileged,")
+            until_granted(attempt, node, f"it didn't ask for {rule} at {node}, which is privileged,")
             continue
-        end = time.monotonic() + trial.limits.seconds
-        while (node, at) not in trial.heard.conduct.looked:
-            if time.monotonic() > end:
-                raise Fails(f"it didn't look at {node} again in {trial.limits.seconds:g} seconds{playing.silence(trial.case.who)}")
-            trial.turn()
-        trial.watch(LOOKED)
+        until_looked(attempt, node)
+        attempt.run_for(LOOKED)
     playing.is_held = False
-    trial.until_stable(f"faults at {node} and its neighbours aren't handled")
+    attempt.until_stable(f"faults at {node} and its neighbours aren't handled")
 
 
 EACH: dict[str, Callable[[Attempt], None]] = {
     FAULT: fault, CUT: cut, REST: rest, OPEN: open_step, RELEASE: release, OVERTAKE: overtake, LOST: lost, TAKEN: taken,
-    RULES: rules,
+    RULES: rules, LONG_REST: long_rest, TURN: turn, DROP: drop, RELINK: relink, MEMORY: memory, SEAT: seat,
 }

@@ -1,1 +1,1 @@
-"""What all of `./class` stands on: the proved programs, labs, journals, records, folders of runs, and what is counted of them."""
+"""The base of all of `./class`: the proved programs, labs, journals, records, folders of runs, and counts."""

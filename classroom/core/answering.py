@@ -14,12 +14,12 @@ from classroom.core.processes import begin
 from classroom.core.program import Fault, host, is_clone
 
 AT_ONCE = 16_000  # bytes of lines that are sent before their replies are read; a pipe takes more
-MOST_SCRIPT = 1_000_000  # bytes of a script that is kept; the program takes 1,048,576
+MOST_SCRIPT = 1_000_000  # bytes of a script that is kept, fewer than those of the largest script
 SOME = 24  # lines, at most, that are sent before their replies are read
 
 
 def answerer() -> Path:
-    """Returns the host's program, which has the word `answer`. Raises a fault if it isn't built."""
+    """Returns the path of the host's program, which has the command `answer`. Raises `Fault` if it isn't built."""
     found = host()
     if found is None:
         how = "`./mml build` builds it (with the toolchain's rt on the path)" if is_clone() else "this release has none"
@@ -28,8 +28,8 @@ def answerer() -> Path:
 
 
 def started(lab: labs.Lab) -> subprocess.Popen[bytes]:
-    """Returns the program, started over a lab. The lab's file has no name, so that a program under test can't find
-    it."""
+    """Starts the program over a lab, and returns its process. The lab's file is unlinked, so a program under test can't
+    find it."""
     program = answerer()
     file = os.memfd_create("lab")
     try:
@@ -44,7 +44,7 @@ def started(lab: labs.Lab) -> subprocess.Popen[bytes]:
 
 
 def all_of(lab: labs.Lab, script: list[str]) -> str:
-    """Returns the replies to all lines of a script, a line each after its connection's number."""
+    """Returns the replies to all lines of a script, one reply per line, each after its connection number."""
     with started(lab) as process:
         out, error = process.communicate("\n".join([*script, ""]).encode("ascii"))
     replies, said = out.decode("ascii"), error.decode(errors="replace").strip()
@@ -55,13 +55,13 @@ def all_of(lab: labs.Lab, script: list[str]) -> str:
 
 
 class Answering:
-    """A lab, and a program that answers lines over it."""
+    """A lab, and a process that answers lines over it."""
 
     def __init__(self, lab: labs.Lab) -> None:
         self.lab = lab
         self.process = started(lab)
         self.size = self.place = 0  # the last event's place
-        self.granted: list[bytes] = []  # the lines of a script that does again what was granted
+        self.granted: list[bytes] = []  # the lines of the script that repeats what was granted
         self.names: dict[int, str] = {}
 
     def answers(self, lines: list[tuple[int, bytes]]) -> list[bytes]:
@@ -89,8 +89,8 @@ class Answering:
         return replies
 
     def ended(self) -> Fault:
-        """Returns the fault to be raised if the program has ended, or answers no longer: its status and what it said.
-        The program is killed."""
+        """Kills the program, and returns the fault to raise if it has ended or doesn't answer. The fault names its
+        status and its output."""
         assert self.process.stderr is not None
         self.process.kill()
         said = self.process.stderr.read().decode(errors="replace").strip()
@@ -98,22 +98,21 @@ class Answering:
         return Fault(f"the program has ended, status {status}: {said}", 4)
 
     def answer(self, connection: int, line: bytes) -> dict[str, Any]:
-        """Asks a line. Returns the reply; what was granted is kept."""
+        """Sends a line, and returns the reply. A line that was granted is kept."""
         reply = reply_of(self.answers([(connection, line)])[0])
         self.keep(connection, line, reply)
         return reply
 
     def keep(self, connection: int, line: bytes, reply: dict[str, Any]) -> None:
-        """Keeps a line for the script that does again what was granted, where its reply says that it was: a hello, a
-        bye or an event. A full script takes no more."""
+        """Keeps a line for the script that repeats the run, if its reply shows that it was a hello, a bye or an event.
+        A line for which the script has no room isn't kept."""
         self.place = reply.get("place", self.place)
         if (reply.get("ok") in ("hello", "bye") or "place" in reply) and self.size + len(line) < MOST_SCRIPT:
             self.granted.append(b"%d %s\n" % (connection, line))
             self.size += len(self.granted[-1])
 
     def ask(self, connection: int, **request: object) -> dict[str, Any]:
-        """Sends a request, and returns its reply if it was answered by `ok`. Otherwise raises the denial or the
-        refusal."""
+        """Sends a request, and returns its reply. Raises the denial or the refusal if the reply isn't `ok`."""
         reply = self.answer(connection, json.dumps(request, separators=(",", ":")).encode())
         if "deny" in reply:
             raise Denied(reply["clause"], reply["deny"], reply["text"], reply.get("at"))
@@ -122,7 +121,7 @@ class Answering:
         return reply
 
     def greet(self, connection: int, name: str) -> None:
-        """Speaks for a student, or for the teacher, on a connection from now on."""
+        """Sends a hello, so that the connection speaks for the student or the teacher from then on."""
         if self.names.get(connection) == name:
             return
         if connection in self.names:
@@ -132,7 +131,7 @@ class Answering:
         self.names[connection] = name
 
     def script(self) -> bytes:
-        """Returns the script that does again what was granted."""
+        """Returns the script that repeats all that was granted."""
         return b"".join(self.granted)
 
     def close(self) -> None:

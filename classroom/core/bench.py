@@ -1,4 +1,5 @@
-"""A program over a network, on which one run after another begins anew: registers are set, and nodes move at once."""
+"""A program over a network, on which runs follow each other: each begins by setting all registers, and nodes move at
+once."""
 from __future__ import annotations
 
 import json
@@ -6,7 +7,7 @@ from collections.abc import Callable, Sequence
 from typing import Any
 
 from classroom.core import lab as labs
-from classroom.core import bounds
+from classroom.core import bounds, limits
 from classroom.core.answering import Answering
 from classroom.core.program import Fault
 
@@ -15,13 +16,13 @@ ROOM = 4  # moves and closes for each move that there can be, with room to spare
 
 
 def network(nodes: list[labs.Node], links: list[tuple[int, int]]) -> labs.Lab:
-    """Returns a lab whose one student has all nodes."""
+    """Returns a lab with one student, who owns all nodes."""
     own = [labs.Node(node.id, ["student"], node.p, node.m) for node in nodes]
-    return labs.Lab(labs.MOST_EVENTS, 2, ("teacher", "teacher"), {"student": "student"}, own, links)
+    return labs.Lab(limits.allowed().events, 2, ("teacher", "teacher"), {"student": "student"}, own, links)
 
 
 class Bench:
-    """A program over a network, on which run after run begins anew until its events are used."""
+    """A program over a network. New runs begin on it until its events are used up."""
 
     def __init__(self, made: labs.Lab) -> None:
         self.made, self.events = made, 0
@@ -32,17 +33,18 @@ class Bench:
         self.before = 0  # the number at which it begins
 
     def has_room(self, made: labs.Lab) -> bool:
-        """Returns whether a run over that network can follow: it has the program's links, and enough events are left
-        for it."""
+        """Returns whether a run over that network can follow: it has the links of the program's network, and enough
+        events are left."""
         most = ROOM * bounds.of_lab(made).moves + 2 * len(made.nodes)
-        return made.links == self.made.links and self.events + most < labs.MOST_EVENTS
+        return made.links == self.made.links and self.events + most < self.made.events
 
     def asked(self, connection: int, requests: list[dict[str, Any]]) -> list[dict[str, Any]]:
-        """Returns the replies to requests, each of which is answered by `ok`."""
+        """Sends requests on one connection, and returns their replies. Raises `Fault` if one isn't answered by `ok`."""
         return self.all_asked([(connection, request) for request in requests])
 
     def all_asked(self, requests: list[tuple[int, dict[str, Any]]]) -> list[dict[str, Any]]:
-        """Returns the replies to requests of several connections, each of which is answered by `ok`."""
+        """Sends requests on several connections, and returns their replies. Raises `Fault` if one isn't answered by
+        `ok`."""
         lines = [(connection, json.dumps(request, separators=(",", ":")).encode()) for connection, request in requests]
         replies: list[dict[str, Any]] = [json.loads(reply) for reply in self.program.answers(lines)]
         for (_, request), reply in zip(requests, replies):
@@ -53,7 +55,7 @@ class Bench:
         return replies
 
     def begin(self, made: labs.Lab) -> dict[str, Any]:
-        """Sets all registers. Returns the report."""
+        """Sets all registers, and returns the report."""
         self.requests = []
         faults = [{"do": "fault", "node": node.id, "p": node.p, "m": node.m} for node in made.nodes]
         report = self.asked(TEACHER, [*faults, {"do": "report"}])[-1]
@@ -61,20 +63,20 @@ class Bench:
         return report
 
     def present(self) -> labs.Lab:
-        """Returns the network with its registers as they are."""
+        """Returns the network with its present registers."""
         seen = self.asked(TEACHER, [{"do": "see", "node": node.id} for node in self.made.nodes])
         del self.requests[-len(seen):]  # They do nothing.
         return network([labs.Node(it["node"], [], it["p"], it["m"]) for it in seen], self.made.links)
 
     def script(self) -> bytes:
-        """Returns the run at hand as a script over its lab."""
+        """Returns the present run as a script over its lab."""
         hello = [(TEACHER, {"do": "hello", "name": "teacher", "key": "teacher"}), (STUDENT, {"do": "hello", "name": "student", "key": "student"})]
         own = [(who, request | {"at": request["at"] - self.before} if "at" in request else request) for who, request in self.requests]
         return "".join(f"{who} {json.dumps(request)}\n" for who, request in [*hello, *own]).encode()
 
     def step(self, report: dict[str, Any], nodes: list[int], partner_of: Callable[[Sequence[int]], int]) -> dict[str, Any]:
-        """Lets these nodes move in one step, each by its enabled rule, and those that marry with whom `partner_of` takes of
-        those who point at them. Returns the report after it."""
+        """Moves these nodes in one step, each by its enabled rule. A node that marries takes the one that `partner_of`
+        chooses among those that point at it. Returns the report after the step."""
         rules = dict(report["privileged"])
         suited = [node for node in nodes if rules[node] == "marriage"]
         looks = self.asked(STUDENT, [{"do": "look", "node": node} for node in suited])

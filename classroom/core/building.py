@@ -1,4 +1,5 @@
-"""Builds the programs of a clone before a word does anything: `./mml build` says how long that takes and how far it is."""
+"""Builds the programs of a clone before a subcommand runs. `./mml build` prints how long that takes, and its
+progress."""
 from __future__ import annotations
 
 import os
@@ -9,7 +10,7 @@ from types import FrameType
 
 from classroom.core.program import TOP, Fault, built, is_clone
 
-NAMED_BY = {"mml_server": "MML_PROGRAM", "mml_host": "MML_HOST"}  # what in the environment names another program
+NAMED_BY = {"mml_server": "MML_PROGRAM", "mml_host": "MML_HOST"}  # the environment variable that names another program
 SIGNALS = (signal.SIGINT, signal.SIGTERM, signal.SIGHUP)
 POLL = 0.1
 PATIENCE = 2.0  # seconds after a signal in which the build, which a terminal's Ctrl-C reaches too, may end by itself
@@ -17,13 +18,13 @@ STDERR = 2  # results go to standard output, and nothing else may stand there
 
 
 def lacks_programs() -> bool:
-    """Returns whether this is a clone in which a program was never built."""
+    """Returns whether this is a clone in which a program has never been built."""
     wanted = [crate for crate, variable in NAMED_BY.items() if not os.environ.get(variable)]
     return is_clone() and not all(os.access(built(crate), os.X_OK) for crate in wanted if (TOP / "crates" / crate).is_dir())
 
 
 class Signals:
-    """Notes the signals that end a process, in place of what they did before."""
+    """Records the signals that end a process. Replaces their handlers until it is closed."""
 
     def __init__(self) -> None:
         self.came, self.at = 0, 0.0
@@ -36,13 +37,13 @@ class Signals:
         self.came, self.at = number, time.monotonic()
 
     def close(self) -> None:
-        """Puts back what the signals did before."""
+        """Restores the earlier handlers of the signals."""
         for number, handler in self.before.items():
             signal.signal(number, handler)
 
 
 def build() -> int:
-    """Runs `./mml build` to its end, and returns its status. A signal ends both."""
+    """Runs `./mml build` to its end, and returns its status. A signal ends both processes."""
     signals = Signals()
     try:
         process = subprocess.Popen([TOP / "mml", "build"], stdin=subprocess.DEVNULL, stdout=STDERR)

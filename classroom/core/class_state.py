@@ -44,13 +44,13 @@ from classroom.core import plain
 from classroom.core.folders import STATE
 from classroom.core.program import Fault
 
-MOST = 1 << 20  # bytes of a network's state
+MOST = 1 << 20  # the most bytes of a network's state
 STARTS, RUNS, DOWN, ENDED = "starts", "runs", "down", "ended"
 
 
 @dataclass
 class NetworkState:
-    """What the page for all shows of a network."""
+    """The state of a network, as the page for all shows it."""
 
     number: int
     name: str
@@ -66,7 +66,7 @@ class NetworkState:
 
 @dataclass
 class ClassState:
-    """What the page for all shows of a class."""
+    """The state of a class, as the page for all shows it."""
 
     title: str
     networks: list[NetworkState] = field(default_factory=list)
@@ -79,7 +79,8 @@ class ClassState:
 
 
 def write(folder: Path, state: dict[str, Any]) -> None:
-    """Writes the state of a network into the folder of its run. A full disk keeps what was there, and ends nothing."""
+    """Writes the state of a network into the folder of its run. If the disk is full, the old file stays, and no error
+    is raised."""
     new = folder / f"{STATE}.new"
     try:
         new.write_text(json.dumps(state, separators=(",", ":")) + "\n", encoding="utf-8")
@@ -89,7 +90,7 @@ def write(folder: Path, state: dict[str, Any]) -> None:
 
 
 def read(folder: Path) -> dict[str, Any] | None:
-    """Returns the state of a network as the folder of its run has it, or None if there is none."""
+    """Returns the state of a network from the folder of its run, or None if there is none."""
     try:
         it = json.loads(plain.read(folder / STATE, MOST))
     except (Fault, ValueError, RecursionError):

@@ -10,8 +10,8 @@ from pathlib import Path
 
 from classroom.core import lab as labs
 from classroom.core import folders, plain
-from classroom.core.folders import LAST_PORT, Process, new_folder, of_folder
-from classroom.core.program import Fault
+from classroom.core.folders import Process, new_folder, of_folder
+from classroom.core.program import LAST_PORT, Fault
 from classroom.core.statuses import FAILED
 
 FILE = folders.CLASS
@@ -20,14 +20,14 @@ NAME = re.compile(r"[^/\0]+")
 
 @dataclass(frozen=True)
 class Network:
-    """One network of a class: its name, which its folder has too, its room, and the file of its lab."""
+    """One network of a class: its name, which is also the name of its folder, its room, and the file of its lab."""
 
     name: str
     room: str
     lab: str
 
-    def is_sound(self) -> bool:
-        """Returns whether each value is of its kind, and the name is that of a folder."""
+    def is_valid(self) -> bool:
+        """Returns whether all values are strings without NUL, and `name` can be the name of a folder."""
         texts = (self.name, self.room, self.lab)
         return all(isinstance(text, str) and "\0" not in text for text in texts) and bool(NAME.fullmatch(self.name)) \
             and self.name not in (".", "..")
@@ -35,11 +35,11 @@ class Network:
 
 @dataclass(frozen=True)
 class Class:
-    """What the folder of a class keeps."""
+    """The contents of the file `class.json` in the folder of a class."""
 
     networks: list[Network]
     desk: Process  # The process that holds the desks of all networks.
-    left: bool = False  # Whether the terminal of that process went away.
+    left: bool = False  # Whether the terminal of that process was closed.
     page: int | None = None
     looks: str | None = None  # The token of the address of the page for all.
     ends: str | None = None  # When the lesson ends, as a date and a time.
@@ -47,24 +47,24 @@ class Class:
 
     @staticmethod
     def read(folder: Path) -> Class | None:
-        """Returns what a folder keeps of its class, or None if it isn't the folder of a class."""
+        """Returns the class that a folder's file describes, or None if it isn't the folder of a class."""
         if not os.path.lexists(folder / FILE):
             return None
         try:
             it = json.loads(plain.read(folder / FILE, plain.MOST_KEPT))
             made = Class(**it | {"networks": [Network(**each) for each in it["networks"]], "desk": Process(**it["desk"])})
-            sound = made.is_sound()
+            sound = made.is_valid()
         except (ValueError, KeyError, TypeError, RecursionError, AttributeError):
             sound = False
         if not sound:
             raise Fault(f"{folder / FILE}: it doesn't name the networks of a class", FAILED)
         return made
 
-    def is_sound(self) -> bool:
-        """Returns whether each value is of its kind: another user may have written the file."""
+    def is_valid(self) -> bool:
+        """Returns whether each value has the right type. Another user may have written the file."""
         names = [network.name for network in self.networks]
         return (
-            bool(names) and len(set(names)) == len(names) and all(network.is_sound() for network in self.networks)
+            bool(names) and len(set(names)) == len(names) and all(network.is_valid() for network in self.networks)
             and isinstance(self.left, bool) and type(self.desk.number) is int and isinstance(self.desk.start, str)
             and (self.page is None or type(self.page) is int and 0 <= self.page <= LAST_PORT)
             and all(text is None or isinstance(text, str) and text.isascii() for text in (self.looks, self.ends))
@@ -72,7 +72,7 @@ class Class:
         )
 
     def write(self, folder: Path) -> None:
-        """Writes the file. A full disk keeps what was there, and ends nothing."""
+        """Writes the file. If the disk is full, the old file stays, and no error is raised."""
         new = folder / f"{FILE}.new"
         try:
             new.write_text(json.dumps(asdict(self)) + "\n", encoding="utf-8")
@@ -82,42 +82,43 @@ class Class:
 
 
 def title(folder: Path) -> str:
-    """Returns what a class is called, and its day, as its folder's name has them."""
+    """Returns the title of a class and its day, from the name of its folder."""
     found = re.fullmatch(r"(\d{4}-\d\d-\d\d)T\d{4}-(.+)", folder.absolute().name)
     return f"{found[2]}, {found[1]}" if found else folder.absolute().name
 
 
 def is_class(folder: Path) -> bool:
-    """Returns whether a folder is that of a class."""
+    """Returns whether a folder is the folder of a class."""
     return (folder / FILE).is_file()
 
 
 def name_of(files: Sequence[Path]) -> str:
-    """Returns the name of a class: what the names of its labs have in common, without the number of a group."""
+    """Returns the name of a class: the common beginning of the names of its labs, without the number of a group."""
     common = os.path.commonprefix([file.stem for file in files])
     return re.sub(r"[-_. ]\d*$", "", common) or "class"
 
 
 def begun(into: Path, networks: list[Network]) -> Path:
-    """Makes the folder of a class, named by the minute and by what its labs are called. Returns the folder."""
+    """Makes the folder of a class, and returns it. Its name has the minute and the name of the class."""
     folder = new_folder(into, Path(f"{name_of([Path(network.lab) for network in networks])}.toml"))
     Class(networks, Process.of(os.getpid())).write(folder)
     return folder
 
 
 def runs_of(folder: Path) -> list[Path]:
-    """Returns the folders of the runs of a class, in the order of its networks; of another folder, itself."""
+    """Returns the folders of the runs of a class, in the order of its networks. Returns any other folder itself."""
     found = Class.read(folder)
     if found is None:
         return [folder]
     there = [folder / network.name for network in found.networks if (folder / network.name).is_dir()]
     if not there:
-        raise Fault(f"{folder}: none of its networks has begun", FAILED)
+        raise Fault(f"{folder}: no network of this class was started", FAILED)
     return there
 
 
 def run_of(folder: Path, name: str) -> Path:
-    """Returns the folder of the one run of a class whose lab has a person of that name; of another folder, itself."""
+    """Returns the folder of the only run of a class whose lab has a person of that name. Returns any other folder
+    itself."""
     if not is_class(folder):
         return folder
     runs = [(run, labs.read(of_folder(run)[0])) for run in runs_of(folder)]
@@ -130,11 +131,11 @@ def run_of(folder: Path, name: str) -> Path:
 
 
 def given(words: list[str]) -> list[tuple[Path, Path]]:
-    """Returns lab and journal of each run: of folders of runs, of all runs of the folders of classes, or of a lab and its
-    journals."""
+    """Returns the lab and the journal of each run that the arguments name: folders of runs, folders of classes, or a
+    lab and its journals."""
     first = Path(words[0])
     if first.is_dir():
         return [of_folder(run) for word in words for run in runs_of(Path(word))]
     if len(words) == 1:
-        raise Fault(f"{first} is no folder of a run; of a lab its journals are named too")
+        raise Fault(f"{first} isn't the folder of a run; if it is a lab, name its journals after it")
     return [(first, Path(word)) for word in words[1:]]

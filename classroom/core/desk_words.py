@@ -1,5 +1,4 @@
-"""The words of a teacher's desk: one table, for everything that takes, does, shows, counts or replays what one of them
-asks for."""
+"""The commands of a teacher's desk: one table for all code that takes, runs, shows, counts or replays one of them."""
 from __future__ import annotations
 
 from collections.abc import Callable, Sequence
@@ -13,7 +12,7 @@ PATTERNS = {
     "NODE": r"\d+", "NEIGHBOUR|null": r"\d+|null|-", "true|false": "true|false", "SECONDS": r"\d+(\.\d+)?", "WORD": r"\S+", "NAME": r"\S+",
     "K|all": r"[1-9]\d*|all", "SEED": r"\d+",
 }
-# How a value of a request is read, by its kind in `client.KEYS`.
+# The parser of a value of a request, by its kind in `client.KEYS`.
 READ: dict[str, Callable[[str], object]] = {
     "a number": int, "a number or null": lambda value: None if value in ("-", "null") else int(value),
     "true or false": lambda value: value == "true",
@@ -21,7 +20,7 @@ READ: dict[str, Callable[[str], object]] = {
 
 
 class Action(Enum):
-    """What the desk does at a word."""
+    """The action of the desk for a command."""
 
     ASK = auto()  # sends the request that `client.KEYS` has under the word
     REPORT = auto()
@@ -41,7 +40,7 @@ class Action(Enum):
 
 @dataclass(frozen=True)
 class Button:
-    """A button of the page to act at, and the line that it sends: `#seconds` stands for the value of that field, and
+    """A button of the page on which the teacher acts, and the line that it sends. `#seconds` stands for the value of that field, and
     `#picked` for the node that was clicked."""
 
     name: str
@@ -53,66 +52,67 @@ class Button:
 
 @dataclass(frozen=True)
 class Word:
-    """What follows a word, and what it does; what may be left out stands in brackets."""
+    """A command: its arguments, and its effect. Arguments in brackets are optional."""
 
     form: str
     help: str
     action: Action
     buttons: tuple[Button, ...] = ()
     is_edit: bool = False  # Whether its event changes registers or links.
-    links: int = 0  # how many more links there are after its event
+    links: int = 0  # the change of the number of links by its event
 
     @property
     def is_on_page(self) -> bool:
-        """Returns whether the page sends it: by a button, or by clicks on two nodes."""
+        """Returns whether the page can send the command, by a button or by clicks on two nodes."""
         return bool(self.buttons or self.links)
 
     @property
     def nodes(self) -> int:
-        """Returns how many nodes it names."""
+        """Returns the number of nodes that the command names."""
         return self.form.split().count("NODE")
 
 
 WORDS = {
     "close": Word("", "close the step: all chosen moves are applied at once", Action.ASK, (Button("close", "Close the step", "close"),)),
     "fault": Word("NODE NEIGHBOUR|null true|false", "set a node's p and m", Action.ASK, (
-        Button("set", "Set them", "fault #picked #p #m", "a fault: the node has these registers then"),
+        Button("set", "Set them", "fault #picked #p #m", "a fault: gives the node these registers"),
     ), is_edit=True),
-    "shake": Word("K|all [SEED]", "set so many nodes' registers, drawn with a seed", Action.SHAKE, (
-        Button("shake", "Shake", "shake #count", "sets the registers of so many nodes, which are drawn"),
-        Button("shake-all", "Shake all", "shake all", "sets all registers, which are drawn"),
+    "shake": Word("K|all [SEED]", "set the registers of K nodes, or of all, to random values", Action.SHAKE, (
+        Button("shake", "Shake", "shake #count", "sets the registers of so many random nodes to random values"),
+        Button("shake-all", "Shake all", "shake all", "sets all registers to random values"),
     )),
-    "break": Word("", "set all registers to a start from which it takes long", Action.BREAK,
-                  (Button("break", "Longest start", "break", "sets all registers to a start from which it takes long"),)),
+    "break": Word("", "set all registers to a start from which a run takes long", Action.BREAK,
+                  (Button("break", "Longest start", "break", "sets all registers to a start from which a run takes long"),)),
     "link": Word("NODE NODE", "add a link", Action.ASK, is_edit=True, links=1),
     "cut": Word("NODE NODE", "remove a link", Action.ASK, is_edit=True, links=-1),
     "release": Word("NODE", "take a chosen move back", Action.ASK, (Button("release", "Release its move", "release #picked", kind="button"),)),
-    "report": Word("", "the matching, and how many events are left", Action.REPORT),
-    "wait": Word("", "whom the class waits for", Action.WAIT),
-    "who": Word("", "who is connected, and who hasn't moved yet", Action.WHO),
+    "report": Word("", "print the matching, and how many events are left", Action.REPORT),
+    "wait": Word("", "print for whom the class waits", Action.WAIT),
+    "who": Word("", "print who is connected, and who hasn't moved yet", Action.WHO),
     "play": Word("NAME", "let the house play a student's nodes", Action.PLAY),
-    "stop": Word("NAME", "leave them to the student again", Action.STOP),
-    "every": Word("SECONDS", "close a step every so many seconds", Action.CLOSE_BY,
+    "stop": Word("NAME", "let the student play these nodes again", Action.STOP),
+    "every": Word("SECONDS", "close a step at intervals of this length", Action.CLOSE_BY,
                   (Button("every", "by the clock", "every #seconds", "every so many seconds"),)),
-    "when-idle": Word("SECONDS", "close a step when nothing came for that long", Action.CLOSE_BY,
+    "when-idle": Word("SECONDS", "close a step when no move came for this time", Action.CLOSE_BY,
                       (Button("when-idle", "when idle", "when-idle #seconds", "so many seconds after the last move"),)),
-    "by-hand": Word("", "close no step by itself", Action.CLOSE_BY, (Button("by-hand", "by hand", "by-hand"),)),
+    "by-hand": Word("", "close a step only when you type `close`", Action.CLOSE_BY, (Button("by-hand", "by hand", "by-hand"),)),
     "daemon": Word("WORD", "close steps as central, synchronous, random:P, schedule, adversary, when-idle:SECONDS, every:SECONDS, by-hand", Action.DAEMON),
-    "page": Word("", "another address of the page to act at; the one before acts no more", Action.PAGE),
-    "key": Word("NAME", "another key for a student, while the class goes on", Action.KEY),
+    "page": Word("", "move the page on which you act to a new address; its old address no longer works", Action.PAGE),
+    "key": Word("NAME", "give a student a new key, while the class continues", Action.KEY),
     "help": Word("", "list these words", Action.HELP),
     "end": Word("", "end the run", Action.END, (Button("end", "End the run …", "end", "asks before it ends the run", kind="button"),)),
 }
 EDITS = tuple(word for word, it in WORDS.items() if it.is_edit)
 BUTTONS = {button.name: button for it in WORDS.values() for button in it.buttons}
-BY_LINKS = {it.links: word for word, it in WORDS.items() if it.links}  # what adds a link, by 1, and what takes one away, by -1
+BY_LINKS = {it.links: word for word, it in WORDS.items() if it.links}  # the command that adds a link, at 1, and the one that removes a link, at -1
 
 
 def request(word: str, values: Sequence[str]) -> dict[str, Any]:
-    """Returns the request that a word asks for, with its values as they are typed, or as a journal's line has them."""
+    """Returns the request that a command sends. The values are as they are typed, or as a line of the journal has
+    them."""
     return {"do": word} | {key: READ[kind](value) for (key, kind), value in zip(KEYS[word].items(), values)}
 
 
 def links_after(word: str) -> int:
-    """Returns how many more links there are after an event of that word."""
+    """Returns the change of the number of links by an event of that command: 1, 0 or -1."""
     return WORDS[word].links if word in WORDS else 0

@@ -1,4 +1,4 @@
-"""The folders of runs: a new one, what is kept of a run that goes on, and lab and journal of those that are named."""
+"""The folders of runs: making a new one, the record of a run that continues, and the lab and journal of given runs."""
 from __future__ import annotations
 
 import json
@@ -9,21 +9,21 @@ from datetime import datetime
 from pathlib import Path
 
 from classroom.core import plain
-from classroom.core.program import Fault
+from classroom.core.program import LAST_PORT, Fault
 
-MOST_SECONDS, LAST_PORT = 1e9, 65535
+MOST_SECONDS = 1e9
 Run = tuple[Path, Path]
 RECORD = "run.json"
 CLASS = "class.json"  # in the folder of a class of several networks
 STATE = "state.json"  # in the folder of a run that belongs to a class
-LAYOUT = "layout.json"  # of a network that took a search
+LAYOUT = "layout.json"  # the layout of a network that needed a search
 FILES = (RECORD, f"{RECORD}.new", STATE, f"{STATE}.new", LAYOUT, f"{LAYOUT}.new", "lab.toml", "journal", "journal.lab", "journal.torn",
          "server.txt", "run.txt", "audit.txt", "marks.txt", "marks.json", "run.html")
 
 
 def new_folder(into: Path, lab: Path) -> Path:
-    """Makes a folder that wasn't there, which nobody else reads. It is named by the minute and the lab, within the folder of
-    a class by the lab alone."""
+    """Makes a new folder that no other user can read. Its name has the minute and the lab; in the folder of a class it
+    is the lab's name alone."""
     stamp = lab.stem if (into / CLASS).is_file() else f"{datetime.now():%Y-%m-%dT%H%M}-{lab.stem}"
     for number in range(1, 1000):
         folder = into / (stamp if number == 1 else f"{stamp}-{number}")
@@ -33,22 +33,23 @@ def new_folder(into: Path, lab: Path) -> Path:
         except FileExistsError:
             continue
         except OSError as error:
-            raise Fault(f"{folder}: {error.strerror}; --into FOLDER names another folder", 4) from None
+            raise Fault(f"{folder}: {error.strerror}; name another folder by --into FOLDER", 4) from None
     raise Fault(f"{into}: no name is free for a folder", 4)
 
 
 def of_folder(folder: Path) -> Run:
-    """Returns lab and journal of a run's folder, in which whatever a run reads or writes is a plain file."""
+    """Returns the lab and the journal in the folder of a run. Raises `Fault` if a file that a run reads or writes isn't
+    a plain file."""
     for name in FILES:
         plain.want(folder / name)
     if not (folder / "lab.toml").is_file() or not (folder / "journal").is_file():
-        raise Fault(f"{folder}: no folder of a run: it has lab.toml and journal")
+        raise Fault(f"{folder}: this isn't the folder of a run, which has lab.toml and journal")
     return folder / "lab.toml", folder / "journal"
 
 
 def title(lab: Path, journal: Path, name: str = "") -> str:
-    """Returns the lab's name and the day: of a run's folder what its own name has, else that of the journal's last
-    change."""
+    """Returns the lab's name and the day of a run. Takes them from the name of the run's folder, or else the day from
+    the journal's last change."""
     own = lab.resolve().parent
     in_class = (own.parent / CLASS).is_file()
     found = re.fullmatch(r"(\d{4}-\d\d-\d\d)T\d{4}-(.+)", (own.parent if in_class else own).name)
@@ -60,14 +61,14 @@ def title(lab: Path, journal: Path, name: str = "") -> str:
 
 @dataclass(frozen=True)
 class Process:
-    """A process, distinguished from a later one of the same number by its start."""
+    """A process, identified by its number and its start time, since numbers are used again."""
 
     number: int
     start: str
 
     @staticmethod
     def of(number: int) -> Process:
-        """Returns the process that has the number now, with an empty start if none has it or it has ended."""
+        """Returns the process that has the number now. Its start is empty if there is none or it has ended."""
         try:
             stat = Path(f"/proc/{number}/stat").read_text(encoding="utf-8", errors="replace")
         except OSError:
@@ -76,13 +77,13 @@ class Process:
         return Process(number, "" if state == "Z" else rest[18])
 
     def lives(self) -> bool:
-        """Returns whether the process hasn't ended."""
+        """Returns whether the process is still running."""
         return self.start != "" and Process.of(self.number) == self
 
 
 @dataclass(frozen=True)
 class Record:
-    """What a folder keeps of its run while it goes on."""
+    """The record that a folder has of its run while the run continues."""
 
     lab: str
     port: int
@@ -93,7 +94,7 @@ class Record:
     run: Process
     server: Process
     play: int | None = None
-    left: bool = False  # Whether its terminal went away.
+    left: bool = False  # Whether its terminal was closed.
     ended: bool = False  # Whether it ended as it should.
     stand_in: float | None = None  # seconds after which the house plays
     looks: str | None = None  # The token of the page's address to look at.
@@ -104,16 +105,16 @@ class Record:
 
     @staticmethod
     def read(folder: Path) -> Record | None:
-        """Returns the record that a folder keeps, if it has one."""
+        """Returns the record in a folder, or None if there is none."""
         try:
             it = json.loads(plain.read(folder / RECORD, plain.MOST_KEPT))
             made = Record(**it | {"run": Process(**it["run"]), "server": Process(**it["server"])})
-            return made if made.is_sound() else None
+            return made if made.is_valid() else None
         except (Fault, ValueError, KeyError, TypeError, RecursionError):
             return None
 
-    def is_sound(self) -> bool:
-        """Returns whether each value is of its kind: the folder may be another's."""
+    def is_valid(self) -> bool:
+        """Returns whether each value has the right type. The folder may belong to another user."""
         texts = [self.lab, self.close, self.run.start, self.server.start, *self.played, *filter(None, (self.until, self.looks, self.ends, self.door))]
         numbers = [self.port, self.desk, *(each for each in (self.page, self.play) if each is not None)]
         seconds = 1.0 if self.stand_in is None else self.stand_in
@@ -126,12 +127,12 @@ class Record:
 
     @staticmethod
     def lacking(folder: Path, port: int) -> Record:
-        """Returns a record for a folder which keeps none, as those that 0.9.0 made first: ports and closing are a new
-        run's."""
+        """Returns a record for a folder that has none, as version 0.9.0 made them at first. Its ports and its daemon
+        are those of a new run."""
         return Record(str(folder / "lab.toml"), port, 0, None, "when-idle:2", None, Process(0, ""), Process(0, ""))
 
     def write(self, folder: Path) -> None:
-        """Keeps the record in a folder; a full disk, which keeps what stood there, ends nothing."""
+        """Writes the record into the folder. If the disk is full, the old file stays, and no error is raised."""
         new = folder / f"{RECORD}.new"
         try:
             new.write_text(json.dumps(asdict(self)) + "\n", encoding="utf-8")
@@ -140,13 +141,13 @@ class Record:
             new.unlink(missing_ok=True)
 
     def goes_on(self) -> bool:
-        """Returns whether the run or its server hasn't ended."""
+        """Returns whether the run or its server is still running."""
         return self.run.lives() or self.server.lives()
 
 
 def going(into: Path, lab: Path) -> tuple[Path, Record] | None:
-    """Returns folder and record of a run of that lab which goes on, if there is one; else those of its last run, if it
-    didn't end."""
+    """Returns the folder and the record of a run of that lab that continues. If there is none, returns those of its
+    last run if that wasn't ended."""
     files = sorted([*into.glob(f"*/{RECORD}"), *into.glob(f"*/*/{RECORD}")], key=lambda file: file.parent.stat().st_mtime)
     records = [(file.parent, Record.read(file.parent)) for file in files]
     same = [(folder, record) for folder, record in records if record is not None and record.lab == str(lab.resolve())]

@@ -8,7 +8,7 @@ from classroom import client
 from classroom.core.desk_words import EDITS, WORDS, links_after
 
 RULES = client.RULES
-NODES_AT = {"grant": (2, 1)} | {word: (1, it.nodes) for word, it in WORDS.items() if it.nodes}  # the first word that is a node, and how many are
+NODES_AT = {"grant": (2, 1)} | {word: (1, it.nodes) for word, it in WORDS.items() if it.nodes}  # the first word that is a node, and the number of nodes
 
 
 @dataclass(frozen=True)
@@ -21,12 +21,12 @@ class Event:
 
     @cached_property
     def kind(self) -> str:
-        """Returns the event's word."""
+        """Returns the first word of the event."""
         return self.words[0]
 
     @property
     def student(self) -> str | None:
-        """Returns who asked, if it was a student."""
+        """Returns the student who made the request, or None if it wasn't a student."""
         return self.words[1] if self.kind == "grant" else None
 
     @property
@@ -36,26 +36,27 @@ class Event:
 
     @property
     def makes_configuration(self) -> bool:
-        """Returns whether another configuration comes of it."""
+        """Returns whether the event makes a new configuration."""
         return self.kind == "close" or self.kind in EDITS
 
     @property
     def links(self) -> int:
-        """Returns how many more links there are after it."""
+        """Returns the change of the number of links by the event: 1, 0 or -1."""
         return links_after(self.kind)
 
     @cached_property
     def nodes(self) -> tuple[int, ...]:
-        """Returns the nodes at which it happens, as far as its line names them."""
+        """Returns the nodes that the event's line names."""
         first, count = NODES_AT.get(self.kind, (0, 0))
         return tuple(int(word) for word in self.words[first : first + count])
 
 
 def split(text: str) -> list[list[str]]:
-    """Returns the words of each whole line of a journal: its place, the configuration before it, and the event's."""
+    """Returns the words of each complete line of a journal: its place, the configuration before it, and the words of
+    the event."""
     return [line.split(" ") for line in text.split("\n")[:-1]]
 
 
 def events(text: str) -> list[Event]:
-    """Returns the whole lines of a journal."""
+    """Returns the events in the complete lines of a journal."""
     return [Event(int(place), int(at), tuple(rest)) for place, at, *rest in split(text)]

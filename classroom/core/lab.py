@@ -1,4 +1,4 @@
-"""A lab's file: read for what a teacher wants to know, and written."""
+"""A lab's file: reading and writing it."""
 from __future__ import annotations
 
 import json
@@ -11,9 +11,7 @@ from typing import Any
 from classroom.core.lists import Person
 from classroom.core.program import CLASS, Fault, call
 
-MOST_EVENTS = 100_000
-MOST_SESSIONS = 16
-HOUSE = "house"  # who plays for the absent
+HOUSE = "house"  # the student who plays for absent ones
 
 
 @dataclass
@@ -28,7 +26,7 @@ class Node:
 
 @dataclass
 class Lab:
-    """What a lab's file says."""
+    """The contents of a lab's file."""
 
     events: int
     sessions: int
@@ -47,13 +45,13 @@ class Lab:
         return [node.id for node in self.nodes if name in node.owners]
 
     def held(self) -> list[int]:
-        """Returns the nodes at which the house may play: those of the student `house`, or none if that one owns a node
-        alone."""
+        """Returns the nodes at which the house may play: those of the student `house`. Returns none if the house is the
+        only owner of a node."""
         nodes = [node for node in self.nodes if HOUSE in node.owners]
         return [node.id for node in nodes] if all(len(node.owners) == 2 for node in nodes) else []
 
     def without_house(self) -> Lab:
-        """Returns the lab without the house, as a student and as an owner; as it is if the house may play
+        """Returns the lab without the house as a student and as an owner. Returns it unchanged if the house may play
         nowhere."""
         if not self.held():
             return self
@@ -63,12 +61,13 @@ class Lab:
 
 
 def is_same(one: Lab, other: Lab) -> bool:
-    """Returns whether two labs agree in all that a journal names; keys and limits may differ."""
+    """Returns whether two labs agree in all that a journal names. Keys and limits may differ."""
     return named(one) == named(other)
 
 
 def named(lab: Lab) -> object:
-    """Returns what of a lab a journal names: names in their order, nodes with owners and registers, links."""
+    """Returns the parts of a lab that a journal names: names in their order, nodes with owners and registers, and
+    links."""
     nodes = {node.id: (frozenset(node.owners), node.p, node.m) for node in lab.nodes}
     return lab.teacher[0], list(lab.students), nodes, {frozenset(link) for link in lab.links}
 
@@ -79,7 +78,7 @@ def ordered(link: tuple[int, int]) -> tuple[int, int]:
 
 
 def parsed(text: str) -> dict[str, Any]:
-    """Returns a text's document, or nothing if it is none. Python's reader knows TOML 1.0 alone."""
+    """Returns the document in a text, or an empty one if it isn't TOML. Python's reader supports TOML 1.0 only."""
     try:
         return tomllib.loads(text)
     except tomllib.TOMLDecodeError:
@@ -99,7 +98,7 @@ def document(path: Path) -> dict[str, Any]:
 
 
 def unread(path: Path, error: str) -> str:
-    """Returns why a file that the program couldn't read can't be read, as far as the system says it."""
+    """Returns why the system can't open or read a file that the program couldn't read."""
     try:
         with path.open("rb"):
             return f"{path}: {error}"
@@ -108,7 +107,7 @@ def unread(path: Path, error: str) -> str:
 
 
 def read(path: Path) -> Lab:
-    """Returns a lab that the program has taken."""
+    """Returns a lab, after the program has checked it."""
     answer = call("check", path)
     if answer.status == 4:
         raise Fault(unread(path, answer.error), 4)
@@ -126,24 +125,25 @@ def read(path: Path) -> Lab:
 
 
 def with_house_apart(told: str, lab: Lab) -> str:
-    """Returns what the program says of a lab's size, with the house, which it counts among the students, counted
-    apart."""
+    """Returns the program's line about a lab's size, with the house counted separately. The program counts it among the
+    students."""
     students = len(lab.without_house().students)
     return told.replace(f"{students + 1} students", f"{students} students and the house") if lab.held() else told
 
 
 def quoted(word: str) -> str:
-    """Returns a string as TOML has it, and JSON too if it is printable; what isn't printable is escaped."""
+    """Returns a string in the syntax of TOML. It is JSON too if the string is printable. Characters that aren't
+    printable are escaped."""
     return "".join(char if char.isprintable() else escaped(char) for char in json.dumps(word, ensure_ascii=False))
 
 
 def escaped(char: str) -> str:
-    """Returns a character as TOML escapes it."""
+    """Returns the escape sequence of a character in TOML."""
     return f"\\u{ord(char):04x}" if ord(char) < 0x10000 else f"\\U{ord(char):08x}"
 
 
 def text(lab: Lab) -> str:
-    """Returns the lab as a file."""
+    """Returns the text of the lab's file."""
     quote = quoted
     lines = [f"events = {lab.events}", f"sessions = {lab.sessions}"]
     lines += ["links = [", *(f"  [{a}, {b}]," for a, b in lab.links), "]"] if lab.links else ["links = []"]
@@ -163,7 +163,8 @@ def text(lab: Lab) -> str:
 
 
 def write_new(path: Path, content: str) -> None:
-    """Writes a file that nobody else reads, and never over another one. Leaves no file if it can't be written whole."""
+    """Writes a new file that no other user can read. Never replaces a file. Leaves no file if it can't be written
+    completely."""
     try:
         file = os.open(path, os.O_WRONLY | os.O_CREAT | os.O_EXCL, 0o600)
         try:

@@ -1,4 +1,4 @@
-"""Lists of people: names a line, or tables as spreadsheets and platforms export them."""
+"""Lists of people: one name per line, or tables exported from spreadsheets and platforms."""
 from __future__ import annotations
 
 import argparse
@@ -11,7 +11,7 @@ from pathlib import Path
 
 from classroom.core.program import Fault
 
-# The heads by which columns are known that no word names; platforms' own first.
+# The heads that identify a column if no option names it; those of platforms come first.
 NAMES = ("name", "student", "full name", "fullname", "student name", "display name")
 FIRST = ("first name", "firstname", "given name", "vorname")
 LAST = ("last name", "lastname", "surname", "family name", "nachname")
@@ -24,7 +24,7 @@ NOBODY = ("points possible", "student, test")
 
 @dataclass(frozen=True)
 class Person:
-    """A name as it is written, and what else tells the person apart, or nothing."""
+    """A name as it is written, and other data that distinguish the person, or empty texts."""
 
     written: str
     id: str = ""
@@ -34,7 +34,7 @@ class Person:
 
 @dataclass
 class People:
-    """A list in its order. Of a table also its heads, its rows and its form; a row that is no person's has none."""
+    """A list in its order. A table also has its heads, its rows and its format. A row without a person has None."""
 
     rows: list[tuple[list[str], Person | None]]
     heads: list[str] = field(default_factory=list)
@@ -47,15 +47,16 @@ class People:
 
 
 def add_words(words: argparse.ArgumentParser) -> None:
-    """Adds the words that name columns."""
-    words.add_argument("--column", metavar="COL", help="the column of the table that has the names")
-    words.add_argument("--first-name", metavar="COL", help="the column of first names, if they have one of their own")
+    """Adds the options that name columns."""
+    words.add_argument("--column", metavar="COL", help="the column of the table with the names")
+    words.add_argument("--first-name", metavar="COL", help="the column of first names, if they are in a column of their own")
     words.add_argument("--last-name", metavar="COL", help="the column of last names")
-    words.add_argument("--id", metavar="COL", help="the column of what tells two of one name apart")
+    words.add_argument("--id", metavar="COL", help="the column with an identifier, for students with the same name")
 
 
 def decoded(content: bytes) -> str:
-    """Returns the text: UTF-8 or UTF-16 with a mark or without, else Latin-1 as Windows has it."""
+    """Returns the text of a file: UTF-8 or UTF-16, with or without a byte order mark, else Latin-1 as Windows uses
+    it."""
     for mark, encoding in MARKS:
         if content.startswith(mark):
             return content.decode(encoding)
@@ -70,7 +71,7 @@ def decoded(content: bytes) -> str:
 
 
 def read(path: Path, words: argparse.Namespace) -> People:
-    """Returns the people of a file, by the words that name its columns."""
+    """Returns the people in a file. The options name its columns."""
     try:
         content = path.read_bytes()
         if path.suffix.lower() in SHEETS or content.startswith(b"PK\x03\x04"):
@@ -109,13 +110,13 @@ def table(path: Path, text: str, words: argparse.Namespace) -> People:
     groups = column(path, heads, getattr(words, "groups_by", None), ())
 
     def cell(row: list[str], index: int | None) -> str:
-        """Returns a row's cell without spaces around it; empty without a column."""
+        """Returns a cell of a row without surrounding spaces. Returns an empty text if there is no column."""
         return row[index].strip() if index is not None else ""
 
     parts = [whole] if whole is not None else [index for index in (first, last) if index is not None]
     if not parts:
         there = ", ".join(heads)
-        raise Fault(f"{path}: no column name; there are: {there}. --column NAME, or --first-name and --last-name, name it")
+        raise Fault(f"{path}: no column is called name; there are: {there}. Name one by --column NAME, or two by --first-name and --last-name")
     rows: list[tuple[list[str], Person | None]] = []
     for row in lines[1:]:
         row += [""] * (len(heads) - len(row))
@@ -126,8 +127,8 @@ def table(path: Path, text: str, words: argparse.Namespace) -> People:
 
 
 def column(path: Path, heads: list[str], asked: str | None, known: Iterable[str]) -> int | None:
-    """Returns the index of a column: the one that is asked for, or the first of those that are known."""
+    """Returns the index of a column: the one that is asked for, or the first with a known head."""
     lower = [head.lower() for head in heads]
     if asked is not None and asked.lower() not in lower:
-        raise Fault(f"{path}: no column {asked}; there are: {', '.join(heads)}. --column NAME names it")
+        raise Fault(f"{path}: no column {asked}; there are: {', '.join(heads)}. Name one by --column NAME")
     return next((lower.index(word) for word in ([asked.lower()] if asked is not None else known) if word in lower), None)

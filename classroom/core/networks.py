@@ -8,16 +8,16 @@ from collections import deque
 from collections.abc import Iterable
 from pathlib import Path
 
+from classroom.core import limits
 from classroom.core.program import Fault
 
 Links = list[tuple[int, int]]
-MOST_NODES, MOST_IDENTIFIER = 256, 65535
 STARTS = ("clean", "random", "hurt", "worst")
 NAMED = "path, cycle, star, complete, tree, crowd, halves, grid:WxH, random:N:LINKS"
 
 
 def neighbours(nodes: Iterable[int], links: Iterable[tuple[int, int]]) -> dict[int, list[int]]:
-    """Returns each node's neighbours; a link that leads elsewhere counts for none."""
+    """Returns the neighbours of each node. Links to other nodes are ignored."""
     near: dict[int, list[int]] = {node: [] for node in nodes}
     for a, b in links:
         if a in near and b in near:
@@ -27,7 +27,7 @@ def neighbours(nodes: Iterable[int], links: Iterable[tuple[int, int]]) -> dict[i
 
 
 def steps_from(start: int, near: dict[int, list[int]]) -> dict[int, int]:
-    """Returns how many links lead from a node to each that can be reached."""
+    """Returns the distance from a node to each node that can be reached, in links."""
     steps, queue = {start: 0}, deque([start])
     while queue:
         here = queue.popleft()
@@ -39,7 +39,7 @@ def steps_from(start: int, near: dict[int, list[int]]) -> dict[int, int]:
 
 
 def random_links(count: int, links: int, chance: random.Random) -> Links:
-    """Returns a network in one part: a random tree, and more links until there are enough."""
+    """Returns the links of a connected network: a random tree, and more links up to the count."""
     every = count * (count - 1) // 2
     if not count - 1 <= links <= every:
         raise Fault(f"random:{count}: between {count - 1} and {every} links")
@@ -49,8 +49,8 @@ def random_links(count: int, links: int, chance: random.Random) -> Links:
 
 
 def family(word: str, count: int | None, students: int, chance: random.Random) -> tuple[int, Links]:
-    """Returns how many nodes a family's network has, from 1 on, and its links. If the word has no size there are
-    `count` nodes, or as many as students."""
+    """Returns the number of nodes of a family's network, which are numbered from 1, and its links. If the argument has
+    no size, there are `count` nodes, or as many as students."""
     sized = re.fullmatch(r"grid:(\d{1,3})x(\d{1,3})|random:(\d{1,3}):(\d{1,5})", word)
     if sized and sized[1]:
         width, height = int(sized[1]), int(sized[2])
@@ -70,14 +70,15 @@ def family(word: str, count: int | None, students: int, chance: random.Random) -
 
 
 def within(nodes: int) -> int:
-    """Returns a number of nodes that a lab may have."""
-    if not 1 <= nodes <= MOST_NODES:
-        raise Fault(f"a lab has 1 to {MOST_NODES} nodes, not {nodes}")
+    """Returns the number of nodes. Raises `Fault` if a lab may not have so many."""
+    most = limits.allowed().nodes
+    if not 1 <= nodes <= most:
+        raise Fault(f"a lab has 1 to {most} nodes, not {nodes}")
     return nodes
 
 
 def plain(word: str, nodes: int) -> Links:
-    """Returns the links of a family's network of so many nodes, if the word has no size."""
+    """Returns the links of a family's network with this number of nodes, if the argument has no size."""
     row = [(node, node + 1) for node in range(1, nodes)]
     if word == "path":
         return row
@@ -99,8 +100,8 @@ def plain(word: str, nodes: int) -> Links:
 
 
 def from_file(path: Path, count: int | None) -> tuple[list[int], Links]:
-    """Returns the identifiers and links of a file with a link a line: `1 2`; with a count also the identifiers from 1
-    to it."""
+    """Returns the identifiers and links in a file with one link per line, as `1 2`. If a count is given, the
+    identifiers from 1 to it are included."""
     links: Links = []
     seen: dict[frozenset[int], int] = {}
     try:
@@ -120,26 +121,25 @@ def from_file(path: Path, count: int | None) -> tuple[list[int], Links]:
         seen[frozenset(links[-1])] = number
     identifiers = sorted({end for link in links for end in link} | set(range(1, (count or 0) + 1)))
     if not identifiers:
-        raise Fault(f"{path}: no links; each stands in a line: 1 2")
+        raise Fault(f"{path}: no links; write each link on a line of its own, such as 1 2")
     within(len(identifiers))
     return identifiers, links
 
 
 def wrong_link(words: list[str], seen: dict[frozenset[int], int]) -> str | None:
-    """Returns what is wrong with the words of a link, after those that were seen in other lines, or None if nothing
-    is."""
+    """Returns what is wrong with the words of a link, or None if nothing is. `seen` has the links of earlier lines."""
     if len(words) != 2 or not all(word.isascii() and word.isdecimal() for word in words):
         return "not two numbers"
-    a, b = map(int, words)
-    if not (1 <= a <= MOST_IDENTIFIER and 1 <= b <= MOST_IDENTIFIER):
-        return f"a node is 1 to {MOST_IDENTIFIER}"
+    (a, b), most = map(int, words), limits.allowed().identifier
+    if not (1 <= a <= most and 1 <= b <= most):
+        return f"a node is 1 to {most}"
     if a == b:
         return "a node isn't linked to itself"
     return f"these are linked in line {seen[frozenset((a, b))]} already" if frozenset((a, b)) in seen else None
 
 
 def enough(word: str, nodes: int) -> str:
-    """Returns the words for the next network of a family that has so many nodes."""
+    """Returns the argument for the next network of a family that has at least this number of nodes."""
     sized = re.fullmatch(r"grid:(\d+)x(\d+)|random:(\d+):(\d+)", word)
     if sized and sized[1]:
         width = int(sized[1])

@@ -1,4 +1,5 @@
-"""Files of a folder that others may have filled: a plain one is read up to its limit, and no other is waited for."""
+"""Plain files in a folder that other users may fill. A plain file is read up to its limit; a pipe or device is never
+waited for."""
 from __future__ import annotations
 
 import os
@@ -9,13 +10,12 @@ from typing import BinaryIO
 from classroom.core.program import Fault
 from classroom.core.statuses import FAILED
 
-# The most bytes, as the programs take them, and of what `run` keeps.
-MOST_LAB, MOST_JOURNAL, MOST_SEAT, MOST_KEPT = 1 << 20, 16 << 20, 1 << 30, 1 << 16
+MOST_KEPT = 1 << 16  # bytes of a file that `run` keeps for itself
 DIGITS = 19  # of a number in a record
 
 
 def opened(path: Path) -> BinaryIO:
-    """Returns a plain file, open for reading. Raises a fault if it is none, as a pipe or a device, or can't be
+    """Opens a plain file for reading, and returns it. Raises `Fault` if it is a pipe or a device, or can't be
     opened."""
     try:
         file = os.open(path, os.O_RDONLY | os.O_NONBLOCK | os.O_NOCTTY | os.O_CLOEXEC)
@@ -28,12 +28,12 @@ def opened(path: Path) -> BinaryIO:
 
 
 def not_plain(path: Path) -> Fault:
-    """Returns the fault of what is no plain file."""
-    return Fault(f"{path}: it is no plain file", FAILED)
+    """Returns the fault for something that isn't a regular file."""
+    return Fault(f"{path}: this isn't a regular file", FAILED)
 
 
 def read(path: Path, most: int) -> bytes:
-    """Returns the bytes of a plain file. Raises a fault if it has more than so many."""
+    """Returns the bytes of a plain file. Raises `Fault` if it has more than `most`."""
     with opened(path) as it:
         is_large = os.fstat(it.fileno()).st_size > most
         content = b"" if is_large else it.read(most + 1) or b""
@@ -43,18 +43,18 @@ def read(path: Path, most: int) -> bytes:
 
 
 def tail(path: Path, most: int) -> bytes:
-    """Returns the last bytes of a plain file, at most so many."""
+    """Returns the last `most` bytes of a plain file, or all if it has fewer."""
     with opened(path) as it:
         it.seek(max(0, os.fstat(it.fileno()).st_size - most))
         return it.read(most) or b""
 
 
 def want(path: Path) -> None:
-    """Raises a fault if something else than a plain file has that name, even a link that leads nowhere."""
+    """Raises `Fault` if something other than a plain file has that name, including a link whose target is missing."""
     if os.path.lexists(path) and not path.is_file():
         raise not_plain(path)
 
 
 def number(text: bytes) -> int | None:
-    """Returns the number that a few decimal digits spell, or None for other bytes."""
+    """Returns the number that a few decimal digits spell, or None for any other bytes."""
     return int(text) if text.isdigit() and len(text) <= DIGITS else None

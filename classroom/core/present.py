@@ -1,5 +1,5 @@
-"""The state of a run at its desk while it goes on: what is chosen, and the moves that steps applied. Marks are counted
-by `classroom.core.tally`."""
+"""The state of a continuing run at its desk: the chosen moves, and the moves that steps applied. Marks are counted by
+`classroom.core.tally`."""
 from __future__ import annotations
 
 from classroom.core.desk_words import links_after
@@ -7,7 +7,7 @@ from classroom.core.journal import Event
 
 
 class Book:
-    """Takes a journal's events one by one: a move is chosen until a step, and a close applies those that are."""
+    """The chosen moves, updated event by event. A move is chosen until a step, and a close applies the chosen moves."""
 
     def __init__(self, students: list[str]) -> None:
         self.idle = dict.fromkeys(students)  # Who had no move granted.
@@ -17,7 +17,8 @@ class Book:
         self.since = 0  # Moves since the last fault, link or cut.
 
     def add(self, event: Event) -> list[tuple[int, str, str]]:
-        """Takes an event. For a close, returns the nodes that moved, whose grant it was, and the rule."""
+        """Takes an event. For a close, returns the nodes that moved, each with the student whose grant it was and the
+        rule."""
         word = event.kind
         if word == "grant":
             _, name, node, rule = event.words[:4]
@@ -30,7 +31,7 @@ class Book:
         return self.step(word)
 
     def step(self, word: str) -> list[tuple[int, str, str]]:
-        """Takes an event that makes a configuration. Returns who moved by a close, and else nobody."""
+        """Takes an event that makes a configuration. Returns the moves of a close, and no moves for any other event."""
         moved = [(node, name, rule) for node, (name, rule) in sorted(self.chosen.items())] if word == "close" else []
         self.links += links_after(word)
         self.moves += len(moved)

@@ -1,14 +1,14 @@
-"""What others have written, so that it can be printed: a terminal obeys some characters, and a spreadsheet some cells."""
+"""Makes foreign texts safe to print: terminals obey some characters, and spreadsheets evaluate some cells."""
 from __future__ import annotations
 
-FORMULA = ("=", "+", "-", "@", "\t", "\r")  # with which a table's cell would be one
+FORMULA = ("=", "+", "-", "@", "\t", "\r")  # the first characters of a cell that is a formula
 
 
 def printable(text: str) -> str:
-    """Returns the text, in which each character that isn't printable stands as Python spells it; lines stay."""
+    """Returns the text with each character that isn't printable escaped as in Python. Newlines stay."""
     return "".join(char if char.isprintable() or char == "\n" else ascii(char)[1:-1] for char in text)
 
 
 def guarded(cell: str) -> str:
-    """Returns a table's cell; before one that a spreadsheet would take for a formula stands an apostrophe."""
+    """Returns a cell of a table. Puts an apostrophe before one that a spreadsheet would take for a formula."""
     return f"'{cell}" if cell.startswith(FORMULA) else cell

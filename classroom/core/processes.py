@@ -1,4 +1,4 @@
-"""Processes: those that this one started, those below one, and those that programs under test leave."""
+"""Processes: those that this process started, their descendants, and those that programs under test leave running."""
 from __future__ import annotations
 
 import ctypes
@@ -21,7 +21,7 @@ reaps = threading.Event()  # whether orphans below this process become its child
 
 
 def begin(words: Sequence[str | Path], **how: Any) -> subprocess.Popen[bytes]:
-    """Starts a process, which is known as this one's own until it has ended."""
+    """Starts a process, and lists it in OWN until it has ended."""
     with STARTING:
         OWN[:] = [each for each in OWN if each.returncode is None]
         OWN.append(subprocess.Popen(words, **how))
@@ -29,8 +29,8 @@ def begin(words: Sequence[str | Path], **how: Any) -> subprocess.Popen[bytes]:
 
 
 def run(words: Sequence[str | Path], given: bytes = b"", seconds: float | None = None, **how: Any) -> subprocess.CompletedProcess[bytes]:
-    """Runs a process of this one's own to its end, with `given` as its input. Kills it, and raises `TimeoutExpired`, if
-    it takes longer."""
+    """Runs a process in OWN to its end, with `given` as its input. If it takes longer than `seconds`, kills it and
+    raises `TimeoutExpired`."""
     source = subprocess.PIPE if given else subprocess.DEVNULL
     with begin(words, stdin=source, stdout=subprocess.PIPE, stderr=subprocess.PIPE, **how) as process:
         try:
@@ -42,7 +42,7 @@ def run(words: Sequence[str | Path], given: bytes = b"", seconds: float | None =
 
 
 def parents() -> dict[int, int]:
-    """Returns each process's parent."""
+    """Returns the parent of each process."""
     found = {}
     for name in os.listdir("/proc"):
         if name.isdecimal():
@@ -55,7 +55,7 @@ def parents() -> dict[int, int]:
 
 
 def below(*tops: int) -> set[int]:
-    """Returns the numbers of all processes that descend from these."""
+    """Returns the numbers of all descendants of these processes."""
     found, known = parents(), set(tops)
     while more := {child for child, parent in found.items() if parent in known} - known:
         known |= more
@@ -63,7 +63,7 @@ def below(*tops: int) -> set[int]:
 
 
 def state(process: int) -> bytes:
-    """Returns the letter of a process's state, or empty if it is gone."""
+    """Returns the letter of a process's state, or an empty text if it has ended."""
     try:
         with open(f"/proc/{process}/stat", "rb") as it:
             return it.read().rpartition(b") ")[2][:1]
@@ -72,25 +72,25 @@ def state(process: int) -> bytes:
 
 
 def is_halted(process: int) -> bool:
-    """Returns whether a process was stopped by a signal or by a debugger."""
+    """Returns whether a process is stopped by a signal or a debugger."""
     return state(process) in (b"T", b"t")
 
 
 def end_below(process: int) -> None:
-    """Kills all that descends from a process, until only the process itself is left."""
+    """Kills all descendants of a process, until only the process itself is left."""
     while left := {each for each in below(process) if state(each) not in (b"", b"Z", b"X")}:
         kill(left)
         time.sleep(PAUSE)
 
 
 def reap_orphans() -> None:
-    """Makes orphans below this process its children, whatever session they went to."""
+    """Makes orphaned descendants children of this process, whatever session they are in."""
     ctypes.CDLL(None, use_errno=True).prctl(SUBREAPER, 1, 0, 0, 0)
     reaps.set()
 
 
 def kill(processes: set[int]) -> None:
-    """Kills processes; all are stopped first, so that none is faster."""
+    """Kills processes. Stops all of them first, so that none can start another in the meantime."""
     for number in (signal.SIGSTOP, signal.SIGKILL):
         for process in processes:
             try:
@@ -100,8 +100,8 @@ def kill(processes: set[int]) -> None:
 
 
 def end_strays() -> None:
-    """Kills the children that this process didn't start, with all below them, until none is left: programs whose keeper
-    they killed. Does nothing in a process that doesn't reap orphans."""
+    """Kills the children that this process didn't start, with all their descendants, until none is left. They are left
+    over if a program kills its keeper. Does nothing in a process that doesn't reap orphans."""
     while reaps.is_set():
         with STARTING:
             own = {each.pid for each in OWN if each.returncode is None}
@@ -118,7 +118,7 @@ def end_strays() -> None:
 
 
 def end_at_once(status: int, folders: Iterable[Path]) -> None:
-    """Kills all that descends from this process, removes folders, and exits, whatever its threads wait for."""
+    """Kills all descendants of this process, removes folders, and exits without waiting for threads."""
     try:
         STARTING.acquire(timeout=LAST)  # From now on nothing is started.
         end = time.monotonic() + LAST

@@ -14,18 +14,19 @@ from typing import TypeVar
 from classroom.core.processes import run
 from classroom.core.statuses import FAILED
 
+LAST_PORT = 65535
 PORTS = 50  # of which the first free one is taken
-LISTENING = re.compile(r"(?m)^listening on port (?P<port>\d+)(?:, desk on port (?P<desk>\d+))?$")  # what a server prints first
+LISTENING = re.compile(r"(?m)^listening on port (?P<port>\d+)(?:, desk on port (?P<desk>\d+))?$")  # the first words that a server prints
 Opened = TypeVar("Opened")
 TOP = Path(__file__).resolve().parents[2]
 
 
-# How this was called, for a shell: what is to be typed next begins with it.
+# The command by which this was called, for the commands that messages quote.
 CLASS = shlex.quote(sys.argv[0]) if Path(sys.argv[0]).name == "class" else "./class"
 
 
 class Fault(Exception):
-    """What ends a word: a line for people, and the exit status."""
+    """An error that ends a subcommand: a line for people, and the exit status."""
 
     def __init__(self, text: str, status: int = 1) -> None:
         super().__init__(text)
@@ -34,7 +35,7 @@ class Fault(Exception):
 
 @dataclass(frozen=True)
 class Answer:
-    """What a call of the program printed, and its exit status."""
+    """The output of a call of the program, and its exit status."""
 
     status: int
     output: str
@@ -42,13 +43,13 @@ class Answer:
 
 
 def is_clone() -> bool:
-    """Returns whether the programs are built here, in a clone, and don't come with a release."""
+    """Returns whether the programs are built here in a clone, rather than part of a release."""
     return (TOP / "crates").is_dir()
 
 
 def built(crate: str) -> Path:
-    """Returns the path of a crate's program, as it is built here, or in a release. Raises a fault if the release wants
-    a later C library."""
+    """Returns the path of a crate's program, in a clone or in a release. Raises `Fault` if the release needs a newer C
+    library."""
     here = TOP / "crates" / crate
     if here.is_dir():
         return here / "out" / crate
@@ -59,18 +60,18 @@ def built(crate: str) -> Path:
 
 @cache
 def old_library() -> str:
-    """Returns the line that `mml` has too, if a release wants a later C library than is here: the loader's own words
-    are no help. Returns an empty text if it doesn't."""
+    """Returns the error line, as `mml` prints it, if a release needs a newer C library than the system has. The message
+    of the loader doesn't help users. Returns an empty text otherwise."""
     proved = TOP / "PROVED"
     wanted = re.search(r"(?m)^# wants glibc ([0-9.]+)$", proved.read_text(encoding="utf-8")) if proved.exists() else None
     here = library() if wanted else ""
     if wanted is None or numbers(here) >= numbers(wanted[1]):
         return ""
-    return f"this release wants the GNU C library {wanted[1]} or later, and here is {here or 'another'}: Debian 12 has 2.36"
+    return f"this release needs the GNU C library {wanted[1]} or later, and this machine has {here or 'another'}: Debian 12 has 2.36"
 
 
 def library() -> str:
-    """Returns the version of the GNU C library that is here, or empty if another one is."""
+    """Returns the version of the GNU C library, or an empty text if the system has another C library."""
     try:
         told = os.confstr("CS_GNU_LIBC_VERSION")
     except (OSError, ValueError):
@@ -79,12 +80,12 @@ def library() -> str:
 
 
 def numbers(version: str) -> list[int]:
-    """Returns the numbers of a version, in their order."""
+    """Returns the numbers in a version, in their order."""
     return [int(number) for number in re.findall("[0-9]+", version)]
 
 
 def program() -> Path:
-    """Returns the built program, or the one that the environment's MML_PROGRAM names."""
+    """Returns the path of the built program, or of the one that MML_PROGRAM names."""
     path = Path(os.environ.get("MML_PROGRAM") or built("mml_server"))
     if not os.access(path, os.X_OK) or path.is_dir():
         raise Fault("mml isn't built: `./mml build` builds it (with the toolchain's rt on the path)")
@@ -92,15 +93,15 @@ def program() -> Path:
 
 
 def host() -> Path | None:
-    """Returns the built host, or the one that the environment's MML_HOST names. Returns None if it isn't built."""
+    """Returns the path of the built host, or of the one that MML_HOST names. Returns None if it isn't built."""
     path = Path(os.environ.get("MML_HOST") or built("mml_host"))
     return path if os.access(path, os.X_OK) and not path.is_dir() else None
 
 
 def first_free(port: int, opened: Callable[[int], Opened | None], what: str = "") -> Opened:
-    """Returns what opens at that port, or at the next that is free: `opened` returns None for one that is taken. Raises
-    a fault after so many PORTS."""
-    last = min(port + PORTS, 65536) - 1
+    """Returns the result of `opened` at the first free port from this one on. `opened` returns None if a port is taken.
+    Raises `Fault` after PORTS attempts."""
+    last = min(port + PORTS - 1, LAST_PORT)
     for number in range(port, last + 1):
         it = opened(number)
         if it is not None:
@@ -109,12 +110,12 @@ def first_free(port: int, opened: Callable[[int], Opened | None], what: str = ""
 
 
 def call(*words: str | Path) -> Answer:
-    """Calls the program to its end."""
+    """Runs the program to its end."""
     return answer_of(program(), *words)
 
 
 def host_call(*words: str | Path, files: tuple[int, ...] = ()) -> Answer:
-    """Calls the host's program to its end; it has these open files."""
+    """Runs the host's program to its end. It inherits these open files."""
     path = host()
     if path is None:
         raise Fault("mml_host isn't built: `./mml build` builds it (with the toolchain's rt on the path)")
@@ -122,11 +123,11 @@ def host_call(*words: str | Path, files: tuple[int, ...] = ()) -> Answer:
 
 
 def answer_of(path: Path, *words: str | Path, files: tuple[int, ...] = ()) -> Answer:
-    """Returns what a program answers to words."""
+    """Runs a program with arguments, and returns its output and status."""
     done = run([path, *map(plain, words)], restore_signals=False, pass_fds=files)
     return Answer(done.returncode, done.stdout.decode(errors="replace"), done.stderr.decode(errors="replace").strip())
 
 
 def plain(word: str | Path) -> str:
-    """Returns a file's name as the program takes it: none begins with `-`."""
+    """Returns a file's name as an argument that doesn't begin with `-`."""
     return f"./{word}" if str(word).startswith("-") else str(word)

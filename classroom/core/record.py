@@ -1,4 +1,4 @@
-"""The record of a run: what was asked and answered in each seat (docs/RECORD.md), as the host wrote it."""
+"""The record of a run: the requests and replies of each seat (docs/RECORD.md), as the host wrote it."""
 from __future__ import annotations
 
 import json
@@ -18,28 +18,28 @@ ENDED, CUT, PAUSED, RESUMED = ".", "!", "-", "+"
 
 @dataclass(frozen=True)
 class Entry:
-    """A line with its reply, or a mark: `.` if a session ended, `!` if anything may be missing of one, `-` if recording
+    """A line with its reply, or a mark: `.` if a session ended, `!` if an entry may be missing, `-` if recording
     pauses, and `+` if it resumes."""
 
     seat: int
-    place: int  # How many events had been seen.
+    place: int  # The number of events that had been seen.
     line: bytes = b""
     reply: bytes = b""
     mark: str = ""
-    missed: int = 0  # How many lines weren't recorded, by a `+`.
+    missed: int = 0  # The number of lines that weren't recorded, at a `+`.
 
     def told(self) -> dict[str, str]:
-        """Returns the reply's values that are texts."""
+        """Returns the values of the reply that are texts."""
         return {key: value for key, value in json_object(self.reply).items() if isinstance(value, str)}
 
     def asked_name(self) -> str | None:
-        """Returns the name that a line gives, if it is an object with one."""
+        """Returns the name in a line, if the line is an object with one."""
         name = json_object(self.line).get("name")
         return name if isinstance(name, str) else None
 
 
 def json_object(text: bytes) -> dict[str, Any]:
-    """Returns the values of an object's text; none of another text."""
+    """Returns the values of a JSON object, or none for any other text."""
     try:
         it = json.loads(text)
     except (ValueError, RecursionError):
@@ -48,14 +48,14 @@ def json_object(text: bytes) -> dict[str, Any]:
 
 
 class Reader:
-    """Reads the bytes of a seat's file as they come. What isn't an entry is passed over, since `verify` reports it."""
+    """Reads the bytes of a seat's file as it grows. Skips what isn't an entry, since `verify` reports it."""
 
     def __init__(self) -> None:
         self.rest = b""
         self.line: bytes | None = None
 
     def take(self, more: bytes) -> Iterator[Entry]:
-        """Yields the entries that became whole."""
+        """Yields the entries that are complete after these bytes."""
         *lines, self.rest = (self.rest + more).split(b"\n")
         for line in lines:
             entry = self.entry(line)
@@ -63,8 +63,8 @@ class Reader:
                 yield entry
 
     def entry(self, line: bytes) -> Entry | None:
-        """Returns the entry that ends with a line, or None if none does, as with the first of an entry's two lines,
-        which is kept."""
+        """Returns the entry that ends with a line, or None if none does. The first of an entry's two lines is kept for
+        the second."""
         words = line.split(b" ", 3)
         seat, place = (plain.number(word) for word in (words + [b"", b""])[:2])
         if len(words) < 3 or seat is None or place is None:
@@ -83,14 +83,14 @@ class Reader:
 
 
 def seats(folder: Path) -> list[Path]:
-    """Returns the seats' files in their order."""
+    """Returns the files of the seats, in their order."""
     found = [(int(named[1]), file) for file in folder.glob("*.record")
              if (named := re.fullmatch(r"(\d+)\.record", file.name))]
     return [file for _, file in sorted(found)]
 
 
 def begun(folder: Path) -> int:
-    """Returns how many events the journal had before the record began."""
+    """Returns the number of events that the journal had before the record began."""
     number = plain.number(plain.read(folder / "begun", plain.MOST_KEPT).rstrip(b"\n"))
     if number is None:
         raise Fault(f"{folder / 'begun'}: it has no number of events", 4)
@@ -98,8 +98,7 @@ def begun(folder: Path) -> int:
 
 
 def kept(run: Path) -> list[Path]:
-    """Returns the records of a run's folder from the oldest on: if the lab was changed in between, there are
-    several."""
+    """Returns the records in a run's folder, the oldest first. There are several if the lab was changed in between."""
     older = [(int(named[1]), path) for path in run.glob(f"{FOLDER}.~*~")
              if (named := re.fullmatch(rf"{FOLDER}\.~(\d+)~", path.name)) and os.path.lexists(path / "begun")]
     return [*(path for _, path in sorted(older)), *([run / FOLDER] if os.path.lexists(run / FOLDER / "begun") else [])]

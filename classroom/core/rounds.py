@@ -1,23 +1,31 @@
-"""How a class comes back to rest: moves, closes and rounds, beside what is proved of them."""
+"""The recovery of a class: its moves, closes and rounds, beside the proved bounds."""
 from __future__ import annotations
 
 from collections.abc import Collection, Iterable
 
 from classroom.core import bounds
 from classroom.core.counts import plural
+from classroom.core.tally import Bounds
+
+
+def counts_told(moves: int, closes: int, rounds: int, most: Bounds | None) -> str:
+    """Returns the counts as a text, with the bounds if they are known."""
+    proved = f"; proved: at most {most.moves} moves, {most.rounds} rounds" if most else ""
+    return f"{plural(moves, 'move')}, {plural(closes, 'close')}, {plural(rounds, 'round')}{proved}"
 
 
 class Recovery:
-    """Counts from a configuration on. A round is over when each node has had its turn within it: at some point it
-    wasn't privileged, or a close applied its move (docs/SELF-STABILISATION.md)."""
+    """Counts along a run that goes on, for lines that are printed meanwhile. The rounds of a journal are counted by the
+    program (`classroom.core.tally`). A round ends when each node has had its turn in it: at some point it wasn't
+    privileged, or a close applied its move (docs/SELF-STABILISATION.md)."""
 
     def __init__(self, privileged: Iterable[int]) -> None:
-        """`privileged` are the nodes that the report names at the beginning."""
+        """Begins to count. `privileged` are the nodes that the report names at the beginning."""
         self.moves = self.closes = self.rounds = 0
-        self.left = set(privileged)  # whose turn in this round hasn't come
+        self.left = set(privileged)  # the nodes that haven't had their turn in this round
 
     def step(self, moved: Collection[int], privileged: Collection[int]) -> None:
-        """Counts a close, by who moved and who is privileged after it."""
+        """Counts a close. `moved` are the nodes that moved, and `privileged` those that can move after it."""
         self.moves, self.closes = self.moves + len(moved), self.closes + 1
         self.left -= set(moved)
         self.left &= set(privileged)
@@ -26,7 +34,5 @@ class Recovery:
             self.left = set(privileged)
 
     def told(self, nodes: int, links: int) -> str:
-        """Returns the counts as a text, with the bounds of the network as it is now."""
-        most = bounds.told(nodes, links)
-        proved = f"; proved: at most {most.moves} moves, {most.rounds} rounds" if most else ""
-        return f"{plural(self.moves, 'move')}, {plural(self.closes, 'close')}, {plural(self.rounds, 'round')}{proved}"
+        """Returns the counts as a text, with the bounds for the present network."""
+        return counts_told(self.moves, self.closes, self.rounds, bounds.told(nodes, links))

@@ -1,4 +1,4 @@
-"""The names that pages show for students: short ones from the class list, or numbers alone."""
+"""The names that pages show for students: short ones from the class list, or only numbers."""
 from __future__ import annotations
 
 import re
@@ -10,11 +10,11 @@ from classroom.core.journal import Event
 from classroom.core.lab import Lab
 from classroom.core.printable import printable
 
-MOST = 24  # characters of a name that is shown
+MOST = 24  # the most characters of a name that is shown
 
 
 def short(written: str) -> str:
-    """Returns a name as the class knows it: `Zoë M.` for `Zoë Müller`, or for `Müller, Zoë`."""
+    """Returns the short form of a name: `Zoë M.` for `Zoë Müller` or `Müller, Zoë`."""
     last, comma, first = written.partition(",")
     words = f"{first} {last}".split() if comma else written.split()
     whole = " ".join(words) if len(words) < 2 else f"{words[0]} {words[-1][0]}."
@@ -22,7 +22,7 @@ def short(written: str) -> str:
 
 
 def display_names(lab: Lab) -> dict[str, str]:
-    """Returns what is shown for each student: the short form of the name in the class list, with a number after it if
+    """Returns the name that is shown for each student: the short form of the name in the class list, with a number if
     several students share it. A student without a written name keeps the name in the lab."""
     found = {name: short(lab.people[name].written) if name in lab.people and lab.people[name].written != name else name
              for name in lab.students}
@@ -55,7 +55,7 @@ class ShownNames:
         return ShownNames(numbers(students) if anonymous else display_names(students))
 
     def name(self, name: str) -> str:
-        """Returns what is shown for a student."""
+        """Returns the name that is shown for a student."""
         return self.names.get(name, name)
 
     def line(self, line: str) -> str:

@@ -1,7 +1,10 @@
-"""The host's tally of a journal: its word `tally`, line by line (docs/JOURNAL.md)."""
+"""The host's tally of a journal: the lines that its command `tally` prints (docs/JOURNAL.md)."""
 from __future__ import annotations
 
+import os
 from collections import Counter
+from collections.abc import Iterator
+from contextlib import contextmanager
 from dataclasses import dataclass, field
 from pathlib import Path
 
@@ -23,7 +26,7 @@ class Marks:
 
 @dataclass(frozen=True)
 class Bounds:
-    """The most moves, rounds and events of a run to its stable end, if no fault, link or cut comes."""
+    """The most moves, rounds and events until a run is stable, if no fault, link or cut comes."""
 
     moves: int
     rounds: int
@@ -35,12 +38,15 @@ DENIED = ("clause1", "clause2", "clause3", "clause4", "malformed")
 
 @dataclass
 class Asked:
-    """The result of a record: how many of each student's lines each clause denied, and how many were no request; what
-    each owner of a shared node asked for there; whether nothing is left out of it; and of whom nothing is, by name."""
+    """The numbers that the record of a run shows. The comments document the fields."""
 
+    # How many lines of each student each clause denied, and how many were malformed.
     denied: dict[str, Counter[str]] = field(default_factory=dict)
+    # The moves that each owner of a shared node asked for, by node.
     moves: dict[int, dict[str, Counter[str]]] = field(default_factory=dict)
+    # Whether the record is complete.
     whole: bool = True
+    # The names of the students whose lines are all recorded.
     all_of: frozenset[str] | None = None
 
     def add(self, other: Asked) -> None:
@@ -67,6 +73,8 @@ class Tally:
     cuts: int = 0
     moves: int = 0
     since: tuple[int, int] = (0, 0)
+    # The rounds since the last fault, link or cut; None if the program is of an older version, which prints none.
+    rounds: int | None = None
     bounds: Bounds = Bounds(0, 0, 0)
     students: dict[str, Marks] = field(default_factory=dict)
     shared: dict[int, dict[str, Counter[str]]] = field(default_factory=dict)
@@ -74,12 +82,30 @@ class Tally:
 
 
 def of(lab: Path, journal: Path, files: tuple[int, ...] = (), record: Path | None = None) -> Tally:
-    """Returns the tally of a journal that the audit passes, and of its record if one is given. `files` are open files
-    that the program gets."""
+    """Returns the tally of a journal that passes the audit, and of its record if one is given. The program inherits the
+    open files `files`."""
     answer = host_call("tally", lab, journal, *([] if record is None else [record]), files=files)
     if answer.status != 0:
         raise Fault(answer.error, answer.status)
     return read(answer.output)
+
+
+@contextmanager
+def in_memory(text: str) -> Iterator[int]:
+    """Opens a file with this text. It has no name, so a full disk is no obstacle."""
+    file = os.memfd_create("text")
+    try:
+        with open(file, "wb", closefd=False) as it:
+            it.write(text.encode())
+        yield file
+    finally:
+        os.close(file)
+
+
+def of_texts(lab: str, journal: str) -> Tally:
+    """Returns the tally of the journal with this text over the lab with that text."""
+    with in_memory(lab) as first, in_memory(journal) as second:
+        return of(Path(f"/dev/fd/{first}"), Path(f"/dev/fd/{second}"), (first, second))
 
 
 def read(text: str) -> Tally:
@@ -103,6 +129,8 @@ def read(text: str) -> Tally:
             tally.bounds = Bounds(*map(int, rest))
         elif word == "run":
             take_run(tally, rest)
+        elif word == "rounds":
+            tally.rounds = int(rest[0])
     return tally
 
 
@@ -123,12 +151,12 @@ def by_rule(words: list[str]) -> Counter[str]:
 
 
 def place(word: str) -> int | None:
-    """Returns a place, or none."""
+    """Returns the place that a word spells, or None."""
     return None if word == "-" else int(word)
 
 
 def take_run(tally: Tally, words: list[str]) -> None:
-    """Takes the values of the run's line."""
+    """Copies the values of the run's line into the tally."""
     tally.stable = words.pop(2) == "stable"
     (tally.events, tally.configuration, tally.closes, tally.faults, tally.links, tally.cuts, tally.moves, *since) = map(int, words)
     tally.since = (since[0], since[1])

@@ -1,4 +1,4 @@
-"""What one address and all together may use of a door: connections, handshakes, and bytes a second."""
+"""The limits of a door, for each address and for all together: connections, handshakes, and bytes per second."""
 from __future__ import annotations
 
 import asyncio
@@ -16,7 +16,8 @@ PREFIX = 64  # bits of an IPv6 address by which whoever has many of them is know
 
 
 def origin(address: str) -> str:
-    """Returns by what an address is counted: itself, or of IPv6 its network."""
+    """Returns the address by which connections are counted: an IPv4 address itself, or the network of an IPv6
+    address."""
     try:
         it = ipaddress.ip_address(address.partition("%")[0])
     except ValueError:
@@ -27,14 +28,14 @@ def origin(address: str) -> str:
 
 
 class Meter:
-    """Bytes that may pass: a rate, and what has been saved up of it."""
+    """A rate limit for bytes. Unused rate is saved up to a limit."""
 
     def __init__(self, rate: float, now: Callable[[], float] = time.monotonic) -> None:
         self.rate, self.now = rate, now
         self.left, self.at = rate * BURST, now()
 
-    def wait(self, count: int) -> float:
-        """Takes so many bytes, and returns how many seconds are to pass before more are read."""
+    def spend(self, count: int) -> float:
+        """Counts so many bytes. Returns the seconds to wait before more are read."""
         now = self.now()
         self.left = min(self.rate * BURST, self.left + (now - self.at) * self.rate) - count
         self.at = now
@@ -43,14 +44,14 @@ class Meter:
 
 @dataclass(eq=False)
 class Handshake:
-    """A handshake that is going on, and what ends it."""
+    """A handshake in progress, and the function that ends it."""
 
     origin: str
     end: Callable[[], None]
 
 
 class Bounds:
-    """Counts what is used, by the address that it comes from."""
+    """Counts connections and handshakes by address."""
 
     def __init__(self) -> None:
         self.connections: Counter[str] = Counter()
@@ -59,7 +60,7 @@ class Bounds:
         self.meters: dict[str, Meter] = {}
 
     def enter(self, origin: str) -> bool:
-        """Counts a connection. Returns whether there is room for it."""
+        """Counts a connection if there is room for it. Returns whether there is."""
         if self.connections.total() >= CONNECTIONS or self.connections[origin] >= CONNECTIONS_EACH:
             return False
         self.connections[origin] += 1
@@ -67,13 +68,14 @@ class Bounds:
         return True
 
     def leave(self, origin: str) -> None:
-        """Counts a connection no longer."""
+        """Stops counting a connection."""
         self.connections[origin] -= 1
         if not self.connections[origin]:
             del self.connections[origin], self.meters[origin]
 
     def begin(self, it: Handshake) -> None:
-        """Notes a handshake. If there are too many, the oldest of its address, or of the address with the most, ends."""
+        """Adds a handshake. If there are too many, ends the oldest one of its address, or of the address with the
+        most."""
         counts = Counter(each.origin for each in self.handshakes)
         if counts[it.origin] >= HANDSHAKES_EACH:
             self.drop(it.origin)
@@ -88,12 +90,12 @@ class Bounds:
         oldest.end()
 
     def finish(self, it: Handshake) -> None:
-        """Notes that a handshake is over, whether or not it went well."""
+        """Removes a handshake that is over, whether or not it succeeded."""
         if it in self.handshakes:
             self.handshakes.remove(it)
 
-    async def pass_on(self, origin: str, count: int) -> None:
-        """Lets so many bytes of an address pass, and waits as long as the rates ask for."""
-        wait = max(self.all.wait(count), self.meters[origin].wait(count))
+    async def wait_for_rate(self, origin: str, count: int) -> None:
+        """Counts so many bytes of an address, and waits as long as the rate limits require."""
+        wait = max(self.all.spend(count), self.meters[origin].spend(count))
         if wait > 0:
             await asyncio.sleep(wait)

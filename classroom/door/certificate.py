@@ -1,4 +1,4 @@
-"""The door's certificate: made by `openssl` if there is none, and known by its fingerprint."""
+"""The door's certificate. `openssl` makes it if there is none. Slips identify it by its fingerprint."""
 from __future__ import annotations
 
 import hashlib
@@ -21,43 +21,43 @@ BLOCK = re.compile(r"-----BEGIN CERTIFICATE-----.*?-----END CERTIFICATE-----", r
 
 
 def beside(lab: Path) -> Path:
-    """Returns the file of the certificate that the labs of a folder share."""
+    """Returns the path of the certificate that the labs of a folder share."""
     return lab.with_name(FILE)
 
 
 def subject(name: str) -> str:
-    """Returns a name as a certificate lists it: a host's, or an address."""
+    """Returns a host's name or address in the form of a certificate's list of names."""
     try:
         return f"IP:{ipaddress.ip_address(name)}"
     except ValueError:
         return f"DNS:{name}"
 
 
-def ready(file: Path, name: str) -> str:
-    """Returns the fingerprint of a certificate, which is made for a host's name if there is no file."""
+def make_if_missing(file: Path, name: str) -> str:
+    """Makes a certificate for a host's name if the file doesn't exist. Returns the certificate's fingerprint."""
     if not os.path.lexists(file):
         make(file, name)
     return fingerprint(file)
 
 
 def make(file: Path, name: str) -> None:
-    """Makes a key and a certificate in one file, which nobody else reads."""
+    """Makes a file with a key and a certificate, which only its owner can read."""
     if shutil.which("openssl") is None:
         raise Fault(f"{file}: there is no certificate, and no `openssl` to make one: install it, or --certificate FILE names "
                     "a file with a key and its certificate", FAILED)
     if not re.fullmatch(r"[A-Za-z0-9.:-]+", name):
-        raise Fault(f"{name} is no host's name or address")
+        raise Fault(f"{name} isn't the name or address of a host")
     with tempfile.TemporaryDirectory() as room:
         key, made = Path(room, "key"), Path(room, "certificate")
         done = run(["openssl", "req", "-x509", "-newkey", "ec", "-pkeyopt", "ec_paramgen_curve:prime256v1", "-nodes", "-days", str(DAYS),
                     "-subj", "/CN=Cenduwa", "-addext", f"subjectAltName={subject(name)}", "-keyout", key, "-out", made])
         if done.returncode != 0:
-            raise Fault(f"{file}: openssl makes no certificate: {done.stderr.decode(errors='replace').strip()}", FAILED)
+            raise Fault(f"{file}: openssl can't make a certificate: {done.stderr.decode(errors='replace').strip()}", FAILED)
         write_new(file, key.read_text(encoding="ascii") + made.read_text(encoding="ascii"))
 
 
 def fingerprint(file: Path) -> str:
-    """Returns the SHA-256 of a file's first certificate, as 64 hexadecimal digits."""
+    """Returns the SHA-256 of the first certificate in a file, as 64 hexadecimal digits."""
     try:
         found = BLOCK.search(file.read_text(encoding="utf-8", errors="replace"))
     except OSError as error:
@@ -71,7 +71,7 @@ def fingerprint(file: Path) -> str:
 
 
 def context(file: Path) -> ssl.SSLContext:
-    """Returns how a door speaks TLS by a file's key and certificate."""
+    """Returns the TLS settings of a door with the key and the certificate in a file."""
     it = ssl.SSLContext(ssl.PROTOCOL_TLS_SERVER)
     it.minimum_version = ssl.TLSVersion.TLSv1_2
     it.options |= ssl.OP_NO_RENEGOTIATION | ssl.OP_NO_COMPRESSION
@@ -79,5 +79,5 @@ def context(file: Path) -> ssl.SSLContext:
     try:
         it.load_cert_chain(file)
     except (OSError, ValueError) as error:
-        raise Fault(f"{file}: no key with its certificate: {error}", FAILED) from None
+        raise Fault(f"{file}: the file has no key that fits its certificate: {error}", FAILED) from None
     return it

@@ -1,4 +1,4 @@
-"""One connection at a door: from its handshake to its end."""
+"""One connection at a door, from its handshake to its end."""
 from __future__ import annotations
 
 import asyncio
@@ -6,7 +6,7 @@ import socket
 import ssl
 from dataclasses import dataclass
 
-from classroom.door.asking import MOST_HEAD, Asked, Bad, page_of
+from classroom.door.asking import MOST_HEAD, Asked, BadRequest, page_of
 from classroom.door.bounds import Bounds, Handshake
 from classroom.door.routes import Routes
 from classroom.door.secured import CHUNK, TAKING, WAITING, Secured
@@ -20,7 +20,7 @@ BROKEN = (OSError, EOFError, TimeoutError, asyncio.LimitOverrunError)
 
 @dataclass
 class Door:
-    """What all connections share."""
+    """The objects that all connections of a door share."""
 
     routes: Routes
     bounds: Bounds
@@ -29,8 +29,8 @@ class Door:
     hosts: set[str]
 
 
-async def opened(sock: socket.socket, door: Door) -> Secured:
-    """Returns the door's end of a connection after its handshake."""
+async def secure(sock: socket.socket, door: Door) -> Secured:
+    """Returns a connection after its handshake. Raises an error if the handshake fails or takes too long."""
     it = await Secured.over(sock, door.context)
     try:
         async with asyncio.timeout(HANDSHAKE):
@@ -41,18 +41,19 @@ async def opened(sock: socket.socket, door: Door) -> Secured:
     return it
 
 
-def end(sock: socket.socket) -> None:
-    """Ends a connection, whatever is waited for."""
+def shut_down(sock: socket.socket) -> None:
+    """Shuts a connection down, so that nothing waits for it any longer."""
     try:
         sock.shutdown(socket.SHUT_RDWR)
     except OSError:  # It has ended.
         pass
 
 
-async def shaken(sock: socket.socket, origin: str, door: Door) -> Secured | None:
-    """Returns the door's end of a connection, or None if its handshake fails, takes too long, or leaves for another one."""
-    task = asyncio.ensure_future(opened(sock, door))
-    it = Handshake(origin, lambda: end(sock))
+async def secure_counted(sock: socket.socket, origin: str, door: Door) -> Secured | None:
+    """Returns a connection after its handshake. Returns None if the handshake fails, takes too long, or is ended
+    because there are too many."""
+    task = asyncio.ensure_future(secure(sock, door))
+    it = Handshake(origin, lambda: shut_down(sock))
     door.bounds.begin(it)
     try:
         return await task
@@ -64,18 +65,18 @@ async def shaken(sock: socket.socket, origin: str, door: Door) -> Secured | None
 
 @dataclass
 class Passing:
-    """A connection whose handshake is done."""
+    """A connection after its handshake."""
 
     it: Secured
     origin: str
     door: Door
 
-    async def passes(self, count: int) -> None:
-        """Waits as long as so many bytes more have to wait."""
-        await self.door.bounds.pass_on(self.origin, count)
+    async def wait_for_rate(self, count: int) -> None:
+        """Counts so many bytes, and waits as long as the rate limits require."""
+        await self.door.bounds.wait_for_rate(self.origin, count)
 
-    async def first(self) -> bytes:
-        """Returns what comes first; who is late is told so."""
+    async def first_bytes(self) -> bytes:
+        """Returns the first bytes. If none come in time, sends the line `late` and returns none."""
         try:
             async with asyncio.timeout(FIRST):
                 return await self.it.read()
@@ -84,67 +85,69 @@ class Passing:
             return b""
 
     async def serve(self) -> None:
-        """Leads to a page if the first byte is a method's, and else to a network's students' port."""
-        first = await self.first()
+        """Passes the connection to a page if its first byte is that of an HTTP method, and else to the students'
+        port of a network."""
+        first = await self.first_bytes()
         if not first:
             return
-        await self.passes(len(first))
+        await self.wait_for_rate(len(first))
         if b"A" <= first[:1] <= b"Z":
             try:
-                await self.to_page(first)
-            except Bad as bad:
+                await self.serve_page(first)
+            except BadRequest as bad:
                 await self.it.send(bad.answer())
             return
         record = self.door.routes.record(self.door.routes.named(self.it.network))
         if record is not None:
-            await self.between(record.port, first)
+            await self.forward(record.port, first)
 
-    async def to_page(self, first: bytes) -> None:
-        """Reads a request, and hands it to the server of the page that it asks for."""
+    async def serve_page(self, first: bytes) -> None:
+        """Reads a request, and passes it to the server of its page."""
         async with asyncio.timeout(ASKING):
             head, rest = await self.head(first)
             asked = Asked.read(head)
-            self.door.routes.look()
-            asked.wants_host(self.door.hosts | self.door.routes.hosts() | {self.it.address}, self.door.port)
+            self.door.routes.reload()
+            asked.require_host(self.door.hosts | self.door.routes.hosts() | {self.it.address}, self.door.port)
             name, path = asked.network()
             record = self.door.routes.record(name)
             if record is None:
-                raise Bad("404 Not Found", f"no network {name} is served now")
+                raise BadRequest("404 Not Found", f"no network {name} is served now")
             port, below = page_of(asked, path, record)
-            body = await self.body(rest, asked.size())
-        await self.between(port, asked.for_page(port, below) + body, is_one=True)
+            body = await self.body(rest, asked.body_size())
+        await self.forward(port, asked.head_for_page(port, below) + body, is_one=True)
 
     async def head(self, first: bytes) -> tuple[bytes, bytes]:
-        """Returns the head of a request, and what came after it."""
+        """Returns the head of a request, and the bytes that came after it."""
         while b"\r\n\r\n" not in first and len(first) < MOST_HEAD:
             first += await self.more()
         head, end, rest = first.partition(b"\r\n\r\n")
         if not end or len(head) > MOST_HEAD:
-            raise Bad("431 Request Header Fields Too Large", "that is too much")
+            raise BadRequest("431 Request Header Fields Too Large", "the request is too large")
         return head + end, rest
 
     async def body(self, rest: bytes, size: int) -> bytes:
-        """Returns so many bytes that come after the head, of which the first have come."""
+        """Returns `size` bytes after the head, of which `rest` has come already."""
         while len(rest) < size:
             rest += await self.more()
         return rest[:size]
 
     async def more(self) -> bytes:
-        """Returns the next bytes of a request that isn't whole yet."""
+        """Returns the next bytes of a request that isn't complete yet."""
         more = await self.it.read()
         if not more:
             raise EOFError
         return more
 
-    async def between(self, port: int, first: bytes, is_one: bool = False) -> None:
-        """Passes bytes on between a connection and a port of this machine, until the port has answered all. That no more comes
-        is passed on too. Of who asks for a page nothing more is taken after the request, and whoever ends the own side has gone."""
+    async def forward(self, port: int, first: bytes, is_one: bool = False) -> None:
+        """Forwards bytes in both directions between the connection and a local port, until the port has sent all
+        its answers. If `is_one` is set, only one request is forwarded, and the connection is over when the other
+        end closes it."""
         far, near = await asyncio.open_connection("127.0.0.1", port, limit=CHUNK)
         near.transport.set_write_buffer_limits(WAITING)
         try:
-            await self.ask(near, first)
-            asks = asyncio.ensure_future(self.gone() if is_one else self.carry_on(near))
-            answers = asyncio.ensure_future(self.carry_back(far))
+            await self.send_to_port(near, first)
+            asks = asyncio.ensure_future(self.until_gone() if is_one else self.forward_requests(near))
+            answers = asyncio.ensure_future(self.forward_answers(far))
             await asyncio.wait((asks, answers), return_when=asyncio.FIRST_COMPLETED)
             if not is_one and asks.done() and asks.exception() is None:
                 await asyncio.wait((answers,))
@@ -154,40 +157,40 @@ class Passing:
         finally:
             near.close()
 
-    async def ask(self, near: asyncio.StreamWriter, content: bytes) -> None:
-        """Sends bytes to a port of this machine, which have to be taken in time."""
+    async def send_to_port(self, near: asyncio.StreamWriter, content: bytes) -> None:
+        """Sends bytes to a local port. Raises an error if they aren't taken in time."""
         near.write(content)
         async with asyncio.timeout(TAKING):
             await near.drain()
 
-    async def carry_on(self, near: asyncio.StreamWriter) -> None:
-        """Passes on what is asked, and then that no more is."""
+    async def forward_requests(self, near: asyncio.StreamWriter) -> None:
+        """Forwards all that the other end sends, and then the end of it."""
         while more := await self.it.read():
-            await self.passes(len(more))
-            await self.ask(near, more)
+            await self.wait_for_rate(len(more))
+            await self.send_to_port(near, more)
         near.write_eof()
 
-    async def carry_back(self, far: asyncio.StreamReader) -> None:
-        """Passes on what is answered."""
+    async def forward_answers(self, far: asyncio.StreamReader) -> None:
+        """Forwards all that the local port sends."""
         while more := await far.read(CHUNK):
-            await self.passes(len(more))
+            await self.wait_for_rate(len(more))
             await self.it.send(more)
 
-    async def gone(self) -> None:
-        """Waits until a page has gone: whatever else it sends isn't taken."""
+    async def until_gone(self) -> None:
+        """Waits until the other end closes the connection. Drops what it sends until then."""
         while more := await self.it.read():
-            await self.passes(len(more))
+            await self.wait_for_rate(len(more))
 
 
-async def served(sock: socket.socket, origin: str, door: Door) -> None:
+async def serve_connection(sock: socket.socket, origin: str, door: Door) -> None:
     """Serves one connection to its end."""
-    it = await shaken(sock, origin, door)
-    if it is None:
+    secured = await secure_counted(sock, origin, door)
+    if secured is None:
         return
-    passing = Passing(it, origin, door)
+    passing = Passing(secured, origin, door)
     try:
         await passing.serve()
     except BROKEN:
         pass
     finally:
-        await it.end(passing.passes)
+        await secured.end(passing.wait_for_rate)

@@ -1,4 +1,4 @@
-"""The networks that a door leads to, each with the ports that its run's folder has."""
+"""The networks that a door leads to, with the ports in the folders of their runs."""
 from __future__ import annotations
 
 import json
@@ -21,7 +21,7 @@ NAME = re.compile(r"[a-z][a-z0-9-]{0,31}")
 
 
 def network(lab: Path) -> str:
-    """Returns the name by which a lab's network is asked for: its file's, as TLS takes names."""
+    """Returns the name of a lab's network at a door: the name of its file, in the form of a host's name."""
     plain_form = unicodedata.normalize("NFKD", lab.stem).lower()
     name = re.sub("[^a-z0-9]+", "-", "".join(char for char in plain_form if not unicodedata.combining(char))).strip("-")
     return (name if name[:1].isalpha() else f"n-{name}")[:MOST_NAME].rstrip("-")
@@ -29,7 +29,7 @@ def network(lab: Path) -> str:
 
 @dataclass(frozen=True)
 class Network:
-    """A network's run, and by which names of hosts its slips lead to the door."""
+    """The run of a network, and the host names by which its slips lead to the door."""
 
     name: str
     folder: Path
@@ -38,7 +38,7 @@ class Network:
 
     @staticmethod
     def read(file: Path) -> Network | None:
-        """Returns the network of a file; None for a file that isn't whole."""
+        """Returns the network in a file, or None if the file isn't complete."""
         try:
             it = json.loads(plain.read(file, plain.MOST_KEPT))
             hosts = tuple(map(str, it["hosts"]))
@@ -49,7 +49,7 @@ class Network:
 
 @dataclass(frozen=True)
 class Kept:
-    """What a door's folder keeps of it."""
+    """The data of a door in its folder."""
 
     address: str
     port: int
@@ -58,7 +58,7 @@ class Kept:
 
     @staticmethod
     def read(folder: Path) -> Kept | None:
-        """Returns what a folder keeps, or None if that isn't whole."""
+        """Returns the data in a folder, or None if they aren't complete."""
         try:
             it = json.loads(plain.read(folder / DOOR, plain.MOST_KEPT))
             return Kept(str(it["address"]), int(it["port"]), str(it["certificate"]), Process(**it["process"]))
@@ -66,61 +66,62 @@ class Kept:
             return None
 
     def write(self, folder: Path) -> None:
-        """Writes the door's data into its folder."""
-        put(folder / DOOR, asdict(self))
+        """Writes the data into the folder."""
+        write_json(folder / DOOR, asdict(self))
 
 
-def put(file: Path, value: object) -> None:
-    """Writes a file that is whole whenever it is read."""
+def write_json(file: Path, value: object) -> None:
+    """Writes a JSON file. Its readers see either the old or the new content, never a part."""
     new = file.with_name(f"{file.name}.new")
     new.write_text(json.dumps(value) + "\n", encoding="utf-8")
     new.replace(file)
 
 
 def announce(folder: Path, name: str, run: Path, hosts: list[str]) -> None:
-    """Leads a door's network to the run of a folder."""
-    put(folder / f"{name}{NETWORK}", {"folder": str(run.resolve()), "hosts": hosts})
+    """Makes a door lead to the run in a folder, by the name of its network."""
+    write_json(folder / f"{name}{NETWORK}", {"folder": str(run.resolve()), "hosts": hosts})
 
 
 def announce_all(folder: Path, port: int, looks: str) -> None:
-    """Leads a door to the page for all networks, which this process serves, at the token of its address to look at."""
-    put(folder / HALL, {"port": port, "looks": looks, "process": asdict(Process.of(os.getpid()))})
+    """Makes a door lead to the page for all networks. This process serves it, and its address to look at has the
+    token `looks`."""
+    write_json(folder / HALL, {"port": port, "looks": looks, "process": asdict(Process.of(os.getpid()))})
 
 
 def page_for_all(folder: Path) -> Record | None:
-    """Returns the record of a run that has the page for all networks and nothing else; None if no process serves that page."""
+    """Returns a record that has only the page for all networks, or None if no process serves it."""
     try:
         it = json.loads(plain.read(folder / HALL, plain.MOST_KEPT))
         desk = Process(**it["process"])
         record = Record("", 0, 0, it["port"], "", None, desk, desk, looks=it["looks"])
-        return record if record.is_sound() and record.goes_on() else None
+        return record if record.is_valid() and record.goes_on() else None
     except (Fault, ValueError, KeyError, TypeError, RecursionError):
         return None
 
 
 def forget(folder: Path) -> None:
-    """Removes all that leads a door anywhere."""
+    """Removes all routes of a door."""
     for file in (*folder.glob(f"*{NETWORK}"), folder / HALL):
         file.unlink(missing_ok=True)
 
 
 @dataclass
 class Routes:
-    """The networks of a door's folder, read again when a file has changed."""
+    """The networks in a door's folder. A file is read again when it has changed."""
 
     folder: Path
     networks: dict[str, Network] = field(default_factory=dict)
     records: dict[str, tuple[tuple[int, int], Record | None]] = field(default_factory=dict)
 
-    def look(self) -> None:
-        """Reads which networks there are."""
+    def reload(self) -> None:
+        """Reads the list of networks again."""
         found = [Network.read(file) for file in sorted(self.folder.glob(f"*{NETWORK}"))]
         self.networks = {it.name: it for it in found if it is not None and NAME.fullmatch(it.name)}
 
     def record(self, name: str) -> Record | None:
-        """Returns the ports of a network, if its run goes on; of all networks their page."""
+        """Returns the record of a network if its run continues, or the record of the page for all networks."""
         if name not in self.networks:
-            self.look()
+            self.reload()
         network = self.networks.get(name)
         if network is None:
             return page_for_all(self.folder) if name == ALL else None
@@ -136,28 +137,29 @@ class Routes:
         return record if record is not None and not record.ended and record.goes_on() else None
 
     def named(self, name: str | None) -> str:
-        """Returns the network of a name. A host's name, or none, leads to the only network, if there is one alone; the name of a network
-        that isn't there leads nowhere, since others of its class may be about to begin."""
+        """Returns the network with a name. A host's name, or no name, leads to the only network if there is just
+        one. An unknown network's name leads nowhere, because that network may be about to start. Then an empty
+        text is returned."""
         if name not in self.networks:
-            self.look()
+            self.reload()
         if name in self.networks:
             return name
         is_host = not name or name == "localhost" or name in self.hosts() or NAME.fullmatch(name) is None
         return next(iter(self.networks)) if is_host and len(self.networks) == 1 else ""
 
     def hosts(self) -> set[str]:
-        """Returns the names of hosts that the slips have."""
+        """Returns the host names in the slips of all networks."""
         return {host for network in self.networks.values() for host in network.hosts}
 
-    def is_to_begin(self, network: Network) -> bool:
-        """Returns whether a network was announced a moment ago, and its run hasn't kept its ports since."""
+    def is_about_to_begin(self, network: Network) -> bool:
+        """Returns whether a network was announced a moment ago, and its run hasn't written its ports yet."""
         try:
             has_told = (network.folder / RECORD).stat().st_mtime >= network.announced
         except OSError:
             has_told = False
         return not has_told and time.time() - network.announced < NEW
 
-    def go_on(self) -> bool:
-        """Returns whether a network's run goes on, or is about to begin."""
-        self.look()
-        return any(self.record(name) is not None or self.is_to_begin(it) for name, it in self.networks.items())
+    def has_networks(self) -> bool:
+        """Returns whether a network's run continues or is about to begin."""
+        self.reload()
+        return any(self.record(name) is not None or self.is_about_to_begin(it) for name, it in self.networks.items())

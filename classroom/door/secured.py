@@ -1,7 +1,7 @@
-"""A connection with TLS whose two ways end one by one.
+"""A TLS connection whose two directions end separately.
 
-asyncio's own TLS closes a connection as soon as the other end has said that it sends nothing more, and drops what was still
-to be sent. Here the other end gets all of that.
+asyncio's own TLS closes a connection as soon as the other end has announced that it sends nothing more, and drops
+the bytes that weren't sent yet. Here the other end gets all of them.
 """
 from __future__ import annotations
 
@@ -16,16 +16,16 @@ LEAVING = 5.0  # seconds in which the other end has to close a connection that i
 
 
 class Secured:
-    """The door's end of a connection."""
+    """The door's end of a TLS connection."""
 
     def __init__(self, reader: asyncio.StreamReader, writer: asyncio.StreamWriter, context: ssl.SSLContext) -> None:
         self.reader, self.writer = reader, writer
-        self.come, self.goes = ssl.MemoryBIO(), ssl.MemoryBIO()
-        self.tls = context.wrap_bio(self.come, self.goes, server_side=True)
+        self.incoming, self.outgoing = ssl.MemoryBIO(), ssl.MemoryBIO()
+        self.tls = context.wrap_bio(self.incoming, self.outgoing, server_side=True)
 
     @staticmethod
     async def over(sock: socket.socket, context: ssl.SSLContext) -> Secured:
-        """Returns the connection of a socket, before its handshake."""
+        """Returns the connection over a socket, before its handshake."""
         loop = asyncio.get_running_loop()
         reader = asyncio.StreamReader(CHUNK, loop)
         protocol = asyncio.StreamReaderProtocol(reader, loop=loop)
@@ -35,16 +35,16 @@ class Secured:
 
     @property
     def network(self) -> str | None:
-        """Returns the server name of the handshake, or None if it had none."""
+        """Returns the server name in the handshake, or None if it had none."""
         return getattr(self.tls, "network", None)
 
     @property
     def address(self) -> str:
-        """Returns the address of this machine that was connected to."""
+        """Returns the local address of the connection."""
         return str(self.writer.get_extra_info("sockname")[0]).removeprefix("::ffff:")
 
     async def shake_hands(self) -> None:
-        """Does the handshake, or raises an `OSError`."""
+        """Does the handshake. Raises an `OSError` if it fails."""
         while True:
             try:
                 self.tls.do_handshake()
@@ -53,42 +53,42 @@ class Secured:
                 pass
             finally:
                 self.flush()  # If it fails, this says why.
-            await self.take()
+            await self.receive()
 
-    async def take(self) -> None:
-        """Takes the next bytes of the network, or their end."""
+    async def receive(self) -> None:
+        """Reads the next encrypted bytes, or their end, into the TLS object."""
         content = await self.reader.read(CHUNK)
         if content:
-            self.come.write(content)
+            self.incoming.write(content)
         else:
-            self.come.write_eof()
+            self.incoming.write_eof()
 
     def flush(self) -> None:
-        """Hands what TLS has to send to the network."""
-        if self.goes.pending:
-            self.writer.write(self.goes.read())
+        """Writes the encrypted bytes of the TLS object to the network."""
+        if self.outgoing.pending:
+            self.writer.write(self.outgoing.read())
 
     async def read(self) -> bytes:
-        """Returns the next bytes, or none once the other end sends nothing more."""
+        """Returns the next bytes, or no bytes after the other end has ended its direction."""
         while True:
             try:
                 return self.tls.read(CHUNK)
             except ssl.SSLWantReadError:
                 self.flush()
-                await self.take()
+                await self.receive()
             except (ssl.SSLZeroReturnError, ssl.SSLEOFError):
                 return b""
 
     async def send(self, content: bytes) -> None:
-        """Sends bytes, which have to be taken in time."""
+        """Sends bytes. Raises an error if they aren't taken in time."""
         self.tls.write(content)
         self.flush()
         async with asyncio.timeout(TAKING):
             await self.writer.drain()
 
     async def end(self, passes: Callable[[int], Awaitable[None]]) -> None:
-        """Says that nothing more is sent, and closes the connection once the other end has closed it, or is late with that.
-        What still comes until then is dropped; `passes` is awaited for its bytes."""
+        """Ends this direction, and closes the connection after the other end has closed it or is late. Drops the
+        bytes that still come, and awaits `passes` for their count."""
         try:
             self.tls.unwrap()
         except ssl.SSLError:  # The other end hasn't said so yet.
@@ -104,5 +104,5 @@ class Secured:
         self.writer.transport.abort()
 
     def drop(self) -> None:
-        """Closes the connection of a handshake that failed."""
+        """Closes a connection whose handshake failed."""
         self.writer.close()

@@ -1,8 +1,8 @@
-"""The process of a door: accepts connections, and ends with the last of its networks.
+"""The process of a door: accepts connections, and ends after the last of its networks.
 
     python3 -m classroom.door.serving FOLDER LISTENER
 
-FOLDER has what `routes` keeps there, LISTENER is the number of an open file: the socket that listens.
+FOLDER is the folder of the door's routes, and LISTENER the file descriptor of the listening socket.
 """
 from __future__ import annotations
 
@@ -19,7 +19,7 @@ from pathlib import Path
 from classroom.core.folders import Process
 from classroom.door.bounds import Bounds, origin
 from classroom.door.certificate import context
-from classroom.door.passing import Door, served
+from classroom.door.passing import Door, serve_connection
 from classroom.door.routes import DOOR, Kept, Routes, forget
 
 LOOK = 0.5  # seconds between two looks at which networks there are
@@ -30,13 +30,13 @@ AGAIN = 0.1  # seconds after a connection that couldn't be accepted
 
 
 def note_network(it: ssl.SSLObject, name: str | None, _: ssl.SSLContext) -> None:
-    """Notes the server name of a handshake, where `passing` finds it."""
+    """Stores the server name of a handshake in the TLS object. `Secured.network` returns it."""
     setattr(it, "network", name)
 
 
 @dataclass
 class Serving:
-    """A door that serves: its connections, each with a task, and whether it ends with its last network at once."""
+    """A door that serves, with a task for each connection, and the time that it stays open without networks."""
 
     listener: socket.socket
     door: Door
@@ -44,7 +44,7 @@ class Serving:
     patience: float = PATIENCE
 
     async def accept(self) -> None:
-        """Accepts connections."""
+        """Accepts connections, and serves each in a task. Closes a connection if there is no room for it."""
         loop = asyncio.get_running_loop()
         while True:
             try:
@@ -56,27 +56,27 @@ class Serving:
             if not self.door.bounds.enter(of):
                 sock.close()
                 continue
-            task = loop.create_task(self.one(sock, of))
+            task = loop.create_task(self.serve_one(sock, of))
             self.tasks.add(task)
             task.add_done_callback(self.tasks.discard)
 
-    async def one(self, sock: socket.socket, of: str) -> None:
-        """Serves a connection of an address."""
+    async def serve_one(self, sock: socket.socket, of: str) -> None:
+        """Serves a connection of an address, and stops counting it at the end."""
         try:
-            await served(sock, of, self.door)
+            await serve_connection(sock, of, self.door)
         finally:
             self.door.bounds.leave(of)
 
     def hurry(self) -> None:
-        """Ends as soon as no network goes on."""
+        """Makes the door end as soon as no network's run continues."""
         self.patience = 0.0
 
-    async def keep(self) -> None:
-        """Serves until no network goes on, and lets the last words go out."""
+    async def run(self) -> None:
+        """Serves until no network's run continues, and then waits a moment for the last lines."""
         asyncio.get_running_loop().add_signal_handler(signal.SIGTERM, self.hurry)
         accepting = asyncio.ensure_future(self.accept())
         silent = 0.0
-        while (goes_on := self.door.routes.go_on()) or silent < self.patience:
+        while (goes_on := self.door.routes.has_networks()) or silent < self.patience:
             silent = 0.0 if goes_on else silent + LOOK
             await asyncio.sleep(LOOK)
         self.listener.close()
@@ -85,13 +85,13 @@ class Serving:
             await asyncio.wait(self.tasks, timeout=LAST_WORD)
 
 
-def names_of_here() -> set[str]:
-    """Returns the names that this machine has for itself."""
+def own_names() -> set[str]:
+    """Returns the names by which this machine calls itself."""
     return {"localhost", "127.0.0.1", "::1", socket.gethostname(), socket.getfqdn()}
 
 
 def serve(folder: Path, listener: socket.socket) -> None:
-    """Serves a door, of which the folder has the rest."""
+    """Serves the door of a folder to its end."""
     kept = Kept.read(folder)
     if kept is None:
         raise SystemExit(f"{folder / DOOR}: no door")
@@ -101,12 +101,12 @@ def serve(folder: Path, listener: socket.socket) -> None:
     speaks = context(Path(kept.certificate))
     speaks.sni_callback = note_network
     listener.setblocking(False)
-    door = Door(Routes(folder), Bounds(), speaks, listener.getsockname()[1], names_of_here() | ({kept.address} if kept.address else set()))
-    door.routes.look()
+    door = Door(Routes(folder), Bounds(), speaks, listener.getsockname()[1], own_names() | ({kept.address} if kept.address else set()))
+    door.routes.reload()
     Kept(kept.address, door.port, kept.certificate, Process.of(os.getpid())).write(folder)
     with asyncio.Runner() as runner:
         runner.get_loop().set_exception_handler(lambda *_: None)  # A connection's errors are its own.
-        runner.run(Serving(listener, door).keep())
+        runner.run(Serving(listener, door).run())
     forget(folder)
 
 

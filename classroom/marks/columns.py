@@ -43,14 +43,14 @@ ONLY_TOTALS = ("runs", "recorded")
 
 
 def listing() -> str:
-    """Returns a line for each column, and for each name that rules have beside them."""
+    """Returns one line for each column, and for each other name that rules can use."""
     wide = max(map(len, [*COLUMNS, *FOR_RULES]))
     columns = "\n".join(f"{name:{wide}}  {what}" for name, what in COLUMNS.items())
     return f"{columns}\nIn rules (mark --rule FILE) also:\n" + "\n".join(f"{name:{wide}}  {what}" for name, what in FOR_RULES.items()) + "\n"
 
 
 def for_rules(is_total: bool) -> list[str]:
-    """Returns the names that a rule over runs, or over totals, may have."""
+    """Returns the names that a rule over runs, or over totals, can use."""
     left_out = {"journal", *(ONLY_RUNS if is_total else ONLY_TOTALS)}
     return [name for name in [*COLUMNS, *FOR_RULES] if name not in left_out]
 
@@ -64,7 +64,7 @@ def row(marks: Marks, lab: Lab, name: str, network: str, denied: Sequence[int | 
 
 
 def with_more(first: dict[str, Value], counts: Mapping[str, int], denied: Mapping[str, int | None]) -> dict[str, Value]:
-    """Returns the values of all columns, with those that rules have beside them."""
+    """Returns the values of all columns, and of the other names that rules can use."""
     each = {name: known(count) for name, count in denied.items()}
     clauses = [denied[clause] for clause in CLAUSES]
     sums = {"denials": None if None in clauses else Fraction(sum(clause or 0 for clause in clauses))}

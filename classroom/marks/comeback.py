@@ -1,19 +1,25 @@
-"""How a class comes back: counted from each fault, link or cut to the next stable configuration."""
+"""The recoveries of a class: the counts from each fault, link or cut to the next stable configuration.
+
+In the marks the program counts, by its tally of the journal up to that configuration. While a run goes on, `Comeback`
+counts along its reports."""
 from __future__ import annotations
 
 from collections.abc import Callable, Collection
 from typing import Any
 
 from classroom.core import lab as labs
+from classroom.core import tally as tallies
 from classroom.core.journal import Event
-from classroom.core.rounds import Recovery
+from classroom.core.program import Fault
+from classroom.core.rounds import Recovery, counts_told
 from classroom.pages.replay import REPORT, Replay, Script
 
 MOST_COUNTED = 50  # faults, links and cuts of a run for which it prints how the class came back
 
 
 class Comeback:
-    """Counts along the events of a run. Who is privileged is what the program reported after each."""
+    """Counts recoveries along the events of a run. For each event it gets the privileged nodes from the program's
+    reports."""
 
     def __init__(self, lab: labs.Lab) -> None:
         self.nodes = len(lab.nodes)
@@ -22,20 +28,20 @@ class Comeback:
         self.hurt = self.missed = False
 
     def edit(self, event: Event) -> None:
-        """Takes a fault, a link or a cut: from now on the network is as it made it, and the count begins anew."""
+        """Takes a fault, a link or a cut: changes the network, and begins to count anew."""
         if event.links:
             change = self.links.add if event.links > 0 else self.links.discard
             change(frozenset(event.nodes))
         self.recovery, self.hurt, self.missed = None, True, False
 
     def miss(self) -> None:
-        """Notes that there was a close of which it isn't known who was privileged before or after it, so that the
-        counts can't be printed."""
+        """Notes a close for which the privileged nodes before or after it aren't known. The counts of this
+        recovery can't be printed then."""
         self.missed = True
 
     def close(self, moved: Collection[int], before: Collection[int], after: Collection[int]) -> str:
-        """Counts a close, by who moved and who was privileged before and after it. Returns the counts if the class has
-        come back, and else nothing."""
+        """Counts a close, by the nodes that moved and the nodes that were privileged before and after it. Returns
+        the line with the counts if the class is stable, and else an empty text."""
         if self.recovery is None:
             self.recovery = Recovery(before)
         self.recovery.step(moved, after)
@@ -43,55 +49,65 @@ class Comeback:
             return ""
         told = f"after {self.recovery.told(self.nodes, len(self.links))}"
         if self.missed:
-            told = "after closes of which some came at once: the marks say how many moves and rounds it took"
+            told = "after several closes in quick succession: the marks say how many moves and rounds it took"
         self.recovery, self.missed = None, False
         return f"{'stable again' if self.hurt else 'stable'} {told}"
 
 
 class Recount(Replay):
-    """Counts along a journal, whose events are asked of the program again."""
+    """Counts recoveries along a journal by asking the program for its events again."""
 
     def __init__(self, lab: labs.Lab, events: list[Event], counted: Comeback) -> None:
         super().__init__(lab, events)
         self.counted = counted
         self.before: set[int] = set()
         self.moved: list[int] = []
-        self.lines: list[str] = []
+        self.rests: list[int] = []
 
     def ask(self, script: Script, event: Event | None, named: set[int]) -> None:
-        """Asks for the report, at the beginning and after each event that made a configuration."""
+        """Asks for the report at the beginning, and after each event that made a configuration."""
         if event is None or event.makes_configuration:
-            script.ask(REPORT, self.taking(event))
+            script.ask(REPORT, self.report_taker(event))
 
-    def took(self, event: Event, reply: dict[str, Any]) -> None:
-        """Keeps who moved."""
+    def note_reply(self, event: Event, reply: dict[str, Any]) -> None:
+        """Notes the nodes that moved."""
         self.moved = reply.get("moved", [])
 
-    def taking(self, event: Event | None) -> Callable[[dict[str, Any]], None]:
-        """Returns what takes the report after an event, or at the beginning."""
+    def report_taker(self, event: Event | None) -> Callable[[dict[str, Any]], None]:
+        """Returns the function that takes the report after an event, or at the beginning."""
         def takes(report: dict[str, Any]) -> None:
-            """Keeps who is privileged by the report, and counts the event, if there is one."""
+            """Notes the privileged nodes in a report, and counts the event if there is one."""
             before, self.before = self.before, {node for node, _ in report["privileged"]}
             if event is None or event.is_edit:
                 if event is not None:
                     self.counted.edit(event)
                 return
-            told = self.counted.close(self.moved, before, self.before)
-            self.lines += [f"place {event.place}: {told}"] if told else []
+            came_back = self.counted.close(self.moved, before, self.before)
+            self.rests += [event.place] if came_back else []
 
         return takes
 
-    def counts(self) -> list[str]:
-        """Counts to the end. Returns the counts, with places."""
+    def counts(self) -> list[int]:
+        """Counts to the end. Returns the places of the closes with which the run came to rest."""
         for _ in self.replies():
             pass
-        return self.lines
+        return self.rests
+
+
+def told(lab: labs.Lab, events: list[Event]) -> str:
+    """Returns how a run came to rest with the last of these events, by the program's tally of them."""
+    journal = "".join(f"{event.place} {event.at} {' '.join(event.words)}\n" for event in events)
+    found = tallies.of_texts(labs.text(lab), journal)
+    if found.rounds is None:
+        raise Fault("mml_host is of an older version, which counts no rounds: build it again", 4)
+    again = " again" if found.faults or found.links or found.cuts else ""
+    return f"stable{again} after {counts_told(*found.since, found.rounds, found.bounds)}"
 
 
 def recoveries(lab: labs.Lab, events: list[Event]) -> list[str]:
-    """Returns a line for each time that a run came to rest, with the place in its journal; one line for a run of many
-    edits."""
+    """Returns a line for each recovery of a run, with its place in the journal. Returns a single line if the run
+    has too many edits."""
     edits = sum(event.is_edit for event in events)
     if edits > MOST_COUNTED:
         return [f"{edits} faults, links and cuts: how the class came back is printed only for at most {MOST_COUNTED}"]
-    return Recount(lab, events, Comeback(lab)).counts()
+    return [f"place {place}: {told(lab, events[:place])}" for place in Recount(lab, events, Comeback(lab)).counts()]

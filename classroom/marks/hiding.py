@@ -1,4 +1,4 @@
-"""What was sent, made fit to be shown: only printable characters, and without anyone's key."""
+"""Lines of a record in a form that can be shown: only printable characters, and nobody's key."""
 from __future__ import annotations
 
 import json
@@ -18,21 +18,21 @@ WORDS = frozenset((
 
 
 class Hider:
-    """Knows the keys that mustn't be shown."""
+    """Hides the keys of a lab."""
 
     def __init__(self, keys: Iterable[str], names: Iterable[str]) -> None:
         self.keys = [key for key in keys if key]
         self.shown = WORDS | set(names)
 
     def line(self, line: bytes) -> str:
-        """Returns a line as it came, in which `***` stands for a key; of one that is no object and may have a key, its
-        beginning."""
+        """Returns a line in which `***` replaces each key. If a line isn't a JSON object and may have a key,
+        returns only its beginning."""
         text = line.decode(errors="backslashreplace")
-        return printable(self.without(text) if is_object(text) else self.beginning(text))
+        return printable(self.without_keys(text) if is_object(text) else self.beginning(text))
 
-    def without(self, text: str) -> str:
-        """Returns an object's text, in which whatever stands under `key`, and each text that has a key in it, is
-        hidden."""
+    def without_keys(self, text: str) -> str:
+        """Returns the text of a JSON object without keys. Hides each value of `key`, and each text that contains a
+        key."""
         pieces: list[str] = []
         at, hides = 0, False
         for found in TEXT.finditer(text):
@@ -41,17 +41,17 @@ class Hider:
                 return f"{''.join(pieces)}:***, and more"
             word = json.loads(found[0], strict=False)
             names = text[found.end():].lstrip().startswith(":")
-            pieces += [between, HIDDEN if hides or self.tells(word) else found[0]]
+            pieces += [between, HIDDEN if hides or self.has_key(word) else found[0]]
             hides = not hides and names and word.lower() == "key"
             at = found.end()
         return "".join(pieces) + (":***, and more" if hides else text[at:])
 
-    def tells(self, word: str) -> bool:
-        """Returns whether a text has somebody's key in it; a word of the protocol or a name is never taken for one."""
+    def has_key(self, word: str) -> bool:
+        """Returns whether a text contains somebody's key. Words of the protocol and names don't count as keys."""
         return word not in self.shown and self.first_key(word) is not None
 
     def first_key(self, text: str) -> int | None:
-        """Returns where the first key begins in a text, however it is escaped there, or None if no key is there."""
+        """Returns the position of the first key in a text, however it is escaped, or None if there is no key."""
         plain = unescaped(text)
         found = [at for at in (plain.find(unescaped(key)) for key in self.keys) if at >= 0]
         if not found:
@@ -59,21 +59,20 @@ class Hider:
         return next(islice((at for at, char in enumerate(text) if char != ESCAPE), min(found), None), len(text))
 
     def beginning(self, text: str) -> str:
-        """Returns the text up to where a key may stand."""
+        """Returns the part of a text before the first place where a key may be."""
         found = re.search(r"key|\\u", text, re.IGNORECASE)
         shown = text[:found.start()] if found else text
         shown = shown[:self.first_key(shown)]
-        return shown if len(shown) == len(text) else f"{shown}.. ({len(text) - len(shown)} more that may have a key)"
+        return shown if len(shown) == len(text) else f"{shown}.. ({len(text) - len(shown)} more characters, which may contain a key)"
 
 
 def unescaped(text: str) -> str:
-    """Returns the text without its backslashes: so a key is found in it, however deep it stands in texts within
-    texts."""
+    """Returns a text without its backslashes, so that a key is found in it even in a string within strings."""
     return text.replace(ESCAPE, "")
 
 
 def is_object(text: str) -> bool:
-    """Returns whether a text is a JSON object, as Python reads it."""
+    """Returns whether a text is a JSON object."""
     try:
         return isinstance(json.loads(text), dict)
     except (ValueError, RecursionError):

@@ -1,4 +1,4 @@
-"""`./class history`: what a student's connections sent and were answered, with the steps between."""
+"""`./class history`: what a student's connections sent, the replies, and the steps between them."""
 from __future__ import annotations
 
 import argparse
@@ -37,7 +37,8 @@ Said = tuple[Vouched, Session, set[str]]  # a session with its record and the na
 
 @dataclass(frozen=True)
 class Row:
-    """A line with its reply, a connection's end, or an event; and how many events came before, an event itself too."""
+    """A line with its reply, the end of a connection, or an event. `place` is the number of events up to it,
+    including an event itself."""
 
     place: int
     seat: int = 0
@@ -50,22 +51,22 @@ class Row:
 
     @property
     def at(self) -> int:
-        """After how many events it is listed."""
+        """Returns the number of events after which the row is listed."""
         return max(self.place, self.latest)
 
     def after(self) -> str:
-        """Returns after how many events it came, as a text."""
+        """Returns the number of events before the row, as a text."""
         return f"after {self.place}" + f" to {self.latest}" * (self.latest > self.place)
 
 
 def add_words(words: argparse.ArgumentParser) -> None:
-    """Adds the words of `history`."""
-    words.add_argument("folder", metavar="FOLDER", help="the folder of a run or of a class; it may go on")
+    """Adds the arguments of `history`."""
+    words.add_argument("folder", metavar="FOLDER", help="the folder of a run or of a class, which may be going on")
     words.add_argument("name", metavar="NAME", help="a student's name in the lab, or the teacher's")
     form = words.add_mutually_exclusive_group()
     form.add_argument("--csv", action="store_true")
     form.add_argument("-o", "--output", metavar="FILE.html",
-                      help="a page: beside the entries the player, which opens at each")
+                      help="make a page with the entries; each opens the player at its moment")
     words.set_defaults(work=history)
 
 
@@ -83,20 +84,20 @@ def sessions(part: Vouched) -> Iterator[Session]:
 
 
 def names_of(said: Session) -> set[str]:
-    """Returns the names by which a session was known; if there is none, those that it had asked for."""
+    """Returns the names with which a session was greeted. If there are none, returns the names that it tried."""
     told = [(entry, entry.told()) for entry in said if not entry.mark]
     known = {reply["who"] for _, reply in told if "who" in reply}
     return known or {name for entry, reply in told if reply.get("deny") == "unknown" and (name := entry.asked_name()) is not None}
 
 
 def sessions_of(parts: list[Vouched]) -> list[Said]:
-    """Returns the sessions of all records, each with its record and the names that it is of."""
+    """Returns the sessions of all records, each with its record and its names."""
     return [(part, said, names_of(said)) for part in parts for said in sessions(part)]
 
 
 def rows_of(every: list[Said], name: str, hider: Hider) -> list[Row]:
-    """What the connections of that name sent and were answered, in the order of the places, and at one place seat by
-    seat. How a session begins is listed before what follows in it."""
+    """Returns the rows of all sessions with that name, in the order of their places, and at one place by seat. The
+    beginning of a session is listed before the rest of it."""
     found: list[Row] = []
     for number, (part, said, _) in enumerate((each for each in every if name in each[2]), 1):
         count, latest = beginning(said)
@@ -106,15 +107,15 @@ def rows_of(every: list[Said], name: str, hider: Hider) -> list[Row]:
 
 
 def beginning(said: Session) -> tuple[int, int]:
-    """Returns how many entries a session has up to the hello that is granted, and after how many events they came at the most.
-    Nothing is read of the journal before that, so that they have the place of what was said in the seat before."""
+    """Returns the number of entries up to the granted hello, and the number of events up to them at most. The
+    journal isn't read for an entry before the hello, so these entries have the place of the seat's last session."""
     count = next((index for index, entry in enumerate(said, 1) if not entry.mark and entry.told().get("ok") == "hello"), len(said))
     return count, said[count].place if count < len(said) else 0
 
 
 def left_open(part: Vouched, said: Session, session: int) -> list[Row]:
-    """Returns a row, after all events so far, for a session that hasn't ended: it goes on if the server does, and else
-    its rest isn't recorded. Returns no row if its last entry says that already, or that the session has ended."""
+    """Returns the last row of a session that hasn't ended: it continues if the server runs, and else its rest
+    isn't recorded. Returns no row if the session has ended, or if its last entry is such a mark already."""
     if said[-1].mark == ENDED or said[-1].mark == CUT and not part.goes_on:
         return []
     events = part.journal.read_bytes().count(b"\n")
@@ -122,7 +123,7 @@ def left_open(part: Vouched, said: Session, session: int) -> list[Row]:
 
 
 def row_of(entry: Entry, session: int, hider: Hider) -> Row:
-    """Returns a row of an entry."""
+    """Returns the row of an entry."""
     if entry.mark:
         return Row(entry.place, entry.seat, session, event=MARKS[entry.mark].format(entry.missed))
     told = entry.told()
@@ -132,8 +133,8 @@ def row_of(entry: Entry, session: int, hider: Hider) -> Row:
 
 
 def steps(lab: labs.Lab, journal: list[Event], name: str, own: set[int]) -> Iterator[Row]:
-    """Yields the steps, and what else was done at the student's nodes, except the events that are shown with their
-    lines."""
+    """Yields a row for each step, and for each other event at the student's nodes. `own` are the places of events
+    that the student's lines show already."""
     book, nodes = Book(list(lab.students)), set(lab.nodes_of(name))
     for event in journal:
         moved = book.add(event)
@@ -152,14 +153,14 @@ def steps(lab: labs.Lab, journal: list[Event], name: str, own: set[int]) -> Iter
 
 
 def merged(lines: list[Row], between: list[Row]) -> list[Row]:
-    """Both in their order: an event stands before the lines that were answered after it."""
+    """Returns lines and events in their order. An event comes before the lines that were answered after it."""
     return sorted([*between, *lines], key=lambda row: (row.at, row.seat > 0))
 
 
 def text(told: list[str], rows: list[Row]) -> str:
-    """Returns the rows for people."""
+    """Returns the rows as text for people."""
     lines = [*told]
-    for row, count in alike(rows):
+    for row, count in grouped(rows):
         head = f"  {row.after()}, seat {row.seat}{times(count)}"
         if not row.seat:
             lines.append(f"  event {row.place}: {row.event}")
@@ -170,34 +171,34 @@ def text(told: list[str], rows: list[Row]) -> str:
     return "\n".join(lines) + "\n"
 
 
-def alike(rows: list[Row]) -> list[tuple[Row, int]]:
-    """Returns the rows, of which those that follow each other and are the same stand once, and how many they are."""
+def grouped(rows: list[Row]) -> list[tuple[Row, int]]:
+    """Returns each group of equal consecutive rows as one row with a count."""
     return [(row, len(list(same))) for row, same in groupby(rows)]
 
 
 def times(count: int) -> str:
-    """Returns how often, if it isn't once."""
+    """Returns the count as text, or an empty text if it is 1."""
     return f", {count} times" if count > 1 else ""
 
 
 def cells(row: Row) -> list[str]:
-    """Returns a row's cells; before one that a spreadsheet would take for a formula stands an apostrophe."""
+    """Returns the cells of a row. A cell that a spreadsheet would take for a formula begins with an apostrophe."""
     every = [str(row.place), str(row.seat or ""), str(row.session or ""), row.asked, row.reply, row.denied, row.event]
     return list(map(guarded, every))
 
 
 def section(title: str, told: list[str], rows: list[Row], why: dict[tuple[int, str], str] | None = None) -> str:
-    """The rows as a part of the player's page: each leads to its place, and a move that a guard denied has the reason, if it is
-    known."""
+    """Returns the rows as a section of the player's page. Each row links to its place, and a move that a guard
+    denied has the reason if it is known."""
     items = [f'<li><a href="#p={row.at}">{row.after()}</a> {item(row, count)}{reason((why or {}).get((row.place, row.asked), ""))}</li>'
-             for row, count in alike(rows)]
+             for row, count in grouped(rows)]
     heads = "".join(f"<p>{escape(line)}</p>" for line in told)
     text = f'<h2>{escape(title)}</h2>{heads}<ol>{"".join(items)}</ol>'
     return f'<section class="history" aria-label="history">{text}</section>'
 
 
 def item(row: Row, count: int) -> str:
-    """Returns a row's words, as HTML."""
+    """Returns the text of a row as HTML."""
     if row.event:
         return escape(row.event if not row.seat else f"seat {row.seat}: {row.event}")
     reply = f"<strong>{escape(row.reply)}</strong>" if row.denied else escape(row.reply)
@@ -205,19 +206,19 @@ def item(row: Row, count: int) -> str:
 
 
 def reason(text: str) -> str:
-    """The reason of a denial, as HTML; nothing if there is none."""
+    """Returns the reason of a denial as HTML, or an empty text if there is none."""
     return f" <em>{escape(text)}</em>" if text else ""
 
 
 def guarded_rows(rows: list[Row]) -> list[tuple[int, str]]:
-    """The moves that a guard denied, each with how many events there were before."""
+    """Returns the moves that a guard denied, each with the number of events before it."""
     return [(row.place, row.asked) for row in rows if row.denied == GUARD]
 
 
 def own_page(title: str, name: str, lab_file: Path, journal: Path, told: list[str], lines: list[Row]) -> str:
-    """The page of a student's own run: the player, and beside it what the student sent, each denial at its moment and with the
-    part of the guard that failed."""
-    kept_layout.take(lab_file.parent)
+    """Returns the page of a student's own run: the player, and beside it the student's lines. Each denial is at
+    its moment, with the part of the guard that failed."""
+    kept_layout.load(lab_file.parent)
     lab, frames = frames_of(lab_file, journal)
     happened = events(journal.read_text(encoding="ascii"))
     rows = with_steps(lab, happened, name, lines)
@@ -225,20 +226,21 @@ def own_page(title: str, name: str, lab_file: Path, journal: Path, told: list[st
 
 
 def with_steps(lab: labs.Lab, journal: list[Event], name: str, lines: list[Row]) -> list[Row]:
-    """Returns what a student sent with the steps between."""
+    """Returns a student's lines together with the steps between them."""
     own = {row.place + 1 for row in lines if '"place":' in row.reply}
     return merged(lines, [*steps(lab, journal, name, own)])
 
 
 def hider_of(parts: list[Vouched], lab: labs.Lab) -> Hider:
-    """Returns what hides the keys of the lab, and those that were others before."""
+    """Returns the object that hides all keys of the lab, including earlier keys."""
     every = [lab, *(labs.read(part.lab) for part in parts)]
     keys = {key for each in every for key in (*each.students.values(), each.teacher[1])}
     return Hider(keys, [*lab.students, lab.teacher[0]])
 
 
 def history(words: argparse.Namespace) -> int:
-    """Prints what was said, or writes it as a page, if the program vouches for it."""
+    """Prints what a student's connections sent, or writes it as a page, if `verify` accepts the records. Returns
+    the exit status."""
     name = words.name
     run = classes.run_of(Path(words.folder), name)
     lab_file, journal = folders.of_folder(run)

@@ -28,30 +28,30 @@ from classroom.pages import replay
 
 NETWORK = 9 + len(RULES) + len(DENIED)  # the column that the table for people leaves out
 UNTOLD = (
-    "Not in a journal: when a line was written, and who used a name. What was denied is counted from the record.",
+    "A journal doesn't say when a line was written, nor who used a name. Denials are counted from the record.",
     "A granted move is applied by the next close; a release takes it back, and a fault, link or cut drops it.",
 )
 
 
 @dataclass(frozen=True)
 class Recorded:
-    """The verdict on a run's record, and, unless it is refused, what its lines asked."""
+    """The verdict on a run's record, and the counts of its lines unless it is refused."""
 
     line: str
     asked: Asked | None = None
 
     @property
     def is_refused(self) -> bool:
-        """Returns whether there is one, which doesn't pass."""
+        """Returns whether there is a record that was refused."""
         return self.asked is None and self != NONE
 
 
-NONE = Recorded("no record: what was asked for and denied isn't known")
+NONE = Recorded("no record, so requests and denials aren't known")
 
 
 @dataclass(frozen=True)
 class Run:
-    """A journal that the audit passed, with its tally, and the verdicts on its records."""
+    """A journal that the audit accepts, with its tally and the verdicts on its records."""
 
     lab_file: Path
     journal: Path
@@ -62,7 +62,7 @@ class Run:
 
     @property
     def asked(self) -> Asked | None:
-        """Returns what all records of the run say together, or None if one is refused, or there is none."""
+        """Returns the counts of all records of the run together, or None if there is no record or one is refused."""
         together = Asked()
         for it in self.records:
             if it.asked is None:
@@ -72,28 +72,30 @@ class Run:
 
     @property
     def network(self) -> str:
-        """Returns the name of the network: of a run's folder that of the lab which it was begun with, else the lab's file."""
+        """Returns the name of the network: that of the lab with which a run's folder was begun, or else that of
+        the lab's file."""
         if self.journal.name != "journal" or not (self.journal.parent / "lab.toml").is_file():
             return self.lab_file.stem
         found = folders.Record.read(self.journal.parent)
         return Path(found.lab).stem if found else self.lab_file.stem
 
     def is_whole(self, name: str) -> bool:
-        """Returns whether the record has all lines of a student."""
+        """Returns whether the records have all lines of a student."""
         asked = self.asked
         return asked is not None and name in (asked.all_of or ())
 
     def values(self, name: str) -> dict[str, Value]:
-        """Returns the values of a student's columns, as rules have them."""
+        """Returns the values of a student's columns for a rule."""
         return columns.row(self.tally.students[name], self.lab, name, self.network, self.denied(name), self.is_whole(name))
 
     def denied(self, name: str) -> list[int | None]:
-        """Returns how many lines of a student each clause denied, and how many were no request, if that is known."""
+        """Returns the number of a student's lines that each clause denied, and of malformed lines. Each is None if
+        there is no record."""
         asked = self.asked
         return [None if asked is None else asked.denied.get(name, Counter())[clause] for clause in DENIED]
 
     def table(self, rule: Rule | None = None) -> dict[str, Any]:
-        """Returns the run as `--json` has it, with what a rule gives for each student."""
+        """Returns the run in the form of `--json`, with the results of a rule for each student."""
         asked = self.asked
         students = {
             name: {
@@ -117,22 +119,22 @@ class Run:
 
 
 def by_node(shared: dict[int, dict[str, Counter[str]]]) -> dict[str, dict[str, dict[str, int]]]:
-    """Returns the numbers of each owner at each node, as JSON has them."""
+    """Returns the counts of each owner at each node in the form of JSON."""
     return {str(node): {name: dict(moves) for name, moves in owners.items()} for node, owners in shared.items()}
 
 
 def marked(lab_file: Path, journal: Path) -> Run:
-    """Returns the run of a journal that the program passes, with its tally."""
+    """Returns the run of a journal, with its tally. Raises `Fault` if the audit refuses it."""
     try:
         told = tally.of(lab_file, journal)
     except Fault as fault:
         if fault.status == LAB:
-            raise Fault(f"{lab_file}: {fault}" + "; a lab is named before its journals" * (journal.name != "journal"), LAB) from None
+            raise Fault(f"{lab_file}: {fault}" + "; name a lab before its journals" * (journal.name != "journal"), LAB) from None
         raise Fault(refusal(journal, str(fault)), fault.status) from None
     lab = labs.read(lab_file)
     found = split(journal.read_text(encoding="ascii"))
     if len(found) != told.events:
-        raise Fault(f"{journal}: it grows: its run is still going on", 4)
+        raise Fault(f"{journal}: its run is still going on: end it first", 4)
     report = replay.report(lab, found)
     if report["stable"] != told.stable:
         raise Fault(f"{journal}: tally and report disagree", 4)
@@ -140,7 +142,7 @@ def marked(lab_file: Path, journal: Path) -> Run:
 
 
 def recorded(journal: Path) -> list[Recorded]:
-    """Returns the verdicts on the records of the run's folder; of journals elsewhere there is none."""
+    """Returns the verdicts on the records in the run's folder. A journal elsewhere has no record."""
     if journal.name != "journal" or not record.kept(journal.parent):
         return [NONE]
     with vouched(journal.parent) as parts:
@@ -148,8 +150,8 @@ def recorded(journal: Path) -> list[Recorded]:
 
 
 def asked_in(part: Vouched) -> Asked | None:
-    """Returns what the lines of a record asked, if it passes; if its server hasn't ended it counts as one that isn't
-    whole, of nobody."""
+    """Returns the counts of a record's lines, or None if the record is refused. If its server hasn't ended, the
+    counts are marked as incomplete for everybody."""
     asked = tally.of(part.lab, part.journal, record=part.copy).asked if part.status == 0 else None
     if asked is None or part.has_ended:
         return asked
@@ -157,7 +159,7 @@ def asked_in(part: Vouched) -> Asked | None:
 
 
 def refusal(journal: Path, error: str) -> str:
-    """Returns the audit's error line, with the text of the line that it names."""
+    """Returns the audit's error, with the line of the journal that it names."""
     line = re.match(r"audit: line (\d+)", error)
     if line is None:
         return f"{journal}: {error}"
@@ -166,7 +168,8 @@ def refusal(journal: Path, error: str) -> str:
 
 
 def rows(runs: list[Run], rule: Rule | None = None) -> list[list[str]]:
-    """Returns a row for each student and run, below a row of heads. What a rule gives comes after the marks."""
+    """Returns the table: a row of heads, and a row for each student and run. A rule's results come after the
+    marks."""
     names = rule.names if rule else []
     table = [["journal", "student", "granted", "applied", *RULES, "steps", "first", "last", "shared", *DENIED, *MORE, *names]]
     for run in runs:
@@ -179,7 +182,7 @@ def rows(runs: list[Run], rule: Rule | None = None) -> list[list[str]]:
 
 
 def sentence(run: Run) -> str:
-    """Returns the run in a line."""
+    """Returns the line about a run."""
     told = run.tally
     pairs = " ".join(f"{a}-{b}" for a, b in run.pairs) or "none"
     return (f"{run.journal}: {told.events} events, configuration {told.configuration}, "
@@ -188,14 +191,15 @@ def sentence(run: Run) -> str:
 
 
 def of_owner(name: str, granted: Counter[str], asked: Counter[str] | None) -> str:
-    """Returns what an owner was granted at a node, and what it asked for there, if that is known."""
+    """Returns the text about an owner at a shared node: the granted moves, and how many were asked for if that is
+    known."""
     rules = ", ".join(f"{number} {rule}" for rule, number in granted.items() if number)
     of_asked = "" if asked is None else f" of {asked.total()} asked for"
     return f"{name} {granted.total()} granted{of_asked}" + (f" ({rules})" if rules else "")
 
 
 def shared(run: Run) -> list[str]:
-    """Returns a line for each node of several owners at which moves were granted or asked for: whose they were."""
+    """Returns a line for each shared node at which moves were granted or asked for, with the counts of its owners."""
     asked = run.asked
     lines = []
     for node, owners in sorted(run.tally.shared.items()):
@@ -206,7 +210,8 @@ def shared(run: Run) -> list[str]:
 
 
 def text(runs: list[Run], rule: Rule | None = None) -> str:
-    """Returns the table for people; the columns of rules count applied moves. The network stands above it."""
+    """Returns the table for people, one for each run below the line about it. The columns of the rules count
+    applied moves."""
     lines = []
     for run in runs:
         table = [[*row[1:NETWORK], *row[NETWORK + 1:]] for row in rows([run], rule)]
@@ -223,12 +228,12 @@ def as_json(runs: list[Run], rule: Rule | None = None) -> str:
 
 
 def mark(words: argparse.Namespace) -> int:
-    """Prints the marks of all journals, or refuses the first that the audit refuses."""
+    """Prints the marks of all journals in the chosen form. Returns the exit status."""
     if words.columns:
         print(columns.listing(), end="")
         return 0
     if not words.runs:
-        raise Fault("mark: the folders of runs or of classes, or a lab and its journals")
+        raise Fault("mark: name folders of runs or of classes, or a lab and its journals")
     is_total = words.total or words.roster is not None
     rule = read_rule(Path(words.rule), columns.for_rules(is_total)) if words.rule else None
     roster = lists.read(Path(words.roster), words) if words.roster else None

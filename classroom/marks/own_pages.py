@@ -1,4 +1,4 @@
-"""The pages of all students' own runs, which a run leaves in its folder."""
+"""The pages of the students' own runs, which are written into the run's folder at its end."""
 from __future__ import annotations
 
 from collections.abc import Callable
@@ -18,9 +18,9 @@ FOLDER = "students"
 MOST = 64 << 20  # bytes of all pages
 
 
-def sent(folder: Path, lab: labs.Lab) -> tuple[list[str], dict[str, list[Row]]]:
-    """Returns what the records of a run's folder come to, and what each student sent. There is nothing of a record that isn't
-    vouched for."""
+def rows_by_student(folder: Path, lab: labs.Lab) -> tuple[list[str], dict[str, list[Row]]]:
+    """Returns the lines about the records in a run's folder, and the rows of each student. Returns nothing if a
+    record is refused."""
     with vouched(folder) as parts:
         if any(part.status for part in parts):
             return [], {}
@@ -29,12 +29,12 @@ def sent(folder: Path, lab: labs.Lab) -> tuple[list[str], dict[str, list[Row]]]:
         return [part.told() for part in parts], {name: rows for name, rows in found.items() if rows}
 
 
-def keep(folder: Path, tell: Callable[[str], None]) -> None:
-    """Writes a page for each student who sent something, beside which each denial is at its moment. If they would take too much
-    room, a line says how to make one."""
+def write_pages(folder: Path, tell: Callable[[str], None]) -> None:
+    """Writes a page for each student who sent something, with each denial at its moment. If the pages would take
+    too much room, prints how to make one instead."""
     lab_file, journal = folder / "lab.toml", folder / "journal"
     lab = labs.read(lab_file)
-    told, every = sent(folder, lab)
+    told, every = rows_by_student(folder, lab)
     if not every:
         return
     happened = events(journal.read_text(encoding="ascii"))

@@ -1,10 +1,10 @@
-"""Why moves of a run were denied: the part of the guard that failed, as the plain model says it."""
+"""The reasons why moves of a run were denied: the part of the guard that failed, according to the plain model."""
 from __future__ import annotations
 
 from collections.abc import Sequence
 from itertools import groupby
 
-from classroom.core import explained
+from classroom.core import explained, limits
 from classroom.core import lab as labs
 from classroom.core.journal import Event
 from classroom.pages import replay
@@ -13,8 +13,8 @@ MOST = 2000  # lines that are explained
 
 
 def reasons(lab: labs.Lab, events: Sequence[Event], asked: Sequence[tuple[int, str]]) -> dict[tuple[int, str], str]:
-    """Returns the explanations of denied moves, each by how many events there were before it and its line; of what the model
-    doesn't explain there is none."""
+    """Returns the model's explanations of denied moves, each by the number of events before it and its line. Moves
+    that the model doesn't explain are left out."""
     wanted = sorted(set(asked), key=lambda each: each[0])[:MOST]
     lines = {place: [line for _, line in own] for place, own in groupby(wanted, key=lambda each: each[0])}
     script, found = [*replay.HELLOS], dict[int, tuple[int, str]]()
@@ -24,8 +24,10 @@ def reasons(lab: labs.Lab, events: Sequence[Event], asked: Sequence[tuple[int, s
         for line in lines.get(place, []):
             script.append(f"2 {line}")
             found[len(script)] = (place, line)
-    if not found:
+    known = limits.known()
+    if not found or known is None:
         return {}
-    made = replay.alone([labs.Node(node.id, [replay.STUDENT], node.p, node.m) for node in lab.nodes], lab.links)
+    nodes = [labs.Node(node.id, [replay.STUDENT], node.p, node.m) for node in lab.nodes]
+    made = replay.alone(nodes, lab.links, known.events)
     told = explained.lines_of(made, "".join(f"{line}\n" for line in script).encode("utf-8", errors="replace"))
     return {found[int(number)]: f"{explained.MARK}{text}" for number, _, text in told if number.isdigit() and int(number) in found}

@@ -1,8 +1,9 @@
-"""A rule by which marks become a grade: lines `name = expression` over the columns of the marks, as a teacher writes them.
+"""Rules that turn marks into grades: lines `name = expression` over the columns of the marks, written by a
+teacher.
 
-An expression has numbers, texts in quotes, the names of columns and of earlier lines, `+ - * /`, `< <= > >= == !=`, `and`, `or`,
-`not`, parentheses, `min(..)`, `max(..)`, `round(..)`, and `A if CONDITION else B`. Numbers are exact fractions. A value that isn't
-known, since no record has it, is unknown wherever the result depends on it.
+An expression consists of numbers, quoted texts, the names of columns and of earlier lines, `+ - * /`, `< <= > >=
+== !=`, `and`, `or`, `not`, parentheses, `min(..)`, `max(..)`, `round(..)`, and `A if CONDITION else B`. Numbers
+are exact fractions. A value without a record is unknown, and so is each result that depends on it.
 """
 from __future__ import annotations
 
@@ -29,7 +30,7 @@ FUNCTIONS: dict[str, Callable[[list[Fraction]], Fraction]] = {"min": min, "max":
 
 
 class Wrong(Exception):
-    """What is wrong with a line."""
+    """An error in a line of a rule."""
 
 
 @dataclass(frozen=True)
@@ -43,18 +44,18 @@ class Line:
 
 @dataclass(frozen=True)
 class Rule:
-    """The lines of a rule, in their order."""
+    """A rule: its lines, in their order."""
 
     path: Path
     lines: list[Line]
 
     @property
     def names(self) -> list[str]:
-        """Returns the names of the lines."""
+        """Returns the names of all lines."""
         return [line.name for line in self.lines]
 
     def values(self, row: Row) -> list[str]:
-        """Returns the value of each line for a row of marks, as texts; `-` is one that isn't known."""
+        """Returns the value of each line of the rule for a row of marks, as a text. An unknown value is `-`."""
         known, found = dict(row), []
         for line in self.lines:
             try:
@@ -65,12 +66,12 @@ class Rule:
         return found
 
     def cells(self, row: Row) -> list[str]:
-        """Returns the values as a table's cells; no cell is a spreadsheet's formula."""
+        """Returns the values as cells of a table. None of them is a spreadsheet's formula."""
         return [value if value == UNKNOWN else guarded(value) for value in self.values(row)]
 
 
 def shown(value: Value) -> str:
-    """Returns a value as a text: a number with three decimals at most."""
+    """Returns a value as a text. A number has at most three decimals."""
     if value is None:
         return UNKNOWN
     if isinstance(value, bool):
@@ -81,7 +82,7 @@ def shown(value: Value) -> str:
 
 
 def read(path: Path, columns: Sequence[str]) -> Rule:
-    """Returns the rule of a file, whose expressions may name these columns."""
+    """Returns the rule in a file. Its expressions may use these columns."""
     try:
         lines = plain.read(path, MOST_BYTES).decode("utf-8-sig").splitlines()
     except UnicodeDecodeError:
@@ -90,7 +91,7 @@ def read(path: Path, columns: Sequence[str]) -> Rule:
 
 
 def parsed(path: Path, lines: Sequence[str], columns: Sequence[str]) -> Rule:
-    """Returns the rule that these lines are."""
+    """Returns the rule in these lines."""
     known, found = list(columns), list[Line]()
     for number, text in enumerate(lines, 1):
         try:
@@ -108,9 +109,9 @@ def parsed(path: Path, lines: Sequence[str], columns: Sequence[str]) -> Rule:
 
 
 def line_of(tokens: list[tuple[str, str]], number: int, known: Sequence[str]) -> Line:
-    """Returns the line that these tokens are, after these names."""
+    """Returns the line in these tokens. Its expression may use the names in `known`."""
     if len(tokens) < 3 or tokens[0][0] != "name" or tokens[1] != ("sign", "="):
-        raise Wrong("it isn't NAME = EXPRESSION")
+        raise Wrong("write NAME = EXPRESSION")
     name = tokens[0][1]
     if name in known or name in KEYWORDS or name in FUNCTIONS:
         raise Wrong(f"{name} is a column, an earlier line or a word of rules already")
@@ -122,12 +123,12 @@ def line_of(tokens: list[tuple[str, str]], number: int, known: Sequence[str]) ->
 
 
 def tokens_of(text: str) -> list[tuple[str, str]]:
-    """Returns the kinds and texts of a line's tokens; the rest after `#` is a comment."""
+    """Returns the kinds and texts of a line's tokens. The part after `#` is a comment."""
     found, at = list[tuple[str, str]](), 0
     while text[at:].strip() and not text[at:].lstrip().startswith("#"):
         token = TOKEN.match(text, at)
         if token is None:
-            raise Wrong(f"{text[at:].lstrip()[0]} is no part of a rule")
+            raise Wrong(f"{text[at:].lstrip()[0]} can't be used in a rule")
         kind = str(token.lastgroup)
         if kind == "number" and len(token[kind]) > MOST_DIGITS:
             raise Wrong(f"{token[kind]} has more than {MOST_DIGITS} digits")
@@ -137,51 +138,52 @@ def tokens_of(text: str) -> list[tuple[str, str]]:
 
 
 class Parser:
-    """Reads an expression from its tokens, by descent: a choice, `or`, `and`, `not`, a comparison, sums, products, signs."""
+    """A recursive-descent parser of expressions. From the lowest precedence up, it reads choices, `or`, `and`,
+    `not`, comparisons, sums, products and signs."""
 
     def __init__(self, tokens: list[tuple[str, str]], names: Sequence[str]) -> None:
         self.tokens, self.names, self.depth = tokens, names, 0
 
-    def takes(self, *texts: str) -> str:
-        """Takes the next token if it is one of these, and returns it; else returns nothing."""
+    def take(self, *texts: str) -> str:
+        """Removes the next token and returns it, if it is one of these. Else returns an empty text."""
         if self.tokens and self.tokens[0][0] != "text" and self.tokens[0][1] in texts:
             return self.tokens.pop(0)[1]
         return ""
 
-    def wants(self, text: str) -> None:
-        """Takes the next token, which has to be this one."""
-        if not self.takes(text):
+    def expect(self, text: str) -> None:
+        """Removes the next token. Raises `Wrong` if it isn't this one."""
+        if not self.take(text):
             raise Wrong(f"{text} is expected {f'before {self.tokens[0][1]}' if self.tokens else 'at the end'}")
 
     def choice(self) -> Expression:
-        """Reads `A if CONDITION else B`, or what binds more."""
+        """Reads `A if CONDITION else B`, or an expression of higher precedence."""
         self.depth += 1
         if self.depth > MOST_DEPTH:
             raise Wrong(f"it is nested more than {MOST_DEPTH} deep")
         first = self.joined("or")
-        if self.takes("if"):
+        if self.take("if"):
             condition = self.joined("or")
-            self.wants("else")
+            self.expect("else")
             other = self.choice()
-            first = chosen(condition, first, other)
+            first = conditional(condition, first, other)
         self.depth -= 1
         return first
 
     def joined(self, word: str) -> Expression:
-        """Reads what `or` joins, or what `and` joins."""
+        """Reads operands that are joined by this word, `or` or `and`."""
         def part() -> Expression:
-            """Reads one of them."""
+            """Reads one operand."""
             return self.joined("and") if word == "or" else self.negated()
 
         found = part()
-        while self.takes(word):
-            found = both(found, part(), word == "or")
+        while self.take(word):
+            found = logical(found, part(), word == "or")
         return found
 
     def negated(self) -> Expression:
         """Reads `not A`, or a comparison."""
         count = 0
-        while self.takes("not"):
+        while self.take("not"):
             count += 1
         inner = self.compared()
         return inner if count == 0 else negation(inner, count % 2 == 1)
@@ -189,30 +191,30 @@ class Parser:
     def compared(self) -> Expression:
         """Reads `A < B`, or a sum."""
         left = self.summed()
-        sign = self.takes("<", "<=", ">", ">=", "==", "!=")
+        sign = self.take("<", "<=", ">", ">=", "==", "!=")
         found = comparison(sign, left, self.summed()) if sign else left
-        if sign and self.takes("<", "<=", ">", ">=", "==", "!="):
+        if sign and self.take("<", "<=", ">", ">=", "==", "!="):
             raise Wrong("one comparison at a time: a < b and b < c")
         return found
 
     def summed(self) -> Expression:
         """Reads a sum."""
         found = self.product()
-        while sign := self.takes("+", "-"):
+        while sign := self.take("+", "-"):
             found = arithmetic(sign, found, self.product())
         return found
 
     def product(self) -> Expression:
         """Reads a product."""
         found = self.signed()
-        while sign := self.takes("*", "/"):
+        while sign := self.take("*", "/"):
             found = arithmetic(sign, found, self.signed())
         return found
 
     def signed(self) -> Expression:
         """Reads `-A`, or a single value."""
         count = 0
-        while self.takes("-"):
+        while self.take("-"):
             count += 1
         value = self.single()
         return value if count % 2 == 0 else arithmetic("-", constant(Fraction(0)), value)
@@ -221,9 +223,9 @@ class Parser:
         """Reads a number, a text, a name, a call, or an expression in parentheses."""
         if not self.tokens:
             raise Wrong("it ends too early")
-        if self.takes("("):
+        if self.take("("):
             found = self.choice()
-            self.wants(")")
+            self.expect(")")
             return found
         kind, text = self.tokens.pop(0)
         if kind == "number":
@@ -234,59 +236,59 @@ class Parser:
             return constant(text == "true")
         if kind != "name" or text in KEYWORDS:
             raise Wrong(f"{text} isn't expected here")
-        return self.call(text) if text in FUNCTIONS else self.named(text)
+        return self.call_of(text) if text in FUNCTIONS else self.named(text)
 
-    def call(self, name: str) -> Expression:
-        """Reads what a function takes."""
-        self.wants("(")
+    def call_of(self, name: str) -> Expression:
+        """Reads the arguments of a function. Returns the call."""
+        self.expect("(")
         given = [self.choice()]
-        while self.takes(","):
+        while self.take(","):
             given.append(self.choice())
-        self.wants(")")
+        self.expect(")")
         if name == "round" and len(given) > 1:
             raise Wrong("round takes one number")
         return called(name, given)
 
     def named(self, name: str) -> Expression:
-        """Returns the value of a column or of an earlier line."""
+        """Returns the expression for a column or an earlier line."""
         if name not in self.names:
             raise Wrong(f"no column {name}; mark --columns prints them")
         return lambda row: row[name]
 
 
 def constant(value: Value) -> Expression:
-    """Returns an expression with this value."""
+    """Returns the expression with this value."""
     return lambda row: value
 
 
 def number(value: Value) -> Fraction:
-    """Returns a value that has to be a number."""
+    """Returns a value as a number. Raises `Wrong` if it isn't one."""
     if isinstance(value, (bool, str)) or value is None:
         raise Wrong(f"{shown(value)} is no number")
     return value
 
 
 def truth(value: Value) -> bool | None:
-    """Returns a value that has to be yes or no, or unknown."""
+    """Returns a value as yes, no or unknown. Raises `Wrong` for any other value."""
     if value is not None and not isinstance(value, bool):
         raise Wrong(f"{shown(value)} is neither yes nor no; a comparison is, as: applied >= 1")
     return value
 
 
-def chosen(condition: Expression, first: Expression, other: Expression) -> Expression:
-    """Returns the first if the condition holds, else the other."""
+def conditional(condition: Expression, first: Expression, other: Expression) -> Expression:
+    """Returns the expression `first if condition else other`."""
     def value(row: Row) -> Value:
-        """Returns the value."""
+        """Returns the value for a row of marks."""
         holds = truth(condition(row))
         return None if holds is None else first(row) if holds else other(row)
 
     return value
 
 
-def both(left: Expression, right: Expression, is_or: bool) -> Expression:
-    """Returns `left or right`, else `left and right`. It is known if one side decides it."""
+def logical(left: Expression, right: Expression, is_or: bool) -> Expression:
+    """Returns the expression `left or right` or `left and right`. Its value is known if one side decides it."""
     def value(row: Row) -> Value:
-        """Returns the value."""
+        """Returns the value for a row of marks."""
         sides = truth(left(row)), truth(right(row))
         return is_or if is_or in sides else None if None in sides else not is_or
 
@@ -294,9 +296,9 @@ def both(left: Expression, right: Expression, is_or: bool) -> Expression:
 
 
 def negation(inner: Expression, is_negated: bool) -> Expression:
-    """Returns whether the inner one doesn't hold, or if it isn't negated whether it does."""
+    """Returns the negation of an expression, or if `is_negated` isn't set its truth value."""
     def value(row: Row) -> Value:
-        """Returns the value."""
+        """Returns the value for a row of marks."""
         holds = truth(inner(row))
         return None if holds is None else holds != is_negated
 
@@ -304,9 +306,9 @@ def negation(inner: Expression, is_negated: bool) -> Expression:
 
 
 def of_two(left: Expression, right: Expression, made: Callable[[Known, Known], Known]) -> Expression:
-    """Returns what is made of two values; it isn't known if one of them isn't."""
+    """Returns the expression that applies `made` to two values. It is unknown if one of them is."""
     def value(row: Row) -> Value:
-        """Returns the value."""
+        """Returns the value for a row of marks."""
         one, other = left(row), right(row)
         return None if one is None or other is None else made(one, other)
 
@@ -314,9 +316,10 @@ def of_two(left: Expression, right: Expression, made: Callable[[Known, Known], K
 
 
 def comparison(sign: str, left: Expression, right: Expression) -> Expression:
-    """Returns whether the comparison holds. Texts are equal or not; the other signs compare numbers."""
+    """Returns the expression that compares two values. Texts can only be equal or not; the other signs compare
+    numbers."""
     def holds(one: Known, other: Known) -> bool:
-        """Returns whether it holds of two values."""
+        """Returns whether the comparison of two values holds."""
         if sign in ("==", "!="):
             if isinstance(one, bool) != isinstance(other, bool) or isinstance(one, str) != isinstance(other, str):
                 raise Wrong(f"{shown(one)} and {shown(other)} can't be compared")
@@ -328,9 +331,9 @@ def comparison(sign: str, left: Expression, right: Expression) -> Expression:
 
 
 def arithmetic(sign: str, left: Expression, right: Expression) -> Expression:
-    """Returns the sum, difference, product or quotient."""
+    """Returns the expression for a sum, a difference, a product or a quotient."""
     def result(one: Known, other: Known) -> Fraction:
-        """Returns it of two values."""
+        """Returns the result for two values."""
         a, b = number(one), number(other)
         if sign == "/" and b == 0:
             raise Wrong("a division by 0")
@@ -340,9 +343,9 @@ def arithmetic(sign: str, left: Expression, right: Expression) -> Expression:
 
 
 def called(name: str, given: Sequence[Expression]) -> Expression:
-    """Returns what a function gives for its values."""
+    """Returns the expression that calls a function."""
     def value(row: Row) -> Value:
-        """Returns the value."""
+        """Returns the value for a row of marks."""
         values = [each(row) for each in given]
         return None if None in values else FUNCTIONS[name]([number(each) for each in values])
 

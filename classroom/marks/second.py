@@ -1,4 +1,5 @@
-"""A second opinion on marks: the plain model (`model/`) reads the same journals and records as the proved program."""
+"""A second opinion on marks: the plain model (`model/`) computes them from the same journals and records as the
+proved program."""
 from __future__ import annotations
 
 import subprocess
@@ -14,14 +15,15 @@ from classroom.marks.vouched import vouched
 
 
 def model_call(word: str, *files: Path) -> Answer:
-    """Returns what the plain model prints for a word of the program, and its exit status."""
+    """Returns the output and exit status of the plain model for a command of the program."""
     call: list[str | Path] = [sys.executable, "-B", "-m", "model", word, *(file.absolute() for file in files)]
     done = subprocess.run(call, cwd=TOP, stdin=subprocess.DEVNULL, capture_output=True, text=True, check=False)
     return Answer(done.returncode, done.stdout, done.stderr.strip())
 
 
 def difference(word: str, *files: Path) -> str:
-    """Returns the first line in which the two differ, or nothing if they print the same and end alike."""
+    """Returns the first line in which the program and the model differ, or an empty text if their output and
+    status are the same."""
     proved, plain = host_call(word, *files), model_call(word, *files)
     if proved == plain:
         return ""
@@ -31,9 +33,9 @@ def difference(word: str, *files: Path) -> str:
 
 
 def differences(lab: Path, journal: Path) -> list[str]:
-    """Returns what differs in a run: in its tally, and in each record in its folder.
+    """Returns the differences in a run: in its tally, and in each record in its folder.
 
-    The journal is copied first, since both must read the same bytes while a run goes on.
+    Copies the journal first, since both must read the same bytes while the run continues.
     """
     found = []
     with tempfile.TemporaryDirectory() as room:
@@ -48,7 +50,8 @@ def differences(lab: Path, journal: Path) -> list[str]:
 
 
 def compare(runs: list[tuple[Path, Path]]) -> bool:
-    """Says on standard error whether the two agree about all these runs. Returns whether they differ."""
+    """Prints on standard error whether the program and the model agree about these runs. Returns whether they
+    differ."""
     lines = [line for lab, journal in runs for line in differences(lab, journal)]
     for line in lines or ["the plain model agrees about all that is marked"]:
         print(printable(f"class: {line}"), file=sys.stderr)

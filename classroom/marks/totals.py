@@ -1,5 +1,4 @@
-"""The totals of several runs for each person: a row a person, in the form and order of a list, or by the labs'
-names."""
+"""The totals of several runs: one row for each person, in the order of a class list or by the names in the labs."""
 from __future__ import annotations
 
 import csv
@@ -20,7 +19,7 @@ HEADS = ["granted", "applied", *RULES, "steps", "shared", "runs", *DENIED, "reco
 
 @dataclass
 class Total:
-    """A person's marks over all runs."""
+    """The marks of a person over all runs."""
 
     granted: int = 0
     applied: Counter[str] = field(default_factory=Counter)
@@ -33,7 +32,7 @@ class Total:
     networks: dict[str, None] = field(default_factory=dict)  # whose labs have the person
 
     def add(self, marks: Marks, denied: Counter[str], is_whole: bool, nodes: int, network: str) -> None:
-        """Adds the marks of a run, and the result of its record."""
+        """Adds the marks of a run, and the counts of its record."""
         self.nodes += nodes
         self.networks[network] = None
         self.granted += marks.granted.total()
@@ -45,7 +44,7 @@ class Total:
         self.recorded += is_whole
 
     def row(self) -> list[str]:
-        """Returns the numbers below HEADS."""
+        """Returns the cells below HEADS."""
         rules = [self.applied[rule] for rule in RULES]
         numbers = [self.granted, self.applied.total(), *rules, self.steps, self.shared, self.runs,
                    *(self.denied[clause] for clause in DENIED), self.recorded]
@@ -53,11 +52,12 @@ class Total:
 
     @property
     def network(self) -> str:
-        """Returns the networks whose labs have the person."""
+        """Returns the names of the networks whose labs have the person."""
         return "; ".join(self.networks)
 
     def values(self, name: str) -> dict[str, Value]:
-        """Returns the values of the columns, as rules have them. Denials are known if each run's record is whole."""
+        """Returns the values of the columns for a rule. Denials are known only if the record of each run is
+        complete."""
         is_whole = self.recorded == self.runs
         counts = {"granted": self.granted, "applied": self.applied.total(), **{rule: self.applied[rule] for rule in RULES},
                   "steps": self.steps, "shared": self.shared, "nodes": self.nodes, "runs": self.runs, "recorded": self.recorded}
@@ -67,7 +67,7 @@ class Total:
 
 @dataclass(frozen=True)
 class Marked:
-    """The result of a run: its lab, its network, the marks of each student, and what its record says was asked."""
+    """A run with marks: its lab, its network, the marks of each student, and the counts of its record."""
 
     lab: Lab
     network: str
@@ -79,8 +79,8 @@ Runs = list[Marked]
 
 
 def summed(runs: Runs) -> dict[str, tuple[Person, Total]]:
-    """Returns the totals by person, as the labs name them: by the identifier, or if there is none by the name in the
-    lab."""
+    """Returns the totals of each person. Persons are the same if they have the same identifier, or without one the
+    same name in the lab."""
     found: dict[str, tuple[Person, Total]] = {}
     for run in runs:
         lab, asked = run.lab, run.asked
@@ -96,19 +96,20 @@ def summed(runs: Runs) -> dict[str, tuple[Person, Total]]:
 
 
 def ruled(rule: Rule | None, total: Total, name: str) -> list[str]:
-    """Returns what a rule gives for a person."""
+    """Returns the results of a rule for a person, or none without a rule."""
     return rule.cells(total.values(name)) if rule else []
 
 
 def by_labs(runs: Runs, rule: Rule | None = None) -> list[list[str]]:
-    """Returns a row for each person of the labs, below a row of heads."""
+    """Returns the table: a row of heads, and a row for each person in the labs."""
     return [["student", "id", *HEADS, *(rule.names if rule else [])],
             *([guarded(person.written), guarded(person.id), *total.row(), *ruled(rule, total, person.written)]
               for person, total in summed(runs).values())]
 
 
 def by_roster(runs: Runs, roster: People, rule: Rule | None = None) -> tuple[list[list[str]], list[str]]:
-    """Returns the list's own rows with the numbers after them, and the written names that it doesn't have."""
+    """Returns the rows of a class list with the totals after them, and the names of the persons that the list
+    lacks."""
     left = summed(runs)
     heads, names = roster.heads or ["name"], rule.names if rule else []
     rows = [[*heads, *HEADS, *names]]
@@ -116,18 +117,18 @@ def by_roster(runs: Runs, roster: People, rule: Rule | None = None) -> tuple[lis
         if person is None:
             rows.append([*cells, *[""] * (len(HEADS) + len(names))])
             continue
-        key = next((key for key, (other, _) in left.items() if same(person, other)), None)
+        key = next((key for key, (other, _) in left.items() if is_same_person(person, other)), None)
         total = left.pop(key)[1] if key is not None else Total()
         rows.append([*(cells or [guarded(person.written)]), *total.row(), *ruled(rule, total, person.written)])
     return rows, [person.written for person, _ in left.values()]
 
 
-def same(person: Person, other: Person) -> bool:
-    """Returns whether two are one: by their identifiers if both have one, else by what is written. What isn't printable
-    counts as it is spelled, since labs of 1.0.0 have it so."""
+def is_same_person(person: Person, other: Person) -> bool:
+    """Returns whether two entries are one person: by their identifiers if both have one, and else by their names.
+    Characters that aren't printable are compared as they are escaped, because labs of 1.0.0 have them so."""
     return printable(person.id) == printable(other.id) if person.id and other.id else printable(person.written) == printable(other.written)
 
 
 def write(rows: list[list[str]], delimiter: str = ",") -> None:
-    """Prints a table."""
+    """Prints a table as CSV."""
     csv.writer(sys.stdout, delimiter=delimiter, lineterminator="\n").writerows(rows)

@@ -1,4 +1,5 @@
-"""The records of a run's folder as `verify` vouches for them: copies of whole entries, beside the journal so far."""
+"""The records in a run's folder with the verdicts of `verify`: copies of the complete entries, together with the
+journal so far."""
 from __future__ import annotations
 
 import re
@@ -9,18 +10,19 @@ from dataclasses import dataclass
 from pathlib import Path
 
 from classroom.core import lab as labs
-from classroom.core import plain
+from classroom.core import limits, plain
 from classroom.core.folders import Record
 from classroom.core.program import LISTENING, Answer, Fault, host_call
 from classroom.core.record import CUT, ENDED, begun, json_object, kept, seats
 from classroom.core.statuses import LAB
 
+LAST_BYTES = 1 << 20  # of what a server printed
 UNENDED = "its server is running or was killed, so its last entries may be missing, through no fault of a student"
 
 
 @dataclass(frozen=True)
 class Vouched:
-    """A record that was copied with its lab and the journal as far as it goes, and the verdict on it."""
+    """A copy of a record with its lab and the journal, and the verdict on it."""
 
     record: Path
     copy: Path
@@ -31,17 +33,17 @@ class Vouched:
 
     @property
     def lab(self) -> Path:
-        """Returns the lab with which it was recorded."""
+        """Returns the path of the lab that was used during the recording."""
         return self.copy / "lab"
 
     @property
     def journal(self) -> Path:
-        """Returns the events up to its end."""
+        """Returns the path of the events up to the end of the record."""
         return self.copy / "journal"
 
     @property
     def is_copied(self) -> bool:
-        """Returns whether each of its files could be read."""
+        """Returns whether all files of the record could be read."""
         return self.journal.is_file()
 
     def told(self) -> str:
@@ -50,47 +52,48 @@ class Vouched:
 
 
 def has_ended(run: Path) -> bool:
-    """Returns whether its server has said that it is done; of a folder that has no server's lines it is taken so."""
+    """Returns whether the server of a run has printed that it is done. Returns true if the folder has no output of
+    a server."""
     output = run / "server.txt"
     if not output.is_file():
         return True
-    text = plain.tail(output, plain.MOST_LAB).decode("utf-8", errors="replace")
+    text = plain.tail(output, LAST_BYTES).decode("utf-8", errors="replace")
     return "done: " in LISTENING.split(text)[-1]
 
 
-def front(text: bytes, events: int) -> bytes:
-    """Returns the whole entries of a seat's text that so many events are enough for: what was put later comes of a run
-    that goes on. A place never falls, so it is looked for from the end."""
+def entries_up_to(text: bytes, events: int) -> bytes:
+    """Returns the complete entries in a seat's text that need at most so many events. Later entries belong to a
+    run that continues. Searches from the end, because places never fall."""
     end = text.rfind(b"\n") + 1
     while end:
         start = text.rfind(b"\n", 0, end - 1) + 1
         _, place, sign, *rest = [*text[start:end - 1].split(b" ", 3), b"", b"", b""]
         number = plain.number(place) if place.isdigit() else 0
-        if sign != b">" and number is not None and number <= events and granted(sign, rest[0]) <= events:
+        if sign != b">" and number is not None and number <= events and granted_place(sign, rest[0]) <= events:
             break
         end = start
     return text[:end]
 
 
-def granted(sign: bytes, reply: bytes) -> int:
-    """Returns which event a reply grants, or 0 if none."""
+def granted_place(sign: bytes, reply: bytes) -> int:
+    """Returns the place of the event that a reply granted, or 0 if it granted none."""
     place = json_object(reply).get("place") if sign == b"<" else None
     return place if isinstance(place, int) else 0
 
 
 def goes_on(run: Path) -> bool:
-    """Returns whether the server of a folder lives."""
+    """Returns whether the server of a run's folder is still running."""
     record = Record.read(run)
     return record is not None and record.server.lives()
 
 
-def copied(record: Path, into: Path, journal: bytes) -> None:
-    """Copies a record's whole entries, as far as the journal goes, its lab and where it began, and the journal into a
-    folder."""
+def copy_record(record: Path, into: Path, journal: bytes) -> None:
+    """Copies into a folder: a record's complete entries as far as the journal reaches, its lab, the place at which
+    it began, and the journal."""
     events = journal.count(b"\n")
     for file in seats(record):
-        (into / file.name).write_bytes(front(plain.read(file, plain.MOST_SEAT), events))
-    (into / "lab").write_bytes(plain.read(record / "lab", plain.MOST_LAB))
+        (into / file.name).write_bytes(entries_up_to(plain.read(file, limits.allowed().seat_read), events))
+    (into / "lab").write_bytes(plain.read(record / "lab", limits.allowed().lab))
     (into / "begun").write_bytes(plain.read(record / "begun", plain.MOST_KEPT))
     (into / "journal").write_bytes(journal)
 
@@ -101,9 +104,9 @@ def is_open(seat: Path) -> bool:
     return last != b"" and not re.fullmatch(rb"\d+ \d+ \.", last)
 
 
-def mark(into: Path) -> None:
-    """Marks a copy as one that may lack entries, by a session that isn't whole, in a seat in which none is open if
-    there is one."""
+def mark_incomplete(into: Path) -> None:
+    """Marks a copy as one that may lack entries: appends a cut session to a seat, if possible to one without an
+    open session."""
     events = (into / "journal").read_bytes().count(b"\n")
     for file in sorted(seats(into), key=is_open)[:1]:
         seat = file.name.partition(".")[0]
@@ -113,9 +116,9 @@ def mark(into: Path) -> None:
 
 @contextmanager
 def vouched(run: Path) -> Iterator[list[Vouched]]:
-    """Yields the records of a folder, from the oldest on, in copies that nobody else reads and that go away."""
+    """Yields the records of a folder, the oldest first, as private copies that are removed at the end."""
     is_whole, lives = has_ended(run), goes_on(run)
-    lines = plain.read(run / "journal", plain.MOST_JOURNAL).split(b"\n")[:-1]
+    lines = plain.read(run / "journal", limits.allowed().journal).split(b"\n")[:-1]
     records = kept(run)
     ends = [*map(begun, records[1:]), len(lines)]
     with tempfile.TemporaryDirectory() as room:
@@ -125,26 +128,26 @@ def vouched(run: Path) -> Iterator[list[Vouched]]:
 
 
 def vouch(record: Path, into: Path, journal: bytes, is_whole: bool, lives: bool) -> Vouched:
-    """Verifies a record's copy and returns it; if its server hasn't ended and an entry is missing, as one that isn't
-    whole. It is refused if its lab is another than the run's."""
+    """Copies a record and verifies the copy. If its server hasn't ended and an entry is missing, verifies it as an
+    incomplete record. A record with another lab than the run's is refused."""
     into.mkdir()
     try:
-        copied(record, into, journal)
+        copy_record(record, into, journal)
         if not has_lab_of(record.parent, into):
-            return Vouched(record, into, LAB, "its lab is another than the run's lab.toml", is_whole)
+            return Vouched(record, into, LAB, "its lab isn't the same as the run's lab.toml", is_whole)
     except Fault as fault:
         return Vouched(record, into, fault.status, str(fault), is_whole)
     answer = verified(into)
     if answer.status and not is_whole:
-        mark(into)
+        mark_incomplete(into)
         answer = verified(into)
     line = (answer.output or answer.error).strip().partition("\n")[0]
     return Vouched(record, into, answer.status, line if is_whole else f"{line}: {UNENDED}", is_whole, not is_whole and lives)
 
 
 def has_lab_of(run: Path, copy: Path) -> bool:
-    """Returns whether the lab of a record's copy agrees with the run's in all that a journal names."""
-    if (copy / "lab").read_bytes() == plain.read(run / "lab.toml", plain.MOST_LAB):
+    """Returns whether the lab of a copy is the same as the run's lab in all that a journal names."""
+    if (copy / "lab").read_bytes() == plain.read(run / "lab.toml", limits.allowed().lab):
         return True
     try:
         return labs.is_same(labs.read(copy / "lab"), labs.read(run / "lab.toml"))
@@ -153,5 +156,5 @@ def has_lab_of(run: Path, copy: Path) -> bool:
 
 
 def verified(copy: Path) -> Answer:
-    """Returns what the program says of a copy."""
+    """Returns the program's verdict on a copy."""
     return host_call("verify", copy / "lab", copy / "journal", copy)

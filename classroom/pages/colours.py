@@ -1,5 +1,5 @@
-"""The style of a drawing that is a file of its own. Its colours stand as they are, since programs other than browsers
-know no variables of a style."""
+"""The style of a drawing in its own file. Its colours are literal values, because programs other than browsers
+don't know the variables of a style."""
 from __future__ import annotations
 
 import re
@@ -23,15 +23,15 @@ def parts() -> tuple[dict[str, dict[str, str]], str]:
 
 
 def value(name: str, theme: str = LIGHT) -> str:
-    """Returns what a variable is in a theme."""
+    """Returns the value of a variable in a theme."""
     return parts()[0][theme][name]
 
 
 def literal(rules: str, theme: str = LIGHT) -> str:
-    """Returns rules in which each variable's value stands for it."""
+    """Returns rules in which each variable is replaced by its value."""
     return USED.sub(lambda used: value(used[1], theme), rules)
 
 
 def style(more: str = "", theme: str = LIGHT) -> str:
-    """Returns the element with the style of a drawing, and with more rules."""
+    """Returns the style element of a drawing, with more rules added."""
     return f"<style>{literal(parts()[1] + more, theme)}</style>"

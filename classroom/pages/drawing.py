@@ -1,4 +1,4 @@
-"""A configuration as SVG. The page's program changes the same elements from place to place."""
+"""A configuration as SVG. The page's script changes the same elements from place to place."""
 from __future__ import annotations
 
 import math
@@ -25,7 +25,7 @@ ANCHORS = ("start", "middle", "end")
 
 @dataclass(frozen=True)
 class Drawing:
-    """What of a drawing stays from place to place."""
+    """The parts of a drawing that are the same at all places."""
 
     lab: Lab
     view: View
@@ -37,7 +37,7 @@ class Drawing:
 
     @property
     def measures(self) -> dict[str, float]:
-        """Returns how large and how thick everything is, by the radius of a node."""
+        """Returns all sizes and line widths, which depend on the radius of a node."""
         radius, form = self.view.layout.radius, self.view.form
         plain = {
             "radius": radius, "ring": 1.28 * radius, "ringLine": max(1.5, 0.14 * radius), "discLine": max(1.2, 0.1 * radius),
@@ -48,12 +48,12 @@ class Drawing:
         return {name: round(value, 2) for name, value in plain.items()}
 
     @property
-    def tiny(self) -> bool:
-        """Whether nodes have no room for a rule."""
+    def is_tiny(self) -> bool:
+        """Returns whether nodes are too small for their rules."""
         return self.view.layout.radius < labels.LEAST_FRAMED
 
     def svg(self, state: State, event: Event | None) -> str:
-        """Returns the SVG element of a state. `event` is the one that led to it."""
+        """Returns the SVG element of a state. `event` led to it."""
         open_links = state.open if len(state.open) <= OPEN_MOST else []
         sizes, field = self.measures, self.view.layout.field
         return "\n".join([
@@ -62,7 +62,7 @@ class Drawing:
             f' data-privileged="{len(state.privileged)}" data-pairs="{len(state.pairs)}" class="{self.kind}">',
             f'<defs><marker id="arrow" viewBox="0 0 10 10" refX="9.5" refY="5" markerUnits="userSpaceOnUse" markerWidth="{sizes["head"]:g}"'
             f' markerHeight="{sizes["head"]:g}" orient="auto"><path d="M0 0L10 5L0 10z"/></marker></defs>',
-            *self.rows("links", sizes["link"], [(a, self.line(a, b)) for a, b in sorted(state.links)], self.faint(len(state.links))),
+            *self.rows("links", sizes["link"], [(a, self.line(a, b)) for a, b in sorted(state.links)], self.link_opacity(len(state.links))),
             *self.rows("open", 1.5 * sizes["link"], [(a, self.line(a, b)) for a, b, _, _ in open_links]),
             *self.rows("witness", 3 * sizes["link"], [(a, self.half(witness, b if witness == a else a))
                                                       for a, b, witness, _ in open_links if witness in (a, b)]),
@@ -83,16 +83,16 @@ class Drawing:
 
     @property
     def kind(self) -> str:
-        """Returns the classes of a drawing: whether it has names, and room for rules."""
-        return " ".join(["named" if self.view.labels else "bare", *["tiny"] * self.tiny])
+        """Returns the CSS classes of the drawing: whether it has names, and whether it has room for rules."""
+        return " ".join(["named" if self.view.labels else "bare", *["tiny"] * self.is_tiny])
 
-    def faint(self, links: int) -> float:
-        """Returns how opaque the line of each of so many links is: if there are many, fainter, so that what lies over
-        them can be read."""
+    def link_opacity(self, links: int) -> float:
+        """Returns the opacity of a link's line. The more links there are, the fainter each is, so that the rest
+        stays readable."""
         return min(1.0, FAINT_ABOVE * len(self.lab.nodes) / max(links, 1))
 
     def rows(self, name: str, thick: float, drawn: list[tuple[int, str]], opacity: float = 1.0) -> list[str]:
-        """Returns a path for each node, of the lines whose lower end it is: so that few change at a time."""
+        """Returns one path for each node, with the lines whose lower end it is. So few paths change at a time."""
         lines: dict[int, list[str]] = {node.id: [] for node in self.lab.nodes}
         for node, line in drawn:
             lines[node].append(line)
@@ -100,29 +100,29 @@ class Drawing:
         return [f'<g class="{name}" stroke-width="{thick:g}" stroke-opacity="{opacity:.2g}">', *paths, "</g>"]
 
     def line(self, a: int, b: int) -> str:
-        """Returns the line of a link, as a path has it."""
+        """Returns the line of a link as path data."""
         (x, y), (u, v) = self.points[a], self.points[b]
         return f"M{x:g} {y:g}L{u:g} {v:g}"
 
     def half(self, a: int, b: int) -> str:
-        """Returns the half of a link on the side of a."""
+        """Returns the half of a link next to node a, as path data."""
         (x, y), (u, v) = self.points[a], self.points[b]
         return f"M{x:g} {y:g}L{(x + u) / 2:g} {(y + v) / 2:g}"
 
     def witness(self, link: OpenLink) -> str:
-        """Returns the witness of an open link and its rule, in the middle of the link."""
+        """Returns the text with the witness of an open link and its rule, in the middle of the link."""
         a, b, witness, rule = link
         (x, y), (u, v) = self.points[a], self.points[b]
         return f'<text x="{(x + u) / 2:g}" y="{(y + v) / 2:g}">{witness}: {self.view.form.word(rule)}</text>'
 
     def pointer(self, node: int, state: State) -> str:
-        """Returns an arrow if the node points at another that it isn't married to."""
+        """Returns the path of a node's pointer. It is empty if the node points at none or is married."""
         target = state.pointers[node]
         drawn = "" if target is None or married(node, state) else self.arrow(node, target)
         return f'<path class="pointer" data-of="{node}" d="{drawn}" marker-end="url(#arrow)"/>'
 
     def arrow(self, a: int, b: int) -> str:
-        """Returns a line from the rim of one node to the ring of another."""
+        """Returns the path data of an arrow from the rim of one node to the ring of another."""
         start, end = self.points[a], self.points[b]
         length = math.dist(start, end) or 1.0
         along = ((end[0] - start[0]) / length, (end[1] - start[1]) / length)
@@ -130,15 +130,15 @@ class Drawing:
         return f"M{at(start, along, near)}L{at(start, along, far)}"
 
     def node(self, node: int, owners: list[str], state: State, event: Event | None) -> str:
-        """Returns a node's element: its values, its disc, and the label beside it."""
+        """Returns a node's element: its values, its disc, its label and its rule."""
         (x, y), sizes = self.points[node], self.measures
         pointer, rule = state.pointers[node], state.privileged.get(node, "")
-        chosen, m = state.chosen.get(node, ""), told(state.ms[node])
+        chosen, m = state.chosen.get(node, ""), true_or_false(state.ms[node])
         hit = " hit" if event is not None and event.is_edit and node in event.nodes else ""
         return "".join([
             f'<g class="node{hit}" data-node="{node}" data-p="{"" if pointer is None else pointer}" data-m="{m}"'
-            f' data-married="{told(married(node, state))}" data-rule="{rule}" data-chosen="{chosen}"'
-            f' transform="translate({x:g} {y:g})" role="img" aria-label="{escape(self.said(node, owners, state))}">',
+            f' data-married="{true_or_false(married(node, state))}" data-rule="{rule}" data-chosen="{chosen}"'
+            f' transform="translate({x:g} {y:g})" role="img" aria-label="{escape(self.node_in_words(node, owners, state))}">',
             f"<title>node {node}, {escape(' and '.join(owners))}</title>",
             f'<circle class="ring" r="{sizes["ring"]:g}" stroke-width="{sizes["ringLine"]:g}"/>',
             f'<circle class="disc" r="{sizes["radius"]:g}" stroke-width="{sizes["discLine"]:g}"/>',
@@ -148,7 +148,7 @@ class Drawing:
         ])
 
     def label(self, node: int) -> list[str]:
-        """Returns the name beside a node, if there is room for names."""
+        """Returns the name beside a node, or nothing if there is no room for names."""
         label = self.view.labels.get(node)
         if label is None:
             return []
@@ -156,7 +156,7 @@ class Drawing:
                 f' font-size="{self.view.form.size:g}">{escape(label.text)}</text>']
 
     def pill(self, node: int, rule: str, chosen: str) -> str:
-        """Returns the rule by which a node can move, in a frame; the frame is full if the move is chosen."""
+        """Returns the rule of a node in a frame. A chosen move has a tick before its rule."""
         form, word = self.view.form, chosen or rule
         width, high = form.pill_width(word, bool(chosen)), self.measures["pillHigh"]
         x, y = self.view.pill_at(node, width)
@@ -164,13 +164,13 @@ class Drawing:
         return (f'<g class="pill" transform="translate({x:g} {y:g})"><rect x="{-width / 2:g}" y="{-high / 2:g}" width="{width:g}"'
                 f' height="{high:g}" rx="{high / 2:g}"/><text class="rule" y="{0.35 * form.pill:.3g}" font-size="{form.pill:g}">{text}</text></g>')
 
-    def said(self, node: int, owners: list[str], state: State) -> str:
-        """Returns a node in words."""
+    def node_in_words(self, node: int, owners: list[str], state: State) -> str:
+        """Returns the description of a node for readers who don't see it."""
         pointer, partner = state.pointers[node], next((sum(pair) - node for pair in state.pairs if node in pair), None)
-        return told_node(node, owners, pointer, state.ms[node], partner, state.privileged.get(node, ""), state.chosen.get(node, ""))
+        return describe_node(node, owners, pointer, state.ms[node], partner, state.privileged.get(node, ""), state.chosen.get(node, ""))
 
     def mark(self, event: Event | None) -> str:
-        """Returns the word of a fault, link or cut, if it happened."""
+        """Returns the word of a fault, link or cut at its nodes. It is empty for any other event."""
         size = self.measures["mark"]
         if event is None or not event.is_edit:
             return f'<text class="mark" font-size="{size:g}"></text>'
@@ -180,17 +180,18 @@ class Drawing:
         return f'<text class="mark" x="{x:g}" y="{max(size, y - up):g}" font-size="{size:g}">⚡ {event.kind}</text>'
 
     def key(self) -> str:
-        """Returns what letters stand for, below a drawing, or empty if it has none."""
-        if self.view.form.words or self.tiny:
+        """Returns the explanation of the letters below a drawing, or an empty text if rules are words or aren't
+        shown."""
+        if self.view.form.words or self.is_tiny:
             return ""
         return f'<text class="key" x="8" y="{self.view.layout.field.height + 17:g}" font-size="{KEY_SIZE:g}">{LETTERS}</text>'
 
     def data(self) -> dict[str, Any]:
-        """Returns what a page's program has to know of the view."""
+        """Returns the data of the drawing that the page's script needs."""
         form, layout = self.view.form, self.view.layout
         rules = ("", *RULES)
         return {
-            "width": layout.field.width, "height": layout.field.height, "kind": self.kind, "words": form.words, "tiny": self.tiny,
+            "width": layout.field.width, "height": layout.field.height, "kind": self.kind, "words": form.words, "tiny": self.is_tiny,
             "measures": self.measures, "widths": [[form.pill_width(rule, it) for it in (False, True)] for rule in rules],
             "points": [layout.points[node.id] for node in self.lab.nodes],
             "corners": [self.view.corners[node.id] for node in self.lab.nodes] if self.view.corners else [],
@@ -200,42 +201,42 @@ class Drawing:
 
 
 def drawing_of(lab: Lab, links: Iterable[tuple[int, int]] | None = None, field: Field = WIDE) -> Drawing:
-    """Returns the drawing of a lab's network in a field, as it is with these links."""
+    """Returns the drawing of a lab's network in a field, with these links or else the lab's."""
     owners = {node.id: node.owners for node in lab.nodes}
     return Drawing(lab, view_of(owners, sorted(lab.links if links is None else links), field))
 
 
 def married(node: int, state: State) -> bool:
-    """Returns whether a pair of the report has the node."""
+    """Returns whether a node is in a pair of the report."""
     return any(node in pair for pair in state.pairs)
 
 
-def told_node(node: int, owners: list[str], pointer: int | None, m: bool, partner: int | None, rule: str, chosen: str) -> str:
-    """Returns a node in words, for readers who don't see it. The page's program says the same."""
+def describe_node(node: int, owners: list[str], pointer: int | None, m: bool, partner: int | None, rule: str, chosen: str) -> str:
+    """Returns the description of a node. The page's script produces the same text."""
     return ", ".join([
-        f"node {node} of {' and '.join(owners)}", f"p {'null' if pointer is None else pointer}", f"m {told(m)}",
+        f"node {node} of {' and '.join(owners)}", f"p {'null' if pointer is None else pointer}", f"m {true_or_false(m)}",
         *([f"married to {partner}"] if partner is not None else []), *([f"privileged: {rule}"] if rule else []),
         *([f"chosen: {chosen}"] if chosen else []),
     ])
 
 
-def told(value: bool) -> str:
+def true_or_false(value: bool) -> str:
     """Returns a truth value as the page's elements have it."""
     return "true" if value else "false"
 
 
 def at(start: Point, along: Point, far: float) -> str:
-    """Returns the point that is so far from a start along a direction, as a path has it."""
+    """Returns the point at a distance from a start in a direction, as path data."""
     return f"{start[0] + along[0] * far:.1f} {start[1] + along[1] * far:.1f}"
 
 
 def path(name: str, drawn: str, thick: float) -> str:
-    """Returns a path's element, with its class."""
+    """Returns a path element with a class and a line width."""
     return f'<path class="{name}" stroke-width="{thick:g}" d="{drawn}"/>'
 
 
 def standalone(drawing: Drawing, state: State, event: Event | None, theme: str = "light") -> str:
-    """Returns the element as a file of its own, with its style inside."""
+    """Returns the SVG file of a drawing, with its style inside."""
     key, field = drawing.key(), drawing.view.layout.field
     head, tail = drawing.svg(state, event).split("<defs>", 1)
     if key:

@@ -1,6 +1,5 @@
-"""A journal as frames: what the program answers when the journal's events are asked of it again. What stands in a
-frame was read from a reply.
-"""
+"""A journal as frames: the program's replies when the events of a journal are asked for again. Every value in a
+frame was read from a reply."""
 from __future__ import annotations
 
 from collections.abc import Iterator
@@ -19,7 +18,7 @@ OpenLink = tuple[int, int, int, str]
 
 @dataclass
 class State:
-    """What is known of the run at a place: each value as in a reply."""
+    """The state of the run at a place. Each value is from a reply."""
 
     place: int
     number: int
@@ -35,21 +34,21 @@ class State:
     since: int = 0  # moves since the last fault, link or cut
 
     def copy(self) -> State:
-        """Returns a state that stays; what is replaced as a whole is shared."""
+        """Returns a copy. Values that are always replaced as a whole are shared."""
         return State(self.place, self.number, self.links, dict(self.pointers), dict(self.ms), dict(self.chosen),
                      self.privileged, self.pairs, self.open, self.stable, self.moves, self.since)
 
 
 @dataclass(frozen=True)
 class Frame:
-    """The state after an event; the first one, without an event, is the beginning."""
+    """The state after an event. The first frame has no event, and is the beginning."""
 
     event: Event | None
     state: State
 
 
 class Looking(Replay):
-    """Looks at what each event did."""
+    """Collects the frames of a replay, by looks and reports after each event."""
 
     def __init__(self, lab: labs.Lab, events: list[Event]) -> None:
         super().__init__(lab, events)
@@ -63,20 +62,20 @@ class Looking(Replay):
             self.frames.clear()
 
     def ask(self, script: Script, event: Event | None, named: set[int]) -> None:
-        """Looks at the nodes that an event may have changed, and asks for the report if it made a configuration. The
-        last reply makes the frame whole."""
+        """Asks for a look at each node that an event may have changed, and for the report if it made a
+        configuration. The last reply completes the frame."""
         if event is None or event.makes_configuration:
             for node in sorted(named if event else self.registers):
                 script.ask(look(node), self.take_look)
             script.ask(REPORT, self.take_report)
         else:
             script.ask(look(event.nodes[0]), self.take_look)
-        script.takes.append(self.showing(event, script.takes.pop()))
+        script.takes.append(self.completing(event, script.takes.pop()))
 
-    def showing(self, event: Event | None, take: Take | None) -> Take:
-        """Returns what takes the last reply of a frame, as `take` does, and then shows the frame, which is whole."""
+    def completing(self, event: Event | None, take: Take | None) -> Take:
+        """Returns a function that handles the last reply of a frame like `take`, and then appends the frame."""
         def takes(reply: dict[str, Any]) -> None:
-            """Takes the last reply, and adds the frame."""
+            """Handles the last reply, and appends the frame."""
             if take is not None:
                 take(reply)
             self.frames.append(Frame(event, self.state))
@@ -84,7 +83,7 @@ class Looking(Replay):
         return takes
 
     def take_look(self, reply: dict[str, Any]) -> None:
-        """Takes the registers and the chosen move in a look."""
+        """Copies the registers and the chosen move of a look into the state."""
         node, state = reply["node"], self.state
         state.pointers[node], state.ms[node] = reply["p"], reply["m"]
         state.chosen.pop(node, None)
@@ -92,7 +91,7 @@ class Looking(Replay):
             state.chosen[node] = reply["chosen"]
 
     def take_report(self, reply: dict[str, Any]) -> None:
-        """Takes the values of a report. Its numbers begin anew with each part of the replay."""
+        """Copies the values of a report into the state. Its numbers begin anew with each part of the replay."""
         state = self.state
         state.number = reply["at"] + self.number
         state.privileged = {node: rule for node, rule in reply["privileged"]}
@@ -100,8 +99,8 @@ class Looking(Replay):
         state.open = [(a, b, witness, rule) for a, b, witness, rule in reply["open"]]
         state.stable = reply["stable"]
 
-    def took(self, event: Event, reply: dict[str, Any]) -> None:
-        """Counts the moves of a close, and takes the event's place and its links."""
+    def note_reply(self, event: Event, reply: dict[str, Any]) -> None:
+        """Counts the moves of a close, and copies the event's place and links into the state."""
         state = self.state
         state.place = event.place
         if event.kind == "close":
@@ -114,8 +113,8 @@ class Looking(Replay):
 
 
 def frames_of(lab: Path, journal: Path) -> tuple[labs.Lab, Iterator[Frame]]:
-    """Returns the lab, and the frames of a journal that the audit passes. All frames share one state, which changes
-    when the next one is taken."""
+    """Returns the lab, and the frames of a journal that the audit accepts. All frames share one state, which
+    changes when the next frame is taken."""
     answer = call("audit", lab, journal)
     if answer.status != 0:
         raise Fault(f"{journal}: {answer.error}", answer.status)

@@ -1,17 +1,17 @@
-"""The page for all networks of a class: a drawing of each, how many of its nodes can move, who is missing, and which is down; a
-click opens one.
+"""The page for all networks of a class: a drawing of each, the number of its privileged nodes, the missing students, and
+alarms. A click opens the page of one network.
 
 The page has two addresses: one to look at, and one to act at. Below each of them the server answers
 
-- `` (nothing more): the page, `hall.html` with `drawing.css`, `hall.css` and `hall.js` inside, and where each network's nodes are
-  drawn, as `Drawing.data` has it
+- `` (nothing more): the page, `hall.html` with `drawing.css`, `hall.css` and `hall.js` inside, and the positions of each
+  network's nodes, as `Drawing.data` returns them
 - `state`: the state of the class as a JSON object (`classroom.core.class_state` documents it)
-- `events`: server-sent events; each `data` is such an object, sent whenever something has changed, and one comment line if
+- `events`: server-sent events. Each `data` is such an object. One is sent whenever something has changed, and a comment line if
   nothing has changed for ten seconds
-- `act`, by POST and at the address to act alone: one line, as `2: close`, `all: shake 3`, `maths-2: end` or `3: resume`. The word is
-  one of ACTS, with its values; the network before it is a number, a name or `all`
+- `act`, by POST and only at the address to act: one line, as `2: close`, `all: shake 3`, `maths-2: end` or `3: resume`. The word
+  is one of ACTS, with its values. The network before it is a number, a name or `all`
 
-The address to act at is another one for each class, and no other page knows it.
+Each class has its own address to act at, and no other page knows it.
 """
 from __future__ import annotations
 
@@ -39,12 +39,12 @@ LINE = re.compile(r"[^\s:]+: (?:close|resume|end|shake (?:\d{1,3}|all))")
 
 
 class Hall(TwoAddresses):
-    """Serves the page for all networks of a class."""
+    """The server of the page for all networks of a class."""
 
     def __init__(self, port: int, title: str, act: Callable[[str], None], state: ClassState, looks: str | None = None,
                  views: Callable[[], Views] = list) -> None:
-        """`views` gives where the nodes of each network are drawn. It is asked for each page, since the search for a layout may
-        take a second."""
+        """`views` returns the positions of each network's nodes. It is called for each page, since the search for
+        a layout may take a second."""
         super().__init__(port, Page, title, looks)
         self.act, self.views = act, views
         self.turn = threading.Condition()
@@ -52,21 +52,22 @@ class Hall(TwoAddresses):
         self.version, self.ended = 1, False
 
     def show(self, looks: ClassState, acts: ClassState) -> None:
-        """Shows this state from now on. The page to act at links to the pages to act at."""
+        """Sets the state that the pages show. The page on which the teacher acts links to the networks' pages for acting."""
         texts = {self.looks: text(looks), self.acts: text(acts)}
         with self.turn:
             if texts != self.texts:
                 self.texts, self.version = texts, self.version + 1
                 self.turn.notify_all()
 
-    def after(self, version: int, seconds: float) -> tuple[int, bool]:
-        """Waits until there is a later version, or for so many seconds. Returns the version, and whether it is the last."""
+    def wait_for_change(self, version: int, seconds: float) -> tuple[int, bool]:
+        """Waits for a version other than this one, at most so many seconds. Returns the version, and whether it is
+        the last."""
         with self.turn:
             self.turn.wait_for(lambda: self.version != version, seconds)
             return self.version, self.ended
 
     def stop(self, looks: ClassState, acts: ClassState) -> None:
-        """Tells the pages that the class is over, and closes the port."""
+        """Shows the last state on the pages, waits until they have it, and closes the port."""
         self.ended = True
         self.show(looks, acts)
         with self.turn:
@@ -75,39 +76,39 @@ class Hall(TwoAddresses):
 
 
 class Page(AtAddress):
-    """One request of a page."""
+    """A request of a page."""
 
     server: Hall
 
     def do_GET(self) -> None:
-        """Answers with the page, the state or the news."""
+        """Answers with the page, the state or the events."""
         token, asked = self.asked()
-        if self.is_elsewhere():
+        if self.reject_foreign_host():
             return
         if not token or asked not in ("", "state", "events"):
-            return self.head(404)
+            return self.send_head(404)
         if asked == "state":
             return self.answer(200, "application/json", self.server.texts[token].encode())
         if asked == "events":
-            self.head(200, "text/event-stream", None)
-            with self.server.receives():
-                return self.tell(token)
+            self.send_head(200, "text/event-stream", None)
+            with self.server.receiving_page():
+                return self.send_events(token)
         page, policy = hall_page(self.server.title, self.server.texts[token], self.server.views(), token == self.server.acts)
         self.answer(200, "text/html; charset=utf-8", page.encode(), policy)
 
-    def takes(self, line: str) -> bool:
-        """Does a line of the teacher's, if it is one of the page's."""
+    def accept_line(self, line: str) -> bool:
+        """Runs a line of the teacher if the page may send it. Returns whether it may."""
         is_known = LINE.fullmatch(line) is not None
         if is_known:
             self.server.act(line)
         return is_known
 
-    def tell(self, token: str) -> None:
+    def send_events(self, token: str) -> None:
         """Sends the state, and again whenever it has changed, until the class or the page ends."""
         version, ended = 0, False
         while not ended:
             before = version
-            version, ended = self.server.after(version, STILL_HERE)
+            version, ended = self.server.wait_for_change(version, STILL_HERE)
             news = ": no news" if version == before else f"data: {self.server.texts[token]}"
             self.wfile.write(f"{news}\n\n".encode())
 
@@ -118,15 +119,16 @@ def text(state: ClassState) -> str:
 
 
 def view(folder: Path, lab: Lab) -> dict[str, Any]:
-    """Returns where the nodes of a network are drawn on the page, by the layout that its run has kept, if it has one."""
-    kept_layout.take(folder)
+    """Returns the positions of a network's nodes on the page, by the layout in the folder of its run if there is
+    one."""
+    kept_layout.load(folder)
     data = drawing_of(lab, lab.links, FLAT).data()
     wanted = {name: data[name] for name in ("width", "height", "measures", "points")}
     return wanted | {"nodes": [node.id for node in lab.nodes]}
 
 
 def hall_page(title: str, state: str, views: Views, acts: bool) -> tuple[str, str]:
-    """Returns the page, and the policy that lets its own style and program alone be used."""
+    """Returns the page, and the content policy that allows only its own style and script."""
     drawn = data_element(json.dumps(views, separators=(",", ":"))).replace('id="data"', 'id="views"', 1)
     parts = {"TITLE": title, "DATA": data_element(state) + drawn, "ACTS": "acts" if acts else "looks"}
     return assembled("hall", parts, "", ("drawing.css", "hall.css"), ("hall.js",))
@@ -134,8 +136,8 @@ def hall_page(title: str, state: str, views: Views, acts: bool) -> tuple[str, st
 
 def opened(port: int, title: str, act: Callable[[str], None], state: ClassState, looks: str | None = None,
            views: Callable[[], Views] = list) -> Hall:
-    """Returns the server at a port or at the next that is free, which answers from now on. A class that goes on keeps the token
-    of the address to look at."""
+    """Returns the server, at a port or the next free one. It answers from now on. A class that continues keeps its
+    token to look at."""
     it = web_opened(port, lambda number: Hall(number, title, act, state, looks, views))
     it.open()
     return it

@@ -1,4 +1,5 @@
-"""The layout of a network that took a search, kept in the folder of its run: who opens the run later needn't search again."""
+"""The layout of a network that needed a search. It is kept in the folder of its run, so that nobody needs to
+search again."""
 from __future__ import annotations
 
 import json
@@ -16,9 +17,9 @@ MOST = 1 << 20  # bytes of the file
 FARTHEST = 1e6  # of a point from the middle
 
 
-def keep(folder: Path, lab: Lab) -> None:
-    """Writes the layout of a lab's network into the folder of its run, unless it is there, or is found without a search. A full
-    disk has no layout, and ends nothing."""
+def save(folder: Path, lab: Lab) -> None:
+    """Writes the layout of a lab's network into the folder of its run, if it needs a search and isn't there yet.
+    On a full disk, writes nothing and raises no error."""
     file, new = folder / LAYOUT, folder / f"{LAYOUT}.new"
     nodes, links = tuple(sorted(node.id for node in lab.nodes)), tuple(sorted(lab.links))
     if file.exists() or lay_out(nodes, links).kind != "general":
@@ -31,9 +32,9 @@ def keep(folder: Path, lab: Lab) -> None:
         new.unlink(missing_ok=True)
 
 
-def take(folder: Path) -> None:
-    """Takes the layout that the folder of a run has, for all drawings of that network from now on. A file that is none is left
-    alone."""
+def load(folder: Path) -> None:
+    """Reads the layout in the folder of a run, and uses it for all drawings of that network from now on. Ignores a
+    file that isn't a layout."""
     try:
         it = json.loads(plain.read(folder / LAYOUT, MOST))
         points = {int(node): (float(x), float(y)) for node, (x, y) in it["points"].items()}

@@ -1,7 +1,7 @@
-"""The places of the name and the rule of each node: beside its disc, away from other discs, links and labels.
+"""The positions of the name and the rule of each node: beside its disc, away from other discs, links and labels.
 
-Widths of texts are guessed from their letters, at most as wide as in the usual fonts. So a drawing has its place for each
-text before anything is drawn.
+The widths of texts are estimated from their letters, and are at least those of the usual fonts. So each text has a
+position before anything is drawn.
 """
 from __future__ import annotations
 
@@ -33,13 +33,13 @@ TURNS = 2  # in which a place is looked for
 FULL = "✓ "  # before the rule of a move that is chosen
 
 
-def wide(text: str, size: float, bold: bool = False) -> float:
-    """Returns how wide a text is at most."""
+def text_width(text: str, size: float, bold: bool = False) -> float:
+    """Returns an upper estimate of the width of a text."""
     return size * sum(map(letter_width, text)) * (BOLD if bold else 1.0)
 
 
 def letter_width(letter: str) -> float:
-    """Returns the width of a letter of size 1."""
+    """Returns the width of a letter whose size is 1."""
     if unicodedata.combining(letter):
         return 0.0
     if unicodedata.east_asian_width(letter) in "WF":
@@ -53,7 +53,8 @@ def letter_width(letter: str) -> float:
 
 @dataclass(frozen=True)
 class Form:
-    """How a drawing has names and rules: how many letters of a name at most, how large, and whether rules are words."""
+    """The form of names and rules in a drawing: the most letters of a name, their size, and whether rules are
+    written as words."""
 
     letters: int
     size: float
@@ -61,31 +62,31 @@ class Form:
 
     @property
     def pill(self) -> float:
-        """Returns the size of a rule's letters."""
+        """Returns the size of the letters of a rule."""
         return max(LEAST, PILL * self.size)
 
     @property
     def high(self) -> float:
-        """Returns the height of a label of two lines."""
+        """Returns the height of a label, which has two lines."""
         return LINE * self.size + PILL_HIGH * self.pill + GAP
 
     def name(self, owners: list[str]) -> str:
-        """Returns the owners' names, cut if they are too long."""
+        """Returns the names of the owners, cut if they are too long."""
         whole = ", ".join(owners)
         return whole if len(whole) <= self.letters else whole[:self.letters - 1] + "…" if self.letters else ""
 
     def word(self, rule: str) -> str:
-        """Returns how a rule is written."""
+        """Returns the text of a rule: its word, or its first letter."""
         return rule if self.words else rule[:1].upper()
 
     def pill_width(self, rule: str, is_chosen: bool) -> float:
-        """Returns the width of a rule's frame."""
+        """Returns the width of the frame of a rule."""
         text = FULL * is_chosen + self.word(rule)
-        return round(wide(text, self.pill) + PILL_PAD * self.pill, 1)
+        return round(text_width(text, self.pill) + PILL_PAD * self.pill, 1)
 
     @property
     def widest_pill(self) -> float:
-        """Returns the width of the widest frame of a rule."""
+        """Returns the largest width of a rule's frame."""
         return max(self.pill_width(rule, True) for rule in RULES)
 
 
@@ -103,22 +104,22 @@ class Box:
     bottom: float
 
     def shared(self, other: Box) -> float:
-        """Returns the area of what both have, with GAP added to its width and height."""
+        """Returns the area of the intersection with another box, with GAP added to its width and height."""
         across = min(self.right, other.right) - max(self.left, other.left) + GAP
         down = min(self.bottom, other.bottom) - max(self.top, other.top) + GAP
         return across * down if across > 0 and down > 0 else 0.0
 
     def outside(self, field: Field) -> float:
-        """Returns how far it leaves a field."""
+        """Returns how far the box reaches beyond the edges of a field."""
         return sum(max(0.0, far) for far in (GAP - self.left, self.right - field.width + GAP, GAP - self.top, self.bottom - field.height + GAP))
 
     def in_disc(self, middle: Point, radius: float) -> float:
-        """Returns how far it reaches into a disc."""
+        """Returns how far the box reaches into a disc."""
         x, y = min(max(middle[0], self.left), self.right), min(max(middle[1], self.top), self.bottom)
         return max(0.0, radius + GAP - math.dist((x, y), middle))
 
     def on_line(self, a: Point, b: Point) -> float:
-        """Returns the length of what it has of the line from a to b."""
+        """Returns the length of the part of the line from a to b that is inside the box."""
         begin, end = 0.0, 1.0
         for start, step, low, high in ((a[0], b[0] - a[0], self.left - GAP, self.right + GAP), (a[1], b[1] - a[1], self.top - GAP, self.bottom + GAP)):
             if not step:
@@ -134,8 +135,8 @@ class Box:
 
 @dataclass(frozen=True)
 class Label:
-    """The label of a node: where, from the node's middle, its name and the middle of its rule's frame stand. `anchor`
-    says which end of the name and the frame stands at `x`: start, middle or end."""
+    """The label of a node: the positions of its name and of its rule's frame, relative to the node's middle.
+    `anchor` is the end of both that is at `x`: start, middle or end."""
 
     text: str
     anchor: str
@@ -145,13 +146,13 @@ class Label:
     box: Box
 
     def pill_x(self, width: float) -> float:
-        """Returns the middle of a frame of that width."""
+        """Returns the middle of a frame with that width."""
         return self.x + {"start": width / 2, "end": -width / 2, "middle": 0.0}[self.anchor]
 
 
 @dataclass(frozen=True)
 class View:
-    """A layout with its labels. A node without a label has the letter of its rule at its corner."""
+    """A layout with its labels. A node without a label has the letter of its rule at a corner."""
 
     layout: Layout
     form: Form
@@ -160,19 +161,19 @@ class View:
 
     @property
     def identifier_size(self) -> float:
-        """Returns how large identifiers are: as large as there is room in a disc."""
+        """Returns the size of the identifiers: the largest that fits into a disc."""
         radius, digits = self.layout.radius, max(len(str(node)) for node in self.layout.points)
-        plain = BARE.size if wide("8" * digits, BARE.size, True) <= 1.95 * radius else 0.0
+        plain = BARE.size if text_width("8" * digits, BARE.size, True) <= 1.95 * radius else 0.0
         return round(max(plain, 0.92 * radius), 1)
 
     def pill_at(self, node: int, width: float) -> Point:
-        """Returns the middle of the frame of a node's rule, from the node's middle."""
+        """Returns the middle of the frame of a node's rule, relative to the node's middle."""
         label = self.labels.get(node)
         return self.corners[node] if label is None else (label.pill_x(width), label.pill_y)
 
 
 def view_of(owners: dict[int, list[str]], links: list[tuple[int, int]], field: Field) -> View:
-    """Returns the layout of a network with the fullest labels for which there is room; a phone has none."""
+    """Returns the layout of a network with the largest labels for which there is room. A narrow field has none."""
     shape = shape_for(owners, links, field)
     near = neighbours(owners, links)
     if field.width >= 500 and len(owners) <= MOST_NAMED and len(links) <= MOST_LINKS:
@@ -186,8 +187,8 @@ def view_of(owners: dict[int, list[str]], links: list[tuple[int, int]], field: F
 
 
 def corners_of(layout: Layout) -> dict[int, Point]:
-    """Returns the middle of the frame of each node's rule, from the node's middle: upon no other node and no other frame, if
-    such places are found."""
+    """Returns the middle of the frame of each node's rule, relative to the node's middle. Avoids other nodes and
+    other frames if possible."""
     radius, points = layout.radius, layout.points
     found, frames = {node: CORNERS[0] for node in points}, dict[int, Box]()
     for _ in range(TURNS if radius >= LEAST_FRAMED else 0):
@@ -200,18 +201,18 @@ def corners_of(layout: Layout) -> dict[int, Point]:
 
 
 def framed(middle: Point, corner: Point, radius: float) -> Box:
-    """Returns the widest frame of a rule at a corner of a node, which is so many radii away."""
+    """Returns the box of the widest rule's frame at a corner of a node. The corner is given in radii."""
     x, y = middle[0] + corner[0] * radius, middle[1] + corner[1] * radius
     width, high = BARE.widest_pill, PILL_HIGH * BARE.pill
     return Box(x - width / 2, y - high / 2, x + width / 2, y + high / 2)
 
 
 def pads(kind: str, field: Field, form: Form, owners: dict[int, list[str]]) -> Pads:
-    """Returns what stays free at the edges of a field."""
+    """Returns the margins at the edges of a field for labels."""
     most = field.most_radius
     if not form.letters:
         return Pads(1.7 * most, 1.9 * most, 1.7 * most, 1.5 * most)
-    longest = max(form.widest_pill, *(wide(form.name(each), form.size) for each in owners.values()))
+    longest = max(form.widest_pill, *(text_width(form.name(each), form.size) for each in owners.values()))
     side = min(0.2 * field.width, 1.2 * most + 0.7 * form.size + longest)
     narrow = max(2.2 * most, longest / 2 + 2 * GAP)
     left, right = {"grid": (1.7 * most, side), "path": (narrow, narrow), "tree": (narrow, narrow)}.get(kind, (side, side))
@@ -220,8 +221,8 @@ def pads(kind: str, field: Field, form: Form, owners: dict[int, list[str]]) -> P
 
 
 def placed(layout: Layout, form: Form, owners: dict[int, list[str]], near: Near) -> tuple[dict[int, Label], float, float]:
-    """Returns a label for each node, those with the most links first; and how much labels lie upon discs, other labels and
-    the edges in all, and how much upon links."""
+    """Returns a label for each node, those with the most links first. Also returns by how much all labels overlap
+    discs, other labels and the edges, and by how much they overlap links."""
     labels: dict[int, Label] = {}
     lines = [(layout.points[a], layout.points[b]) for a, others in near.items() for b in others if a < b]
     hard = soft = 0.0
@@ -242,22 +243,22 @@ def placed(layout: Layout, form: Form, owners: dict[int, list[str]], near: Near)
 
 
 def lies_upon(box: Box, layout: Layout, discs: list[Point], others: Iterable[Box]) -> float:
-    """Returns how much a label would lie upon discs, other labels, and the edges of the field."""
+    """Returns by how much a label would overlap discs, other labels, and the edges of the field."""
     upon = 20 * box.outside(layout.field) + sum(map(box.shared, others))
     return upon + 20 * sum(box.in_disc(point, RING * layout.radius) for point in discs)
 
 
 def candidates(node: int, layout: Layout, form: Form, text: str, others: list[int]) -> Iterator[Label]:
-    """Yields the places in which a label may stand, the best first: in the widest gap between links, and all around."""
+    """Yields possible labels of a node, the best first: in the widest gap between its links, and then all around."""
     first = math.pi / 4 if layout.kind == "grid" else widest_gap(layout, node, others)
-    width = max(wide(text, form.size), form.widest_pill)
+    width = max(text_width(text, form.size), form.widest_pill)
     for angle in (first, *(eighths * math.pi / 4 for eighths in ANGLES)):
         yield label_at(layout.points[node], layout.radius, angle, form, text, width)
 
 
 def widest_gap(layout: Layout, node: int, others: list[int]) -> float:
-    """Returns the middle of the widest angle between a node's links; level ones count a little more, since texts are
-    wide."""
+    """Returns the angle of the middle of the widest gap between a node's links. Gaps to the left and right count a
+    little more, since texts are wide."""
     x, y = layout.points[node]
     angles = sorted(math.atan2(layout.points[other][1] - y, layout.points[other][0] - x) for other in others)
     gaps = []

@@ -1,4 +1,4 @@
-"""The places of the nodes of a network: its shape, fitted into a field."""
+"""The positions of the nodes of a network: its shape, fitted into a field."""
 from __future__ import annotations
 
 import math
@@ -19,7 +19,7 @@ FREE = ("path", "tree")  # shapes that fill their field
 
 @dataclass(frozen=True)
 class Field:
-    """The size of what is drawn into."""
+    """The size of the area that is drawn into."""
 
     width: float
     height: float
@@ -27,13 +27,13 @@ class Field:
 
     @property
     def most_radius(self) -> float:
-        """How large a node may be."""
+        """Returns the largest radius of a node."""
         return self.share * min(self.height, 0.62 * self.width + 100)
 
 
 @dataclass(frozen=True)
 class Pads:
-    """What of a field stays free at its edges, for labels."""
+    """The margins at the edges of a field, for labels."""
 
     left: float
     right: float
@@ -49,7 +49,7 @@ FLAT = Field(440, 200, 0.075)  # one of several networks on a page
 
 @dataclass(frozen=True)
 class Layout:
-    """Points by identifier in a field, and how far apart the nearest two are."""
+    """The position of each node in a field, and the smallest distance of two nodes."""
 
     kind: str
     field: Field
@@ -58,23 +58,23 @@ class Layout:
 
     @property
     def radius(self) -> float:
-        """Returns the radius of a node's disc, which leaves a gap between the nearest two."""
+        """Returns the radius of a node's disc, which leaves a gap between the nearest two nodes."""
         return round(max(LEAST_RADIUS, min(self.field.most_radius, SHARE * self.nearest)), 1)
 
 
 def lay_out(nodes: Iterable[int], links: Iterable[tuple[int, int]], field: Field = WIDE) -> Layout:
-    """Returns a layout with room for no more than the nodes."""
+    """Returns a layout with room for the nodes only, without labels."""
     reach = 1.5 * field.most_radius
     return fitted(shape_for(nodes, links, field), field, Pads(reach, reach, reach, reach))
 
 
 def shape_for(nodes: Iterable[int], links: Iterable[tuple[int, int]], field: Field) -> Shape:
-    """Returns the shape of a network in a field."""
+    """Returns the shape of a network for a field."""
     return shape_of(sorted(nodes), sorted(links), field.width / field.height)
 
 
 def fitted(shape: Shape, field: Field, pads: Pads) -> Layout:
-    """Returns the shape, moved and stretched into what its pads leave of a field."""
+    """Returns a shape, moved and stretched into the part of a field between its margins."""
     xs, ys = zip(*shape.points.values())
     wide, high = max(xs) - min(xs), max(ys) - min(ys)
     across = (field.width - pads.left - pads.right) / wide if wide > 1e-9 else 0.0

@@ -1,4 +1,4 @@
-"""One HTML file that shows a run, with nothing beside it."""
+"""A single HTML file that shows a run, and needs no other file."""
 from __future__ import annotations
 
 import base64
@@ -27,7 +27,7 @@ Link = tuple[int, int]
 
 
 class Frames:
-    """The frames as what changed from one to the next, nodes and links by their indices in a list."""
+    """The frames as rows with the changes from one to the next. Nodes and links are indices into lists."""
 
     def __init__(self, drawing: Drawing) -> None:
         self.drawing = drawing
@@ -39,7 +39,7 @@ class Frames:
         self.open: dict[int, tuple[int, int]] = {}
 
     def add(self, frame: Frame, links: int) -> None:
-        """Adds a row of what a frame has changed; `links` is how many the network has then."""
+        """Appends a row with the changes of a frame. `links` is the number of links in the network at that time."""
         state, event = frame.state, frame.event
         before = self.before or State(0, 0, frozenset())
         most = bounds.told(len(self.order), links)
@@ -61,8 +61,8 @@ class Frames:
         self.before = state.copy()
 
     def registers(self, before: State, state: State) -> list[list[int]]:
-        """Returns the nodes whose registers changed: each with the node that it points at, or -1, and with m as 0 or
-        1."""
+        """Returns the nodes with changed registers. Each has the index of the node that it points at, or -1, and m
+        as 0 or 1."""
         if (before.pointers, before.ms) == (state.pointers, state.ms):
             return []
         return [
@@ -72,12 +72,13 @@ class Frames:
         ]
 
     def rules(self, before: dict[int, str], now: dict[int, str]) -> list[list[int]]:
-        """Returns the nodes whose rule changed, each with the rule's index in RULES, 0 if it has none."""
+        """Returns the nodes with a changed rule, each with the rule's index in RULES, or 0 for none."""
         changed = {node for node, _ in before.items() ^ now.items()}
         return [[self.order[node], RULES.index(now.get(node, ""))] for node in sorted(changed)]
 
     def partners(self, before: list[Link], now: list[Link]) -> list[list[int]]:
-        """Returns the nodes that were parted, each with -1, and then those that were paired, each with its partner."""
+        """Returns the nodes that lost their partner, each with -1, and then those that got one, each with the
+        partner."""
         gone, come = set(before) - set(now), set(now) - set(before)
         rows = [[self.order[node], -1] for pair in sorted(gone) for node in pair]
         return rows + [
@@ -85,19 +86,19 @@ class Frames:
         ]
 
     def changed_links(self, before: frozenset[Link], now: frozenset[Link]) -> list[list[int]]:
-        """Returns the links that came, each with 1, or went, with 0."""
+        """Returns the links that were added, each with 1, or removed, with 0."""
         return [[self.index_of(link), int(link in now)] for link in sorted(before ^ now)]
 
     def index_of(self, link: Link) -> int:
-        """Returns the index of a link in the list, at whose end it is put if it is new."""
+        """Returns the index of a link in the list. Appends the link if it is new."""
         if link not in self.index:
             self.index[link] = len(self.links)
             self.links.append(link)
         return self.index[link]
 
     def changed_open(self, links: list[OpenLink]) -> list[list[int]]:
-        """Returns runs of links that follow each other and have the same witness from now on: the first, how many they
-        are, the witness (-1: none) and its rule."""
+        """Returns the changes of open links, as runs of consecutive links with the same witness: the first link,
+        their number, the witness (-1 for none) and its rule."""
         now = {self.index_of((a, b)): (self.order[node], RULES.index(rule)) for a, b, node, rule in links}
         changed = sorted(link for link in now.keys() | self.open.keys() if now.get(link) != self.open.get(link))
         runs: list[list[int]] = []
@@ -111,12 +112,12 @@ class Frames:
         return runs
 
     def drawn_links(self, known: int = 0) -> list[list[int]]:
-        """Returns the links but for so many that are known."""
+        """Returns the ends of all links after the first `known` ones."""
         return [[self.order[a], self.order[b]] for a, b in self.links[known:]]
 
 
 class Played:
-    """A run that was played again, for one page or several."""
+    """A replayed run, for one or several pages."""
 
     def __init__(self, lab: Lab, frames: Iterable[Frame]) -> None:
         each = iter(frames)
@@ -125,11 +126,11 @@ class Played:
         self.picture, rows = self.drawing.svg(first.state, None), Frames(self.drawing)
         for frame in chain([first], each):
             rows.add(frame, len(frame.state.links))
-        self.data = as_element(what_stays(self.drawing, first.state) | {"links": rows.drawn_links(), "frames": rows.rows})
+        self.data = as_element(constant_data(self.drawing, first.state) | {"links": rows.drawn_links(), "frames": rows.rows})
 
     def page(self, title: str, history: str = "") -> str:
-        """Returns the file's text, with a part more beside the player."""
-        return filled("player", title, self.drawing, self.picture, self.data, {"MORE": history})[0]
+        """Returns the text of the page, with a section `history` beside the player."""
+        return drawing_page("player", title, self.drawing, self.picture, self.data, {"MORE": history})[0]
 
 
 def page_of(title: str, lab: Lab, frames: Iterable[Frame]) -> str:
@@ -138,21 +139,21 @@ def page_of(title: str, lab: Lab, frames: Iterable[Frame]) -> str:
 
 
 def live_page(title: str, drawing: Drawing, state: State, acts: bool) -> tuple[str, str]:
-    """Returns the page of a run that is going on, whose program asks for what to draw; and the policy that it is sent
-    with."""
+    """Returns the page of a continuing run, whose script asks for changes, and the content policy to send with it."""
     own = {"links": [], "acts": acts, "buttons": {name: it.line for name, it in BUTTONS.items()}, "byLinks": BY_LINKS}
     parts = {name: button(it) for name, it in BUTTONS.items()}
-    return filled("live", title, drawing, drawing.svg(state, None), as_element(what_stays(drawing, state) | own), parts)
+    return drawing_page("live", title, drawing, drawing.svg(state, None), as_element(constant_data(drawing, state) | own), parts)
 
 
 def button(it: Button) -> str:
-    """Returns a button of the desk's, as its page has it."""
+    """Returns a button of the desk as HTML."""
     more = "".join(f' {name}="{escape(value)}"' for name, value in (("type", it.kind), ("title", it.title)) if value)
     return f'<button id="{it.name}"{more}>{escape(it.text)}</button>'
 
 
-def what_stays(drawing: Drawing, state: State) -> dict[str, Any]:
-    """Returns what of a page's data stays from place to place: with the view of a screen, and with that of a phone."""
+def constant_data(drawing: Drawing, state: State) -> dict[str, Any]:
+    """Returns the part of a page's data that is the same at all places, with the drawing for a screen and the one
+    for a phone."""
     phone = drawing_of(drawing.lab, state.links, TALL)
     return {
         "nodes": [{"id": node.id, "owners": node.owners} for node in drawing.lab.nodes],
@@ -160,43 +161,42 @@ def what_stays(drawing: Drawing, state: State) -> dict[str, Any]:
     }
 
 
-def size_of(drawing: Drawing) -> str:
-    """Returns what network it is, in words."""
+def network_in_words(drawing: Drawing) -> str:
+    """Returns the kind and the size of the network in words."""
     kind = drawing.view.layout.kind
     kind = {"general": "network", "ellipse": "network", "complete": "complete graph"}.get(kind, kind)
     return f"{kind} of {plural(len(drawing.lab.nodes), 'node')}, {plural(len(drawing.lab.students), 'student')}"
 
 
-def filled(name: str, title: str, drawing: Drawing, picture: str, data: str, more: dict[str, str]) -> tuple[str, str]:
-    """A page of a drawing by its form, which has more parts of its own, and the policy that it is sent with."""
-    header = form("header", {"TITLE": escape(title), "SIZE": escape(size_of(drawing))})
+def drawing_page(name: str, title: str, drawing: Drawing, picture: str, data: str, more: dict[str, str]) -> tuple[str, str]:
+    """Returns the page of a drawing from its template, with more parts, and the content policy to send with it."""
+    header = fill_template("header", {"TITLE": escape(title), "SIZE": escape(network_in_words(drawing))})
     parts = more | {"TITLE": title, "DRAWING": picture, "HEADER": header, "DATA": data}
     return assembled(name, parts, "", ("drawing.css", "page.css"), ("picture.js", "chart.js", f"{name}.js"))
 
 
 def assembled(name: str, parts: dict[str, str], more: str, styles: tuple[str, ...], programs: tuple[str, ...]) -> tuple[str, str]:
-    """Returns a page by its form, with its style and its program inside, and the policy that lets these two alone be
-    used."""
+    """Returns a page from its template, with its styles and scripts inside, and the content policy that allows
+    only these."""
     style = "".join((FOLDER / file).read_text("utf-8") for file in styles) + more
     program = "".join((FOLDER / file).read_text("utf-8") for file in programs)
-    page = form(name, parts | {"TITLE": escape(parts["TITLE"]), "STYLE": style, "PROGRAM": program, "LEGEND": legend()})
+    page = fill_template(name, parts | {"TITLE": escape(parts["TITLE"]), "STYLE": style, "PROGRAM": program, "LEGEND": legend()})
     return page, f"style-src {hashed(style)}; script-src {hashed(program)}"
 
 
-def form(name: str, parts: dict[str, str]) -> str:
-    """Returns a form, with its parts where their names stand."""
+def fill_template(name: str, parts: dict[str, str]) -> str:
+    """Returns a template in which each name in braces is replaced by the part of that name."""
     head, *rest = (FOLDER / f"{name}.html").read_text("utf-8").split("{{")
     return head + "".join(parts[piece.split("}}", 1)[0]] + piece.split("}}", 1)[1] for piece in rest)
 
 
 def hashed(text: str) -> str:
-    """Returns a text as a policy names it."""
+    """Returns the hash of a text in the form of a content policy."""
     return f"'sha256-{base64.b64encode(hashlib.sha256(text.encode()).digest()).decode()}'"
 
 
 def legend() -> str:
-    """Returns what the signs of a drawing stand for, each as it is drawn; the letters of rules are shown where they
-    stand."""
+    """Returns the explanation of the signs in a drawing."""
     return (FOLDER / "legend.html").read_text("utf-8").replace("{{LETTERS}}", LETTERS)
 
 
@@ -206,7 +206,7 @@ def as_element(data: dict[str, Any]) -> str:
 
 
 def data_element(text: str) -> str:
-    """Returns the data as they are, or packed if they are long; neither can end the element."""
+    """Returns the element with a JSON text. A long text is compressed. The content can't end the element."""
     if len(text) <= PLAIN_LIMIT:
         return f'<script id="data" type="application/json" data-form="plain">{text.replace("<", chr(92) + "u003c")}</script>'
     packed = base64.b64encode(zlib.compress(text.encode(), 9)).decode()

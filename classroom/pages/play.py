@@ -1,4 +1,4 @@
-"""`./class play`: a run as a page, or configurations as a picture."""
+"""`./class play`: makes a page of a run, or a picture of configurations."""
 from __future__ import annotations
 
 import argparse
@@ -18,22 +18,22 @@ from classroom.pages.sheet import sheet
 
 
 def page(lab_file: Path, journal: Path) -> str:
-    """The whole run as a page."""
-    kept_layout.take(lab_file.parent)
+    """Returns the page of the whole run."""
+    kept_layout.load(lab_file.parent)
     lab, frames = frames_of(lab_file, journal)
     return page_of(folders.title(lab_file, journal), lab, frames)
 
 
 def places(word: str) -> list[int]:
-    """Returns numbers with commas between them."""
+    """Returns the numbers in an argument, separated by commas."""
     if not re.fullmatch(r"\d+(,\d+)*", word):
-        raise argparse.ArgumentTypeError(f"{word}: places of the journal, with commas between them; 0 is the beginning")
+        raise argparse.ArgumentTypeError(f"{word}: write places of the journal with commas between them, such as 0,4,24; 0 is the beginning")
     return [int(place) for place in word.split(",")]
 
 
 def picture(lab_file: Path, journal: Path, asked: list[int], theme: str = LIGHT) -> str:
-    """The configurations after these places as SVG: one that fills it, or several."""
-    kept_layout.take(lab_file.parent)
+    """Returns the configurations after these places as SVG: one alone, or several in a sheet."""
+    kept_layout.load(lab_file.parent)
     lab, frames = frames_of(lab_file, journal)
     first = next(frames)
     drawing = drawing_of(lab.without_house(), first.state.links, CELL if len(asked) > 1 else WIDE)
@@ -50,10 +50,10 @@ def picture(lab_file: Path, journal: Path, asked: list[int], theme: str = LIGHT)
 
 
 def play(words: argparse.Namespace) -> int:
-    """Writes the file and prints its path. Returns status 3 if the audit says no."""
+    """Writes the file, and prints its name and size. Returns the exit status."""
     runs = classes.given(words.run)
     if len(runs) != 1:
-        raise Fault("play: the folder of a run, or a lab and a journal")
+        raise Fault("play: name the folder of a run, or a lab and a journal")
     lab_file, journal = runs[0]
     output = Path(words.output or ("run.html" if words.svg is None else f"{'-'.join(map(str, words.svg))}.svg"))
     text = page(lab_file, journal) if words.svg is None else picture(lab_file, journal, words.svg, DARK if words.dark else LIGHT)

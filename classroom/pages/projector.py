@@ -1,7 +1,7 @@
-"""The page of a run that is going on: for the projector, and at another address for what the teacher does there.
+"""The page of a continuing run: one address for the projector, and one for the teacher to act at.
 
-Each page has a thread of its own, which sends what has changed since it last sent something: a page that is
-slow gets fewer and larger pieces, and nobody waits for it.
+Each page has a thread, which sends all changes since its last message. A slow page gets fewer and larger messages,
+and nothing waits for it.
 """
 from __future__ import annotations
 
@@ -24,8 +24,7 @@ LAST_WORD = 5.0  # seconds in which the pages may learn that the run is over
 
 
 class Pages(TwoAddresses):
-    """Serves the pages of one run. An address has a token: one to look at, and one to act at, which may be changed for
-    another."""
+    """The server of the pages of one run. Its token to act can be replaced."""
 
     def __init__(self, port: int, title: str, lab: Lab, typed: queue.SimpleQueue[str], looks: str | None = None) -> None:
         super().__init__(port, Page, title, looks)
@@ -34,52 +33,52 @@ class Pages(TwoAddresses):
         self.present: Present | None = None
 
     def renew(self) -> None:
-        """From now on another address acts, and the one before neither acts nor shows anything."""
+        """Replaces the address to act at. The old one neither acts nor shows anything from then on."""
         self.acts = new_token()
         if self.present is not None:
             self.present.put()
 
     def show(self, present: Present, tell: Callable[[str], None]) -> None:
-        """Serves the pages from now on."""
+        """Starts to serve the pages."""
         self.present, self.tell = present, tell
         self.open()
 
     def stop(self) -> None:
-        """Says to the pages that the run is over, and closes the port."""
+        """Sends the pages that the run is over, waits until they have it, and closes the port."""
         if self.present is not None:
             self.present.put(ended=True)
         self.close_after(LAST_WORD)
 
 
 class Page(AtAddress):
-    """One request of a page."""
+    """A request of a page."""
 
     server: Pages
 
     def do_GET(self) -> None:
-        """Answers with the page, or its news."""
+        """Answers with the page or its events."""
         (token, asked), present = self.asked(), self.server.present
-        if self.is_elsewhere():
+        if self.reject_foreign_host():
             return
         if present is None or not token or asked not in ("", "events"):
-            return self.head(404)
+            return self.send_head(404)
         if asked == "events":
-            self.head(200, "text/event-stream", None)
-            with self.server.receives():
-                return self.tell(present, token)
+            self.send_head(200, "text/event-stream", None)
+            with self.server.receiving_page():
+                return self.send_events(present, token)
         page, policy = live_page(self.server.title, self.server.drawing, present.now.state, token == self.server.acts)
         self.answer(200, "text/html; charset=utf-8", page.encode(), policy)
 
-    def takes(self, line: str) -> bool:
-        """Takes a line of the teacher's as if it were typed, if it is one of the page's."""
+    def accept_line(self, line: str) -> bool:
+        """Queues a line of the teacher as if it were typed, if the page may send it. Returns whether it may."""
         word = WORDS.get(line.partition(" ")[0])
         if word is None or not word.is_on_page or not line.isprintable():
             return False
         self.server.typed.put(line)
         return True
 
-    def tell(self, present: Present, token: str) -> None:
-        """Sends the present, and then what has changed, until the run, the page or its token ends."""
+    def send_events(self, present: Present, token: str) -> None:
+        """Sends the present state, and then all changes, until the run, the page or its token ends."""
         rows = Frames(self.server.drawing)
         before: Now | None = None
         while (before is None or not before.ended) and token in (self.server.looks, self.server.acts):
@@ -90,7 +89,7 @@ class Page(AtAddress):
 
 
 def message(rows: Frames, present: Present, before: Now | None, now: Now) -> dict[str, Any]:
-    """Returns what a page that has shown `before` has to know."""
+    """Returns the message for a page that has shown `before`."""
     links = len(rows.links)
     rows.add(Frame(present.events[now.events - 1] if now.events else None, now.state), len(now.state.links))
     events = present.events[max(before.events if before else 0, now.events - LISTED):now.events]
@@ -103,6 +102,6 @@ def message(rows: Frames, present: Present, before: Now | None, now: Now) -> dic
 
 
 def open_pages(port: int, title: str, lab: Lab, typed: queue.SimpleQueue[str], looks: str | None = None) -> Pages:
-    """Returns the pages at a port, or at the next that is free; with the token of the address to look at, if it had one
-    before."""
+    """Returns the server of the pages, at a port or the next free one. `looks` is the token of the address to look
+    at, if the run had one before."""
     return opened(port, lambda number: Pages(number, title, lab, typed, looks))

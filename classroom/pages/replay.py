@@ -1,8 +1,8 @@
-"""A journal's events, asked of the program once more.
+"""A journal's events, asked for again.
 
-They are turned into scripts over a lab in which one student owns every node; between the events the teacher asks what
-there is to see, or after them for the report. What is seen between them goes in parts, each from the end of the one
-before. Nothing of the rules stands here.
+The events become scripts over a lab in which one student owns all nodes. The teacher looks at nodes or asks for
+the report between them. Long journals are split into parts, each of which begins at the end of the part before.
+This module knows nothing of the rules.
 """
 from __future__ import annotations
 
@@ -19,7 +19,7 @@ from classroom.core.answering import all_of
 from classroom.core.journal import Event
 from classroom.core.program import Fault, call
 
-SCRIPT_LIMIT = 1_000_000  # bytes of a part's events; the program takes 1,048,576
+SCRIPT_LIMIT = 1_000_000  # bytes of a part's events, fewer than those of the largest script
 TEACHER, STUDENT, KEY = "teacher", "student", "key"
 # Connection 1 is the teacher's, and 2 the student's.
 HELLOS = [f'{who} {{"do":"hello","name":"{name}","key":"{KEY}"}}' for who, name in ((1, TEACHER), (2, STUDENT))]
@@ -29,7 +29,7 @@ raw_decode, encode = json.JSONDecoder().raw_decode, json.JSONEncoder(separators=
 
 
 def request(at: int | str, words: Sequence[str]) -> str:
-    """Returns the line that asks for an event, in a configuration of that number."""
+    """Returns the line that asks for an event, in a configuration with that number."""
     word, *rest = words
     if word == "grant":
         partner = f',"with":{rest[3]}' if len(rest) == 4 else ""
@@ -38,31 +38,31 @@ def request(at: int | str, words: Sequence[str]) -> str:
 
 
 def look(node: int) -> str:
-    """Returns the line that asks what a node has."""
+    """Returns the line that looks at a node."""
     return f'1 {{"do":"look","node":{node}}}'
 
 
 @dataclass
 class Script:
-    """Lines, and beside each what its reply is for."""
+    """Lines, and for each the function that handles its reply."""
 
     lines: list[str] = field(default_factory=list)
     takes: list[Take | None] = field(default_factory=list)
     size: int = 0
 
     def ask(self, line: str, take: Take | None = None) -> None:
-        """Asks a line."""
+        """Appends a line, and the function that handles its reply."""
         self.lines.append(line)
         self.takes.append(take)
         self.size += len(line) + 1
 
     def cut(self, lines: int) -> None:
-        """Takes what comes after so many lines away."""
+        """Removes all lines after the first `lines`."""
         del self.lines[lines:], self.takes[lines:]
 
 
 class Replay:
-    """Plays the events; who wants to know more than that they are granted asks for it after each."""
+    """Plays events. Subclasses ask for more after each event."""
 
     def __init__(self, lab: labs.Lab, events: list[Event]) -> None:
         self.lab, self.events = lab, events
@@ -72,14 +72,14 @@ class Replay:
         self.now = (0, 0)  # place and number after the last event that was answered
 
     def ask(self, script: Script, event: Event | None, named: set[int]) -> None:
-        """Asks what is needed after an event, or at the beginning. `named` are the nodes of the events since a
-        configuration was made, that one among them."""
+        """Appends requests after an event, or at the beginning. `named` are the nodes of all events since the last
+        configuration was made, including this one."""
 
-    def took(self, event: Event, reply: dict[str, Any]) -> None:
-        """Handles an event's reply."""
+    def note_reply(self, event: Event, reply: dict[str, Any]) -> None:
+        """Handles the reply to an event."""
 
     def replies(self) -> Iterator[None]:
-        """Plays all, and stops after each reply."""
+        """Plays all events, and yields after each reply."""
         left, is_first = self.events, True
         while is_first or left:
             self.place, self.number = self.now
@@ -88,7 +88,8 @@ class Replay:
             is_first = False
 
     def part(self, events: list[Event], is_first: bool) -> tuple[Script, list[Event]]:
-        """Returns as many events as go into one script: all, or up to the last one that made a configuration."""
+        """Returns a script with as many events as fit into it: all, or those up to an event that made a
+        configuration. Also returns the remaining events."""
         script, fits, kept, named = Script(), 0, 0, set[int]()
         for line in HELLOS:
             script.ask(line)
@@ -114,37 +115,37 @@ class Replay:
         return script, events[fits:]
 
     def ask_event(self, script: Script, event: Event) -> None:
-        """Asks for an event."""
+        """Appends the request for an event."""
         script.ask(request(event.at - self.number, event.words), lambda reply: self.take_event(event, reply))
 
     def take_event(self, event: Event, reply: dict[str, Any]) -> None:
-        """Compares the place, and keeps what the next part begins with."""
+        """Checks the place in a reply, and updates the state at which the next part begins."""
         place = reply["place"] + self.place
         if place != event.place:
-            raise Fault(f"place {event.place} is answered as place {place}", 4)
+            raise Fault(f"the program's reply to event {event.place} of the journal names event {place}", 4)
         if event.links:
             change = self.links.add if event.links > 0 else self.links.remove
             change(labs.ordered((event.nodes[0], event.nodes[1])))
         self.now = place, event.at + event.makes_configuration
-        self.took(event, reply)
+        self.note_reply(event, reply)
 
     def take_registers(self, reply: dict[str, Any]) -> None:
-        """Keeps what the next part's lab has at a node."""
+        """Copies a node's registers for the lab of the next part."""
         self.registers[reply["node"]] = (reply["p"], reply["m"])
 
     def answered(self, script: Script) -> Iterator[None]:
-        """Passes each reply of the program to what it is for."""
+        """Runs a script, passes each reply to its function, and yields after each."""
         nodes = [labs.Node(node, [STUDENT], p, m) for node, (p, m) in self.registers.items()]
         with tempfile.TemporaryDirectory() as room:
             lab, lines = Path(room, "lab.toml"), Path(room, "script")
-            lab.write_text(labs.text(alone(nodes, sorted(self.links))), encoding="utf-8")
+            lab.write_text(labs.text(alone(nodes, sorted(self.links), len(script.lines))), encoding="utf-8")
             lines.write_text("\n".join(script.lines) + "\n", encoding="utf-8")
             done = call("script", lab, lines)
         replies = done.output.splitlines()
         if done.status != 0 or len(replies) != len(script.lines):
             raise Fault(done.error or f"{len(replies)} replies to {len(script.lines)} lines", done.status or 4)
         for line, reply, take in zip(script.lines, replies, script.takes):
-            told = told_by(reply)
+            told = values_of(reply)
             if "ok" not in told:
                 raise another(line, reply)
             if take is not None:
@@ -152,31 +153,31 @@ class Replay:
             yield
 
 
-def alone(nodes: list[labs.Node], links: list[tuple[int, int]]) -> labs.Lab:
-    """Returns a lab of one student."""
-    return labs.Lab(labs.MOST_EVENTS, 2, (TEACHER, KEY), {STUDENT: KEY}, nodes, links)
+def alone(nodes: list[labs.Node], links: list[tuple[int, int]], events: int) -> labs.Lab:
+    """Returns a lab with one student."""
+    return labs.Lab(events, 2, (TEACHER, KEY), {STUDENT: KEY}, nodes, links)
 
 
-def told_by(reply: str) -> dict[str, Any]:
-    """Returns the values of a reply, which stands after its connection's number."""
+def values_of(reply: str) -> dict[str, Any]:
+    """Returns the values of a reply after its connection number."""
     told: dict[str, Any] = raw_decode(reply, 2)[0]
     return told
 
 
 def another(line: str, reply: str) -> Fault:
-    """Returns the fault of a line that isn't answered as it was in the run."""
+    """Returns the fault for a line that has another reply than in the run."""
     return Fault(f"{line[2:]} is answered {reply[2:]}", 4)
 
 
 def report(lab: labs.Lab, lines: list[list[str]]) -> dict[str, Any]:
-    """Returns the report after the events of these lines."""
+    """Returns the report after the events in these lines."""
     nodes = [labs.Node(node.id, [STUDENT], node.p, node.m) for node in lab.nodes]
     script = [*HELLOS, *(request(at, words) for _, at, *words in lines), REPORT]
-    replies = all_of(alone(nodes, lab.links), script)
+    replies = all_of(alone(nodes, lab.links, max(1, len(lines))), script)
     if replies.count('"ok":') != len(script):
         raise next(another(line, reply) for line, reply in zip(script, replies.splitlines()) if '"ok":' not in reply)
     last, told = replies.rsplit("\n", 3)[-3:-1]
-    place: int = told_by(last).get("place", 0)
+    place: int = values_of(last).get("place", 0)
     if place != len(lines):
-        raise Fault(f"place {len(lines)} is answered as place {place}", 4)
-    return told_by(told)
+        raise Fault(f"the program's reply to event {len(lines)} of the journal names event {place}", 4)
+    return values_of(told)

@@ -1,4 +1,4 @@
-"""A student's seat that a page has: one connection to the server, and the contents of its replies, as a picture too."""
+"""The seat of a page to play: one connection to the server, and the contents of its replies, with a picture."""
 from __future__ import annotations
 
 import threading
@@ -21,17 +21,17 @@ Looks = dict[int, Look]
 
 @dataclass(frozen=True)
 class Seen(Drawing):
-    """The part of the network that a student is shown. Of a node beyond it no more is known than that one points at
-    it."""
+    """The drawing of the part of the network that a student is shown. Of a node beyond that part it is only known
+    that another node points at it."""
 
     beyond: frozenset[int] = frozenset()
 
     def pointer(self, node: int, state: State) -> str:
-        """Draws no arrow from a node beyond."""
+        """Returns the path of a node's pointer, or nothing for a node beyond the part."""
         return "" if node in self.beyond else super().pointer(node, state)
 
     def node(self, node: int, owners: list[str], state: State, event: Event | None) -> str:
-        """Draws a node: one beyond is its number, and a neighbour has a thin rim."""
+        """Returns a node's element. A node beyond the part is only a number, and a neighbour has a thin rim."""
         if node not in self.beyond:
             kind = "node near" if owners == [NEIGHBOUR] else "node"
             return super().node(node, owners, state, event).replace('class="node"', f'class="{kind}"', 1)
@@ -41,7 +41,7 @@ class Seen(Drawing):
 
 
 def shown_part(name: str, looks: Looks) -> Lab:
-    """Returns the network as far as looks show it."""
+    """Returns the part of the network that the looks show."""
     near = {each.node: each.p for look in looks.values() for each in look.near}
     beyond = {p for p in [*near.values(), *(look.p for look in looks.values())] if p is not None} - near.keys() - looks.keys()
     nodes = [Node(node, [name] if node in looks else [] if node in beyond else [NEIGHBOUR])
@@ -50,8 +50,8 @@ def shown_part(name: str, looks: Looks) -> Lab:
     return Lab(0, 0, ("", ""), {name: "", NEIGHBOUR: ""}, nodes, links)
 
 
-def drawn(part: Lab, looks: Looks) -> Seen:
-    """Returns how that part is drawn, with each node beyond near the one that points at it."""
+def drawing_of_part(part: Lab, looks: Looks) -> Seen:
+    """Returns the drawing of a part, with each node beyond it near the one that points at it."""
     beyond = frozenset(node.id for node in part.nodes if not node.owners)
     points_at = [(each.node, each.p) for look in looks.values() for each in look.near if each.p in beyond and each.p is not None]
     links = sorted({*part.links, *map(ordered, points_at)})
@@ -59,7 +59,7 @@ def drawn(part: Lab, looks: Looks) -> Seen:
 
 
 def state_of(part: Lab, looks: Looks) -> State:
-    """Returns what the looks show, for a picture."""
+    """Returns the state for a picture of the looks."""
     registers = {each.node: each for look in looks.values() for each in (*look.near, look)}
     state = State(0, max(look.at for look in looks.values()), frozenset(part.links))
     for node in part.nodes:
@@ -71,56 +71,57 @@ def state_of(part: Lab, looks: Looks) -> State:
 
 
 class Seat:
-    """A student's connection, which the page's own thread and those of its moves ask by turns."""
+    """A student's connection. The page's thread and those of its moves take turns."""
 
     def __init__(self, client: Client, name: str, nodes: list[int]) -> None:
         self.client, self.name, self.nodes = client, name, nodes
         self.turn = threading.Lock()
-        self.why = ""  # it has ended
-        self.looks: Looks = {}
-        self.drawing: Seen | None = None
-        self.row: dict[str, Any] = {}
+        self.end_reason = ""  # why the connection has ended, or empty as long as it is open
+        self.looks: Looks = {}  # the last look at each node
+        self.drawing: Seen | None = None  # of the part that the looks show
+        self.shown: dict[str, Any] = {}  # what `present` returned last
 
-    def asked(self, ask: Callable[[], Told]) -> Told:
-        """Returns what the server answers. If it ended the connection, returns the reason from then on."""
+    def ask_server(self, ask: Callable[[], Told]) -> Told:
+        """Returns the server's reply. After the server has closed the connection, raises `Closed` with the reason
+        each time."""
         with self.turn:
             try:
                 return ask()
             except Closed as closed:
-                self.why = self.why or str(closed)
+                self.end_reason = self.end_reason or str(closed)
             except Refused as refused:
                 if refused.word != "busy":
                     raise
-                self.why = str(refused)
-        raise Closed(self.why)
+                self.end_reason = str(refused)
+        raise Closed(self.end_reason)
 
     def move(self, request: dict[str, Any]) -> dict[str, Any]:
         """Returns the reply to a request for a move."""
         try:
-            return self.asked(lambda: self.client.ask(**request))
+            return self.ask_server(lambda: self.client.ask(**request))
         except Denied as denied:
             return {"clause": denied.clause, "deny": denied.name, "text": denied.text}
         except Refused as refused:
             return {"refuse": refused.word}
 
     def present(self) -> dict[str, Any]:
-        """Returns what the page shows now: the same one if nothing is new, or it can't be asked for the moment."""
+        """Returns what the page shows now. Returns the same object as before if nothing has changed, or if the
+        nodes can't be read at the moment."""
         try:
-            looks = self.asked(lambda: self.client.snapshot(self.nodes))
+            looks = self.ask_server(lambda: self.client.snapshot(self.nodes))
         except (Moving, Refused):
-            return self.row
+            return self.shown
         if looks != self.looks:
             self.looks, part = looks, shown_part(self.name, looks)
             if self.drawing is None or part != self.drawing.lab:
-                self.drawing = drawn(part, looks)
+                self.drawing = drawing_of_part(part, looks)
             picture = self.drawing.svg(state_of(part, looks), None)
-            self.row = {"at": max(look.at for look in looks.values()), "nodes": [told(look) for look in looks.values()],
-                        "picture": picture}
-        return self.row
+            self.shown = {"at": max(look.at for look in looks.values()), "nodes": [look_values(look) for look in looks.values()],
+                          "picture": picture}
+        return self.shown
 
 
-def told(look: Look) -> dict[str, Any]:
-    """Returns a look as the server sent it, except the number that all have in common, and which neighbours point at the
-    node."""
+def look_values(look: Look) -> dict[str, Any]:
+    """Returns the values of a look without the configuration's number, and the neighbours that point at the node."""
     values = {name: value for name, value in asdict(look).items() if name != "at"}
     return values | {"pointing": [near.node for near in look.near if near.p == look.node]}

@@ -1,6 +1,7 @@
-"""The shape of a network, recognised from its links alone: a path, cycle, star, tree, grid, complete graph, or any other.
+"""The shape of a network, recognised from its links alone: a path, cycle, star, tree, grid, complete graph, or any
+other.
 
-A shape has a point for each node in units of its own; `layout` fits it into a field.
+A shape has a point for each node in its own units. `layout` fits it into a field.
 """
 from __future__ import annotations
 
@@ -26,20 +27,20 @@ Points = dict[int, Point]
 
 @dataclass(frozen=True)
 class Shape:
-    """What kind of network it is, and a point for each node."""
+    """The kind of a network, and a point for each node."""
 
     kind: str
     points: Points
 
 
 def shape_of(nodes: list[int], links: Links, aspect: float) -> Shape:
-    """Returns the shape of a network, for a field that is so many times wider than high."""
+    """Returns the shape of a network for a field with this ratio of width to height."""
     return kept_shape(tuple(sorted(nodes)), tuple(sorted(links)), round(aspect, 2))
 
 
 @lru_cache(maxsize=64)
 def kept_shape(nodes: tuple[int, ...], links: tuple[tuple[int, int], ...], aspect: float) -> Shape:
-    """Returns the shape of a network, which is computed once."""
+    """Computes the shape of a network, and returns it. The last results are cached."""
     near = {node: sorted(set(others)) for node, others in neighbours(nodes, links).items()}
     found = plain_shape(near, aspect) or grid_shape(near)
     if found is None and is_tree(near):
@@ -70,12 +71,12 @@ def plain_shape(near: Near, aspect: float) -> Shape | None:
 
 
 def is_joined(near: Near) -> bool:
-    """Returns whether a path leads from each node to each other one."""
+    """Returns whether the network is connected."""
     return len(steps_from(next(iter(near)), near)) == len(near)
 
 
 def is_tree(near: Near) -> bool:
-    """Returns whether the network has no cycle and is in one part."""
+    """Returns whether the network is connected and has no cycle."""
     return sum(map(len, near.values())) == 2 * (len(near) - 1) and is_joined(near)
 
 
@@ -91,7 +92,7 @@ def walk(near: Near, start: int) -> list[int]:
 
 
 def snake(order: list[int], aspect: float) -> Points:
-    """Returns a path as a line; a long one turns back at the end of each row."""
+    """Returns points for the nodes of a path, row by row. A long path turns back at the end of each row."""
     rows = max(1, round(math.sqrt(len(order) / aspect / 3)))
     across = -(-len(order) // rows)
     points = {}
@@ -102,8 +103,8 @@ def snake(order: list[int], aspect: float) -> Points:
 
 
 def ellipse(order: list[int], aspect: float, room: float = 0.0) -> Points:
-    """Returns the nodes on an ellipse from its top, equally far apart along it; or, if a part of it is to be free, from
-    there on its right on."""
+    """Returns points for the nodes on an ellipse, at equal distances along it, beginning at the top. If `room` isn't 0,
+    this share of the ellipse stays free at its right, and the nodes begin after it."""
     wide = min(MOST_WIDE, max(1.0, aspect))
     angles = [math.tau * turn / TURNS - (0 if room else math.pi / 2) for turn in range(TURNS + 1)]
     fine = [(wide * math.cos(angle), math.sin(angle)) for angle in angles]
@@ -114,7 +115,8 @@ def ellipse(order: list[int], aspect: float, room: float = 0.0) -> Points:
 
 
 def layers(near: Near, aspect: float) -> Points:
-    """Returns a tree from its lowest identifier down: a node stands over the middle of its children."""
+    """Returns points for the nodes of a tree, with the lowest identifier as the root at the top. Each node is centred
+    above its children."""
     root = min(near)
     depths = steps_from(root, near)
     children = {node: [other for other in others if depths[other] > depths[node]] for node, others in near.items()}
@@ -139,8 +141,8 @@ def down(root: int, children: Near) -> Iterator[int]:
 
 
 def grid_shape(near: Near) -> Shape | None:
-    """Returns a grid row by row, whatever its nodes are called, or None for another network. The lowest corner is at
-    the upper left, and its lower neighbour beside it."""
+    """Returns the shape of a grid, whatever its identifiers are, or None for another network. The lowest corner is
+    at the upper left, and its lower neighbour beside it."""
     corners = [node for node, others in near.items() if len(others) == 2]
     if len(near) < 4 or len(corners) != 4 or any(not 2 <= len(others) <= 4 for others in near.values()):
         return None
@@ -151,8 +153,8 @@ def grid_shape(near: Near) -> Shape | None:
 
 
 def lattice(near: Near, first: dict[int, int], second: dict[int, int]) -> Points | None:
-    """Returns the nodes as a lattice, by how far each is from the two ends of the first row, or None if the network is
-    none."""
+    """Returns points on a lattice, computed from the distances of each node to the two ends of the first row.
+    Returns None if the network isn't a grid."""
     if len(first) != len(near):
         return None
     last = min(first[node] for node in second if not second[node])

@@ -1,4 +1,4 @@
-"""Several configurations of a run in one picture: rows of them, each with its place."""
+"""Several configurations of a run in one picture, in rows, each with its place."""
 from __future__ import annotations
 
 import re
@@ -16,7 +16,7 @@ ARROW = re.compile("<defs>.*?</defs>", re.DOTALL)  # all of them use one
 
 
 def sheet(drawing: Drawing, frames: list[Frame], theme: str = colours.LIGHT) -> str:
-    """Returns the configurations as a file, by a drawing in the field of one of several."""
+    """Returns the SVG file with all configurations. The drawing is for the field of one of them."""
     across, down = min(ACROSS, len(frames)), -(-len(frames) // ACROSS)
     key, whole = drawing.key(), down * (CELL.height + TITLE)
     high = whole + (KEY_HIGH if key else 0)
@@ -34,7 +34,7 @@ def sheet(drawing: Drawing, frames: list[Frame], theme: str = colours.LIGHT) -> 
 
 
 def cell(drawing: Drawing, frame: Frame, index: int) -> str:
-    """Returns one of the configurations, at its index in the rows, below its title."""
+    """Returns one configuration below its title. `index` is its position in the rows."""
     x, y = index % ACROSS * CELL.width, index // ACROSS * (CELL.height + TITLE)
     state = frame.state
     left = f"{plural(len(state.privileged), 'node')} can move" if not state.stable else "at rest"

@@ -1,9 +1,9 @@
-"""Drawings in which nodes are as far apart as the shortest path between them is long.
+"""Layouts in which the distance of two nodes corresponds to the length of the shortest path between them.
 
-By stress majorization (Gansner, Koren and North, 'Graph drawing by stress majorization', 2004), from the best plane
-through the distances (classical scaling). In a large network a node is pulled by its neighbours and by some pivots,
-which stand for the nodes around them (Ortmann, Klimenta and Brandes, 'A sparse stress model', 2016). Nothing is drawn by
-lot: the same network has the same drawing.
+They are computed by stress majorization (Gansner, Koren and North, 'Graph drawing by stress majorization', 2004),
+beginning with classical scaling. In a large network a node is pulled by its neighbours and by some pivots, which
+stand for the nodes around them (Ortmann, Klimenta and Brandes, 'A sparse stress model', 2016). Nothing is random:
+the same network always has the same layout.
 """
 from __future__ import annotations
 
@@ -30,34 +30,34 @@ KNOWN: dict[tuple[tuple[int, ...], tuple[tuple[int, int], ...]], dict[int, Point
 
 
 def by_springs(nodes: tuple[int, ...], links: tuple[tuple[int, int], ...]) -> dict[int, Point]:
-    """Returns a point for each of two nodes or more: the one that is known, or that is searched for."""
+    """Returns a point for each node of a network with at least two: the known layout, or one that is searched for."""
     return KNOWN.get((nodes, links)) or searched(nodes, links)
 
 
 @lru_cache(maxsize=16)
 def searched(nodes: tuple[int, ...], links: tuple[tuple[int, int], ...]) -> dict[int, Point]:
-    """Returns a point for each of two nodes or more, which is computed once for a network."""
+    """Computes a point for each node of a network with at least two. The last results are cached."""
     far = distances(nodes, links)
     ring = [math.tau * index / len(nodes) for index in range(len(nodes))]
-    first, second = plane(far, [list(map(math.cos, ring)), list(map(math.sin, ring))])
+    first, second = classical_scaling(far, [list(map(math.cos, ring)), list(map(math.sin, ring))])
     points = [(x + APART * math.cos(turn), y + APART * math.sin(turn)) for x, y, turn in zip(first, second, ring)]
     pulls = [[*pulls_of(index, far)] for index in range(len(nodes))] if len(nodes) <= FEW_NODES else sparse_pulls(far)
     for _ in range(TURNS):
         for index in range(len(points)):
-            points[index] = pulled(points, pulls[index], index)
-    points = pushed_apart(turned(points))
+            points[index] = new_place(points, pulls[index], index)
+    points = pushed_apart(levelled(points))
     # The lowest identifier stands above on the left.
     across, down = (-1.0 if coordinate > 0 else 1.0 for coordinate in points[0])
     return {node: (across * x, down * y) for node, (x, y) in zip(nodes, points)}
 
 
 def pulls_of(index: int, far: Rows) -> Iterable[Pull]:
-    """Yields how each other node pulls a node: the near ones more than the far ones."""
+    """Returns the pull of each other node on a node. Near nodes pull more than distant ones."""
     return ((other, apart, 1 / (apart * apart)) for other, apart in enumerate(far[index]) if apart)
 
 
 def sparse_pulls(far: Rows) -> list[list[Pull]]:
-    """Returns how each node is pulled by its neighbours, and by pivots with the weight of those around them."""
+    """Returns the pulls on each node: by its neighbours, and by pivots with the weight of the nodes around them."""
     pivots = pivots_of(far)
     regions: dict[int, list[float]] = {pivot: [] for pivot in pivots}
     for row in far:
@@ -72,7 +72,7 @@ def sparse_pulls(far: Rows) -> list[list[Pull]]:
 
 
 def pivots_of(far: Rows) -> list[int]:
-    """Returns nodes that are as far from each other as can be, the first node first."""
+    """Returns nodes that are as distant from each other as possible. The first node is the first."""
     pivots, nearest = [0], [*far[0]]
     while len(pivots) < min(PIVOTS, len(far)):
         pivots.append(max(range(len(far)), key=lambda index: nearest[index]))
@@ -80,8 +80,8 @@ def pivots_of(far: Rows) -> list[int]:
     return pivots
 
 
-def turned(points: list[Point]) -> list[Point]:
-    """Returns the points around their middle, turned so that their longer axis lies level."""
+def levelled(points: list[Point]) -> list[Point]:
+    """Returns the points, centred and rotated so that their longer axis is horizontal."""
     middle_x, middle_y = (sum(values) / len(points) for values in zip(*points))
     moved = [(x - middle_x, y - middle_y) for x, y in points]
     across, down = sum(x * x for x, _ in moved), sum(y * y for _, y in moved)
@@ -90,7 +90,7 @@ def turned(points: list[Point]) -> list[Point]:
 
 
 def pushed_apart(points: list[Point]) -> list[Point]:
-    """Returns the points, of which those that are too close were pushed apart."""
+    """Returns the points after pushing apart those that are too close."""
     now = [*points]
     for _ in range(PUSHES):
         close = [pair for pair in near_pairs(now) if math.dist(now[pair[0]], now[pair[1]]) < LEAST - 1e-6]
@@ -106,7 +106,8 @@ def pushed_apart(points: list[Point]) -> list[Point]:
 
 
 def near_pairs(points: list[Point]) -> Iterator[tuple[int, int]]:
-    """Yields each two points that may be too close: those in one square of that size, or in two beside each other."""
+    """Yields all pairs of points that may be too close: those in the same square of a grid, or in adjacent
+    squares."""
     squares: dict[tuple[int, int], list[int]] = {}
     for index, (x, y) in enumerate(points):
         squares.setdefault((math.floor(x / LEAST), math.floor(y / LEAST)), []).append(index)
@@ -117,21 +118,22 @@ def near_pairs(points: list[Point]) -> Iterator[tuple[int, int]]:
 
 
 def stretched(points: dict[int, Point], aspect: float) -> dict[int, Point]:
-    """Returns the points, made a little wider if the field is, which is so many times wider than high."""
+    """Returns the points, made a little wider if the field is. `aspect` is the field's ratio of width to height."""
     wide, high = (max(values) - min(values) for values in zip(*points.values()))
     times = min(MOST_STRETCHED, max(1.0, aspect * high / wide)) if wide > 1e-9 else 1.0
     return {node: (x * times, y) for node, (x, y) in points.items()}
 
 
 def distances(nodes: Sequence[int], links: Iterable[tuple[int, int]]) -> Rows:
-    """Returns how many links part each two nodes; if no path joins them, one more than the longest path has."""
+    """Returns the number of links between each two nodes. If there is no path, returns one more than the longest
+    distance."""
     near = neighbours(nodes, links)
     found = [steps_from(node, near) for node in nodes]
     longest = max(max(steps.values()) for steps in found)
     return [[float(steps.get(node, longest + 1)) for node in nodes] for steps in found]
 
 
-def plane(far: Rows, axes: Rows) -> Rows:
+def classical_scaling(far: Rows, axes: Rows) -> Rows:
     """Computes the classical scaling of the distances in two dimensions by power iteration, which begins at these axes.
     Returns the two coordinates that explain most of the distances, a row each."""
     squares = [[each * each for each in row] for row in far]
@@ -155,8 +157,8 @@ def plane(far: Rows, axes: Rows) -> Rows:
     return coordinates
 
 
-def pulled(points: list[Point], pulls: list[Pull], index: int) -> Point:
-    """Returns the new place of a node: in the middle of the places in which each that pulls it wants it."""
+def new_place(points: list[Point], pulls: list[Pull], index: int) -> Point:
+    """Returns the new point of a node: the weighted mean of the points at which each pull wants it."""
     x, y = points[index]
     sum_x = sum_y = weights = 0.0
     for other, apart, weight in pulls:
@@ -169,12 +171,12 @@ def pulled(points: list[Point], pulls: list[Pull], index: int) -> Point:
 
 
 def tangles(points: dict[int, Point], links: Links, radius: float) -> int:
-    """Returns how often links cross, or run through a node of that radius that isn't theirs."""
+    """Returns how often links cross, or pass through a node with that radius."""
     crossed = sum(
         cross(points[a], points[b], points[c], points[d]) for (a, b), (c, d) in combinations(links, 2) if len({a, b, c, d}) == 4
     )
     return crossed + sum(
-        away(points[node], points[a], points[b]) < radius for a, b in links for node in points if node not in (a, b)
+        distance_to_line(points[node], points[a], points[b]) < radius for a, b in links for node in points if node not in (a, b)
     )
 
 
@@ -184,12 +186,12 @@ def cross(a: Point, b: Point, c: Point, d: Point) -> bool:
 
 
 def side(a: Point, b: Point, c: Point) -> float:
-    """Returns on which side of the line from a to b c lies, by its sign."""
+    """Returns a number whose sign is the side of the line from a to b on which c is."""
     return (b[0] - a[0]) * (c[1] - a[1]) - (b[1] - a[1]) * (c[0] - a[0])
 
 
-def away(point: Point, a: Point, b: Point) -> float:
-    """Returns how far a point is from the line from a to b."""
+def distance_to_line(point: Point, a: Point, b: Point) -> float:
+    """Returns the distance of a point to the line from a to b."""
     across, down = b[0] - a[0], b[1] - a[1]
     square = across * across + down * down
     part = ((point[0] - a[0]) * across + (point[1] - a[1]) * down) / square if square else 0.0

@@ -1,6 +1,6 @@
-"""Pages with two addresses: one to look at, and one to act at, whose token no page to look at knows.
+"""Pages with two addresses: one to look at, and one to act at. A page to look at doesn't know the token to act.
 
-A page receives the news for as long as it stays; a server that ends waits a little until each page has its last news.
+A page receives events while it is open. A server that ends waits a moment until each page has its last event.
 """
 from __future__ import annotations
 
@@ -17,12 +17,12 @@ MOST_BYTES = 200  # of a line that a page sends
 
 
 def new_token() -> str:
-    """Returns a token that nobody guesses."""
+    """Returns a random token."""
     return secrets.token_urlsafe(16)
 
 
 class TwoAddresses(Web):
-    """Serves pages at two addresses. One that goes on keeps the token of the address to look at."""
+    """A server of pages with two addresses. If the run continues, the token to look at stays the same."""
 
     def __init__(self, port: int, asked: type[AtAddress], title: str, looks: str | None = None) -> None:
         super().__init__(port, asked, title)
@@ -37,12 +37,12 @@ class TwoAddresses(Web):
 
     @property
     def address_to_act(self) -> str:
-        """Returns the address to act at, which the teacher alone opens."""
+        """Returns the address to act at, which only the teacher opens."""
         return f"http://127.0.0.1:{self.server_port}/{self.acts}/"
 
     @contextmanager
-    def receives(self) -> Iterator[None]:
-        """Counts a page for as long as it receives the news."""
+    def receiving_page(self) -> Iterator[None]:
+        """Counts a page while it receives events."""
         self.count(1)
         try:
             yield
@@ -50,38 +50,39 @@ class TwoAddresses(Web):
             self.count(-1)
 
     def count(self, more: int) -> None:
-        """Notes that a page begins to receive the news, by 1, or ends, by -1."""
+        """Changes the number of pages that receive events, by 1 or -1."""
         with self.leaving:
             self.receiving += more
             self.leaving.notify_all()
 
     def close_after(self, seconds: float) -> None:
-        """Closes the port once no page receives the news, or after so many seconds."""
+        """Closes the port when no page receives events any longer, or after so many seconds."""
         with self.leaving:
             self.leaving.wait_for(lambda: self.receiving == 0, seconds)
         self.close()
 
 
 class AtAddress(Asked):
-    """One request at one of the two addresses."""
+    """A request at one of the two addresses."""
 
     server: TwoAddresses
 
     def asked(self) -> tuple[str, str]:
-        """Returns the token if it is one of the two, and what is asked for below it; else two empty texts."""
+        """Returns the token in the path if it is one of the two, and the path below it. Returns two empty texts
+        otherwise."""
         beginning, slash, rest = self.path[1:].partition("/")
         known = [token for token in (self.server.looks, self.server.acts) if hmac.compare_digest(beginning.encode(), token.encode())]
         return (known[0], rest) if known and slash else ("", "")
 
     def do_POST(self) -> None:
-        """Takes a line of the teacher's, at the address to act alone."""
-        if self.is_elsewhere():
+        """Handles a line of the teacher, at the address to act only."""
+        if self.reject_foreign_host():
             return
         body = self.body(MOST_BYTES) if self.asked() == (self.server.acts, "act") else None
         if body is None:
-            return self.head(404)
-        self.head(204 if self.takes(body.decode("utf-8", errors="replace")) else 400)
+            return self.send_head(404)
+        self.send_head(204 if self.accept_line(body.decode("utf-8", errors="replace")) else 400)
 
-    def takes(self, line: str) -> bool:
-        """Does what a line asks for. Returns whether it is one that the page may send."""
+    def accept_line(self, line: str) -> bool:
+        """Does what a line asks for, if the page may send it. Returns whether it may."""
         raise NotImplementedError

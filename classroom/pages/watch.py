@@ -1,4 +1,4 @@
-"""The data of a live page: asked at the desk as it changes, and kept for any number of pages."""
+"""The data of a live page: read at the desk when they change, and shared by any number of pages."""
 from __future__ import annotations
 
 import threading
@@ -18,14 +18,14 @@ Bar = tuple[int, int | None, int, str, bool]
 
 
 class Bars:
-    """The configurations of a run for its chart, of which the last one goes on."""
+    """The configurations of a run for its chart. The last one still changes."""
 
     def __init__(self) -> None:
         self.rows: list[Bar] = [(0, None, 0, "", False)]
         self.chosen: set[int] = set()
 
     def add(self, event: Event) -> None:
-        """Takes an event in."""
+        """Takes an event: begins a new configuration, or updates the chosen moves of the last one."""
         if event.makes_configuration:
             self.chosen.clear()
             self.rows.append((event.at + 1, None, 0, event.kind, False))
@@ -36,8 +36,9 @@ class Bars:
         number, can, _, kind, is_stable = self.rows[-1]
         self.rows[-1] = (number, can, len(self.chosen), kind, is_stable)
 
-    def see(self, state: State) -> None:
-        """Takes in what a report says of the configuration that goes on."""
+    def take_report(self, state: State) -> None:
+        """Copies the number of privileged nodes and the stability into the last configuration, if the state is of
+        that one."""
         number, _, moved, kind, _ = self.rows[-1]
         if number == state.number:
             self.rows[-1] = (number, len(state.privileged), moved, kind, state.stable)
@@ -45,8 +46,8 @@ class Bars:
 
 @dataclass(frozen=True)
 class Now:
-    """The present, which doesn't change any more: the state, how many events and lines there are, and how steps are
-    closed."""
+    """A snapshot of the present: the state, the numbers of events and lines, and how steps are closed. It never
+    changes."""
 
     version: int
     state: State
@@ -58,27 +59,27 @@ class Now:
 
 
 class Present:
-    """The newest `Now`, and all events and lines, which only grow. A reader waits for another one; the writer waits for
-    nobody."""
+    """The latest snapshot, and all events and lines, which only grow. Readers wait for a new snapshot; the writer
+    never waits."""
 
     def __init__(self, state: State, closing: str) -> None:
         self.turn = threading.Condition()
         self.events: list[Event] = []
         self.lines: list[str] = []
         self.bars = Bars()
-        self.bars.see(state)
+        self.bars.take_report(state)
         self.now = Now(1, state, 0, 0, 1, closing, False)
 
     def put(self, state: State | None = None, events: Iterable[Event] = (), line: str | None = None,
             closing: str | None = None, ended: bool = False) -> None:
-        """Publishes what is new."""
+        """Publishes a new snapshot with these changes."""
         with self.turn:
             now = self.now
             for event in events:
                 self.events.append(event)
                 self.bars.add(event)
             if state is not None:
-                self.bars.see(state)
+                self.bars.take_report(state)
             self.lines.extend([line] if line else [])
             self.now = Now(
                 now.version + 1, state or now.state, len(self.events), len(self.lines), len(self.bars.rows), closing or now.closing,
@@ -87,14 +88,14 @@ class Present:
             self.turn.notify_all()
 
     def after(self, version: int, seconds: float) -> Now:
-        """Returns the newest one, as soon as it is another than that version, or after so many seconds."""
+        """Waits for a snapshot with another version, at most so many seconds. Returns the latest."""
         with self.turn:
             self.turn.wait_for(lambda: self.now.version != version, seconds)
             return self.now
 
 
 class Watch:
-    """Looks at each node once, and then at those alone that events name."""
+    """Looks at each node once, and then only at nodes that events name."""
 
     def __init__(self, lab: labs.Lab, client: Client, report: Report, closing: str) -> None:
         self.client = client
@@ -103,11 +104,11 @@ class Watch:
         self.granted: set[int] = set()
         self.events: list[Event] = []
         self.look()
-        self.take(report)
+        self.take_report(report)
         self.present = Present(self.state.copy(), closing)
 
-    def note(self, event: Event) -> None:
-        """Takes in an event of the journal."""
+    def note_event(self, event: Event) -> None:
+        """Notes an event of the journal, and the nodes that it may have changed."""
         state = self.state
         self.events.append(event)
         self.named.update(event.nodes)
@@ -120,26 +121,27 @@ class Watch:
             link = {labs.ordered((event.nodes[0], event.nodes[1]))}
             state.links = state.links | link if event.links > 0 else state.links - link
 
-    def turn(self, report: Report, book: Book) -> None:
-        """Publishes the present after the events that were noted; if the run has gone on meanwhile, its next events
-        come first."""
+    def publish(self, report: Report, book: Book) -> None:
+        """Publishes the state after the noted events. Publishes nothing if the run has gone on meanwhile, since
+        its next events come first."""
         if not self.events:
             return
         last = self.events[-1]
         number = last.at + last.makes_configuration
         if any(event.kind in ("grant", "release") for event in self.events):
-            self.settle()
+            self.wait_for_server()
         if report.at != number or self.look() != {number}:
             return
-        self.take(report)
+        self.take_report(report)
         self.state.place, self.state.moves, self.state.since = last.place, book.moves, book.since
         self.named.clear()
         self.present.put(self.state.copy(), self.events)
         self.events.clear()
 
-    def settle(self) -> None:
-        """Waits until what the journal's last line says has happened, since the line is there first: an act comes after
-        it, also one that is denied, as that a node be linked to itself."""
+    def wait_for_server(self) -> None:
+        """Waits until the server has applied the last line of the journal. A line is written before it takes
+        effect, and any later request is answered after that. So this sends a request that is always denied: to
+        link a node to itself."""
         node = min(self.state.pointers)
         try:
             self.client.link(node, node)
@@ -158,8 +160,8 @@ class Watch:
                 state.chosen[node] = look.chosen
         return numbers
 
-    def take(self, report: Report) -> None:
-        """Takes the values of a report."""
+    def take_report(self, report: Report) -> None:
+        """Copies the values of a report into the state."""
         state = self.state
         state.number, state.stable = report.at, report.stable
         state.privileged = dict(report.privileged)

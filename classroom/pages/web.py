@@ -1,4 +1,5 @@
-"""What every page's server has: limits on connections, a time for each request, and the heads of its answers."""
+"""The base of all servers of pages: limits on connections, a time limit for each request, and the headers of
+answers."""
 from __future__ import annotations
 
 import io
@@ -25,7 +26,7 @@ Opened = TypeVar("Opened", bound="Web")
 
 
 class Web(ThreadingHTTPServer):
-    """Serves pages of a run on 127.0.0.1."""
+    """A server of the pages of a run on 127.0.0.1."""
 
     daemon_threads = True
     request_queue_size = BACKLOG
@@ -39,7 +40,7 @@ class Web(ThreadingHTTPServer):
         self.faults: set[tuple[str, str]] = set()  # the kinds of errors that were printed
 
     def open(self) -> None:
-        """Answers from now on."""
+        """Starts to answer."""
         if self.is_open:
             return
         self.is_open = True
@@ -52,7 +53,7 @@ class Web(ThreadingHTTPServer):
         self.server_close()
 
     def process_request(self, request: Any, client_address: Any) -> None:
-        """Serves a connection in a thread of its own, if one is free and can be made."""
+        """Serves a connection in its own thread. Closes it if there are too many, or no thread can be made."""
         if not self.free.acquire(blocking=False):
             return self.shutdown_request(request)
         try:
@@ -62,14 +63,14 @@ class Web(ThreadingHTTPServer):
             self.shutdown_request(request)
 
     def process_request_thread(self, request: Any, client_address: Any) -> None:
-        """Serves one connection, to its end."""
+        """Serves one connection to its end."""
         try:
             super().process_request_thread(request, client_address)
         finally:
             self.free.release()
 
     def handle_error(self, request: Any, client_address: Any) -> None:
-        """Prints what went wrong, once of each kind. A page that went away is no error."""
+        """Prints an error, but each kind only once. A page that has gone away is no error."""
         error = sys.exc_info()[1]
         if error is None or isinstance(error, (ConnectionError, TimeoutError)):
             return
@@ -80,19 +81,19 @@ class Web(ThreadingHTTPServer):
             self.tell(f"the page: {type(error).__name__}: {error}"[:LONGEST])
 
 
-class InTime(io.RawIOBase):
-    """What a connection sends within so many seconds; a read that would take longer fails."""
+class DeadlineReader(io.RawIOBase):
+    """The input of a connection with a deadline. A read after it fails."""
 
     def __init__(self, connection: socket.socket, seconds: float) -> None:
         super().__init__()
         self.connection, self.end = connection, time.monotonic() + seconds
 
     def readable(self) -> bool:
-        """Returns true: it is only for reading."""
+        """Returns true, since this is only for reading."""
         return True
 
     def readinto(self, buffer: Any) -> int:
-        """Reads what comes within the time that is left. Returns how many bytes."""
+        """Reads the next bytes before the deadline. Returns their number."""
         left = self.end - time.monotonic()
         if left <= 0:
             raise TimeoutError
@@ -101,19 +102,21 @@ class InTime(io.RawIOBase):
 
 
 class Asked(BaseHTTPRequestHandler):
-    """One request of a page."""
+    """A request of a page."""
 
     def log_message(self, format: str, *words: Any) -> None:
-        """Prints nothing: a request may have what nobody else knows."""
+        """Prints nothing, since a request may have a secret."""
 
     def setup(self) -> None:
-        """Keeps little for a page that is slow: it gets the present instead of what has passed."""
+        """Limits the send buffer and the time for the request. So a slow page gets the present state instead of
+        old ones."""
         self.request.setsockopt(socket.SOL_SOCKET, socket.SO_SNDBUF, KEPT)
         super().setup()
-        self.rfile = io.BufferedReader(InTime(self.connection, ASKING))
+        self.rfile = io.BufferedReader(DeadlineReader(self.connection, ASKING))
 
-    def is_elsewhere(self) -> bool:
-        """Returns whether another machine's name was asked, or another port, as through a tunnel; says what to open."""
+    def reject_foreign_host(self) -> bool:
+        """Answers 421 if the request names another host or another port, as through a tunnel. The answer names the
+        right address. Returns whether the request was rejected."""
         port = self.connection.getsockname()[1]
         if self.headers.get("Host") in (f"127.0.0.1:{port}", f"localhost:{port}"):
             return False
@@ -123,22 +126,21 @@ class Asked(BaseHTTPRequestHandler):
         return True
 
     def body(self, most: int) -> bytes | None:
-        """Returns what a request carries, or None if that is more than so many bytes, or its size is no number of few
-        digits."""
+        """Returns the body of a request, or None if it is larger than `most` bytes or its size isn't a number."""
         size = self.headers.get("Content-Length") or "0"
         if not (size.isascii() and size.isdecimal() and len(size) <= DIGITS and int(size) <= most):
             return None
         return self.rfile.read(int(size))
 
     def answer(self, status: int, kind: str = "", content: bytes = b"", policy: str = "") -> None:
-        """Sends an answer that is whole, in the time that there is for it."""
+        """Sends a complete answer within the time limit."""
         end = time.monotonic() + TAKING
-        self.head(status, kind, len(content), policy)
+        self.send_head(status, kind, len(content), policy)
         self.connection.settimeout(max(end - time.monotonic(), 0.001))
         self.wfile.write(content)
 
-    def head(self, status: int, kind: str = "", size: int | None = 0, policy: str = "") -> None:
-        """Sends the head of an answer; without a size the answer ends with the connection."""
+    def send_head(self, status: int, kind: str = "", size: int | None = 0, policy: str = "") -> None:
+        """Sends the status and the headers of an answer. Without a size, the answer ends with the connection."""
         self.connection.settimeout(TAKING)
         self.send_response_only(status)
         for name, value in (("Cache-Control", "no-store"), ("Referrer-Policy", "no-referrer"),
@@ -152,7 +154,7 @@ class Asked(BaseHTTPRequestHandler):
 
 
 def opened(port: int, make: Callable[[int], Opened]) -> Opened:
-    """Returns a server at that port, or the next that is free."""
+    """Returns a server at that port, or the next free one."""
     def at(number: int) -> Opened | None:
         """Returns the server at that port, or None if the port is taken."""
         try:

@@ -1,1 +1,1 @@
-"""A class as it goes on: its server, its desk, who comes and goes, how steps are closed."""
+"""A running class: its server, its desk, the connections of students, and the ways of closing steps."""

@@ -1,4 +1,5 @@
-"""Lines that are typed at the desk of a class of several networks: which networks a line is for, and what it asks there."""
+"""Lines that are typed at the desk of a class of several networks: the networks that a line is for, and the command for
+them."""
 from __future__ import annotations
 
 import re
@@ -15,8 +16,8 @@ OWN = {
 }
 BARE = {word for word, it in WORDS.items() if not it.form} | {RESUME}  # the words that the network may follow
 NAMING = {word for word, it in WORDS.items() if it.form == "NAME"}  # the words for one student
-HOW = "a network's number or name stands before a word (2 shake 3, maths-2: close) or after a word without values (close 2); " \
-      "all, or no network, is for every one"
+HOW = "put a network's number or name before a command (`2 shake 3`, `maths-2: close`), or after a command without values (`close 2`); " \
+      "with `all`, or without a network, the command is for every network"
 
 
 def listed(names: Sequence[str]) -> str:
@@ -25,7 +26,8 @@ def listed(names: Sequence[str]) -> str:
 
 
 def target(word: str, names: Sequence[str]) -> list[int] | None:
-    """Returns the indices of the networks that a word names by number, by name or as `all`, or None if it names none."""
+    """Returns the indices of the networks that a word names by number, by name or as `all`. Returns None if it names
+    none."""
     if word == EVERY:
         return list(range(len(names)))
     if word in names:
@@ -34,8 +36,8 @@ def target(word: str, names: Sequence[str]) -> list[int] | None:
 
 
 def addressed(line: str, names: Sequence[str]) -> tuple[list[int], str]:
-    """Returns the indices of the networks that a line is for, and what it asks there. Raises `ValueError` if it names a
-    network that isn't there."""
+    """Returns the indices of the networks that a line is for, and the command for them. Raises `ValueError` if it names
+    a missing network."""
     words = line.split()
     before = re.fullmatch(r"\s*(\S+?)\s*:\s*(.*?)\s*", line)
     if before and before[1] not in WORDS:

@@ -1,5 +1,5 @@
-"""The lines that a run prints as it goes on: each event, how the class comes back, whom it waits for, and why nothing more is
-granted."""
+"""The lines that a run prints as it continues: each event, each recovery, the nodes that it waits for, and why nothing
+more is granted."""
 from __future__ import annotations
 
 import itertools
@@ -8,7 +8,7 @@ from collections.abc import Callable
 from pathlib import Path
 
 from classroom.client import Report
-from classroom.core import bounds
+from classroom.core import bounds, limits
 from classroom.core import lab as labs
 from classroom.core.journal import Event
 from classroom.core.program import CLASS, Fault
@@ -21,7 +21,7 @@ MOST_WAITING = 8  # nodes that are named while the class waits for more
 LOOKS, PAUSE = 30, 0.1  # how often it is looked what the server says of the journal, and seconds between
 
 
-def listed(report: Report) -> str:
+def report_line(report: Report) -> str:
     """Returns a report as a line."""
     lists = {
         "pairs": [f"{a}-{b}" for a, b in report.pairs],
@@ -34,7 +34,7 @@ def listed(report: Report) -> str:
 
 
 class Announcer:
-    """Prints what is known of a run, as lines."""
+    """Prints the events and the state of a run, as lines."""
 
     def __init__(self, lab: labs.Lab, folder: Path, known: Follower, tell: Callable[[str], None]) -> None:
         self.lab, self.known, self.tell = lab, known, tell
@@ -47,9 +47,9 @@ class Announcer:
         self.comeback = Comeback(lab)
         self.edits: list[Event] = []  # that weren't printed yet
 
-    def gone_on(self) -> None:
-        """Counts how the class came back within the events that have passed, and prints the configuration from which it
-        goes on."""
+    def announce_resumed(self) -> None:
+        """Counts the recovery of the class within the past events, and prints the configuration from which the
+        class continues."""
         self.recount()
         self.known.ask_report()
         self.tell(f"the class goes on at configuration {self.known.report.at}, {self.events_used()}")
@@ -57,21 +57,21 @@ class Announcer:
             self.end_by("full")
 
     def recount(self) -> None:
-        """Counts how the class came back within the events that have passed. If the program can't be asked, says so,
-        and the next time that the class is stable has no counts."""
+        """Counts the recovery of the class within the events that have passed. If the program can't be asked, says so,
+        and the next line about a stable class has no counts."""
         past = self.known.past
         try:
             Recount(self.lab, past, self.comeback).counts()
         except Fault as fault:
-            self.tell(f"what came before isn't counted: {fault}")
+            self.tell(f"the events from before aren't counted: {fault}")
             for event in past:
                 if event.is_edit:
                     self.comeback.edit(event)
             self.comeback.miss()
 
     def event(self, news: News) -> None:
-        """Prints an event unless it is a grant; a fault, link or cut is printed with those after it. If the class came back by a
-        close, prints how it came back."""
+        """Prints an event unless it is a grant. A fault, link or cut is printed together with those after it. Prints
+        the counts of the recovery if a close ended it."""
         event = news.event
         if event.is_edit:
             self.comeback.edit(event)
@@ -79,38 +79,39 @@ class Announcer:
             return
         self.tell_edits()
         if event.kind == "close":
-            self.step(event.at + 1, wording.moves(news.moved))
-            self.come_back(event, [node for node, _, _ in news.moved], news.before)
+            self.tell_event(event.at + 1, wording.moves(news.moved))
+            self.count_close(event, [node for node, _, _ in news.moved], news.before)
         elif event.kind != "grant":
-            self.step(event.at, wording.edit(event))
+            self.tell_event(event.at, wording.edit(event))
 
     def tell_edits(self) -> None:
-        """Prints the faults, links and cuts that weren't printed yet: those of one kind that follow each other are one line."""
+        """Prints the faults, links and cuts that haven't been printed yet. Those of one kind that follow each other are
+        one line."""
         edits, self.edits = self.edits, []
         for _, same in itertools.groupby(edits, key=lambda event: event.kind):
             events = list(same)
             at = events[-1].at + 1
             if len(events) == 1:
-                self.step(at, wording.edit(events[0]))
+                self.tell_event(at, wording.edit(events[0]))
             else:
-                self.step(at, wording.edits(events))
+                self.tell_event(at, wording.edits(events))
 
-    def limit(self) -> None:
-        """Says if the lab has few events left, and ends the run after the last one."""
+    def check_limit(self) -> None:
+        """Prints a line if the lab has few events left, and ends the run after the last one."""
         if self.known.count == int(MOST_TOLD * self.lab.events) > 0:
             self.tell_edits()
-            self.tell(f"{self.events_used()}: nothing more is granted after the last")
+            self.tell(f"{self.events_used()}: after the last one nothing more is granted")
         if self.known.count >= self.lab.events:
             self.tell_edits()
             self.end_by("full")
 
     def events_used(self) -> str:
-        """Returns how many events there are of how many."""
+        """Returns the number of events and their limit."""
         return f"events {self.known.count} of {self.lab.events}"
 
-    def step(self, at: int, what: str) -> None:
-        """Prints the line of an event: the number after it, what was done, how many are privileged then, if the report
-        is of that number, moves beside the bound, and events."""
+    def tell_event(self, at: int, what: str) -> None:
+        """Prints the line of an event: the number of the configuration after it, what happened, the moves beside their
+        bound, and the events. The number of privileged nodes is added if the report is of that configuration."""
         known = self.known
         most = bounds.told(len(self.lab.nodes), len(self.lab.links) + known.book.links)
         limit = f" of at most {most.moves}" if most else ""
@@ -118,8 +119,8 @@ class Announcer:
         now = f"{state}, " if known.report.at == at else ""
         self.tell(f"configuration {at}: {what}; {now}{known.book.since}{limit} moves; {self.events_used()}")
 
-    def come_back(self, event: Event, moved: list[int], before: Report) -> None:
-        """Counts a close. If it was the last that the class took to come back, prints how it came."""
+    def count_close(self, event: Event, moved: list[int], before: Report) -> None:
+        """Counts a close. If it ended the recovery of the class, prints the counts of the recovery."""
         report = self.known.report
         if (before.at, report.at) != (event.at, event.at + 1):
             self.comeback.miss()
@@ -134,37 +135,44 @@ class Announcer:
         return [f"{node} ({' and '.join(self.shown.owners(node))}): {rule}" for node, rule in self.known.waiting()]
 
     def tell_waiting(self) -> None:
-        """Prints whom the class waits for if that has changed since it was looked at last; of many, the first."""
+        """Prints the nodes that the class waits for if they have changed since the last time. If they are many, prints
+        the first ones."""
         now = self.waiting()
         if now and now != self.told_waiting:
             self.tell(f"waiting for {wording.some(now, MOST_WAITING, 'node')}")
         self.told_waiting = now
 
     def wait(self) -> None:
-        """Prints whom the class waits for, all of them, or that it waits for nobody."""
+        """Prints all nodes that the class waits for, or that it waits for none."""
         self.told_waiting = self.waiting()
         self.tell(f"waiting for {', '.join(self.told_waiting) or 'nobody'}")
 
     def end_by(self, word: str) -> None:
-        """Says at once that nothing is granted any longer, with what to do, and ends the run."""
+        """Prints that nothing is granted any longer, and the remedy. Ends the run."""
         if self.over:
             return
         self.over = word
         if word == "journal":
             what = f"journal: {self.why_journal()}, then {self.go_on}"
-        elif self.lab.events < labs.MOST_EVENTS:
-            raised = f"raise `events` in {self.folder}/lab.toml, to at most {labs.MOST_EVENTS}"
-            what = f"full: {self.events_used()}; {raised}, then {self.go_on} --again"
         else:
-            what = f"full: {self.events_used()}, the most that a lab has; go on with a new lab"
+            what = f"full: {self.events_used()}{self.why_full()}"
         self.tell(f"nothing more is granted: {what}")
 
+    def why_full(self) -> str:
+        """Returns the remedy if all events of the lab are used. Without the host's program it doesn't say how many a lab
+        may have."""
+        known = limits.known()
+        if known and self.lab.events >= known.events:
+            return ", the most that a lab may have; continue with a new lab"
+        most = f", to at most {known.events}" if known else ""
+        return f"; raise `events` in {self.folder}/lab.toml{most}, then {self.go_on} --again"
+
     def why_journal(self) -> str:
-        """Returns why the journal takes nothing more, and what to do. The server says within a moment what became of the
-        file; if it says nothing, no line could be written."""
+        """Returns why the journal takes no more lines, and the remedy. The server reports within a moment what happened
+        to the file. If it reports nothing, no line could be written."""
         for _ in range(LOOKS):
             lost = self.lost_journal()
             if lost:
-                return f"its file {lost}; put back what stood there"
+                return f"its file {lost}; put the old file back"
             time.sleep(PAUSE)
         return "no line can be written to it; make room on the disk"

@@ -1,4 +1,4 @@
-"""`./class attach`: takes the desk of a class whose `run` is gone, or has lost its terminal, and goes on as it does."""
+"""`./class attach`: takes the desk of a class whose `run` has ended or has lost its terminal, and continues the run."""
 from __future__ import annotations
 
 import argparse
@@ -15,7 +15,7 @@ from classroom.run import class_again
 from classroom.run.clock import end_of
 from classroom.run.closing import kept
 from classroom.run.holding import Running, to_the_end
-from classroom.run.run import add_desk_words, may_stand_in
+from classroom.run.run import add_desk_words, check_stand_in
 from classroom.run.server import Server
 from classroom.run.teller import Teller
 
@@ -23,39 +23,39 @@ PATIENCE = 60.0  # seconds in which a `run` without its terminal leaves the desk
 
 
 def add_words(words: argparse.ArgumentParser) -> None:
-    """Adds the words of `attach`."""
-    words.add_argument("folder", metavar="FOLDER", help="the folder of the run or of the class, which knows the ports")
+    """Adds the options of `attach`."""
+    words.add_argument("folder", metavar="FOLDER", help="the folder of the run or of the class")
     add_desk_words(words)
     words.set_defaults(work=attach)
 
 
-def free(folder: Path, record: Record) -> None:
-    """Waits until the desk is free. A `run` that has lost its terminal is asked to leave it, and waited for. Raises a
-    fault if any other process holds it."""
+def wait_for_desk(folder: Path, record: Record) -> None:
+    """Waits until no process holds the desk. A `run` that has lost its terminal is asked to leave it. Raises `Fault` if
+    another process holds the desk."""
     holder = record.run
     if holder.lives() and not record.left:
-        raise Fault(f"{folder}: process {holder.number} holds its desk")
+        raise Fault(f"{folder}: process {holder.number} controls this run already")
     if holder.lives():
         os.kill(holder.number, signal.SIGUSR1)
         end = time.monotonic() + PATIENCE
         while holder.lives():
             if time.monotonic() > end:
-                raise Fault(f"{folder}: process {holder.number} doesn't leave its desk")
+                raise Fault(f"{folder}: process {holder.number} was asked to leave the desk of this run, and still has it: end that process")
             time.sleep(0.05)
 
 
 def attach(words: argparse.Namespace) -> int:
-    """Takes the desk of a folder's run."""
+    """Takes the desk of the run in a folder."""
     folder = Path(words.folder)
     if is_class(folder):
-        return class_again.held_again(words, folder)
+        return class_again.hold_again(words, folder)
     lab_file, _ = of_folder(folder)
     record = Record.read(folder)
     if record is None or not record.server.lives():
         raise Fault(f"{folder}: its server has ended: {CLASS} run --resume {folder}")
     lab = labs.read(lab_file)
-    may_stand_in(words, lab, lab_file)
-    free(folder, record)
+    check_stand_in(words, lab, lab_file)
+    wait_for_desk(folder, record)
     run = Running(folder, Path(record.lab), lab, words.close or kept(folder, record), words.until or record.until,
                   words.page or record.page, words.typed, Teller(folder), words.play or record.play,
                   goes_on=True, stand_in=words.stand_in or record.stand_in, looks=record.looks, played=record.played,

@@ -1,4 +1,4 @@
-"""A run from its first step to its last: steps are closed, and what is typed is done."""
+"""A run from its first step to its last: steps are closed, and typed commands are run."""
 from __future__ import annotations
 
 import contextlib
@@ -22,33 +22,33 @@ from classroom.run.striking import Striker
 from classroom.run.typed import HUNG, LEAVE, NOW, Typed
 
 TICK = 0.1
-LITTLE = 65536  # bytes of a disk at which there is little room
+LITTLE = 65536  # the number of free bytes below which a disk has little room
 PROBE = bytes(512)  # what is written, and taken back, to see whether the disk takes it
-AGAIN = 1.0  # seconds between two looks at the disk
+AGAIN = 1.0  # seconds between two checks of the disk
 LINE = 101  # bytes of a journal's line at most
 
 
 def pause(how: Closing) -> float:
-    """Returns how many seconds to wait for a typed line before it is looked again whether to close a step."""
+    """Returns how many seconds to wait for a typed line before the next check whether to close a step."""
     return min(TICK, max(how.value / 4, 0.01)) if how.kind in ("every", "when-idle") else TICK
 
 
-AGAIN_ROOM = ("the disk has room again: if moves are refused as `journal`, which a line that wasn't written brings about, "
-              f"end, and go on with {CLASS} run --resume")
+AGAIN_ROOM = ("the disk has room again. If a line couldn't be written, the journal is halted and moves are refused as `journal`: "
+              f"then end the run, and continue with {CLASS} run --resume")
 
 
-def told_of(left: int, why: str) -> tuple[str, str]:
-    """Returns how much room a disk has with so many free bytes, `little`, `full` or neither, and the line that says so.
-    `why` says why nothing can be written to it; it is empty if something can."""
+def disk_line(left: int, why: str) -> tuple[str, str]:
+    """Returns how much room a disk with `left` free bytes has (`little`, `full` or an empty text), and the line to
+    print. `why` is the reason if nothing can be written, and else empty."""
     if left > 0 and not why:
         return ("little", f"the disk has little room: {left} bytes are left") if left < LITTLE else ("", "")
     what = f"takes nothing ({why})" if why else "is full"
-    return "full", (f"the disk {what}: the next line of the journal can't be written, and from then on nothing is granted; "
-                    "make room")
+    return "full", (f"the disk {what}: the next line of the journal can't be written, and after this failure nothing "
+                    "is granted any longer; make room")
 
 
 def limit_of(process: int) -> int | None:
-    """Returns how many bytes a file of a process may have (ulimit -f), or None if there is no such limit, or it can't
+    """Returns the limit on the size of a process's files in bytes (ulimit -f), or None if it has no limit or it can't
     be read."""
     try:
         limit = resource.prlimit(process, resource.RLIMIT_FSIZE)[0]
@@ -57,19 +57,19 @@ def limit_of(process: int) -> int | None:
     return None if limit == resource.RLIM_INFINITY else limit
 
 
-def told_of_limit(left: int, folder: Path) -> tuple[str, str]:
-    """Returns how much room a journal has that may grow by so many bytes, `little`, `full` or neither, and the line
-    that says so."""
-    how = f"(ulimit -f): end, and go on with {CLASS} run --resume {folder} without such a limit"
+def limit_line(left: int, folder: Path) -> tuple[str, str]:
+    """Returns how much room a journal has that may grow by `left` bytes (`little`, `full` or an empty text), and
+    the line to print."""
+    how = f"(ulimit -f): end the run, and continue with {CLASS} run --resume {folder} without such a limit"
     if left >= LITTLE:
         return "", ""
     if left >= LINE:
-        return "little", f"the journal may grow by {left} bytes more, since a file of its server has a limit {how}"
-    return "full", f"the journal is as large as a file of its server may be, and what isn't written isn't granted {how}"
+        return "little", f"the journal may only grow by {left} more bytes, since there is a limit on the server's files {how}"
+    return "full", f"the journal has reached the limit on the server's files, so nothing more is granted {how}"
 
 
-def nameless(folder: Path) -> IO[bytes] | None:
-    """Returns a file without a name on the disk of a folder, if one can be made."""
+def unlinked_file(folder: Path) -> IO[bytes] | None:
+    """Returns an unlinked file on the disk of a folder, or None if none can be made."""
     try:
         return tempfile.TemporaryFile(buffering=0, dir=folder)
     except OSError:
@@ -77,26 +77,26 @@ def nameless(folder: Path) -> IO[bytes] | None:
 
 
 class Room:
-    """Whether the disk of a folder has room for a journal's lines, and the limit on the files of the server that writes
-    it."""
+    """Checks the room on the disk for a journal's lines, and the limit on the server's files."""
 
     def __init__(self, folder: Path, server: int | None = None) -> None:
         self.folder, self.server = folder, server
         self.due, self.told, self.told_limit = 0.0, "", ""
-        self.file = nameless(folder)
+        self.file = unlinked_file(folder)
 
     def close(self) -> None:
-        """Closes the file by which writing is tried."""
+        """Closes the file that tests whether the disk can be written to."""
         if self.file is not None:
             self.file.close()
 
     def left(self) -> int:
-        """Returns how many bytes are free."""
+        """Returns the number of free bytes."""
         disk = os.statvfs(self.folder)
         return disk.f_bavail * disk.f_frsize
 
-    def why(self) -> str:
-        """Returns why a write fails if bytes are free, as by a quota, or nothing if it doesn't."""
+    def write_error(self) -> str:
+        """Returns why a write fails although bytes are free, for example a quota. Returns an empty text if it
+        succeeds."""
         if self.file is None:
             return ""
         try:
@@ -107,39 +107,39 @@ class Room:
         return ""
 
     def news(self) -> list[str]:
-        """Returns the lines which say that disk or limit have come to leave little room or none, or that the disk has
-        room again. Looks at most once a second."""
+        """Returns the lines about changes of the disk or the limit: little room, no room, or room again. Checks at most
+        once a second."""
         now = time.monotonic()
         if now < self.due:
             return []
         self.due = now + AGAIN
-        return [*self.of_disk(), *self.of_limit()]
+        return [*self.disk_news(), *self.limit_news()]
 
-    def of_disk(self) -> list[str]:
-        """Returns a line if the disk has come to have little room or none since the last look, or has room again after
+    def disk_news(self) -> list[str]:
+        """Returns a line if the disk has less room than at the last check, little or none, or has room again after
         it was full."""
         left = self.left()
-        kind, line = told_of(left, self.why() if left >= LITTLE else "")
+        kind, line = disk_line(left, self.write_error() if left >= LITTLE else "")
         before, self.told = self.told, kind
         if kind == before:
             return []
         return [line] if line else [AGAIN_ROOM] if before == "full" else []
 
-    def of_limit(self) -> list[str]:
-        """Returns a line if the limit on files has come to leave the journal little room or none since the last
-        look."""
+    def limit_news(self) -> list[str]:
+        """Returns a line if the limit on files leaves less room for the journal than at the last check, little or
+        none."""
         limit = limit_of(self.server) if self.server is not None else None
         journal = self.folder / "journal"
         left = LITTLE if limit is None or not journal.exists() else limit - journal.stat().st_size
-        kind, line = told_of_limit(left, self.folder)
+        kind, line = limit_line(left, self.folder)
         before, self.told_limit = self.told_limit, kind
         return [line] if line and kind != before else []
 
 
 def turn(desk: Desk, room: Room, until_stable: bool) -> str:
-    """Reads what is new, lets the house play, and prints each piece of news as a line. First greets again if the desk
-    was lost. Returns why the run ends, or nothing if it goes on."""
-    if not desk.again():
+    """Reads new events, lets the house play, and prints each piece of news as a line. Greets again first if the desk
+    was lost. Returns why the run ends, or an empty text if it continues."""
+    if not desk.reconnect():
         return ""
     desk.read()
     desk.stand_in()
@@ -148,7 +148,7 @@ def turn(desk: Desk, room: Room, until_stable: bool) -> str:
         desk.tell(line)
     if desk.keep_state:
         desk.keep_state()
-    if desk.clock and is_over(desk, desk.clock):
+    if desk.clock and check_clock(desk, desk.clock):
         return "clock"
     if desk.heard and desk.heard.over:
         desk.read()
@@ -158,8 +158,8 @@ def turn(desk: Desk, room: Room, until_stable: bool) -> str:
     return desk.announcer.over
 
 
-def is_over(desk: Desk, clock: Clock) -> bool:
-    """Returns whether the lesson is over. Prints the warnings before it, and that it is over."""
+def check_clock(desk: Desk, clock: Clock) -> bool:
+    """Prints the warnings before the end of the lesson, and the end. Returns whether the lesson is over."""
     now = datetime.now()
     if warning := clock.warning(now):
         desk.tell(warning)
@@ -169,15 +169,15 @@ def is_over(desk: Desk, clock: Clock) -> bool:
 
 
 def next_typed(typed: Typed, seconds: float) -> str | None:
-    """Returns the next line that was typed, if one comes in that time."""
+    """Returns the next typed line, if one comes within `seconds`."""
     try:
         return typed.get(timeout=seconds)
     except queue.Empty:
         return None
 
 
-def obeys(desk: Desk, line: str | None, hung: Callable[[], None]) -> str:
-    """Does what was typed, if anything. Returns why that ends the run, or nothing if the run goes on."""
+def run_typed(desk: Desk, line: str | None, hung: Callable[[], None]) -> str:
+    """Runs a typed line, if there is one. Returns the reason if the line ends the run, and else an empty text."""
     if line is None:
         return ""
     if line == HUNG:
@@ -188,22 +188,22 @@ def obeys(desk: Desk, line: str | None, hung: Callable[[], None]) -> str:
     if line == NOW or desk.lost and line.split() == ["end"]:
         return "end"
     if desk.lost:
-        desk.tell(f"no: the desk isn't held: {desk.lost}")
+        desk.tell(f"no: the desk has no connection to the server: {desk.lost}")
         return ""
     return "" if desk.command(line) else "end"
 
 
 def attend(desk: Desk, it: Server, until_stable: bool, typed: Typed, room: Room, hung: Callable[[], None]) -> str:
-    """Closes steps and does what is typed, until the run ends. Returns by what: `stable`, `full`, `journal`, `end`,
-    `clock`, `left` or `died`. `hung` is called if the terminal goes away."""
+    """Closes steps and runs typed commands until the run ends. Returns the reason: `stable`, `full`, `journal`, `end`,
+    `clock`, `left` or `died`. Calls `hung` if the terminal is closed."""
     with contextlib.closing(Striker()) as striker:
-        while not it.ended():
+        while not it.has_ended():
             try:
                 why = turn(desk, room, until_stable)
                 if why:
                     return why
                 line = next_typed(typed, pause(desk.closing))
-                why = obeys(desk, line, hung)
+                why = run_typed(desk, line, hung)
                 if why:
                     return why
                 if not desk.lost:
@@ -211,6 +211,6 @@ def attend(desk: Desk, it: Server, until_stable: bool, typed: Typed, room: Room,
                         desk.read()  # What was done is printed before a step is closed.
                     striker.strike(desk)
             except Closed as error:
-                if not it.ended(TICK):
-                    desk.lose(error)
+                if not it.has_ended(TICK):
+                    desk.give_up_connection(error)
         return "died"

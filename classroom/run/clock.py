@@ -1,4 +1,4 @@
-"""The end of a lesson by the clock: `run --ends 10:45` warns before it, and ends the run."""
+"""The end of a lesson by the clock: `run --ends 10:45` prints warnings before it, and ends the run."""
 from __future__ import annotations
 
 import argparse
@@ -13,15 +13,16 @@ LATEST = timedelta(hours=12)  # An hour that is over counts as tomorrow's if tha
 
 
 def hour(word: str) -> str:
-    """Returns a time of the day that a word of the command line names, as `10:45`."""
+    """Returns the time of day that an argument names, as `10:45`."""
     found = re.fullmatch(r"(\d{1,2}):(\d\d)", word, re.ASCII)
     if not found or int(found[1]) > 23 or int(found[2]) > 59:
-        raise argparse.ArgumentTypeError(f"{word} is no time of the day, as 10:45")
+        raise argparse.ArgumentTypeError(f"{word} isn't a time of day: write it as 10:45")
     return f"{int(found[1]):02}:{found[2]}"
 
 
 def next_time(word: str, now: datetime) -> datetime:
-    """Returns when it is that time of the day next. Raises `ValueError` if it is over for today."""
+    """Returns the next date with that time of day. Raises `ValueError` if it has passed today, and tomorrow's is more
+    than LATEST away."""
     hours, minutes = map(int, word.split(":"))
     end = now.replace(hour=hours, minute=minutes, second=0, microsecond=0)
     end = end if end > now else end + timedelta(days=1)
@@ -30,8 +31,9 @@ def next_time(word: str, now: datetime) -> datetime:
     return end
 
 
-def kept(text: str | None, now: datetime) -> datetime | None:
-    """Returns the end that a run kept in its folder, if it is still to come."""
+def kept_end(text: str | None, now: datetime) -> datetime | None:
+    """Returns the time at which a run is to end, from `text`, which its folder keeps. Returns None if `text` isn't a
+    local time, or if this time has come."""
     try:
         end = datetime.fromisoformat(text) if text else None
     except ValueError:
@@ -40,24 +42,24 @@ def kept(text: str | None, now: datetime) -> datetime | None:
 
 
 def end_of(word: str | None, before: str | None = None) -> datetime | None:
-    """Returns when the lesson ends: as a word of the command line says, or as a run kept it that goes on before its end."""
+    """Returns the end of the lesson: the one in the options, or the one that the continuing run has in its folder."""
     now = datetime.now()
     try:
-        return next_time(word, now) if word else kept(before, now)
+        return next_time(word, now) if word else kept_end(before, now)
     except ValueError as error:
         raise Fault(str(error)) from None
 
 
 class Clock:
-    """Warns before the end of a lesson, and says when it has come."""
+    """Warns before the end of a lesson, and reports the end."""
 
     def __init__(self, end: datetime, begun: datetime) -> None:
-        """A warning whose time is over when the clock begins is left out."""
+        """Begins at `begun`. Warnings whose time has passed by then are left out."""
         self.end = end
         self.left = [minutes for minutes in WARNINGS if end - timedelta(minutes=minutes) >= begun]
 
     def warning(self, now: datetime) -> str:
-        """Returns the line of the warning whose time has come, or nothing. Of several whose time has come it is the last."""
+        """Returns the line of the last warning that is due, or an empty text."""
         due = [minutes for minutes in self.left if now >= self.end - timedelta(minutes=minutes)]
         self.left = [minutes for minutes in self.left if minutes not in due]
         return f"the lesson ends at {self.end:%H:%M}, in {plural(due[-1], 'minute')}" if due and not self.is_over(now) else ""
@@ -67,9 +69,9 @@ class Clock:
         return now >= self.end
 
     def told(self) -> str:
-        """Returns the line that says at the beginning when the lesson ends."""
+        """Returns the line that is printed at the beginning, with the end of the lesson."""
         return f"the lesson ends at {self.end:%H:%M}"
 
     def over(self) -> str:
-        """Returns the line that says that the end has come."""
+        """Returns the line that is printed at the end of the lesson."""
         return f"it is {self.end:%H:%M}: the lesson is over"

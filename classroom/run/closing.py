@@ -1,4 +1,4 @@
-"""How the steps of a run are closed: by a daemon's word, at the desk."""
+"""The daemon that closes the steps of a run at its desk."""
 from __future__ import annotations
 
 from pathlib import Path
@@ -14,12 +14,12 @@ mode = daemon
 
 
 def closing(word: str) -> Closing:
-    """Returns the daemon that a word names, with so many SECONDS if it names none."""
+    """Returns the daemon that a word names, with SECONDS if it names no seconds."""
     return Daemon.of(word, SECONDS)
 
 
 def kept(folder: Path, record: Record) -> Closing:
-    """Returns the daemon of a run that goes on, as its folder keeps it."""
+    """Returns the daemon of a continuing run from its folder."""
     try:
         return closing(record.close)
     except ValueError as error:
@@ -27,5 +27,5 @@ def kept(folder: Path, record: Record) -> Closing:
 
 
 def spelled(how: Closing) -> str:
-    """Returns how steps are closed, as a word."""
+    """Returns the name of the daemon, as it is typed."""
     return how.spelled()

@@ -23,7 +23,7 @@ def rows() -> Iterator[Row]:
 
 
 def leads_to(end: Path, wanted: str) -> bool:
-    """Returns whether a process's descriptor is the wanted socket; not, if it was closed meanwhile."""
+    """Returns whether a process's descriptor is the wanted socket. Returns false if it has been closed."""
     try:
         return os.readlink(end) == wanted
     except FileNotFoundError:
@@ -31,8 +31,8 @@ def leads_to(end: Path, wanted: str) -> bool:
 
 
 def owner(number: str) -> str:
-    """Returns which process has the client's end of a connection, by its socket's number. Of another user's process, or
-    another machine's, that isn't known: it is someone from elsewhere."""
+    """Returns the process that has the client's end of a connection, found by its socket's number. If it belongs to
+    another user or another machine, returns a text for someone from elsewhere."""
     wanted = f"socket:[{number}]"
     for process in PROC.iterdir():
         if not process.name.isdecimal():
@@ -46,13 +46,13 @@ def owner(number: str) -> str:
 
 
 class Connected:
-    """Prints who comes and goes at the students' port."""
+    """Prints the connections that begin and end at the students' port."""
 
     def __init__(self, port: int, seats: int, but: int, names: dict[int, str] | None = None,
                  tells: bool = True) -> None:
-        """`seats` is how many seats there are; `but` is the port of the desk's own end, which isn't counted; `names`
-        has who is known otherwise than by a process, by the port of the client's end. `tells` is false if a record
-        shows who comes and goes: then only full seats are reported here."""
+        """`seats` is the number of seats, and `but` the port of the desk's own end, which isn't counted. `names` has
+        the clients that are known otherwise than by a process, by the port of their end. If a record shows connections,
+        `tells` is false, and only full seats are reported here."""
         self.port, self.seats, self.but, self.tells = port, seats, but, tells
         self.names = {} if names is None else names
         self.known: dict[int, str] = {}
@@ -60,38 +60,38 @@ class Connected:
         self.due = 0.0
 
     def news(self) -> list[str]:
-        """Returns lines of who has come and gone since the last look, and whether all seats are taken."""
+        """Returns lines about the connections that began or ended since the last check, and a line if all seats are
+        taken."""
         now = time.monotonic()
         if now < self.due:
             return []
         self.due = now + PAUSE
         try:
-            return self.compared(self.look())
+            return self.changes(self.look())
         except OSError:
             return []
 
     def look(self) -> list[Row]:
-        """Returns the system's connections. Its list isn't of one moment: it is read again while a newcomer's own end
-        isn't in it, a few times, since who comes from another machine has none here."""
+        """Returns the system's connections. Its list isn't of one moment, so it is read again, a few times, while a
+        newcomer's own end is missing. Connections from other machines have none here."""
         for _ in range(READINGS):
             found = list(rows())
-            if not self.tells or self.served(found) <= self.ends(found).keys() | self.known.keys():
+            if not self.tells or self.client_ports(found) <= self.client_sockets(found).keys() | self.known.keys():
                 break
             time.sleep(AGAIN)
         return found
 
-    def ends(self, found: list[Row]) -> dict[int, str]:
-        """Returns the clients' ends on this machine: the number of each one's socket by its port."""
+    def client_sockets(self, found: list[Row]) -> dict[int, str]:
+        """Returns the sockets of the clients' ends on this machine, by port."""
         return {own: number for own, other, state, number in found if other == self.port and state == ESTABLISHED}
 
-    def served(self, found: list[Row]) -> set[int]:
-        """Returns the clients' ports but the desk's, by the server's ends."""
+    def client_ports(self, found: list[Row]) -> set[int]:
+        """Returns the clients' ports without the desk's, from the server's ends."""
         return {other for own, other, state, _ in found if own == self.port and state == ESTABLISHED} - {self.but}
 
-    def compared(self, found: list[Row]) -> list[str]:
-        """Returns lines of who has come and gone between what was seen before and these connections, and whether all
-        seats are taken."""
-        ends, here = self.ends(found), self.served(found)
+    def changes(self, found: list[Row]) -> list[str]:
+        """Returns lines about the connections that began or ended, and a line if all seats are taken."""
+        ends, here = self.client_sockets(found), self.client_ports(found)
         gone = [self.known.pop(port) for port in sorted(self.known.keys() - here)]
         come = sorted(here - self.known.keys())
         self.known |= {port: self.names.get(port) or self.process(ends.get(port)) for port in come}
@@ -99,23 +99,22 @@ class Connected:
         listens = any(own == self.port and state == LISTENING for own, _, state, _ in found)
         if not self.full and (len(here) >= self.seats or not listens):
             self.full = True
-            lines.append("all seats are taken: newcomers are turned away; type who to see whose they are" if listens else
-                         "each connection of this server was used: newcomers aren't let in")
+            lines.append("all seats are taken: newcomers are turned away; type who to see which students have them" if listens else
+                         "this server has let in as many connections as it can: newcomers aren't let in any longer")
         return lines
 
     def process(self, number: str | None) -> str:
-        """Returns which process has a connection, by its socket's number, or someone from elsewhere, if that isn't
-        known or isn't said."""
+        """Returns the process of a connection, found by its socket's number, or a text for someone from elsewhere."""
         return owner(number) if self.tells and number is not None else ELSEWHERE
 
     def count(self) -> int:
-        """Returns how many of the seats are taken now, or 0 if the system doesn't say."""
+        """Returns the number of seats that are taken, or 0 if the system doesn't report it."""
         try:
-            return len(self.served(list(rows())))
+            return len(self.client_ports(list(rows())))
         except OSError:
             return 0
 
     def who(self) -> str:
-        """Returns how many of the seats are taken, and by whom, in the order in which they were seen to come."""
+        """Returns the number of seats that are taken, and their holders in the order in which they came."""
         names = [self.names.get(port, who) for port, who in self.known.items()]
         return f"{len(self.known)} of {self.seats} seats: {', '.join(names) or 'nobody'}"

@@ -1,4 +1,5 @@
-"""The daemon as a way of closing from outside: when a step is closed, and which of the chosen moves it applies."""
+"""Daemons that close steps from outside: they decide when a step is closed, and which of the chosen moves it
+applies."""
 from __future__ import annotations
 
 import argparse
@@ -10,25 +11,25 @@ from dataclasses import dataclass
 
 FORMS = "central, synchronous, random:P, schedule, adversary, when-idle:SECONDS, every:SECONDS, by-hand"
 PLAIN = ("central", "synchronous", "schedule", "adversary", "by-hand")
-SEARCHING = ("schedule", "adversary")  # those that make a run long
-Search = Callable[[Sequence[int]], list[int]]  # of such a one, among nodes that may move
+SEARCHING = ("schedule", "adversary")  # the daemons that make a run long
+Search = Callable[[Sequence[int]], list[int]]  # the choice of such a daemon among nodes that may move
 
 
 @dataclass(frozen=True)
 class Daemon:
-    """A kind, with its probability or its seconds."""
+    """A kind of daemon, with its parameter: the probability of `random`, or the seconds of `every` and `when-idle`."""
 
     kind: str
     value: float = 0.0
 
     @staticmethod
     def of(word: str, seconds: float = 2.0) -> Daemon:
-        """Returns the daemon that a word names; `seconds` are those of a kind whose word names none."""
+        """Returns the daemon that a word names. `seconds` is the default for `every` and `when-idle`."""
         found = re.fullmatch(r"(random|every|when-idle)(?::(\d+(?:\.\d+)?))?", word)
         if word in PLAIN:
             return Daemon(word)
         if not found or found[1] == "random" and found[2] and not 0 < float(found[2]) <= 1:
-            raise ValueError(f"{word} is none of {FORMS}; P is above 0 and at most 1")
+            raise ValueError(f"{word} isn't one of {FORMS}; P is above 0 and at most 1")
         return Daemon(found[1], float(found[2]) if found[2] else 0.5 if found[1] == "random" else seconds)
 
     def spelled(self) -> str:
@@ -37,7 +38,7 @@ class Daemon:
 
 
 def daemon(word: str) -> Daemon:
-    """Returns the daemon that a word of the command line names."""
+    """Returns the daemon that an argument names."""
     try:
         return Daemon.of(word)
     except ValueError as error:
@@ -45,14 +46,14 @@ def daemon(word: str) -> Daemon:
 
 
 def daemons(word: str) -> list[Daemon]:
-    """Returns the daemons that a word of the command line names, with commas between them."""
+    """Returns the daemons that an argument names, separated by commas."""
     return [daemon(each) for each in word.split(",")]
 
 
 @dataclass(frozen=True)
 class Sight:
-    """What a daemon goes by: who is privileged, whose move is chosen in the order of the grants, and how many seconds
-    the last grant and the last close lie back."""
+    """The state that a daemon decides by: the privileged nodes, the chosen moves in the order of their grants, and the
+    seconds since the last grant and the last close."""
 
     privileged: Sequence[int]
     chosen: Sequence[int]
@@ -65,15 +66,15 @@ class Sight:
 
 
 def heads(nodes: Sequence[int], probability: float, chance: random.Random) -> list[int]:
-    """Returns the nodes whose coins, which have this probability, show heads; if all show tails, one node."""
+    """Returns the nodes whose coins show heads, with this probability. If all show tails, returns one node."""
     found = [node for node in nodes if chance.random() < probability]
     return found or [chance.choice(list(nodes))]
 
 
 def applied(how: Daemon, sight: Sight, chance: random.Random, patience: float, search: Search = list) -> list[int]:
-    """The nodes whose moves a close applies now, or none: the other chosen moves are released before it. The random
-    daemon tosses, and one that makes the run long searches, where each privileged node has a move, or none came for `patience`
-    seconds."""
+    """Returns the nodes whose moves a close applies now, or none. The other chosen moves are released first. The random
+    daemon tosses, and a searching daemon searches, once each privileged node has a move, or none has come for
+    `patience` seconds."""
     if not sight.chosen:
         return []
     if how.kind == "central":
@@ -91,8 +92,7 @@ def applied(how: Daemon, sight: Sight, chance: random.Random, patience: float, s
 
 
 def movers(how: Daemon, privileged: Sequence[int], chance: random.Random, search: Search = list) -> list[int]:
-    """Returns the nodes that move in the next step, of those that are privileged, if each of them would: nobody is
-    waited for, as in an experiment."""
+    """Returns the privileged nodes that move in the next step, if each of them asks at once, as in an experiment."""
     if how.kind == "central":
         return [chance.choice(list(privileged))]
     if how.kind == "random":
@@ -103,9 +103,9 @@ def movers(how: Daemon, privileged: Sequence[int], chance: random.Random, search
 
 
 def in_time(how: Daemon, nodes: Sequence[int], chance: random.Random) -> list[int]:
-    """Returns the nodes that move in the next step, if each asks after a time that is drawn, a second on average: those
-    that have asked by the clock's first close with a move, or, when-idle, before so many seconds pass in which none
-    asks."""
+    """Simulates one step of a timed daemon. Each node asks after a random time, one second on average. Returns the
+    nodes that have asked when the step closes: under `every`, at the first tick after a request; under `when-idle`,
+    once nobody has asked for `how.value` seconds."""
     asks = sorted((chance.expovariate(1.0), node) for node in nodes)
     first = end = asks[0][0]
     if how.kind == "every" and how.value:

@@ -34,7 +34,7 @@ def demo(words: argparse.Namespace) -> int:
     """Calls `run` over the cycle of `examples/`, with a bot for each of its four students, until it is stable."""
     if not LAB.exists():
         raise Fault("this is the archive for students: it has no finished bots to show; ./class practise bot.py tries yours")
-    server.ready(False)
+    server.require_built(False)
     lab = labs.read(LAB)
     bots: list[subprocess.Popen[bytes]] = []
     print(f"a cycle of {len(lab.nodes)} nodes after a fault, and the bots of {len(lab.students)} students", flush=True)

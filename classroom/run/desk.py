@@ -11,19 +11,19 @@ from classroom.core.desk_words import WORDS, Action, request
 from classroom.core.program import Fault
 from classroom.core.shown_names import ShownNames
 from classroom.pages.watch import Watch
-from classroom.run.announcing import Announcer, listed
+from classroom.run.announcing import Announcer, report_line
 from classroom.run.clock import Clock
 from classroom.run.closing import Closing, closing, spelled
 from classroom.run.connected import Connected
 from classroom.run.following import Follower, raise_unless_memory
 from classroom.run.heard import Heard
 from classroom.run.house import HOW, House
-from classroom.run.typed import EOF, helped, understood
-from classroom.setup.shaking import Registers, broken, pairs_of, shaken
+from classroom.run.typed import EOF, command_help, parse_command
+from classroom.setup.shaking import Registers, longest_start, pairs_of, shaken
 
 
 class Desk:
-    """Runs the commands of the teacher, over what is known of the run and beside who announces it."""
+    """Runs the teacher's commands."""
 
     def __init__(self, lab: labs.Lab, journal: Path, client: Client, how: Closing, tell: Callable[[str], None]) -> None:
         self.lab, self.tell, self.closing = lab, tell, how
@@ -45,15 +45,15 @@ class Desk:
             Action.REPORT: lambda *_: self.tell_report(),
             Action.WAIT: lambda *_: self.announcer.wait(),
             Action.WHO: lambda *_: self.tell_who(),
-            Action.PLAY: lambda _, rest: self.tell(self.housed(rest[0]).play(rest[0])),
-            Action.STOP: lambda _, rest: self.tell(self.housed(rest[0]).stop(rest[0])),
+            Action.PLAY: lambda _, rest: self.tell(self.house_for(rest[0]).play(rest[0])),
+            Action.STOP: lambda _, rest: self.tell(self.house_for(rest[0]).stop(rest[0])),
             Action.CLOSE_BY: lambda word, rest: self.close_by(":".join([word, *rest])),
             Action.DAEMON: lambda _, rest: self.close_by(rest[0]),
             Action.SHAKE: lambda _, rest: self.shake(*rest),
-            Action.BREAK: lambda *_: self.set_all(broken(self.nodes(), self.announcer.comeback.links)),
+            Action.BREAK: lambda *_: self.set_all(longest_start(self.nodes(), self.announcer.comeback.links)),
             Action.PAGE: lambda *_: self.renew_page(),
             Action.KEY: lambda _, rest: self.renew_key(rest[0]),
-            Action.HELP: lambda *_: self.tell(helped()),
+            Action.HELP: lambda *_: self.tell(command_help()),
         }
 
     @property
@@ -61,20 +61,20 @@ class Desk:
         """Returns the desk's connection."""
         return self.known.client
 
-    def again(self) -> bool:
-        """Greets again at the desk if its connection was lost. Returns whether the desk is held."""
+    def reconnect(self) -> bool:
+        """Connects to the desk again if its connection was lost. Returns whether the desk is connected."""
         if not self.lost:
             return True
         try:
-            self.take(Client(self.client.port, *self.lab.teacher, limit=self.client.limit))
+            self.use_connection(Client(self.client.port, *self.lab.teacher, limit=self.client.limit))
         except (Closed, Refused) as error:
             self.lost = str(error)
             return False
-        self.tell("the desk is held again")
+        self.tell("the desk is connected again")
         return True
 
-    def take(self, client: Client) -> None:
-        """Goes on over another connection."""
+    def use_connection(self, client: Client) -> None:
+        """Makes the desk, the page and the list of connections use another connection."""
         self.known.client = client
         if self.watch:
             self.watch.client = client
@@ -82,46 +82,46 @@ class Desk:
             self.connected.but = client.own_port()
         self.lost, self.known.is_old = "", True
 
-    def lose(self, error: Closed) -> None:
-        """Gives up a connection that has ended, or on which an answer is late: it is made again while the server
-        lives."""
+    def give_up_connection(self, error: Closed) -> None:
+        """Closes a connection that has failed or on which a reply is late. The desk connects again while the
+        server runs."""
         self.lost = str(error)
         self.client.hang_up()
-        self.tell(f"the desk: {error}; it is greeted again")
+        self.tell(f"the desk: {error}; greeting it again")
 
     def catch_up(self) -> None:
-        """Counts what the journal has already, and prints none of its events, except the configuration from which the
-        class goes on."""
+        """Counts the events that the journal has already. Prints none of them, only the configuration from which the
+        class continues."""
         self.known.catch_up()
         if self.heard:
             self.heard.catch_up(self.known.last_step)
-        self.announcer.gone_on()
+        self.announcer.announce_resumed()
 
     def read(self) -> None:
-        """Reads what the journal has got, prints each event but a grant as a line, and has the pages show it. Ends the
-        run if the journal is halted."""
+        """Reads the new events of the journal, prints each one except grants, and updates the pages. Ends the run
+        if the journal is halted."""
         for news in self.known.news():
             self.announcer.event(news)
             if self.watch:
-                self.watch.note(self.names.event(news.event))
+                self.watch.note_event(self.names.event(news.event))
             if self.house:
                 self.house.note(news.event)
-            self.announcer.limit()
+            self.announcer.check_limit()
         self.announcer.tell_edits()
         if self.watch:
             try:
-                self.watch.turn(self.known.report, self.known.book)
+                self.watch.publish(self.known.report, self.known.book)
             except Refused as refused:
                 raise_unless_memory(refused)
         if self.known.is_halted() or self.announcer.lost_journal():
             self.announcer.end_by("journal")
 
-    def watched(self) -> Watch:
-        """Returns what the pages show, beginning with what the run has done. From now on the desk keeps it up to
-        date."""
+    def start_watch(self) -> Watch:
+        """Returns the data for the pages, beginning with all past events. The desk keeps them up to date from now
+        on."""
         self.watch = Watch(self.lab, self.client, self.known.report, spelled(self.closing))
         for event in self.known.past:
-            self.watch.note(self.names.event(event))
+            self.watch.note_event(self.names.event(event))
         return self.watch
 
     def stand_in(self) -> None:
@@ -134,8 +134,8 @@ class Desk:
         self.house.turn(waiting, len(waiting) if not is_central else 0 if self.known.book.chosen else 1)
 
     def close(self) -> None:
-        """Closes a step. If no node is chosen, prints whom the class waits for. If nothing is granted any longer, ends
-        the run."""
+        """Closes a step. If no node is chosen, prints whom the class waits for. If no more events are granted,
+        ends the run."""
         try:
             self.client.close()
         except Denied as denied:
@@ -149,15 +149,15 @@ class Desk:
             self.announcer.end_by(refused.word)
 
     def command(self, line: str) -> bool:
-        """Does a line of the teacher's. Returns false if it ends the run."""
+        """Runs a command of the teacher. Returns false if it ends the run."""
         if line == EOF:
-            self.tell("to end the run type end")
+            self.tell("to end the run, type `end`")
             return True
         asked, self.asked_to_end = self.asked_to_end, False
         try:
-            word, *rest = understood(line)
+            word, *rest = parse_command(line)
             if WORDS[word].action is Action.END:
-                return not self.ends(asked)
+                return not self.confirm_end(asked)
             self.read()
             self.actions[WORDS[word].action](word, rest)
         except (Denied, Refused) as no:
@@ -169,31 +169,31 @@ class Desk:
             self.tell(str(error))
         return True
 
-    def ends(self, asked: bool) -> bool:
-        """Returns whether `end` ends the run. Unless the run is stable it ends only if the line before was `end` too,
-        which `asked` says, and else that is printed."""
+    def confirm_end(self, asked: bool) -> bool:
+        """Returns whether `end` ends the run. If the run isn't stable, `end` has to be typed twice, and the first
+        time a line says so. `asked` is set if the line before was `end` too."""
         self.known.ask_report()
         if asked or self.known.report.stable:
             return True
         self.asked_to_end = True
-        self.tell(f"not stable, {len(self.known.report.privileged)} privileged: end once more ends the run all the same")
+        self.tell(f"not stable, {len(self.known.report.privileged)} privileged: type `end` once more to end the run anyway")
         return False
 
     def ask(self, word: str, rest: list[str]) -> None:
-        """Asks for what a word names, by the values that were typed."""
+        """Sends the request of a command with the values that were typed."""
         self.client.ask(**request(word, rest))
 
     def tell_report(self) -> None:
-        """Prints the report, and how many events there are."""
+        """Prints the report, and the number of events."""
         self.known.ask_report()
-        self.tell(f"{listed(self.known.report)}; {self.announcer.events_used()}")
+        self.tell(f"{report_line(self.known.report)}; {self.announcer.events_used()}")
 
     def tell_who(self) -> None:
-        """Prints who is connected and who asks without success, by the record (without one the system reports
-        processes), and who hasn't moved, by the journal."""
+        """Prints who is connected, who asks without success, and who hasn't moved. Without a record, prints only
+        processes."""
         if self.connected and self.heard:
             self.heard.read()
-            self.heard.since(self.known.last_step)
+            self.heard.forget_before(self.known.last_step)
             who = self.heard.who(self.connected.count(), self.connected.seats, self.connected.names.values())
             self.tell(f"connected: {who}")
             for line in self.heard.amiss():
@@ -205,10 +205,11 @@ class Desk:
         if self.house:
             self.tell(self.house.told())
 
-    def housed(self, name: str) -> House:
-        """Returns the house, which is to play for a student, or to stop. An error says why it can't."""
+    def house_for(self, name: str) -> House:
+        """Returns the house for playing a student's nodes. Raises `ValueError` with the reason if there is no
+        house."""
         if self.house is None and self.lab.held():
-            raise ValueError("the house plays only if the server is a host: without --serve")
+            raise ValueError("the house can't play in a run with --serve")
         if self.house is None:
             raise ValueError(f"no node has a second owner who could play for {name}: {HOW}")
         return self.house
@@ -217,32 +218,32 @@ class Desk:
         """Returns all nodes."""
         return [node.id for node in self.lab.nodes]
 
-    def seen(self) -> labs.Lab:
-        """Returns the network with its registers as they are."""
+    def present_lab(self) -> labs.Lab:
+        """Returns the network with its present registers."""
         seen = [self.client.see(node) for node in self.nodes()]
         return network([labs.Node(it.node, [], it.p, it.m) for it in seen], pairs_of(self.announcer.comeback.links))
 
     def renew_page(self) -> None:
-        """Changes the address of the page to act at. The one before acts no more."""
+        """Changes the address of the page on which the teacher acts. Actions at the old address are refused from then on."""
         if self.another_page is None:
-            raise ValueError("there is no page: --page")
+            raise ValueError("there is no page: start the run with --page")
         self.another_page()
 
     def renew_key(self, name: str) -> None:
         """Gives a student another key."""
         if self.another_key is None:
-            raise ValueError("another key is for a host: without --serve")
+            raise ValueError("a key can't be changed in a run with --serve")
         self.another_key(name)
 
     def close_by(self, word: str) -> None:
-        """Closes steps in another way from now on."""
+        """Changes the daemon that closes steps from now on."""
         self.closing = closing(word)
         self.tell(f"steps are closed {spelled(self.closing)}")
         if self.watch:
             self.watch.present.put(closing=spelled(self.closing))
 
     def shake(self, count: str, seed: str | None = None) -> None:
-        """Sets the registers of so many nodes, or of all, as they are drawn with a seed."""
+        """Sets the registers of `count` nodes, or of all, to random values drawn with a seed."""
         self.set_all(shaken(self.nodes(), self.announcer.comeback.links, count, int(seed) if seed is not None else None))
 
     def set_all(self, registers: list[Registers]) -> None:

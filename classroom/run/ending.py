@@ -1,4 +1,4 @@
-"""What a run leaves in its folder: a journal of whole lines, its audit, its marks, its page."""
+"""The files that a run leaves in its folder: a journal of complete lines, its audit, its marks and its pages."""
 from __future__ import annotations
 
 import os
@@ -13,8 +13,8 @@ from classroom.pages import kept_layout, play
 
 
 def put_back(journal: IO[bytes], path: Path, tell: Callable[[str], None]) -> None:
-    """Writes what an open journal has to its path, if no file is there any more, or beside it, if another file is. Does
-    nothing if the open file is the one at its path."""
+    """Writes the content of an open journal back to its path if the file is gone, or beside it if another file is
+    there. Does nothing if the file at the path is the open one."""
     try:
         if os.path.samestat(os.fstat(journal.fileno()), path.stat()):
             return
@@ -25,13 +25,13 @@ def put_back(journal: IO[bytes], path: Path, tell: Callable[[str], None]) -> Non
     try:
         path.touch(0o600)
         path.write_bytes(journal.read())
-        tell(f"what the journal had is in {path}")
+        tell(f"the journal's old content is saved in {path}")
     except OSError as error:
-        tell(f"what the journal had can't be kept in {path}: {error.strerror}")
+        tell(f"the journal's old content can't be saved in {path}: {error.strerror}")
 
 
-def whole_lines(journal: Path) -> None:
-    """Moves the torn end of a journal into a file beside it, and makes an empty journal if there is none."""
+def cut_torn_end(journal: Path) -> None:
+    """Moves the incomplete end of a journal into a file beside it. Makes an empty journal if there is none."""
     content = journal.read_bytes() if journal.exists() else b""
     whole, found, torn = content.rpartition(b"\n")
     if torn or not journal.exists():
@@ -42,21 +42,21 @@ def whole_lines(journal: Path) -> None:
 
 
 def finish(folder: Path, tell: Callable[[str], None], brief: bool = False) -> int:
-    """Leaves a journal of whole lines, its audit, the page that shows it, and its marks. Returns 0, or the status of what
-    failed, which is printed. A brief end leaves the marks in their file alone."""
+    """Writes the audit, the page, the marks and the students' pages into the folder, and prints what they say.
+    Returns 0, or the status of what failed. If `brief` is set, prints only the file of the marks."""
     try:
-        whole_lines(folder / "journal")
+        cut_torn_end(folder / "journal")
         answer = call("audit", folder / "lab.toml", folder / "journal")
         tell((answer.output or answer.error).strip())
         (folder / "audit.txt").write_text(answer.output + answer.error + "\n" * bool(answer.error), encoding="utf-8")
         (folder / "run.html").write_text(play.page(folder / "lab.toml", folder / "journal"), encoding="utf-8")
-        kept_layout.keep(folder, labs.read(folder / "lab.toml"))
+        kept_layout.save(folder, labs.read(folder / "lab.toml"))
         run = mark.marked(folder / "lab.toml", folder / "journal")
         text = mark.text([run])
         tell(f"marks: {folder / 'marks.txt'}" if brief else text.rstrip())
         (folder / "marks.txt").write_text(text, encoding="utf-8")
         (folder / "marks.json").write_text(mark.as_json([run]), encoding="utf-8")
-        own_pages.keep(folder, tell)
+        own_pages.write_pages(folder, tell)
     except Fault as fault:
         tell(f"class: {fault}")
         return fault.status

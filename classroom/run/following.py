@@ -1,4 +1,4 @@
-"""What is known of a run at its desk: the journal as it grows, and the report after its last event."""
+"""The state of a run at its desk: the journal as it grows, and the report after its last event."""
 from __future__ import annotations
 
 import os
@@ -17,7 +17,7 @@ ASKED, PAUSE = 50, 0.1  # how often the first report is asked for, and seconds b
 
 
 def first_report(client: Client) -> Report:
-    """Returns the report at the beginning, asked for again if memory is short."""
+    """Returns the report at the beginning. Asks for it again if the server is out of memory."""
     for _ in range(ASKED):
         try:
             return client.report()
@@ -29,14 +29,14 @@ def first_report(client: Client) -> Report:
 
 
 def raise_unless_memory(refused: Refused) -> None:
-    """Raises a refusal, unless it is for memory: that one passes."""
+    """Raises a refusal unless it is `memory`, which is temporary."""
     if refused.word != "memory":
         raise refused
 
 
 @dataclass(frozen=True)
 class News:
-    """An event that has come, who moved by it, and the report before it."""
+    """A new event, the nodes that moved by it, and the report before it."""
 
     event: Event
     moved: list[tuple[int, str, str]]
@@ -60,21 +60,20 @@ class Follower:
         self.past: list[Event] = []
 
     def catch_up(self) -> None:
-        """Counts what the journal has already."""
+        """Counts the events that the journal has already."""
         whole, found, self.rest = self.journal.read().rpartition(b"\n")
         self.past = events((whole + found).decode("ascii"))
         for event in self.past:
             self.take(event)
 
     def take(self, event: Event) -> list[tuple[int, str, str]]:
-        """Counts an event. Returns who moved by it."""
+        """Counts an event. Returns the nodes that moved by it."""
         self.count = event.place
         self.last_step = event.place if event.makes_configuration else self.last_step
         return self.book.add(event)
 
     def news(self) -> Iterator[News]:
-        """Yields each event that the journal has got, counted, and with the report asked for after it unless it is a
-        grant."""
+        """Yields each new event of the journal after counting it. Asks for the report after it unless it is a grant."""
         if self.is_old:
             self.ask_report()
         more = self.journal.read()
@@ -88,19 +87,20 @@ class Follower:
             yield News(event, moved, before)
 
     def rewind(self) -> None:
-        """Reads the beginning of an incomplete line again: whoever goes on with the journal removes it."""
+        """Goes back to the beginning of an incomplete line, since the process that continues the journal removes the
+        line."""
         self.journal.seek(-len(self.rest), os.SEEK_CUR)
         self.rest = b""
 
     def is_halted(self) -> bool:
-        """Returns whether a line couldn't be written, or not synced. A line is written at once, so a part of one that
-        stays alone for seconds is all that was written; a line that wasn't synced was taken back, and the file is
+        """Returns whether a line couldn't be written or synced. A line is written at once, so a part that stays
+        alone for seconds is all that was written. A line that wasn't synced is removed, so the file becomes
         shorter."""
         is_torn = self.rest != b"" and time.monotonic() - self.torn_since > TORN
         return is_torn or os.fstat(self.journal.fileno()).st_size < self.journal.tell()
 
     def ask_report(self) -> None:
-        """Asks for the report; if memory was short, it is asked for again at the next turn."""
+        """Asks for the report. If the server is out of memory, asks again at the next turn."""
         try:
             self.report = self.client.report()
             self.is_old = False

@@ -1,5 +1,4 @@
-"""What the record shows of a class that goes on: who is connected, who guesses keys, who asks without success, who
-floods."""
+"""The connections and requests that the record of a running class shows: wrong keys, denied requests, and floods."""
 from __future__ import annotations
 
 import time
@@ -35,7 +34,8 @@ class Seat:
     name: str | None = None  # Who is known there.
 
     def grown(self, path: Path) -> bytes:
-        """Returns what came to the file since it was read last, at most MOST bytes, or nothing if it can't be read."""
+        """Returns the bytes that the file has gained since the last read, at most MOST. Returns none if it can't be
+        read."""
         try:
             with plain.opened(path) as it:
                 it.seek(self.at)
@@ -46,20 +46,20 @@ class Seat:
         return found
 
 
-def told_so(word: str) -> str:
-    """Returns how a line was answered."""
+def denial_words(word: str) -> str:
+    """Returns the words for a denial or refusal."""
     return f"refused {word}" if word == MALFORMED else f"denied {word}"
 
 
 def together(what: str, who: list[str]) -> list[str]:
-    """Returns a line for each of a few, or one line with the number of many."""
+    """Returns a line for each name if there are few, or one line with their number."""
     if len(who) <= FEW:
         return [f"{what}: {each}" for each in who]
     return [f"{what}: {plural(len(who), 'student')}: {'; '.join(who)}"]
 
 
 class Heard:
-    """Follows a record. Whoever is named took part, and no line of theirs is shown."""
+    """Follows a record. It names students, and never shows their lines."""
 
     def __init__(self, folder: Path, lab: Lab) -> None:
         self.folder, self.lab = folder, lab
@@ -78,10 +78,10 @@ class Heard:
         self.due = self.last = time.monotonic()
 
     def catch_up(self, step: int) -> None:
-        """Takes what the record has already, and prints nothing of it."""
+        """Reads what the record has already, and prints none of it."""
         while self.read():
             pass
-        self.since(step)
+        self.forget_before(step)
         self.told.update({("wrong", name): count for name, count in self.wrong.items()})
         self.told.update({key: sum(at.values()) for key, at in self.vain.items()})
         self.lines.clear()
@@ -89,25 +89,25 @@ class Heard:
         self.over = ""
 
     def begin(self) -> None:
-        """Notes whether a student has come to a server that begins: who came to the one before counts only if still
-        connected."""
+        """Notes whether a student has come to a server that begins. A student of the earlier server counts only if
+        still connected."""
         self.came = not self.students.isdisjoint(self.connected())
 
     def news(self, step: int) -> list[str]:
-        """Returns lines of what is new since the last look. `step` is the place of the last step."""
+        """Returns lines about what is new since the last check. `step` is the place of the last step."""
         now = time.monotonic()
         return self.look(step, now) if now >= self.due else []
 
     def look(self, step: int, now: float) -> list[str]:
-        """Returns lines of what is new since the last look, at this moment."""
+        """Returns lines about what is new since the last check, at the moment `now`."""
         seconds = max(now - self.last, PAUSE)
         self.last, self.due = now, now + PAUSE
         self.read()
-        self.since(step)
+        self.forget_before(step)
         return [*self.come_and_gone(), *self.wrong_keys(), *self.in_vain(), *self.flooding(seconds), *self.cut_short()]
 
     def read(self) -> bool:
-        """Takes what the files have got. Returns whether there may be more."""
+        """Reads the new bytes of the files. Returns whether there may be more."""
         more = False
         for path in seats(self.folder):
             seat = self.seats.setdefault(path, Seat())
@@ -139,12 +139,12 @@ class Heard:
                     self.vain[who, word][entry.place] += 1
 
     def guess(self, name: str | None) -> None:
-        """Counts a wrong key, by the name that was given; those that the lab hasn't are counted together."""
+        """Counts a wrong key, by the name in the hello. Names that the lab lacks are counted together."""
         known = name is not None and (name in self.lab.students or name == self.lab.teacher[0])
         self.wrong[name if known and name else OTHERS] += 1
 
-    def since(self, step: int) -> None:
-        """Forgets what was denied before the last step, which was at that place."""
+    def forget_before(self, step: int) -> None:
+        """Forgets the denials before the last step, whose place is `step`."""
         if step != self.step:
             self.told = Counter({key: count for key, count in self.told.items() if key[0] == "wrong"})
         self.step = step
@@ -153,11 +153,11 @@ class Heard:
                 del at[place]
 
     def connected(self) -> Counter[str]:
-        """Returns how many connections each name has, but the desk's."""
+        """Returns the number of connections of each name, without the desk's."""
         return Counter(seat.name for path, seat in self.seats.items() if seat.name and path.name != f"{DESK}.record")
 
     def come_and_gone(self) -> list[str]:
-        """Returns lines of whose connections have become more or fewer."""
+        """Returns lines about names whose number of connections has changed."""
         before, now = self.shown, self.connected()
         self.shown = now
         come = [name + (f", {plural(now[name], 'connection')}" if now[name] > 1 else "")
@@ -166,48 +166,48 @@ class Heard:
                 for name in sorted(before) if now[name] < before[name]]
         return together("connected", come) + together("gone", gone)
 
-    def is_news(self, key: tuple[str, str], count: int, least: int) -> bool:
-        """Returns whether a count is to be printed: it is `least` or more, and twice what was printed or more. It
-        counts as printed then."""
+    def note_if_news(self, key: tuple[str, str], count: int, least: int) -> bool:
+        """Returns whether a count is to be printed: it is at least `least`, and at least twice the last one that
+        was printed. If so, notes that it was printed."""
         if count < max(least, 2 * self.told[key]):
             return False
         self.told[key] = count
         return True
 
     def wrong_keys(self) -> list[str]:
-        """Returns lines of wrong keys, as often as their number has doubled."""
+        """Returns lines about wrong keys, each time their number has doubled."""
         return [f"{plural(count, 'wrong key')} for {name}" for name, count in self.wrong.items()
-                if self.is_news(("wrong", name), count, 1)]
+                if self.note_if_news(("wrong", name), count, 1)]
 
     def denied(self) -> list[tuple[str, str, int]]:
-        """Returns who asked without success since the last step: the name, the word of the denial or refusal, how
-        often."""
+        """Returns the students who asked without success since the last step: name, word of the denial or refusal, and
+        count."""
         return [(name, word, at.total()) for (name, word), at in self.vain.items() if at.total()]
 
     def in_vain(self) -> list[str]:
-        """Returns who asked without success since the last step, as lines, from VAIN times on as often as the number
-        has doubled."""
-        return [f"{name}: {told_so(word)} {plural(count, 'time')} since the last step"
-                for name, word, count in self.denied() if self.is_news((name, word), count, VAIN)]
+        """Returns lines about students who asked without success since the last step. A line is printed from VAIN times
+        on, each time the number has doubled."""
+        return [f"{name}: {denial_words(word)} {plural(count, 'time')} since the last step"
+                for name, word, count in self.denied() if self.note_if_news((name, word), count, VAIN)]
 
     def flooding(self, seconds: float) -> list[str]:
-        """Returns lines of who began to flood, and who ceased."""
+        """Returns lines about the students who began to flood, and those who stopped."""
         rates = {name: round(count / seconds) for name, count in self.lines.items() if count / seconds >= FLOOD}
         self.lines.clear()
-        begun = [f"a flood: {rate} lines a second of {name}" for name, rate in rates.items() if name not in self.floods]
-        over = [f"no flood any longer of {name}" for name in self.floods if name not in rates]
+        begun = [f"a flood: {rate} lines a second from {name}" for name, rate in rates.items() if name not in self.floods]
+        over = [f"no flood any longer from {name}" for name in self.floods if name not in rates]
         self.floods = rates
         return begun + over
 
     def cut_short(self) -> list[str]:
-        """Returns lines of whose lines aren't recorded any longer."""
+        """Returns lines about the students whose lines aren't recorded any longer."""
         names, self.cut = self.cut, []
         why = "its share of the record is used up, or the disk is full"
         return [f"the rest of what {name} sends isn't recorded: {why}" for name in dict.fromkeys(names)]
 
     def who(self, count: int, all_seats: int, otherwise: Iterable[str] = ()) -> str:
-        """Returns who is connected, and how many of the seats are taken: `count`, as the system reports it. `otherwise`
-        are texts of some of them: a name, a comma, and how they are connected."""
+        """Returns who is connected, and how many seats are taken. `count` is the number that the system reports.
+        `otherwise` are texts about some connections: a name, a comma, and how it is connected."""
         known, every = self.connected(), self.connected().total()
         how = [text for text in otherwise if known[text.partition(",")[0]]]
         known.subtract(text.partition(",")[0] for text in how)
@@ -217,9 +217,9 @@ class Heard:
         return f"{max(count, every)} of {all_seats} seats: {', '.join(names) or 'nobody'}"
 
     def amiss(self) -> list[str]:
-        """Returns lines of wrong keys, of who asked without success since the last step, and of who floods."""
+        """Returns lines about wrong keys, floods, and students who asked without success since the last step."""
         wrong = ", ".join(f"{count} for {name}" for name, count in self.wrong.items())
-        vain = [f"{name}: {told_so(word)} {plural(count, 'time')}" for name, word, count in self.denied()]
+        vain = [f"{name}: {denial_words(word)} {plural(count, 'time')}" for name, word, count in self.denied()]
         floods = ", ".join(f"{name}, {rate} lines a second" for name, rate in self.floods.items())
         told = (f"wrong keys: {wrong}" if wrong else "", f"since the last step {'; '.join(vain)}" if vain else "",
                 f"a flood of {floods}" if floods else "")

@@ -1,5 +1,4 @@
-"""The desk of a run, held from its greeting to the run's end: by whoever began the run, and by whoever goes on with
-it."""
+"""The desk of a run, from its greeting to the end of the run. `run` uses it, and every command that continues a run."""
 from __future__ import annotations
 
 import contextlib
@@ -34,7 +33,7 @@ from classroom.run.ending import finish, put_back
 from classroom.run.heard import Heard
 from classroom.run.house import WAITS, House
 from classroom.run.state_file import StateFile
-from classroom.run.taking import Left, taken
+from classroom.run.taking import Left, take_desk
 from classroom.run.teller import Teller, is_private
 from classroom.run.typed import HELP, HUNG, LEAVE, NOW, Terminal, Typed, read_lines
 
@@ -44,7 +43,7 @@ SIGNALS = {signal.SIGINT: NOW, signal.SIGTERM: NOW, signal.SIGHUP: HUNG, signal.
 
 @dataclass
 class Running:
-    """A run whose desk is held."""
+    """A run, with the options of its desk."""
 
     folder: Path
     lab_file: Path
@@ -65,11 +64,11 @@ class Running:
     door: str | None = None  # The folder of the door that leads here.
     typed: Typed = field(default_factory=queue.SimpleQueue)
     pages: projector.Pages | None = None
-    hands: by_hand.Hands | None = None
+    hands: by_hand.PlayServer | None = None
     terminal: Terminal | None = None
 
     def record(self, it: server.Server) -> Record:
-        """Returns what its folder keeps while it goes on."""
+        """Returns the record for the folder of the run while it continues."""
         page, looks = (self.pages.server_port, self.pages.looks) if self.pages else (self.page, self.looks)
         play = self.hands.server_port if self.hands else self.play
         return Record(str(self.lab_file.resolve()), it.port, it.desk, page, spelled(self.close), self.until,
@@ -79,35 +78,36 @@ class Running:
 
     @cached_property
     def names(self) -> ShownNames:
-        """Returns the names that its pages show."""
+        """Returns the names that the pages of the run show."""
         return ShownNames.of(self.lab, self.anonymous)
 
     def is_in_class(self) -> bool:
-        """Returns whether it is the run of one network of a class, whose desk holds the other end of its input."""
+        """Returns whether this is the run of one network of a class. Then the class's desk has the other end of its
+        input."""
         return is_class(self.folder.absolute().parent)
 
-    def keep(self, **other: Any) -> None:
-        """Changes something of the record in its folder, if there is one."""
+    def update_record(self, **other: Any) -> None:
+        """Changes values of the record in the folder, if there is one."""
         record = Record.read(self.folder)
         if record is not None:
             replace(record, **other).write(self.folder)
 
     def title(self) -> str:
-        """Returns what its page is called."""
+        """Returns the title of the page."""
         return title(self.folder / "lab.toml", self.folder / "journal", self.lab_file.stem)
 
     def hung(self) -> None:
-        """Goes on without its terminal."""
-        self.keep(left=True)
+        """Notes that the terminal is closed, and continues the run without it."""
+        self.update_record(left=True)
         self.tell.around = str
         self.tell(f"the terminal went away, and the run goes on: {CLASS} attach {self.folder} takes it")
 
 
 def open_desk(it: server.Server, run: Running) -> Desk:
-    """Writes the record into the run's folder, greets at the desk, and sets up the house and what watches connections;
-    a run that goes on is caught up with."""
+    """Writes the record into the run's folder, connects to the desk, and sets up the house, the clock and the
+    watch on connections. Catches up with a run that continues."""
     run.record(it).write(run.folder)
-    client = taken(it, run.lab.teacher, run.typed, run.tell, run.hung)
+    client = take_desk(it, run.lab.teacher, run.typed, run.tell, run.hung)
     desk = Desk(run.lab, run.folder / "journal", client, run.close, run.tell)
     desk.announcer.lost_journal = it.lost_journal
     recorded = (run.folder / record.FOLDER / "begun").is_file()
@@ -115,12 +115,12 @@ def open_desk(it: server.Server, run: Running) -> Desk:
     desk.connected = Connected(it.port, run.lab.sessions - 1, desk.client.own_port(), names, not recorded)
     desk.heard = Heard(run.folder / record.FOLDER, run.lab) if recorded else None
     if run.lab.held() and it.hosted:
-        desk.house = House(run.lab, it.port, run.stand_in, run.tell, run.played, lambda names: run.keep(played=names))
+        desk.house = House(run.lab, it.port, run.stand_in, run.tell, run.played, lambda names: run.update_record(played=names))
     desk.names = run.names
     desk.clock = Clock(run.ends, datetime.now()) if run.ends else None
     if run.is_in_class():
         state = StateFile(run.folder, run.names)
-        desk.keep_state = lambda: state.keep(desk)
+        desk.keep_state = lambda: state.write_if_changed(desk)
     if run.goes_on:
         desk.catch_up()
     if desk.heard and it.child is not None:
@@ -133,25 +133,24 @@ def open_desk(it: server.Server, run: Running) -> Desk:
 
 
 def renew(run: Running, it: server.Server, desk: Desk, name: str) -> None:
-    """Gives a student another key, and the desk over the server that takes it."""
+    """Gives a student another key, and connects the desk to the server that uses it."""
     renewing.renew(run.folder, run.lab, it, desk, name)
     if run.hands is not None:
         run.hands.students = it.port
-    run.keep(server=it.process, port=it.port, desk=it.desk)
-    desk.take(taken(it, run.lab.teacher, run.typed, run.tell, run.hung))
-    run.tell(f"the class goes on at port {it.port}; whoever was connected comes again")
+    run.update_record(server=it.process, port=it.port, desk=it.desk)
+    desk.use_connection(take_desk(it, run.lab.teacher, run.typed, run.tell, run.hung))
+    run.tell(f"the class goes on at port {it.port}; all programs have to connect again")
     if is_private(run.takes_lines):
         run.tell.alone(f"the key of {name}: {run.lab.students[name]}")
 
 
 def show(pages: projector.Pages, desk: Desk, tell: Teller, typed: bool) -> None:
-    """Opens the page, and shows on it what is printed from now on. The address to act at is printed only on the
-    terminal, or for a program that types instead."""
-    watch = desk.watched()
+    """Starts to serve the page, and shows on it what is printed from now on. The address to act at is printed only
+    on the terminal, or for a program that types instead."""
+    watch = desk.start_watch()
 
     def act() -> None:
-        """Prints the address to act at for readers who may act, and for others that it is printed only at a
-        terminal."""
+        """Prints the address to act at if only the teacher can read it, and else that it isn't printed."""
         if is_private(typed):
             tell.alone(f"page to act {pages.address_to_act}")
         else:
@@ -169,8 +168,8 @@ def show(pages: projector.Pages, desk: Desk, tell: Teller, typed: bool) -> None:
     pages.show(watch.present, tell)
 
 
-def listen(run: Running) -> None:
-    """Takes what is typed from now on, if somebody types."""
+def start_reading(run: Running) -> None:
+    """Starts to read typed commands, if there is a terminal or another input."""
     at_terminal = sys.stdin is not None and sys.stdin.isatty()
     if not at_terminal and not run.takes_lines:
         return
@@ -182,35 +181,35 @@ def listen(run: Running) -> None:
 
 
 def read_typed(run: Running) -> None:
-    """Takes lines until there are no more. A run of a class loses its desk with the process that holds the desk of the
-    class."""
+    """Queues typed lines until there are no more. A run of a class loses its desk at the end of its input."""
     (run.terminal.read if run.terminal else read_lines)(run.typed.put)
     if run.terminal is None and run.is_in_class():
         run.typed.put(HUNG)
 
 
-def obey_signals(typed: Typed) -> None:
-    """Puts a word among what is typed for each signal that comes from now on."""
+def queue_signals(typed: Typed) -> None:
+    """Queues a word among the typed lines for each signal that comes from now on."""
     for number in SIGNALS:
         signal.signal(number, lambda number, _: typed.put(SIGNALS[signal.Signals(number)]))
 
 
 def hold(run: Running, it: server.Server) -> int | None:
-    """Holds the desk to the end of the run, and returns the status, or None if it is left to another process."""
+    """Runs the desk to the end of the run. Returns the exit status, or None if the desk is left to another
+    process."""
     try:
         desk = open_desk(it, run)
         if it.hosted:
             desk.another_key = lambda name: renew(run, it, desk, name)
-        listen(run)
+        start_reading(run)
         if run.pages is not None:
             show(run.pages, desk, run.tell, run.takes_lines)
         if run.hands is not None:
             run.hands.show(it.port, run.tell)
             run.tell(f"page to play {run.hands.address}")
-        for line in letting.told(run.door, run.lab_file, run.pages.looks if run.pages else None):
+        for line in letting.page_lines(run.door, run.lab_file, run.pages.looks if run.pages else None):
             run.tell(line)
     except Left:
-        run.tell("another process takes the desk")
+        run.tell("another process takes over the desk")
         return None
     except (Closed, Refused, Denied) as error:
         run.tell(f"the server: {error}")
@@ -221,9 +220,9 @@ def hold(run: Running, it: server.Server) -> int | None:
 
 
 def give_up(it: server.Server, run: Running, seconds: float) -> int | None:
-    """Ends a server whose desk can't be held, and returns the status. A server that was found, and not started here,
-    goes on, unless it ends by itself in so many seconds, and then None is returned."""
-    ended = it.ended(seconds)
+    """Ends a server whose desk can't be held, and returns the status. A server that wasn't started here continues
+    unless it ends by itself in time, and then None is returned."""
+    ended = it.has_ended(seconds)
     if it.child is None and not ended:
         leave(it, run)
         return None
@@ -233,18 +232,18 @@ def give_up(it: server.Server, run: Running, seconds: float) -> int | None:
 
 
 def leave(it: server.Server, run: Running) -> None:
-    """Prints that the server goes on without this program."""
-    run.tell(f"the server is left to itself, process {it.process.number}: while it goes on, {CLASS} attach {run.folder} "
-             f"takes its desk; then {CLASS} mark prints the marks")
+    """Prints that the server continues without a desk."""
+    run.tell(f"the server keeps running without a desk, process {it.process.number}: while it runs, {CLASS} attach {run.folder} "
+             f"connects to its desk; after that, {CLASS} mark prints the marks")
 
 
 def take_leave(it: server.Server, desk: Desk, why: str, run: Running) -> int | None:
-    """Says bye, and waits for the server's end, which may be late. `why` is what ended the run. Returns the status, or
-    None if the desk or the server is left to go on."""
+    """Says bye at the desk, and waits for the server's end. `why` is the reason for the end of the run. Returns
+    the exit status, or None if the server continues."""
     tell = run.tell
     if why == "left":
         desk.client.hang_up()
-        tell("another process takes the desk")
+        tell("another process takes over the desk")
         return None
     try:
         if why != "died":
@@ -253,7 +252,7 @@ def take_leave(it: server.Server, desk: Desk, why: str, run: Running) -> int | N
         tell(f"the desk: {error}")
     if not it.hosted and why != "died":
         it.stop()
-    elif not waits(it, run):
+    elif not wait_for_server(it, run):
         leave(it, run)
         return None
     elif why == "died" or it.status() != 0 and not it.lacks_record():
@@ -265,38 +264,39 @@ def take_leave(it: server.Server, desk: Desk, why: str, run: Running) -> int | N
         if line.startswith("host: "):
             tell(f"the server said: {line.removeprefix('host: ')}")
     if it.lacks_record():
-        tell("the record isn't whole: the disk didn't take all of it; the journal is")
+        tell("the record isn't whole, since the disk didn't take all of it; the journal is whole")
     tell("stable, and so the run is ended" if why == "stable" else "the run is ended")
     return {"journal": FAILED, "full": WARNED}.get(why, WARNED if it.lacks_record() else 0)
 
 
-def waits(it: server.Server, run: Running) -> bool:
-    """Waits for the server's end, and says so if it is late. Returns false if the teacher doesn't wait any longer."""
-    if it.ended(LATE):
+def wait_for_server(it: server.Server, run: Running) -> bool:
+    """Waits for the server's end, and prints a line if it is late. Returns false if the teacher stops waiting."""
+    if it.has_ended(LATE):
         return True
     while not run.typed.empty():
         run.typed.get()  # What was typed before isn't meant so.
-    run.tell(f"waiting for the server's end, process {it.process.number}; end leaves it to itself")
-    while not it.ended(TICK):
+    run.tell(f"waiting until the server ends, process {it.process.number}; type `end` to stop waiting")
+    while not it.has_ended(TICK):
         if not run.typed.empty() and run.typed.get() in (NOW, "end"):
             return False
     return True
 
 
 def to_the_end(run: Running, start: Callable[[], server.Server]) -> int:
-    """Holds the desk of a server that is started or found, and leaves marks and page in the folder."""
+    """Runs the desk over a server that `start` starts or finds. At the end, writes marks and pages into the
+    folder. Returns the exit status."""
     try:
         if run.page is not None:
-            kept_layout.take(run.folder)
+            kept_layout.load(run.folder)
             run.pages = projector.open_pages(run.page, run.title(), run.names.lab(run.lab), run.typed, run.looks)
-            kept_layout.keep(run.folder, run.lab)
+            kept_layout.save(run.folder, run.lab)
         if run.play is not None:
-            run.hands = by_hand.open_hands(run.play, run.title(), run.lab)
-        obey_signals(run.typed)
+            run.hands = by_hand.open_play_page(run.play, run.title(), run.lab)
+        queue_signals(run.typed)
         status = hold(run, start())
         if status is None:
             return FAILED
-        run.keep(ended=status != FAILED)
+        run.update_record(ended=status != FAILED)
         return finish(run.folder, run.tell, run.is_in_class()) or status
     finally:
         for it in (run.hands, run.pages):

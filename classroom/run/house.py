@@ -1,4 +1,4 @@
-"""The house at a run: it holds a second owner of each node, and plays for absent students, in its own name."""
+"""The house of a run: the second owner of each node, which plays for absent students in its own name."""
 from __future__ import annotations
 
 import time
@@ -12,23 +12,22 @@ from classroom.core.program import Fault
 LIMIT = 5.0  # seconds that an answer may take
 AGAIN = 2.0  # seconds after which it comes again if it wasn't let in
 WAITS = "the house waits for a first student"
-HOW = "./class new .. --stand-in makes a lab in which each node has it"
+HOW = "`./class new NAME --stand-in` makes a lab in which each node has a stand-in"
 
 
 def want_house(lab: Lab, file: object) -> None:
-    """Raises a fault, which names the file, if a lab has no house."""
+    """Raises `Fault`, which names the file, if a lab has no house."""
     if not lab.held():
         raise Fault(f"{file}: no node has the second owner `{HOUSE}`, who could stand in: {HOW}")
 
 
 class House:
-    """Asks for moves of nodes for which the class waits, as a look shows them. It takes a seat for a moment each
-    time."""
+    """Asks for the moves of nodes that the class waits for. It takes a seat for a moment each time."""
 
     def __init__(self, lab: Lab, port: int, seconds: float | None, tell: Callable[[str], None], played: Collection[str] = (),
                  keep: Callable[[list[str]], None] = lambda names: None) -> None:
-        """The house plays by itself if a node has waited for so many seconds, if any; and at once for the students
-        named in `played`. `keep` keeps their names if they become others."""
+        """The house plays a node by itself after the class has waited `seconds` for it, if they are given. It plays at
+        once for the students named in `played`. `keep` stores their names when they change."""
         self.port, self.seconds, self.tell = port, seconds, tell
         self.key = lab.students[HOUSE]
         self.held = set(lab.held())
@@ -40,13 +39,13 @@ class House:
         self.told_busy = False
 
     def play(self, name: str) -> str:
-        """Plays a student's nodes from now on, without waiting. Returns the line that says so."""
+        """Plays a student's nodes from now on, without waiting. Returns the line that reports it."""
         self.played.add(self.student(name))
         self.keep(sorted(self.played))
         return f"the house plays for {name}: {', '.join(map(str, sorted(self.students[name])))}"
 
     def stop(self, name: str) -> str:
-        """Leaves a student's nodes to the student again. Returns the line that says so."""
+        """Stops playing a student's nodes. Returns the line that reports it."""
         if self.student(name) not in self.played:
             raise ValueError(f"the house doesn't play for {name}")
         self.played.discard(name)
@@ -54,30 +53,30 @@ class House:
         return f"the house doesn't play for {name} any longer"
 
     def student(self, name: str) -> str:
-        """Returns the name, if it is that of a student with nodes. Raises an error for any other."""
+        """Returns the name if it is the name of a student with nodes. Raises an error otherwise."""
         if name not in self.students:
             raise ValueError(f"no student {name} has a node here; there are {', '.join(self.students)}")
         return name
 
     def told(self) -> str:
-        """Returns for whom the house plays, as a line."""
+        """Returns the line about the students for whom the house plays."""
         names = ", ".join(name for name in self.students if name in self.played)
         late = f"each node that has waited for {self.seconds:g} seconds" if self.seconds is not None else ""
         whom = " and ".join(filter(None, (f"for {names}" if names else "", late)))
         return f"the house plays {whom or 'for nobody'}{f'; {WAITS}' if self.waits() else ''}"
 
     def waits(self) -> bool:
-        """Returns whether the house would play by itself, and doesn't yet: nobody has come who could have played."""
+        """Returns whether the house would play by itself, and no student has come yet who could have played."""
         return self.seconds is not None and not self.begun
 
     def note(self, event: Event) -> None:
-        """Takes an event: a node whose move was granted isn't waited for any longer."""
+        """Takes an event. The class no longer waits for a node whose move was granted."""
         if event.kind == "grant":
             self.since.pop(event.nodes[0], None)
 
     def due(self, waiting: Collection[int], now: float) -> list[int]:
-        """Returns the nodes that are the house's to play now, of those for which the class waits; the one that has
-        waited longest comes first. Before a first student has come no time passes."""
+        """Returns the nodes that the house may play now, among those that the class waits for. The one with the longest
+        wait comes first. No time passes before a first student has come."""
         before = self.since if self.begun else {}
         self.since = {node: before.get(node, now) for node in waiting if node in self.held}
         at_once = set[int]().union(*(self.students[name] for name in self.played))
@@ -85,7 +84,7 @@ class House:
         return sorted(at_once.intersection(self.since).union(late), key=lambda node: (self.since[node], node))
 
     def turn(self, waiting: Collection[int], most: int) -> None:
-        """Asks for the moves that are the house's to ask for now, at most so many."""
+        """Asks for the moves that the house may ask for now, at most `most`."""
         now = time.monotonic()
         nodes = self.due(waiting, now)[:most]
         if not nodes or now < self.again:
@@ -99,12 +98,13 @@ class House:
             self.again = now + AGAIN
             if refused.word == "busy" and not self.told_busy:
                 self.told_busy = True
-                self.tell("no seat is free for the house, which would play now; type who to see whose they are")
+                self.tell("the house would play now, but no seat is free for it; type who to see which students have the seats")
         except Closed:
             self.again = now + AGAIN
 
     def ask(self, me: Client, node: int) -> None:
-        """Asks for what a look shows at a node, if anything; if its student was quicker nothing is left to do."""
+        """Asks for the enabled rule of a node. Does nothing if there is none, for example if its student was
+        quicker."""
         look = me.look(node)
         if look.rule is None or look.chosen is not None:
             return

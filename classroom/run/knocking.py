@@ -10,8 +10,9 @@ LONGEST = 1.0  # seconds that one try may take
 
 
 def held(port: int) -> socket.socket:
-    """Returns a socket that is bound to a port, or to a free one if the port is 0, and doesn't listen. While it is open
-    nobody is given that port by chance, and a host may still listen there, since both allow it (SO_REUSEADDR)."""
+    """Returns a socket that is bound to a port, or to a free one if the port is 0, and doesn't listen. While it is
+    open, the system gives the port to no other program, and a host may still listen there, since both set
+    SO_REUSEADDR."""
     it = socket.socket()
     it.setsockopt(socket.SOL_SOCKET, socket.SO_REUSEADDR, 1)
     try:
@@ -22,10 +23,10 @@ def held(port: int) -> socket.socket:
 
 
 class Knock:
-    """Connects to a port as soon as somebody listens there."""
+    """Connects to a port as soon as a program listens there."""
 
     def __init__(self, port: int) -> None:
-        """With port 0 the number is chosen here."""
+        """Reserves the port. If `port` is 0, a free one is chosen."""
         self.held = held(port)
         self.port: int = port or self.held.getsockname()[1]
         self.connection: socket.socket | None = None
@@ -39,7 +40,7 @@ class Knock:
             self.connection.close()
 
     def wait(self, seconds: float) -> None:
-        """Waits for so long, and tries to connect meanwhile, unless that has succeeded already."""
+        """Waits for `seconds`, and tries to connect in the meantime unless it is connected."""
         end = time.monotonic() + seconds
         while time.monotonic() < end:
             if self.connection is None:
@@ -47,13 +48,13 @@ class Knock:
             time.sleep(BETWEEN)
 
     def taken(self) -> socket.socket | None:
-        """Returns the connection, if there is one, which is the caller's from then on."""
+        """Returns the connection, if there is one. The caller has to close it."""
         it, self.connection = self.connection, None
         return it
 
 
 def opened(port: int) -> socket.socket | None:
-    """Returns a connection to a port, if somebody listens there."""
+    """Returns a connection to a port, or None if no program listens there."""
     try:
         return socket.create_connection(("127.0.0.1", port), timeout=LONGEST)
     except OSError:

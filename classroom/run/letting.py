@@ -1,4 +1,4 @@
-"""A door for the runs of a class: the words that ask for one, and what is printed of it."""
+"""A door for the runs of a class: its options, and the lines that are printed about it."""
 from __future__ import annotations
 
 import argparse
@@ -16,27 +16,27 @@ WHERE = "[ADDRESS:]PORT"
 
 
 def add_words(words: argparse.ArgumentParser) -> None:
-    """Adds the words for a door."""
+    """Adds the options of a door."""
     words.add_argument("--door", type=Place.of, metavar=WHERE,
-                       help="let students in from elsewhere: by TLS, at this port of all addresses or of one, to all networks; with --play")
+                       help="open a door for students on other machines, by TLS, at this port of all addresses or of one")
     words.add_argument("--certificate", type=Path, metavar="FILE",
-                       help="the door's key and certificate (door.pem beside the first lab, made if it isn't there)")
+                       help="the door's key and certificate (door.pem in the folder of the first lab; it is made if it is missing)")
     words.add_argument("--door-at", metavar="FOLDER", help=argparse.SUPPRESS)  # A door that another process has opened.
 
 
 @contextmanager
 def door(words: argparse.Namespace, labs: Iterable[Path], tell: Callable[[str], None], before: str | None = None) -> Iterator[str | None]:
-    """Opens a door if the words ask for one, or if there was one `before`, and yields its folder; lets it end afterwards.
-    A door that another process has opened stays as it is."""
+    """Opens a door if the options ask for one, or if there was one `before`. Yields its folder, and closes it at the end.
+    A door that another process has opened stays open."""
     every, opened, folder = [*labs], None, words.door_at
     if words.door is not None:
         file = words.certificate or certificate.beside(every[0])
-        certificate.ready(file, words.door.address or opening.here())
-        opened = opening.opened(words.door, Path(words.into), file, tell)
-        for line in told_of(opened, every, file):
+        certificate.make_if_missing(file, words.door.address or opening.own_host_name())
+        opened = opening.open_door(words.door, Path(words.into), file, tell)
+        for line in door_lines(opened, every, file):
             tell(line)
     elif before is not None and folder is None:
-        opened, folder = opening.again(Path(before), tell), before
+        opened, folder = opening.reopen(Path(before), tell), before
     try:
         yield str(opened.folder) if opened is not None else folder
     finally:
@@ -44,23 +44,23 @@ def door(words: argparse.Namespace, labs: Iterable[Path], tell: Callable[[str], 
             opened.close()
 
 
-def told_of(opened: opening.Opened, labs: list[Path], file: Path) -> Iterator[str]:
-    """Yields the place of a door, its certificate, and which slips don't lead to it."""
+def door_lines(opened: opening.OpenDoor, labs: list[Path], file: Path) -> Iterator[str]:
+    """Yields the lines about a door: its port, its certificate, and the labs whose slips name another address."""
     yield f"door at port {opened.port}; its certificate, {file}, has the fingerprint {certificate.fingerprint(file)}"
-    wrong = opening.amiss(labs, file, opened.port)
+    wrong = opening.misled_labs(labs, file, opened.port)
     if wrong:
-        yield (f"the slips of {', '.join(wrong)} don't lead there: {CLASS} slips {' '.join(map(str, labs))} --door HOST:{opened.port} "
-               "makes them anew")
+        yield (f"the slips of {', '.join(wrong)} lead to another address: {CLASS} slips {' '.join(map(str, labs))} --door HOST:{opened.port} "
+               "makes them again")
 
 
-def lead(folder: str | None, lab: Path, run: Path) -> None:
-    """Leads a door, if there is one, to a run."""
+def route_to(folder: str | None, lab: Path, run: Path) -> None:
+    """Makes a door, if there is one, forward connections to a run."""
     if folder is not None:
-        opening.lead(Path(folder), lab, run)
+        opening.route_to(Path(folder), lab, run)
 
 
-def told(folder: str | None, lab: Path, looks: str | None) -> Iterator[str]:
-    """Yields the addresses by which a door leads to the pages of a run, if there is a door."""
+def page_lines(folder: str | None, lab: Path, looks: str | None) -> Iterator[str]:
+    """Yields lines with the addresses of a run's pages through a door, if there is one."""
     place = place_of(folder, lab)
     if place is None:
         return
@@ -70,16 +70,17 @@ def told(folder: str | None, lab: Path, looks: str | None) -> Iterator[str]:
 
 
 def place_of(folder: str | None, lab: Path) -> Place | None:
-    """Returns where a door is, if there is one, by the name that the slips beside a lab have for it."""
+    """Returns the address and port of a door, or None if there is none. The address is the one in the slips of the lab."""
     kept = Kept.read(Path(folder)) if folder is not None else None
     if kept is None:
         return None
     hosts = [door_of(slip.door)[0] for slip in opening.slips_of(lab) if slip.door]
-    return Place(next(iter(hosts), kept.address or opening.here()), kept.port)
+    return Place(next(iter(hosts), kept.address or opening.own_host_name()), kept.port)
 
 
 def page_for_all(folder: str | None, lab: Path, port: int, looks: str) -> str:
-    """Leads a door, if there is one, to the page for all networks. Returns the address of that page there, or nothing."""
+    """If there is a door, has it forward to the page that shows all networks of the class. Returns the address of that page
+    through the door, or an empty text if there is no door."""
     place = place_of(folder, lab)
     if folder is None or place is None:
         return ""

@@ -1,4 +1,4 @@
-"""One network of a class: the process that holds its desk, what that has printed, and what is wrong with it."""
+"""One network of a class: the process of its desk, the output of that process, and its alarm."""
 from __future__ import annotations
 
 import os
@@ -37,13 +37,13 @@ LEFT_OUT = re.compile(r"to go on: .*|the lesson .*|it is \d\d:\d\d: .*")  # The 
 
 
 def environment() -> dict[str, str]:
-    """Returns the environment of a run's process: its lines come at once."""
+    """Returns the environment for a run's process, which makes its output unbuffered."""
     return {**os.environ, "PYTHONUNBUFFERED": "1"}
 
 
 @dataclass
 class Member:
-    """A network of a class with its process."""
+    """A network of a class with the process of its desk."""
 
     number: int
     network: Network
@@ -67,15 +67,15 @@ class Member:
         return self.network.name
 
     def start(self, hear: Callable[[Member, str], None], ended: Callable[[Member], None]) -> None:
-        """Starts the process that holds the desk: a new run, one that goes on, or one that takes the desk of a server that
-        is still there. What it prints is put among the news, line by line, and so is its end."""
+        """Starts the process of the desk: of a new run, of one that continues, or of a server that is still running.
+        Passes each line of its output and its end to the callbacks."""
         record = Record.read(self.folder)
         if record is None:
             words = ["run", self.network.lab, "--into", str(self.folder.parent), "--beside", *self.more]
         elif record.server.lives():
-            words = ["attach", str(self.folder), *self.kept("--door-at")]
+            words = ["attach", str(self.folder), *self.resume_words("--door-at")]
         else:
-            words = ["run", "--resume", str(self.folder), *self.kept(), *(["--again"] if record.ended else [])]
+            words = ["run", "--resume", str(self.folder), *self.resume_words(), *(["--again"] if record.ended else [])]
         self.status, self.alarm, self.why, self.begun, self.facts = STARTS, "", "", False, {}
         self.wanted = wanted(self.more, record)
         self.child = subprocess.Popen(
@@ -84,8 +84,9 @@ class Member:
         )
         threading.Thread(target=self.follow, args=[self.child, hear, ended], daemon=True).start()
 
-    def kept(self, *but: str) -> list[str]:
-        """Returns the words for a run that goes on: but for its port, which it keeps, and for others with a value."""
+    def resume_words(self, *but: str) -> list[str]:
+        """Returns the arguments for a run that continues: all except those for its port, and except other options
+        `but` that have a value."""
         words = list(self.more)
         for word in ("--port", "--into", *but):
             if word in words:
@@ -94,15 +95,15 @@ class Member:
         return [word for word in words if word not in ("--serve", "--beside")]
 
     def follow(self, child: Child, hear: Callable[[Member, str], None], ended: Callable[[Member], None]) -> None:
-        """Puts each line that the process prints among the news, and its end."""
+        """Queues each line of the process's output, and then its end."""
         assert child.stdout is not None
         for line in child.stdout:
             self.news.put(partial(hear, self, line.rstrip("\n")))
         child.wait()
         self.news.put(partial(ended, self))
 
-    def takes(self, line: str) -> bool:
-        """Notes a line that the process printed. Returns whether the class's desk shows it."""
+    def note_line(self, line: str) -> bool:
+        """Notes a line of the process's output. Returns whether the class's desk shows it."""
         fact, value = fact_in(line)
         is_new = fact != "" and fact not in self.facts
         if fact:
@@ -116,7 +117,7 @@ class Member:
         return not LEFT_OUT.fullmatch(line)
 
     def send(self, line: str) -> bool:
-        """Sends a line to the process. Returns whether it takes one."""
+        """Sends a line to the process. Returns whether the process accepts lines."""
         try:
             assert self.child is not None and self.child.stdin is not None
             self.child.stdin.write(line + "\n")
@@ -125,8 +126,8 @@ class Member:
             return False
         return True
 
-    def has_ended(self) -> None:
-        """Notes that its process has ended: the run too, or else it is down, which is an alarm."""
+    def note_end(self) -> None:
+        """Notes the end of the process. Unless the run has ended too, the network is down, which is an alarm."""
         assert self.child is not None
         self.code = self.child.returncode
         for pipe in (self.child.stdin, self.child.stdout):
@@ -148,31 +149,33 @@ class Member:
         self.alarm = f"{what}; {remedy}, end {self.number} gives it up"
 
     def give_up(self) -> str:
-        """Gives up a network that is down, and returns the line that says so. Raises `ValueError` if its server goes on."""
+        """Marks a network that is down as ended, and returns the line that reports it. Raises `ValueError` if its
+        server is still running."""
         record = Record.read(self.folder)
         if record is not None and record.server.lives():
-            raise ValueError(f"its server goes on: resume {self.number} takes its desk, then end {self.number} ends it")
+            raise ValueError(f"its server keeps running: resume {self.number} connects to its desk, then end {self.number} ends it")
         if record is not None:
             replace(record, ended=True).write(self.folder)
         self.status, self.alarm, self.code = ENDED, "", FAILED
-        return f"given up; what it left is in {self.folder}"
+        return f"given up; its files are in {self.folder}"
 
     def terminate(self) -> None:
-        """Ends its run by a signal, if its process goes on."""
+        """Sends the process the signal to end its run, if it is running."""
         if self.child is not None and self.child.poll() is None:
             self.child.send_signal(signal.SIGTERM)
 
     def leave(self) -> None:
-        """Has its process leave the desk to another one."""
+        """Makes its process leave the desk to another process."""
         if self.child is not None and self.child.poll() is None:
             self.child.send_signal(signal.SIGUSR1)
 
     def page(self, acts: bool) -> str:
-        """Returns the address of its page: to act, on this machine; to look at, through the door if there is one."""
+        """Returns the address of the network's page: to act at on this machine, or to look at, through the door if
+        there is one."""
         return self.facts.get("act", "") if acts else self.facts.get("look_from", self.facts.get("page", ""))
 
     def shown(self, acts: bool = False) -> NetworkState:
-        """Returns what the page for all shows of it."""
+        """Returns the state of the network for the page for all."""
         port = int(self.facts["port"]) if "port" in self.facts else None
         page = self.page(acts) if self.status in (STARTS, RUNS) else ""
         return NetworkState(self.number, self.name, self.network.room, port, page, self.lab.sessions - 1, len(self.lab.students),
@@ -184,7 +187,7 @@ class Member:
 
 
 def fact_in(line: str) -> tuple[str, str]:
-    """Returns the fact for the table that a line has, and its value; else two empty texts."""
+    """Returns the fact in a line and its value, or two empty texts if it has none."""
     for fact, pattern in FACTS.items():
         if found := pattern.fullmatch(line):
             return fact, found[1]
@@ -192,7 +195,7 @@ def fact_in(line: str) -> tuple[str, str]:
 
 
 def wanted(words: list[str], record: Record | None) -> set[str]:
-    """Returns what a run that is started with these words says before it has started."""
+    """Returns the facts that a run with these arguments prints while it starts."""
     found = {"port"} | ({"play_from"} if "--door-at" in words else set())
     if "--page" in words or record is not None and record.page is not None:
         found |= {"page", "act"} | ({"look_from"} if "--door-at" in words else set())
@@ -200,5 +203,5 @@ def wanted(words: list[str], record: Record | None) -> set[str]:
 
 
 def told_status(code: int) -> str:
-    """Returns how a process ended, as a text."""
+    """Returns the text for the exit status of a process."""
     return f"status {code}" if code >= 0 else f"by {signal.Signals(-code).name}"

@@ -11,7 +11,7 @@ MOST_NAMED = 3  # students who are missing
 
 
 def aligned(rows: Sequence[Sequence[str]]) -> list[str]:
-    """Returns the rows as lines whose columns are aligned; the first column stands to the right."""
+    """Returns the rows as lines with aligned columns. The first column is aligned to the right."""
     widths = [max(len(row[column]) for row in rows) for column in range(len(rows[0]))]
     lines = []
     for row in rows:
@@ -21,8 +21,8 @@ def aligned(rows: Sequence[Sequence[str]]) -> list[str]:
 
 
 def start_table(networks: Sequence[NetworkState], play: Sequence[str]) -> list[str]:
-    """Returns the lines of the table at the start: network, room, port, students, seats and pages. A column in which nothing
-    stands is left out."""
+    """Returns the lines of the table at the start: network, room, port, students, seats and pages. Empty columns
+    are left out."""
     heads = ["", "network", "room", "port", "students", "seats", "page", "page to play"]
     rows = [
         [str(it.number), it.name, it.room or NONE, NONE if it.port is None else str(it.port), str(it.students), str(it.seats),
@@ -34,7 +34,7 @@ def start_table(networks: Sequence[NetworkState], play: Sequence[str]) -> list[s
 
 
 def now_table(networks: Sequence[NetworkState]) -> str:
-    """Returns the table of what the networks are like now, as lines."""
+    """Returns the table with the present state of each network."""
     heads = ["", "network", "room", "status", "configuration", "moves", "events", "missing"]
     return "\n".join(aligned([heads, *map(now_row, networks)]))
 
@@ -51,12 +51,12 @@ def now_row(it: NetworkState) -> list[str]:
 
 
 def plural_privileged(count: int) -> str:
-    """Returns how many nodes are privileged, as a text."""
+    """Returns the number of privileged nodes as a text."""
     return f"{count} privileged"
 
 
 def named(names: Sequence[str]) -> str:
-    """Returns how many students are missing, with the first of them by name."""
+    """Returns the number of missing students, with the first names."""
     if not names:
         return NONE
     more = f" and {len(names) - MOST_NAMED} more" if len(names) > MOST_NAMED else ""

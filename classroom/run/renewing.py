@@ -1,7 +1,8 @@
-"""Another key for a student while the class goes on: the host is ended, and a new one goes on from its journal at once.
+"""Gives a student another key while the class goes on: kills the host, and starts a new one that continues from
+its journal.
 
-The roster of a running server can't change. A host that is killed says to nobody that the class is over, so programs whose
-connection was lost greet again; what was granted is in the journal, each line of which was synced.
+The roster of a running server can't change. A killed host tells nobody that the class is over, so programs connect
+again. All granted events are in the journal, because each line was synced.
 """
 from __future__ import annotations
 
@@ -22,28 +23,28 @@ PATIENCE = 60.0  # seconds in which a killed process is gone
 
 
 def renew(folder: Path, lab: labs.Lab, it: server.Server, desk: Desk, name: str) -> None:
-    """Changes a student's key in lab and slips, and has another server go on, which `it` is from then on. The connection
-    to the desk isn't made."""
+    """Changes a student's key in the lab and the slips, and replaces the server `it` by a new one. The caller has
+    to connect to the desk again."""
     if name not in lab.without_house().students:
         raise ValueError(f"no student {name}; there are {', '.join(lab.without_house().students)}")
     kept = Record.read(folder)
     if kept is None:
-        raise Fault(f"{folder}: it keeps no record of its run, so that no server could go on")
+        raise Fault(f"{folder}: the run has no run.json, so no other server could continue it")
     changed = rekey.change(str(folder), name)
     lab.students[name] = changed.key
-    desk.tell(f"{name} has another key, slip: {changed.slip}; the server starts anew")
+    desk.tell(f"{name} has a new key, slip: {changed.slip}; the server restarts")
     desk.read()
     os.kill(it.process.number, signal.SIGKILL)
-    if not it.ended(PATIENCE):
+    if not it.has_ended(PATIENCE):
         raise Fault(f"the server, process {it.process.number}, doesn't end")
     desk.client.hang_up()
     desk.known.rewind()
-    it.become(server.start(folder, folder / "lab.toml", it.port, folder / "journal", None, kept))
+    it.replace_by(server.start(folder, folder / "lab.toml", it.port, folder / "journal", None, kept))
     follow(folder, lab, it, desk)
 
 
 def follow(folder: Path, lab: labs.Lab, it: server.Server, desk: Desk) -> None:
-    """Has the desk follow the new server's record, and the house come to its port."""
+    """Makes the desk follow the new server's record, and the house use its port."""
     if desk.heard is not None:
         came, desk.heard = desk.heard.came, Heard(folder / record.FOLDER, lab)
         desk.heard.came = came

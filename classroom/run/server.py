@@ -1,4 +1,4 @@
-"""The one module that starts a server, and ends it."""
+"""Starting and ending servers. No other module does that."""
 from __future__ import annotations
 
 import os
@@ -22,7 +22,7 @@ LOST = re.compile(r"(?m)^host: the journal's file (was .*): nothing more is gran
 
 @dataclass
 class Server:
-    """A server that listens. What it prints goes to `server.txt` of its folder."""
+    """A listening server. Its output goes to `server.txt` in its folder."""
 
     process: Process
     port: int
@@ -32,8 +32,8 @@ class Server:
     child: subprocess.Popen[bytes] | None = None  # None where another process has started it.
     first: socket.socket | None = None  # The first connection at the desk, until it is greeted over.
 
-    def ended(self, seconds: float = 0.0) -> bool:
-        """Returns whether its process has ended, or ends in that time."""
+    def has_ended(self, seconds: float = 0.0) -> bool:
+        """Returns whether the process has ended. Waits for that at most so many seconds."""
         if self.child is None:
             end = time.monotonic() + seconds
             while self.process.lives():
@@ -48,50 +48,50 @@ class Server:
         return True
 
     def status(self) -> int:
-        """Returns its status, once it has ended. Of another process's server, the last line that it printed says
+        """Returns the exit status of a server that has ended. If another process started it, its last line shows
         whether it ended well."""
         if self.child is not None:
             return self.child.wait()
         return 0 if self.printed().rpartition("\n")[2].startswith("done: ") else 4
 
     def how(self) -> str:
-        """Returns how it ended, with what it printed, if anything."""
+        """Returns how the server ended, with its output if there is any."""
         status, printed = self.status(), self.printed()
         told = f"status {status}" if status >= 0 else f"by {signal.Signals(-status).name}"
         return f"{told}: {printed}" if printed else told
 
     def lacks_record(self) -> bool:
-        """Returns whether the server ended as it should, but its record didn't take all."""
+        """Returns whether the server ended well, but its record isn't complete."""
         lines = self.printed().splitlines()
         return lines[-1:] == ["record fault"] and any(line.startswith("done: ") for line in lines)
 
     def lost_journal(self) -> str:
-        """Returns what became of the journal's file, if the server has said that: `was changed`, as an example."""
+        """Returns what happened to the journal's file, for example `was changed`, if the server has reported that."""
         told = LOST.search(self.printed())
         return told[1] if told else ""
 
-    def become(self, other: Server) -> None:
-        """Becomes another server, which goes on with the class of this one."""
+    def replace_by(self, other: Server) -> None:
+        """Takes over all values of another server, which continues the class of this one."""
         for each in fields(self):
             setattr(self, each.name, getattr(other, each.name))
 
     def stop(self) -> int:
-        """Ends the server by a signal if it hasn't ended, and waits for that. Returns the status."""
-        if not self.ended():
+        """Ends the server by a signal if it hasn't ended, and waits for its end. Returns the status."""
+        if not self.has_ended():
             os.kill(self.process.number, signal.SIGTERM)
-        while not self.ended(AGAIN):
+        while not self.has_ended(AGAIN):
             pass
         return self.status()
 
     def printed(self) -> str:
-        """Returns what the server printed, after the line with its ports."""
+        """Returns the server's output after the line with its ports."""
         text = self.output.read_text(encoding="utf-8", errors="replace")
         return LISTENING.split(text)[-1].strip()
 
 
 def first_line(process: subprocess.Popen[bytes], output: Path, before: int, wait: Callable[[float], None] = time.sleep) -> str:
-    """Returns the line with a server's ports, or all that it printed if it ends before. `before` are the bytes that
-    stood there, and `wait` is what passes the time between two looks."""
+    """Waits for the line with a server's ports, and returns it. Returns all its output if the server ends before.
+    `before` is the size of the output file at the beginning, and `wait` waits between two reads of it."""
     while True:
         ended = process.poll() is not None
         text = output.read_bytes()[before:].decode(errors="replace")
@@ -101,17 +101,17 @@ def first_line(process: subprocess.Popen[bytes], output: Path, before: int, wait
         wait(AGAIN)
 
 
-def ready(by_number: bool) -> None:
+def require_built(by_number: bool) -> None:
     """Raises `Fault` if the server isn't built."""
     program()
     if not by_number and host() is None:
         how = "`./mml build` builds it (with the toolchain's rt on the path)" if is_clone() else "this release has none"
-        raise Fault(f"mml_host isn't built: {how}; --serve takes a server for as many connections in all as the lab has sessions")
+        raise Fault(f"mml_host isn't built: {how}; --serve uses a server that accepts as many connections in all as the lab has sessions")
 
 
 @dataclass
 class Call:
-    """How a server is started; the first words that it takes are a lab and two numbers."""
+    """The command that starts a server. Its first arguments are a lab and two numbers."""
 
     folder: Path
     lab: Path
@@ -121,17 +121,17 @@ class Call:
     record: Path
 
     def at(self, port: int, desk: int = 0) -> Server | None:
-        """Returns a server that listens there, the desk's port 0 if any will do, or None if a port is taken. While a
-        host starts its desk is knocked at, so that the first connection there is this program's."""
+        """Returns a server that listens at this port, or None if a port is taken. `desk` may be 0 for any port.
+        While a host starts, this program already connects to its desk, so that nobody else is first."""
         hosting = host() if self.by_number is None else None
         if hosting is None:
-            return self.listening([program(), "serve"], port, self.by_number or 0, None)
+            return self.start([program(), "serve"], port, self.by_number or 0, None)
         with Knock(desk) as knock:
-            return self.listening([hosting, "resume" if self.is_resumed else "host"], port, knock.port, knock)
+            return self.start([hosting, "resume" if self.is_resumed else "host"], port, knock.port, knock)
 
-    def listening(self, words: list[str | Path], port: int, number: int, knock: Knock | None) -> Server | None:
-        """Returns a server that is called by these words and listens at that port, or None if a port is taken. `number`
-        is the desk's port, which is knocked at, or else how many connections are served."""
+    def start(self, words: list[str | Path], port: int, number: int, knock: Knock | None) -> Server | None:
+        """Starts a server with these arguments. Returns it when it listens, or None if a port is taken. `number`
+        is the desk's port for a host, and else the number of connections to serve."""
         output = self.folder / "server.txt"
         with output.open("ab" if self.is_resumed else "wb") as prints:
             before = prints.tell()
@@ -153,10 +153,10 @@ class Call:
 
 def start(folder: Path, lab: Path, port: int, journal: Path, by_number: int | None = None,
           resumed: Record | None = None) -> Server:
-    """Starts a host over a lab, with its record in the folder, at the first free port from that on; or with `resumed`
-    one that goes on with a class, at its own ports if they are free; or by number a server for so many connections, of
-    which the teacher's desk is one."""
-    ready(by_number is not None)
+    """Starts a host over a lab at the first free port from this one on, with its record in the folder. With
+    `resumed`, starts one that continues a class, if possible at its own ports. With `by_number`, starts a server
+    for so many connections, one of which is the teacher's."""
+    require_built(by_number is not None)
     call = Call(folder, lab, journal, by_number, resumed is not None, folder / record.FOLDER)
     again = call.at(resumed.port, resumed.desk) if resumed is not None else None
     return again or first_free(port, call.at)

@@ -1,4 +1,4 @@
-"""A class of several networks: a process for each network, and one desk for all of them."""
+"""A class of several networks: one process for each network, and one desk for all of them."""
 from __future__ import annotations
 
 import argparse
@@ -19,7 +19,7 @@ from classroom.core.classes import Class, Network, begun, title
 from classroom.core.counts import plural
 from classroom.core.folders import Process
 from classroom.core.printable import printable
-from classroom.core.program import CLASS, Fault
+from classroom.core.program import CLASS, LAST_PORT, Fault
 from classroom.core.statuses import FAILED, WARNED
 from classroom.pages import hall
 from classroom.run import addressed, letting, server
@@ -28,7 +28,7 @@ from classroom.run.closing import spelled
 from classroom.run.member import Member, News
 from classroom.run.network_table import now_table, start_table
 from classroom.run.teller import is_private
-from classroom.run.typed import EOF, Terminal, helped, read_lines
+from classroom.run.typed import EOF, Terminal, command_help, read_lines
 from classroom.setup.slips import Way
 
 SIGNALS = (signal.SIGINT, signal.SIGTERM)
@@ -38,7 +38,7 @@ SHOWN = 0.5  # seconds between two looks at the states for the page
 
 
 class Several:
-    """The desk of a class. All that happens is done in one thread, which takes it from the news."""
+    """The desk of a class. One thread handles all news."""
 
     def __init__(self, folder: Path, members: list[Member], news: News, is_typed: bool, clock: Clock | None = None) -> None:
         self.folder, self.members, self.news, self.is_typed, self.clock = folder, members, news, is_typed, clock
@@ -48,7 +48,7 @@ class Several:
         self.from_elsewhere = ""  # the address of the page for all through the door
         self.lines: list[str] = []
         self.is_told = False  # Whether the table was printed.
-        self.is_left = False  # Whether another process takes the desks.
+        self.is_left = False  # Whether another process takes over the desks.
         self.reminded = self.looked = time.monotonic()
 
     def say(self, line: str, private: bool = False) -> None:
@@ -62,14 +62,14 @@ class Several:
             pass  # The terminal went away; each run keeps its lines.
 
     def hear(self, member: Member, line: str) -> None:
-        """Takes a line of a network's process."""
+        """Handles a line from a network's process."""
         is_private_line = line.startswith("page to act http")
-        if member.takes(line) and (not is_private_line or is_private(self.is_typed)):
+        if member.note_line(line) and (not is_private_line or is_private(self.is_typed)):
             self.say(f"{member.name}: {line}", is_private_line)
 
-    def has_ended(self, member: Member) -> None:
-        """Takes the end of a network's process."""
-        member.has_ended()
+    def note_end(self, member: Member) -> None:
+        """Handles the end of a network's process."""
+        member.note_end()
         if member.status == DOWN and not self.is_left:
             self.say(self.alarm(member))
         self.prompt()
@@ -89,9 +89,9 @@ class Several:
             self.terminal.prompt = f"{names} down> " if names else Terminal.PROMPT
 
     def typed(self, line: str) -> None:
-        """Does a line that was typed."""
+        """Runs a typed line."""
         if line == EOF:
-            return self.say("to end the class type end, to end one network end 2")
+            return self.say("to end the class, type `end`; to end one network, type `end 2`")
         try:
             indices, rest = addressed.addressed(line, self.names)
         except ValueError as error:
@@ -107,7 +107,8 @@ class Several:
             self.ask(self.members[index], word, rest, len(indices) == 1)
 
     def with_student(self, name: str, indices: list[int]) -> list[int]:
-        """Returns the one network among these that has a student of that name; none if that isn't one, which is said."""
+        """Returns the one network among these that has a student of that name. If there is none or more than one,
+        prints that and returns none."""
         found = [index for index in indices if name in self.members[index].lab.students]
         if len(found) != 1:
             there = ", ".join(self.names[index] for index in found)
@@ -115,10 +116,10 @@ class Several:
         return found if len(found) == 1 else []
 
     def ask(self, member: Member, word: str, line: str, is_alone: bool) -> None:
-        """Does a line for one network. If it is for this network alone, the line says what can't be done."""
+        """Runs a line for one network. If it is for this network alone, prints why it can't be done."""
         if word == addressed.RESUME:
             if member.status == DOWN:
-                member.start(self.hear, self.has_ended)
+                member.start(self.hear, self.note_end)
                 self.prompt()
             elif is_alone:
                 self.say(f"{member.name}: it isn't down")
@@ -132,7 +133,7 @@ class Several:
             self.say(f"{member.name}: no: {'it has ended' if member.status == ENDED else member.alarm or 'it is starting'}")
 
     def act(self, line: str) -> None:
-        """Does a line of the page to act at. The page asks before an end, so that one line is enough."""
+        """Runs a line of the page on which the teacher acts. The page asks before an end, so one line is enough."""
         try:
             indices, rest = addressed.addressed(line, self.names)
         except ValueError:
@@ -144,7 +145,7 @@ class Several:
                 self.ask(self.members[index], rest.split()[0], rest, len(indices) == 1)
 
     def listen(self) -> None:
-        """Takes what is typed from now on."""
+        """Starts to read typed lines."""
         if sys.stdin.isatty():
             self.terminal = Terminal([*self.names, *self.nodes()])
         read = self.terminal.read if self.terminal else read_lines
@@ -156,7 +157,7 @@ class Several:
         return [str(node) for node in sorted({node.id for member in self.members for node in member.lab.nodes})]
 
     def tell_table(self) -> None:
-        """Prints the table once each network has begun, or is down."""
+        """Prints the table once each network has started or is down."""
         if self.is_told or any(member.status == STARTS for member in self.members):
             return
         self.is_told = True
@@ -177,10 +178,10 @@ class Several:
             self.say(f"words: {addressed.HOW}; networks, resume, help, end")
 
     def tick(self) -> None:
-        """Does what is due by the clock: warnings, the end, alarms that stay, and the page."""
+        """Runs what is due by the clock: warnings, the end, lasting alarms, and the page."""
         self.tell_table()
         now = time.monotonic()
-        self.look_at_clock()
+        self.check_clock()
         if now - self.reminded >= REMIND:
             self.reminded = now
             for member in self.down():
@@ -189,8 +190,8 @@ class Several:
             self.looked = now
             self.hall.show(self.state(False), self.state(True))
 
-    def look_at_clock(self) -> None:
-        """Warns before the end of the lesson, and ends all networks when it has come."""
+    def check_clock(self) -> None:
+        """Prints warnings before the end of the lesson, and ends all networks when it has come."""
         if self.clock is None:
             return
         if warning := self.clock.warning(datetime.now()):
@@ -205,16 +206,16 @@ class Several:
             self.ask(member, addressed.END, addressed.END, False)
 
     def state(self, acts: bool, ended: bool = False) -> ClassState:
-        """Returns what the page for all shows."""
+        """Returns the state of the class, as the page for all shows it."""
         return ClassState(title(self.folder), [member.shown(acts) for member in self.members], self.lines, ended)
 
     def goes_on(self) -> bool:
-        """Returns whether a network runs, or is down and may be resumed by somebody."""
+        """Returns whether a network is running, or is down and may be resumed."""
         can_be_told = self.is_typed or self.hall is not None
         return any(member.status in (STARTS, RUNS) or member.status == DOWN and can_be_told for member in self.members)
 
     def attend(self) -> int:
-        """Holds the desk until each network has ended. Returns the exit status."""
+        """Runs the desk until each network has ended. Returns the exit status."""
         while self.goes_on() and not self.is_left:
             try:
                 self.news.get(timeout=TICK)()
@@ -226,7 +227,7 @@ class Several:
         if self.hall is not None:
             self.hall.stop(self.state(False, True), self.state(True, True))
         if self.is_left:
-            self.say("another process takes the desks")
+            self.say("another process takes over the desks")
             return FAILED
         self.say(f"the class is ended; all of it is in {self.folder}: {CLASS} mark {self.folder} prints the marks")
         return max(member.code for member in self.members)
@@ -249,13 +250,13 @@ class Several:
                 member.child.wait()
 
     def hung(self) -> None:
-        """Goes on without the terminal."""
+        """Continues without the terminal."""
         found = Class.read(self.folder)
         if found is not None:
             replace(found, left=True).write(self.folder)
 
-    def obey_signals(self) -> None:
-        """Puts what a signal asks for among the news."""
+    def queue_signals(self) -> None:
+        """Queues the reaction to each signal that comes from now on."""
         for number in SIGNALS:
             signal.signal(number, lambda *_: self.news.put(self.end))
         signal.signal(signal.SIGUSR1, lambda *_: self.news.put(self.leave))
@@ -266,11 +267,11 @@ def help_text() -> str:
     """Returns all words with what they do, those of the class's desk first."""
     wide = max(map(len, addressed.OWN))
     own = "\n".join(f"  {form:{wide}}  {what}" for form, what in addressed.OWN.items())
-    return f"{addressed.HOW}\n{own}\n{helped()}"
+    return f"{addressed.HOW}\n{own}\n{command_help()}"
 
 
 def desk_words(words: argparse.Namespace) -> list[str]:
-    """Returns the words of a desk that each network's run gets."""
+    """Returns the options of a desk that each network's run gets."""
     more = ["--until", words.until] if words.until else []
     more += ["--close", spelled(words.close)] if words.close else []
     more += ["--stand-in", f"{words.stand_in:g}"] if words.stand_in is not None else []
@@ -280,7 +281,8 @@ def desk_words(words: argparse.Namespace) -> list[str]:
 
 
 def words_of(words: argparse.Namespace, index: int) -> list[str]:
-    """Returns the words of a network's run. One that goes on keeps its port, and that of its page to play by where it had one."""
+    """Returns the arguments of a network's run. A run that continues keeps its port, and the port of its page to play
+    by if it had one."""
     more, plays = desk_words(words), getattr(words, "plays", None)
     more += ["--port", str(words.ports[index])] if hasattr(words, "ports") else []
     more += ["--serve"] if getattr(words, "serve", False) else []
@@ -290,7 +292,7 @@ def words_of(words: argparse.Namespace, index: int) -> list[str]:
 
 
 def members_of(folder: Path, networks: Sequence[Network], words: argparse.Namespace, news: News) -> list[Member]:
-    """Returns the networks of a class, none of which has begun."""
+    """Returns the networks of a class. None has been started."""
     found = []
     for index, network in enumerate(networks):
         own = folder / network.name
@@ -315,19 +317,19 @@ def networks_of(words: argparse.Namespace) -> list[Network]:
 
 
 def room_of(lab: str) -> str:
-    """Returns the room that the slips of a lab name, or nothing."""
+    """Returns the room in the slips of a lab, or an empty text."""
     way = Way.read(Path(lab))
     return way.room if way is not None else ""
 
 
-def wants_ports(words: argparse.Namespace, count: int) -> None:
-    """Raises a fault if there aren't as many ports as networks."""
-    if max(*words.ports, *words.plays, (words.page or 0) + count) > 65535:
-        raise Fault(f"{count} labs need a port each, up to 65535")
+def require_ports(words: argparse.Namespace, count: int) -> None:
+    """Raises `Fault` if there aren't enough ports for the networks and their pages."""
+    if max(*words.ports, *words.plays, (words.page or 0) + count) > LAST_PORT:
+        raise Fault(f"{count} labs need a port each, up to {LAST_PORT}")
 
 
-def held(folder: Path, members: list[Member], news: News, words: argparse.Namespace, first: Callable[[Several], None]) -> int:
-    """Holds the desk of a class, whose networks `first` starts, to its end."""
+def hold_class(folder: Path, members: list[Member], news: News, words: argparse.Namespace, first: Callable[[Several], None]) -> int:
+    """Runs the desk of a class to its end. `first` starts the networks. Returns the exit status."""
     typed = words.typed or sys.stdin is not None and sys.stdin.isatty()
     kept = Class.read(folder)
     end = end_of(words.ends, kept.ends if kept else None)
@@ -344,7 +346,7 @@ def held(folder: Path, members: list[Member], news: News, words: argparse.Namesp
             several.from_elsewhere = letting.page_for_all(door, files[0], several.hall.server_port, several.hall.looks)
         Class([member.network for member in members], Process.of(os.getpid()), page=several.hall.server_port if several.hall else None,
               looks=several.hall.looks if several.hall else None, ends=end.isoformat() if end else None, door=door).write(folder)
-        several.obey_signals()
+        several.queue_signals()
         first(several)
         if typed:
             several.listen()
@@ -352,17 +354,17 @@ def held(folder: Path, members: list[Member], news: News, words: argparse.Namesp
 
 
 def with_door(words: argparse.Namespace) -> argparse.Namespace:
-    """Returns the words with those for a door, which `attach` doesn't have: the door of before is opened again."""
+    """Returns the arguments with those of a door added, which `attach` lacks. So an earlier door is opened again."""
     return argparse.Namespace(**{"door": None, "door_at": None, "certificate": None, **vars(words)})
 
 
 def side_by_side(words: argparse.Namespace) -> int:
-    """Runs several labs at once. A signal that ends this ends them all."""
+    """Runs several labs at once. A signal to this process ends all of them. Returns the exit status."""
     typed = words.typed or sys.stdin is not None and sys.stdin.isatty()
     if words.close is not None and words.close.kind == "by-hand" and not typed:
-        raise Fault("several labs are closed by time: --close every:SECONDS or when-idle:SECONDS; or by what is typed: --typed")
-    wants_ports(words, len(words.labs))
-    server.ready(words.serve)
+        raise Fault("steps of several labs are closed by time (--close every:SECONDS or when-idle:SECONDS), or by what you type (--typed)")
+    require_ports(words, len(words.labs))
+    server.require_built(words.serve)
     end_of(words.ends)  # A time that is over ends this before anything is made, as does a lab that is refused.
     networks, news = networks_of(words), News()
     members = members_of(Path(), networks, words, news)
@@ -373,6 +375,6 @@ def side_by_side(words: argparse.Namespace) -> int:
     def start(several: Several) -> None:
         """Starts each network."""
         for member in members:
-            member.start(several.hear, several.has_ended)
+            member.start(several.hear, several.note_end)
 
-    return held(folder, members, news, words, start)
+    return hold_class(folder, members, news, words, start)

@@ -1,4 +1,4 @@
-"""The state of a network of a class, which its run writes for the desk and the page of the class."""
+"""The state of a network of a class, written by its run for the desk and the page of the class."""
 from __future__ import annotations
 
 import time
@@ -14,15 +14,15 @@ PAUSE = 1.0  # seconds between two writings
 
 
 class StateFile:
-    """Keeps `state.json` in the folder of a run up to date (`classroom.core.class_state`)."""
+    """Keeps `state.json` in the folder of a run up to date (`classroom.core.class_state` documents it)."""
 
     def __init__(self, folder: Path, names: ShownNames) -> None:
         self.folder, self.names = folder, names
         self.due = 0.0
         self.written: dict[str, Any] | None = None
 
-    def keep(self, desk: Desk) -> None:
-        """Writes the state if it has changed, once a second at most."""
+    def write_if_changed(self, desk: Desk) -> None:
+        """Writes the state if it has changed, at most once a second."""
         now = time.monotonic()
         if now < self.due:
             return
@@ -33,7 +33,7 @@ class StateFile:
             self.written = state
 
     def of(self, desk: Desk) -> dict[str, Any]:
-        """Returns the state of the network whose desk this is."""
+        """Returns the state of a desk's network."""
         known, lab = desk.known, desk.announcer.shown
         links = sorted(tuple(sorted(link)) for link in desk.announcer.comeback.links)
         most = bounds.told(len(lab.nodes), len(links))
@@ -54,7 +54,7 @@ class StateFile:
                 for node, rule in desk.known.waiting()]
 
     def missing(self, desk: Desk) -> list[str]:
-        """Returns the students with a node who have no connection; none if no record says who has one."""
+        """Returns the students with a node who have no connection. Returns none without a record."""
         if desk.heard is None:
             return []
         lab, there = desk.announcer.shown, desk.heard.connected()
@@ -62,7 +62,7 @@ class StateFile:
 
 
 def nodes(desk: Desk) -> list[list[Any]]:
-    """Returns each node with its registers and the rule of its chosen move, if a page watches them."""
+    """Returns each node with its registers and the rule of its chosen move, if there is a page."""
     if desk.watch is None:
         return []
     state = desk.watch.state

@@ -1,4 +1,4 @@
-"""Closing the steps of a run at its desk, by a daemon's word."""
+"""Closes the steps of a run at its desk, as its daemon decides."""
 from __future__ import annotations
 
 import random
@@ -15,7 +15,7 @@ LOOKS = 5  # at what was granted meanwhile
 
 
 class Striker:
-    """Closes steps at a desk as its daemon says."""
+    """Closes steps at a desk as its daemon decides."""
 
     def __init__(self, seed: int = 1) -> None:
         self.chance, self.adversary = random.Random(seed), Adversary(str(seed), max)
@@ -23,9 +23,9 @@ class Striker:
         self.closed = 0.0
 
     def strike(self, desk: Desk) -> None:
-        """Closes a step if it is time for one. The chosen moves that it isn't to apply are released before. If it isn't
-        time, and nothing has come for SECONDS, prints whom the class waits for, unless steps are closed by hand. A
-        search that fails changes the daemon to when-idle."""
+        """Closes a step if it is time for one, after releasing the chosen moves that it must not apply. If nothing
+        has come for SECONDS, prints whom the class waits for, unless steps are closed by hand. If the search of
+        the adversary fails, changes the daemon to when-idle."""
         now = time.monotonic()
         if desk.closing != self.how:
             self.how, self.closed = desk.closing, now
@@ -36,7 +36,7 @@ class Striker:
         sight = Sight([node for node, _ in known.report.privileged], list(known.book.chosen), now - known.news_came, now - self.closed)
         try:
             rules = {node: rule for node, (_, rule) in known.book.chosen.items()}
-            search = self.adversary.search_of(desk.closing, rules, desk.seen)
+            search = self.adversary.search_of(desk.closing, rules, desk.present_lab)
             nodes = applied(desk.closing, sight, self.chance, SECONDS, search)
         except Fault as fault:
             desk.tell(f"the adversary can't search: {fault}")
@@ -44,7 +44,7 @@ class Striker:
             return
         if nodes:
             self.closed = now
-            self.take_back(desk, set(nodes))
+            self.release_others(desk, set(nodes))
             desk.close()
         elif desk.closing.kind != "by-hand" and sight.idle >= SECONDS:
             desk.announcer.tell_waiting()
@@ -61,9 +61,9 @@ class Striker:
         """Ends the adversary's program."""
         self.adversary.close()
 
-    def take_back(self, desk: Desk, but: set[int]) -> None:
-        """Releases the other chosen moves, and those that are granted meanwhile. One that is granted after the last
-        look is applied too: nobody but the server could keep it out."""
+    def release_others(self, desk: Desk, but: set[int]) -> None:
+        """Releases the chosen moves of all other nodes, and those that are granted meanwhile. A move that is
+        granted after the last check is applied too, since only the server could prevent that."""
         for _ in range(LOOKS):
             others = sorted(desk.known.book.chosen.keys() - but)
             for node in others:

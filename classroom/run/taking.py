@@ -1,4 +1,4 @@
-"""Takes the desk of a server that listens: greets there, and tries again while somebody else has it."""
+"""Takes the desk of a running server: greets there, and retries while another process has it."""
 from __future__ import annotations
 
 import queue
@@ -14,43 +14,46 @@ PAUSE = 0.5  # seconds between two tries
 
 
 class Left(Exception):
-    """The desk is left to another process."""
+    """The error that the desk is left to another process."""
 
 
-def taken(it: Server, teacher: tuple[str, str], typed: Typed, tell: Callable[[str], None], hung: Callable[[], None]) -> Client:
-    """Greets at the desk, and again for a minute while that fails, which is printed once. Raises the last error when
-    the minute is over, the server has ended or the run is to end, and `Left` when another process wants the desk."""
+def take_desk(it: Server, teacher: tuple[str, str], typed: Typed, tell: Callable[[str], None], hung: Callable[[], None]) -> Client:
+    """Connects to the desk, and tries again for a minute if that fails. Prints once that it tries again. Raises
+    the last error after the minute, or if the server has ended or the run is to end. Raises `Left` if another
+    process wants the desk."""
     end, is_told = time.monotonic() + PATIENCE, False
     while True:
         try:
-            client = greeted(it, teacher)
+            client = greet(it, teacher)
         except (Closed, Refused) as error:
-            if isinstance(error, Over) or it.ended() or time.monotonic() >= end:
+            if isinstance(error, Over) or it.has_ended() or time.monotonic() >= end:
                 raise
             if not is_told:
-                tell(f"{told_of(error)}; it is tried again for a minute")
+                tell(f"{reason_line(error)}; trying again for a minute")
                 is_told = True
-            if is_to_end(typed, hung):
+            if wait_for_end(typed, hung):
                 raise
             continue
         if is_told:
-            tell("the desk is held")
+            tell("the desk is connected")
         return client
 
 
-def greeted(it: Server, teacher: tuple[str, str]) -> Client:
-    """Greets over the first connection to the desk, if there is one that wasn't used yet, and else over a new one."""
+def greet(it: Server, teacher: tuple[str, str]) -> Client:
+    """Greets at the desk over the first connection that the server's start has left, if there is one, and else
+    over a new one."""
     first, it.first = it.first, None
     return Client(it.desk, *teacher, connection=first)
 
 
-def told_of(error: Closed | Refused) -> str:
-    """Returns why the desk can't be had, as a line."""
-    return "somebody else has the desk" if isinstance(error, Refused) and error.word == "busy" else f"the desk: {error}"
+def reason_line(error: Closed | Refused) -> str:
+    """Returns the line with the reason why the desk can't be taken."""
+    return "another process is connected to the desk" if isinstance(error, Refused) and error.word == "busy" else f"the desk: {error}"
 
 
-def is_to_end(typed: Typed, hung: Callable[[], None]) -> bool:
-    """Waits a moment. Returns whether a signal came that ends the run."""
+def wait_for_end(typed: Typed, hung: Callable[[], None]) -> bool:
+    """Waits a moment for a signal. Returns whether one came that ends the run. Raises `Left` if another process
+    wants the desk."""
     try:
         word = typed.get(timeout=PAUSE)
     except queue.Empty:

@@ -1,4 +1,4 @@
-"""The lines of a run: on the terminal, in its folder, and for everybody else who hears it."""
+"""The lines of a run. They go to the terminal, to the run's folder, and to its pages."""
 from __future__ import annotations
 
 import os
@@ -12,8 +12,8 @@ from classroom.core.printable import printable
 
 
 def is_private(typed: bool) -> bool:
-    """Returns whether readers of what is printed may act: at a terminal, or a program that holds both ends; or if a
-    service prints, into the system's journal. A file has other readers."""
+    """Returns whether only the teacher reads the output: it is a terminal, a program that types too, or the
+    system's journal. A file may have other readers."""
     try:
         mode = os.fstat(sys.stdout.fileno()).st_mode
         return sys.stdout.isatty() or stat.S_ISSOCK(mode) or typed and not stat.S_ISREG(mode)
@@ -22,7 +22,7 @@ def is_private(typed: bool) -> bool:
 
 
 class Teller:
-    """Prints lines and keeps them in the folder; a terminal that went away or a full disk ends nothing."""
+    """Prints lines and appends them to a file in the folder. A closed terminal or a full disk raises no error."""
 
     def __init__(self, folder: Path) -> None:
         self.path = folder / "run.txt"
@@ -30,7 +30,7 @@ class Teller:
         self.around: Callable[[str], str] = str  # What a terminal shows instead while a line is typed there.
 
     def __call__(self, line: str) -> None:
-        """Prints a line, keeps it, and passes it to all that hear it."""
+        """Prints a line, appends it to the file, and passes it to all other receivers."""
         line = printable(line)
         for hear in self.also:
             hear(line)
@@ -41,14 +41,14 @@ class Teller:
                 pass
 
     def alone(self, line: str) -> None:
-        """Prints a line that is neither kept nor shown to others."""
+        """Prints a line that is neither kept nor shown on pages."""
         try:
             self.say(printable(line))
         except OSError:
             pass
 
     def say(self, line: str) -> None:
-        """Prints a line. If nobody reads any more, nothing is printed from then on."""
+        """Prints a line. Prints nothing more after the reader has closed the output."""
         try:
             print(self.around(line + "\n"), end="", flush=True)
         except OSError:
@@ -56,7 +56,7 @@ class Teller:
                 os.dup2(nowhere.fileno(), sys.stdout.fileno())
 
     def keep(self, line: str) -> None:
-        """Adds a line to `run.txt`, or several, with the hour and minute before each."""
+        """Appends one or several lines to `run.txt`, each after the hour and minute."""
         now = time.strftime("%H:%M")
         with self.path.open("a", encoding="utf-8") as it:
             it.writelines(f"{now} {each}\n" for each in line.split("\n"))

@@ -1,4 +1,4 @@
-"""What the teacher types: lines of the desk's words, and a terminal with line editing, history and completion."""
+"""The teacher's input: lines with the desk's commands, and a terminal with line editing, history and completion."""
 from __future__ import annotations
 
 import difflib
@@ -19,9 +19,9 @@ FORMS = {word: f"{word} {it.form}".strip() for word, it in WORDS.items()}
 HELP = ", ".join(FORMS.values())
 
 
-def understood(line: str) -> list[str]:
-    """Returns the words of a line, if it has the form of its first; an empty line is `wait`. Raises an error that says
-    what it should be if it hasn't."""
+def parse_command(line: str) -> list[str]:
+    """Returns the words of a line if it is a command. An empty line is `wait`. Raises `ValueError` with the right
+    form otherwise."""
     word, *rest = line.split() or ["wait"]
     if word not in FORMS:
         near = difflib.get_close_matches(word, WORDS, 1)
@@ -29,12 +29,12 @@ def understood(line: str) -> list[str]:
     form = WORDS[word].form.replace("[", "").replace("]", "").split()
     least = len(form) - WORDS[word].form.count("[")
     if not least <= len(rest) <= len(form) or not all(re.fullmatch(PATTERNS[of], it, re.ASCII) for of, it in zip(form, rest)):
-        raise ValueError(f"not understood; it is {FORMS[word]}")
+        raise ValueError(f"not understood; write {FORMS[word]}")
     return [word, *rest]
 
 
-def helped() -> str:
-    """Returns all words with what they do, a line each."""
+def command_help() -> str:
+    """Returns all commands with their effects, one per line."""
     wide = max(map(len, FORMS.values()))
     return "\n".join(f"  {FORMS[word]:{wide}}  {it.help}" for word, it in WORDS.items())
 
@@ -45,7 +45,7 @@ class Terminal:
     PROMPT = "> "
 
     def __init__(self, words: list[str]) -> None:
-        """`words` complete what comes after the first word."""
+        """`words` are offered as completions after the first word."""
         import readline  # Here alone: it writes to a terminal as it is loaded.
 
         self.words, self.readline = words, readline
@@ -57,14 +57,15 @@ class Terminal:
         readline.parse_and_bind("tab: complete")
 
     def complete(self, text: str, state: int) -> str | None:
-        """Returns, of the words that begin so, the one at that index, from 0, or None after the last."""
+        """Returns the completion with this index among those of a text, or None after the last."""
         before = self.readline.get_line_buffer()[:self.readline.get_begidx()]
         first = re.fullmatch(r"\s*(\d+\s+|\S+\s*:\s*)?", before) is not None  # A network may stand before it.
         found = [f"{word} " for word in (WORDS if first else self.words) if word.startswith(text)]
         return found[state] if state < len(found) else None
 
     def around(self, line: str) -> str:
-        """Returns a line with what clears the one that is typed before it, and shows that again."""
+        """Returns a line for the terminal: clears the line that is being typed, prints this one, and shows the
+        typed one again."""
         return f"\r\x1b[K{line}{self.prompt}{self.readline.get_line_buffer()}" if self.reads else line
 
     def read(self, put: Callable[[str], None]) -> None:
@@ -85,7 +86,7 @@ class Terminal:
                 self.reads = False
 
     def leave(self) -> None:
-        """Leaves the terminal as it was."""
+        """Restores the settings of the terminal."""
         self.reads = False
         try:
             termios.tcsetattr(sys.stdin, termios.TCSADRAIN, self.before)
@@ -94,7 +95,7 @@ class Terminal:
 
 
 def read_lines(put: Callable[[str], None]) -> None:
-    """Puts the lines of standard input that is no terminal."""
+    """Calls `put` with each line of a standard input that isn't a terminal."""
     try:
         for line in sys.stdin:
             put(line.rstrip("\n"))

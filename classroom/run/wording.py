@@ -1,4 +1,4 @@
-"""How events are worded at the desk: one line each, and one line with a count for many of a kind."""
+"""The texts of events at the desk: one line for each, and one line with a count for many of a kind."""
 from __future__ import annotations
 
 from collections import Counter
@@ -13,7 +13,7 @@ KINDS = {"fault": "fault", "link": "link", "cut": "cut"}
 
 
 def moves(moved: Sequence[tuple[int, str, str]]) -> str:
-    """Returns the moves of a step, or if they are many how many there are of each rule."""
+    """Returns the moves of a step as a text. If they are many, returns the number of moves of each rule."""
     if len(moved) <= MOST_MOVES:
         return ", ".join(f"{node} ({name}) {rule}" for node, name, rule in moved)
     count = Counter(rule for _, _, rule in moved)
@@ -21,7 +21,7 @@ def moves(moved: Sequence[tuple[int, str, str]]) -> str:
 
 
 def edit(event: Event) -> str:
-    """Returns what an event did that isn't a step."""
+    """Returns the text of an event that isn't a step."""
     if event.kind != "fault":
         return " ".join(event.words)
     _, node, p, m = event.words
@@ -29,19 +29,19 @@ def edit(event: Event) -> str:
 
 
 def edits(events: Sequence[Event]) -> str:
-    """Returns what several events of one kind did, with their number."""
+    """Returns the text of several events of one kind, with their number."""
     nodes = sorted({node for event in events for node in event.nodes})
     return f"{plural(len(events), KINDS[events[0].kind])} at {named(nodes)}"
 
 
 def named(nodes: Sequence[int]) -> str:
-    """Returns the nodes, or if they are many the first of them and how many more there are."""
+    """Returns the nodes as a text. If they are many, returns the first ones and the number of the others."""
     shown = ", ".join(map(str, nodes[:MOST_NODES]))
     more = len(nodes) - MOST_NODES
     return f"nodes {shown} and {more} more" if more > 0 else f"node{'s' if len(nodes) > 1 else ''} {shown}"
 
 
 def some(texts: Sequence[str], most: int, what: str) -> str:
-    """Returns the texts, or if they are more than `most` the first of them, and how many more of `what` there are."""
+    """Returns the texts, or the first `most` and the number of the others, which are called `what`."""
     more = len(texts) - most
     return ", ".join(texts[:most]) + (f", and {plural(more, f'more {what}')}" if more > 0 else "")

@@ -1,4 +1,4 @@
-"""`./class check`: what `mml check` says, the line that it is about, and what a teacher would want to know besides."""
+"""`./class check`: prints the verdict of `mml check` on a lab, the line of an error, and warnings."""
 from __future__ import annotations
 
 import argparse
@@ -12,7 +12,7 @@ from collections.abc import Iterable, Iterator
 from pathlib import Path
 
 from classroom.core import lab as labs
-from classroom.core import bounds, networks
+from classroom.core import bounds, limits, networks
 from classroom.core.printable import printable
 from classroom.core.program import TOP, Answer, Fault, call
 from classroom.core.statuses import WARNED
@@ -32,21 +32,20 @@ OTHERS = 128  # how many letters of no kind a key is taken to be drawn from
 
 
 def refused(path: Path, error: str) -> Iterator[str]:
-    """Yields the lines about a lab that the program refuses: its error line, the place with its text, and which keys
-    may be meant by those that the format doesn't name."""
+    """Yields the lines about a refused lab: the error, its line in the file, and suggestions for unknown keys."""
     text = path.read_bytes().decode("utf-8-sig", errors="replace")
     yield f"{path}: {error}"
-    line, what = standing(text, error)
+    line, what = place_of_error(text, error)
     if line is not None:
         yield f"  line {line}{what}: {text.splitlines()[line - 1].strip()}"
-    for found, key, meant in strange(text):
+    for found, key, meant in unknown_keys(text):
         if meant:
             yield f"  line {found}: {key}: did you mean {meant}?"
 
 
-def standing(text: str, error: str) -> tuple[int | None, str]:
-    """Returns the line that an error is about, if there is one, and what follows its number: what the document's reader
-    says, or the identifier of its node."""
+def place_of_error(text: str, error: str) -> tuple[int | None, str]:
+    """Returns the line that an error is about, if there is one, and a text after the line's number: the message of
+    the TOML reader, or the identifier of a node."""
     if error == "lab: not a TOML document":
         try:
             tomllib.loads(text)
@@ -73,24 +72,23 @@ def standing(text: str, error: str) -> tuple[int | None, str]:
 
 
 def identifier(text: str, table: positions.Table) -> str:
-    """Returns what follows the line of a node: its identifier as the file has it, in brackets, or nothing if that isn't
-    found."""
+    """Returns the text after the line of a node: its identifier as the file has it, in brackets, or an empty text."""
     line = table.keys.get("id")
     found = re.search(r"\bid\s*=\s*([-+\w]+)", text.splitlines()[line - 1]) if line else None
     return f" (the node with identifier {found[1]})" if found else ""
 
 
 def line_of_key(text: str, key: str) -> tuple[int | None, str]:
-    """Returns the line of the key that an error names, as `teacher.name`, if a single table of that name has it, and
-    else None. Nothing follows it."""
+    """Returns the line of the key that an error names, such as `teacher.name`, if exactly one table of that name
+    has it. The text after it is empty."""
     table, _, word = key.rpartition(".")
     lines = [each.keys[word] for each in positions.tables(text) if each.name == table and word in each.keys]
     return (lines[0], "") if len(lines) == 1 else (None, "")
 
 
-def strange(text: str) -> Iterator[tuple[int, str, str | None]]:
-    """Yields keys and tables that the format doesn't name: the line, the key, and the nearest one that may be meant, if
-    any."""
+def unknown_keys(text: str) -> Iterator[tuple[int, str, str | None]]:
+    """Yields the keys and tables that the format doesn't have: the line, the key, and the most similar known one,
+    if there is one."""
     for table in positions.tables(text):
         known = KNOWN.get(table.name)
         if known is None:
@@ -105,41 +103,42 @@ def strange(text: str) -> Iterator[tuple[int, str, str | None]]:
 
 
 def nearest(key: str, known: Iterable[str]) -> str | None:
-    """Returns the key that is spelled most like it, or None if none is much like it."""
+    """Returns the most similar known key, or None if none is similar."""
     found = difflib.get_close_matches(key, list(known), 1, 0.6)
     return found[0] if found else None
 
 
 def is_drawn(key: str) -> bool:
-    """Whether a key has as many words of the list of `new` as its own keys: such a key is taken to be drawn by lot."""
-    parts = keys.drawn(key)
+    """Returns whether a key looks like one of `new`: it has at least as many words of its list. Such a key counts
+    as random."""
+    parts = keys.count_parts(key)
     return parts is not None and parts[0] >= keys.WORDS_EACH
 
 
 def bits(key: str) -> float:
-    """How many bits a key is taken to have at most. Of one that was drawn these are the bits of its words and digits; of others
-    fewer of these and of those of its letters."""
-    parts = keys.drawn(key)
+    """Returns an upper bound on the bits of a key: those of its words and digits if it is random, or else the
+    smaller of these and those of its letters."""
+    parts = keys.count_parts(key)
     by_words = keys.bits_of(*parts) if parts else math.inf
     return by_words if is_drawn(key) else min(by_words, bits_of_letters(key))
 
 
 def bits_of_letters(key: str) -> float:
-    """How many bits a key is taken to have at most by its length, the kinds of its letters, and how many of them differ: one
-    of few different letters wasn't drawn from many."""
+    """Returns an upper bound on the bits of a key by its length, the kinds of its letters, and the number of
+    different letters."""
     letters = set(key)
     return len(key) * math.log2(max(2, min(letters_of_kinds(letters), 2 * len(letters))) if len(letters) > 1 else 1.01)
 
 
 def letters_of_kinds(letters: set[str]) -> int:
-    """Returns how many letters there are of the kinds that these are of. One of none, as a space or what is outside
-    ASCII, is taken for one of OTHERS."""
+    """Returns the number of letters of all kinds that occur among these. A letter of no kind, such as a space,
+    adds OTHERS."""
     others = letters.difference(*KINDS)
     return sum(len(kind) for kind in KINDS if letters.intersection(kind)) + (OTHERS if others else 0)
 
 
 def effort(key: str) -> str:
-    """How long it would take at most to guess a key, as text: a class's server holds guesses back."""
+    """Returns the longest time in which a key can be guessed, as a text. The server limits the rate of guesses."""
     seconds = 2 ** bits(key) / keys.DENIALS
     for size, word in ((86400 * 365, "years"), (86400, "days"), (3600, "hours"), (60, "minutes")):
         if seconds >= size:
@@ -148,7 +147,7 @@ def effort(key: str) -> str:
 
 
 def example_keys() -> set[str]:
-    """Returns the keys of the labs that come with the program."""
+    """Returns the keys in the example labs."""
     found = {"chalk", "a-key", "b-key", "c-key"}
     for path in (TOP / "examples").glob("*.toml"):
         it = labs.document(path)
@@ -157,17 +156,17 @@ def example_keys() -> set[str]:
 
 
 def key_warnings(lab: labs.Lab) -> Iterator[str]:
-    """Yields keys that may be known, or guessed."""
+    """Yields a warning for each key that is public or can be guessed."""
     examples = example_keys()
     for name, key in [lab.teacher, *lab.students.items()]:
         if key in examples:
             yield f"{name}'s key is one of the examples': everybody can read it"
         elif bits(key) < (ENOUGH_DRAWN if is_drawn(key) else ENOUGH_BITS):
-            yield f"{name}'s key has {bits(key):.0f} bits at most: guessed in {effort(key)} or sooner; 64 are little, 128 enough"
+            yield f"{name}'s key has {bits(key):.0f} bits at most: guessed in {effort(key)} or sooner; 64 bits are few, 128 are enough"
 
 
 def network_warnings(lab: labs.Lab) -> Iterator[str]:
-    """Yields students without a node, nodes without a neighbour, a network in parts."""
+    """Yields a warning for each student without a node and each node without a neighbour, and for a network in parts."""
     owners = {owner for node in lab.nodes for owner in node.owners}
     yield from (f"{name} has no node" for name in lab.students if name not in owners)
     near = networks.neighbours((node.id for node in lab.nodes), lab.links)
@@ -178,7 +177,7 @@ def network_warnings(lab: labs.Lab) -> Iterator[str]:
 
 
 def parts_of(near: dict[int, list[int]]) -> int:
-    """Returns in how many parts the network is."""
+    """Returns the number of connected parts of the network."""
     left, parts = set(near), 0
     while left:
         parts += 1
@@ -191,26 +190,26 @@ def parts_of(near: dict[int, list[int]]) -> int:
 
 
 def limit_warnings(lab: labs.Lab) -> Iterator[str]:
-    """Yields that there are fewer sessions or events than the class may need."""
-    people = len(lab.without_house().students) + 1
+    """Yields warnings if there are fewer sessions or events than the class may need."""
+    people, most = len(lab.without_house().students) + 1, limits.allowed().sessions
     if lab.sessions < people:
         yield (f"{lab.sessions} sessions are fewer than {people - 1} students and a teacher"
-               + ("; no lab has more than 16: ./class new --groups" if people > labs.MOST_SESSIONS else ""))
+               + (f"; no lab has more than {most}: ./class new --groups" if people > most else ""))
     need = bounds.of_lab(lab)
     if lab.events < need.events:
         yield f"{lab.events} events are fewer than the class may need: {need.moves} moves and as many closes"
 
 
 def pair_warnings(lab: labs.Lab) -> Iterator[str]:
-    """Yields nodes that two share, if a count of moves goes to the one whose program asks first."""
+    """Yields a warning about nodes with two students: granted moves count for the one whose program asks first."""
     shared = [str(node.id) for node in lab.without_house().nodes if len(node.owners) == 2]
     if shared:
         nodes = ("nodes " if len(shared) > 1 else "node ") + ", ".join(shared[:MOST_LISTED]) + ", ..." * (len(shared) > MOST_LISTED)
-        yield f"two students own {nodes}: a mark by granted moves favours the quicker program there; count a pair as one"
+        yield f"two students own {nodes}: a mark by granted moves favours the quicker program there; mark such a pair of students as one"
 
 
 def start_warnings(path: Path, lab: labs.Lab) -> Iterator[str]:
-    """Yields a start at which there is nothing to do, as the program's report says."""
+    """Yields a warning if no node is privileged at the beginning, according to the program's report."""
     hello = '{"do":"hello","name":"%s","key":%s}' % (lab.teacher[0], labs.quoted(lab.teacher[1]))
     with tempfile.TemporaryDirectory() as room:
         script = Path(room, "script")
@@ -223,21 +222,21 @@ def start_warnings(path: Path, lab: labs.Lab) -> Iterator[str]:
 
 
 def warnings(path: Path) -> Iterator[str]:
-    """Yields all that a teacher would want to know of a lab that the program takes."""
+    """Yields all warnings about a lab that the program accepts."""
     text = path.read_text(encoding="utf-8-sig")
-    for line, key, meant in strange(text):
-        yield f"line {line}: {key} is no key of a lab, and ignored" + (f"; did you mean {meant}?" if meant else "")
+    for line, key, meant in unknown_keys(text):
+        yield f"line {line}: {key} isn't a key of a lab, so it is ignored" + (f"; did you mean {meant}?" if meant else "")
     try:
         lab = labs.read(path)
     except Fault as fault:
-        yield f"{fault}; so keys, owners and limits aren't looked at"
+        yield f"{fault}; so keys, owners and limits weren't checked"
         return
     for found in (key_warnings(lab), network_warnings(lab), limit_warnings(lab), pair_warnings(lab), start_warnings(path, lab)):
         yield from found
 
 
-def sized(path: Path, told: str) -> str:
-    """Returns the program's line of a lab that it takes, with the house counted apart if the lab is read here too."""
+def size_line(path: Path, told: str) -> str:
+    """Returns the program's line about a lab's size, with the house counted separately if the lab can be read."""
     try:
         return labs.with_house_apart(told, labs.read(path))
     except Fault:
@@ -245,15 +244,15 @@ def sized(path: Path, told: str) -> str:
 
 
 def check(words: argparse.Namespace) -> int:
-    """Prints what the program says of a lab, and warnings. The status is 0, 5 if there are only warnings, or the
-    program's own if it refuses the lab."""
+    """Prints the program's verdict on a lab, and warnings. Returns 0, 5 if there are warnings, or the program's
+    status if it refuses the lab."""
     path = Path(words.lab)
     answer: Answer = call("check", path)
     if answer.status != 0:
         found = refused(path, answer.error) if answer.status == 2 else [labs.unread(path, answer.error)]
         print(*map(printable, found), sep="\n")
         return answer.status
-    print(sized(path, answer.output.strip()))
+    print(size_line(path, answer.output.strip()))
     warned = list(warnings(path))
     print(*(f"warning: {printable(each)}\n" for each in warned), sep="", end="")
     return WARNED if warned else 0

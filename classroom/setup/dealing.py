@@ -1,4 +1,4 @@
-"""Dealing out: who plays in which network, and who owns which nodes."""
+"""Dealing students to networks, and nodes to students."""
 from __future__ import annotations
 
 import itertools
@@ -7,37 +7,38 @@ from collections.abc import Iterator
 from dataclasses import dataclass
 
 from classroom.core import lab as labs
+from classroom.core import limits
 from classroom.core.counts import plural
 from classroom.core.lists import Person
 from classroom.core.printable import printable
 from classroom.core.program import Fault
 
-SEATS = labs.MOST_SESSIONS - 1  # of students in a network
 People = dict[str, Person]
 
 
 @dataclass(frozen=True)
 class Part:
-    """The students of one network, and their room, if the list has one."""
+    """The students of one network, and their room if the list has one."""
 
     names: list[str]
     room: str = ""
 
 
 def in_groups(people: list[str], count: int) -> list[list[str]]:
-    """Returns the people in so many groups, whose sizes differ by one at most."""
+    """Returns the people in this number of groups, whose sizes differ by at most one."""
     if not 1 <= count <= len(people):
         raise Fault(f"--groups {count}: 1 to {len(people)}")
     return [people[index::count] for index in range(count)]
 
 
 def parts(people: People, count: int | None, column: str | None) -> list[Part]:
-    """Returns who plays together: in so many networks, or, by a column of the list, in networks of one room each."""
+    """Returns the students of each network: `count` networks, or separate networks for each room in a column of
+    the list."""
     if column is None:
         return [Part(names) for names in in_groups([*people], count or 1)]
     lost = [person.written for person in people.values() if not person.group]
     if lost:
-        raise Fault(f"--groups-by {column}: nothing stands there for {', '.join(lost)}")
+        raise Fault(f"--groups-by {column}: this column is empty for {', '.join(lost)}")
     rooms: dict[str, list[str]] = {}
     for name, person in people.items():
         rooms.setdefault(person.group, []).append(name)
@@ -46,10 +47,11 @@ def parts(people: People, count: int | None, column: str | None) -> list[Part]:
 
 
 def networks_of(rooms: dict[str, list[str]], count: int | None, column: str) -> dict[str, int]:
-    """Returns how many networks each room has: as many as give each student a seat, or so many in all, of which the next
-    goes to the room with the most students a network."""
+    """Returns the number of networks of each room: as many as give each student a seat, or `count` in total. Each
+    further one goes to the room with the most students per network."""
     if count is None:
-        return {room: -(-len(names) // SEATS) for room, names in rooms.items()}
+        seats = limits.allowed().seats
+        return {room: -(-len(names) // seats) for room, names in rooms.items()}
     if count < len(rooms):
         raise Fault(f"--groups {count}: by {column} there are {len(rooms)} rooms: {', '.join(rooms)}")
     shares = dict.fromkeys(rooms, 1)
@@ -59,7 +61,7 @@ def networks_of(rooms: dict[str, list[str]], count: int | None, column: str) -> 
 
 
 def deal(identifiers: list[int], students: list[str], each: int) -> list[labs.Node]:
-    """Deals nodes out, with so many owners each, so that no two students have counts that differ by more than one."""
+    """Returns the nodes with `each` owners. The numbers of nodes of two students differ by at most one."""
     if len(students) < each:
         raise Fault(f"{each} owners for each node need {each} students")
     turns = itertools.cycle(students)
@@ -67,7 +69,7 @@ def deal(identifiers: list[int], students: list[str], each: int) -> list[labs.No
 
 
 def counts(made: labs.Lab) -> str:
-    """Returns how many students have how many nodes, as text."""
+    """Returns how many students have how many nodes, as a text."""
     shown = made.without_house()
     found = Counter(len(shown.nodes_of(name)) for name in shown.students)
     told = (f"{students} with {plural(nodes, 'node')}" for nodes, students in sorted(found.items(), reverse=True))
@@ -75,7 +77,8 @@ def counts(made: labs.Lab) -> str:
 
 
 def table(labs_of: dict[str, labs.Lab], rooms: dict[str, str]) -> Iterator[str]:
-    """Yields a table of all students: as the list and as the lab names them, network, room and nodes."""
+    """Yields the lines of a table with all students: their names in the list and in the lab, network, room and
+    nodes."""
     has_rooms = any(rooms.values())
     lines = [["student", "name", "network", *(["room"] if has_rooms else []), "nodes"]]
     for network, made in labs_of.items():

@@ -1,4 +1,4 @@
-"""What is handed out: the slips of labs, made with them by `new`, or anew by `./class slips`."""
+"""Slips for students: made by `new`, or made again by `./class slips`."""
 from __future__ import annotations
 
 import argparse
@@ -9,7 +9,7 @@ from pathlib import Path
 
 from classroom.client import NoSlip, door_of
 from classroom.core import lab as labs
-from classroom.core.program import Fault
+from classroom.core.program import LAST_PORT, Fault
 from classroom.core.printable import guarded
 from classroom.door import certificate
 from classroom.door.routes import network
@@ -20,15 +20,15 @@ HEADS = ("name", "e-mail", "network", "room", "file")
 
 
 def port(word: str) -> int:
-    """Returns a port's number."""
-    if not (word.isascii() and word.isdecimal() and 1 <= int(word) <= 65535):
-        raise argparse.ArgumentTypeError(f"{word} is no port: 1 to 65535")
+    """Returns the port that an argument names."""
+    if not (word.isascii() and word.isdecimal() and 1 <= int(word) <= LAST_PORT):
+        raise argparse.ArgumentTypeError(f"{word} isn't a port: write a number from 1 to {LAST_PORT}")
     return int(word)
 
 
 def door(word: str) -> str:
-    """Returns a door's place, `class.example:4700`; a port alone is one of this machine."""
-    place = f"{machine()}:{word}" if word.isdecimal() else word
+    """Returns the address of a door, `class.example:4700`. A port alone is one of this machine."""
+    place = f"{own_host_name()}:{word}" if word.isdecimal() else word
     try:
         door_of(place)
     except NoSlip as error:
@@ -36,50 +36,51 @@ def door(word: str) -> str:
     return place
 
 
-def machine() -> str:
-    """Returns the name of this machine, as far as it knows it."""
+def own_host_name() -> str:
+    """Returns the name of this machine, as far as it is known."""
     name = socket.getfqdn()
     return socket.gethostname() if name.startswith("localhost") else name
 
 
 def add_way(words: argparse.ArgumentParser) -> None:
-    """Adds the words that say how students get in."""
-    words.add_argument("--port", type=port, help=f"the port that stands on the slips, of several labs the first one's ({FIRST_PORT})")
+    """Adds the arguments about the way in for students."""
+    words.add_argument("--port", type=port, help=f"the port on the slips; of several labs, the port of the first ({FIRST_PORT})")
     words.add_argument("--page-port", type=port, metavar="PORT",
-                       help=f"so the port of the page to play by ({FIRST_PAGE})")
-    words.add_argument("--door", type=door, metavar="HOST:PORT", help="the door of `run --door` through which they come, as they reach it")
+                       help=f"the port of the page for playing by hand; of several labs, the port of the first ({FIRST_PAGE})")
+    words.add_argument("--door", type=door, metavar="HOST:PORT", help="the address by which students reach the door of `run --door`")
     words.add_argument("--certificate", type=Path, metavar="FILE",
-                       help="the door's key and certificate (door.pem beside the first lab, made if it isn't there)")
-    words.add_argument("--ssh", metavar="NAME@HOST", help="without a door: the account by which ssh leads in (NAME at this machine)")
+                       help="the door's key and certificate (door.pem in the folder of the first lab; it is made if it is missing)")
+    words.add_argument("--ssh", metavar="NAME@HOST", help="without a door: the account that students use for ssh (NAME at this machine)")
 
 
 def add_words(words: argparse.ArgumentParser) -> None:
-    """Adds the words of `slips`."""
+    """Adds the arguments of `slips`."""
     words.add_argument("labs", nargs="+", metavar="LAB", help="the labs of a class, in the order in which `run` takes them")
     add_way(words)
-    words.set_defaults(work=again)
+    words.set_defaults(work=remake_slips)
 
 
 def ways(words: argparse.Namespace, files: list[Path], rooms: list[str], before: list[Way | None] | None = None) -> list[Way]:
-    """Returns how one gets into each of the labs: as the words say, or else as the slips `before` say."""
+    """Returns the way into each lab, from the arguments or else from earlier slips."""
     found, names = [], [network(file) for file in files]
     if len(set(names)) < len(names):
         raise Fault(f"two labs have one network's name: {', '.join(names)}")
-    known = certificate.ready(words.certificate or certificate.beside(files[0]), door_of(words.door)[0]) if words.door else ""
+    known = certificate.make_if_missing(words.certificate or certificate.beside(files[0]), door_of(words.door)[0]) if words.door else ""
     for index, (name, room) in enumerate(zip(names, rooms, strict=True)):
         old = before[index] if before else None
         at = words.port + index if words.port else old.port if old else FIRST_PORT + index
         page = words.page_port + index if words.page_port else old.page if old else FIRST_PAGE + index
-        if max(at, page) > 65535:
-            raise Fault(f"{len(files)} labs need a port each, up to 65535")
+        if max(at, page) > LAST_PORT:
+            raise Fault(f"{len(files)} labs need a port each, up to {LAST_PORT}")
         is_kept = old is not None and not words.door and not words.ssh
-        lead = (old.door, old.fingerprint, old.ssh) if old and is_kept else (words.door or "", known, "" if words.door else words.ssh or f"NAME@{machine()}")
+        ssh = "" if words.door else words.ssh or f"NAME@{own_host_name()}"
+        lead = (old.door, old.fingerprint, old.ssh) if old and is_kept else (words.door or "", known, ssh)
         found.append(Way(at, name, room, page, *lead))
     return found
 
 
-def print_anew(made: labs.Lab, way: Way, lab: Path) -> None:
-    """Writes the page of a lab's slips and the slips of all its students and of its teacher, whatever stood there."""
+def rewrite_slips(made: labs.Lab, way: Way, lab: Path) -> None:
+    """Writes the page of a lab's slips, and the slips of its students and its teacher. Replaces old files."""
     folder = slips.folder_of(lab)
     folder.mkdir(mode=0o700, exist_ok=True)
     for name in made.without_house().students:
@@ -88,22 +89,22 @@ def print_anew(made: labs.Lab, way: Way, lab: Path) -> None:
     slips.replace(slips.page_of(lab), printed.page(made, way))
 
 
-def again(words: argparse.Namespace) -> int:
-    """Makes the slips of labs anew, for another way in."""
+def remake_slips(words: argparse.Namespace) -> int:
+    """Makes the slips of labs again, with another way in. Returns the exit status."""
     files = [Path(lab) for lab in words.labs]
     every = [labs.read(file) for file in files]
     before = [Way.read(file) for file in files]
     every_way = ways(words, files, [way.room if way else "" for way in before], before)
     for made, way, file in zip(every, every_way, files, strict=True):
-        print_anew(made, way, file)
-        print(f"{slips.page_of(file)} to print, {slips.folder_of(file)} for programs, {slips.teacher_of(file)} yours alone")
+        rewrite_slips(made, way, file)
+        print(f"{slips.page_of(file)} to print, {slips.folder_of(file)} for programs, {slips.teacher_of(file)} for you alone")
     if any(way.door and not printed.has_squares(way) for way in every_way):
         print(printed.NO_SQUARE)
     return 0
 
 
 def merge(parts: list[tuple[labs.Lab, Way, Path]]) -> str:
-    """Returns the table for a mail merge: to whom which file goes."""
+    """Returns the table for a mail merge: each student with the file of the slip."""
     out = io.StringIO()
     rows = csv.writer(out, lineterminator="\n")
     rows.writerow(HEADS)

@@ -1,7 +1,7 @@
-"""Keys: of students three words and two digits, to be typed from paper; of programs 32 hexadecimal digits.
+"""Keys. Students have three words and two digits, to be typed from paper. Programs have 32 hexadecimal digits.
 
-A student's key is one of 4096 * 4096 * 4096 * 100, which are 42 bits. A class's server answers one wrong key each 12
-milliseconds in all, so that a whole day's guesses are one in 950,000 of them.
+A student's key is one of 4096 * 4096 * 4096 * 100, which are 42.6 bits. A class's server answers at most one wrong
+key in 12 milliseconds over all connections. So the guesses of a whole day are about one in 950,000 of all keys.
 """
 from __future__ import annotations
 
@@ -17,17 +17,17 @@ KNOWN = frozenset(WORDS)
 
 
 def for_people() -> str:
-    """Returns a new key that can be typed, as `amber-lilac-tonic-42`."""
+    """Returns a new random key that can be typed, such as `amber-lilac-tonic-42`."""
     return "-".join([*(secrets.choice(WORDS) for _ in range(WORDS_EACH)), f"{secrets.randbelow(10 ** DIGITS):0{DIGITS}}"])
 
 
 def for_programs() -> str:
-    """Returns a new key that nobody types."""
+    """Returns a new random key that nobody types."""
     return secrets.token_hex(KEY_BYTES)
 
 
-def drawn(key: str) -> tuple[int, int] | None:
-    """Returns of how many words and digits a key consists, if all its parts are words of the list or digits; else None."""
+def count_parts(key: str) -> tuple[int, int] | None:
+    """Returns the numbers of words and of digits in a key, or None if it has other parts."""
     parts = key.split("-")
     digits = [part for part in parts if part.isascii() and part.isdecimal()]
     words = [part for part in parts if part in KNOWN]
@@ -35,5 +35,5 @@ def drawn(key: str) -> tuple[int, int] | None:
 
 
 def bits_of(words: int, digits: int) -> float:
-    """Returns how many bits a key of so many words and digits has, if all were drawn by lot."""
+    """Returns the bits of a key with so many random words and digits."""
     return words * math.log2(len(WORDS)) + digits * math.log2(10)

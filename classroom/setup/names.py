@@ -1,4 +1,4 @@
-"""Names as people write them, made names that a lab takes."""
+"""Turns the names in a class list into names for a lab."""
 from __future__ import annotations
 
 import re
@@ -6,9 +6,9 @@ import unicodedata
 from collections import Counter
 from collections.abc import Iterable
 
+from classroom.core import limits
 from classroom.core.lists import Person
 
-MOST_BYTES = 32
 SPELLED = {
     "ä": "ae", "ö": "oe", "ü": "ue", "ß": "ss", "æ": "ae", "œ": "oe", "ø": "oe", "å": "aa", "ł": "l", "đ": "d", "ð": "d",
     "þ": "th", "ı": "i", "ħ": "h", "ŋ": "ng", "ə": "e",
@@ -34,7 +34,8 @@ SYLLABLES = ("DEVANAGARI", "BENGALI", "GURMUKHI", "GUJARATI", "TAMIL", "TELUGU",
 
 
 def letters(char: str) -> str:
-    """Returns a character, whatever stands beside it, in letters a to z and digits, or empty if it isn't known how."""
+    """Returns a character in letters a to z and digits, whatever is beside it, or an empty text if that isn't
+    known."""
     if char in SPELLED:
         return SPELLED[char]
     named = unicodedata.name(char, "")
@@ -50,7 +51,7 @@ def letters(char: str) -> str:
 
 
 def sounds(named: list[str]) -> str | None:
-    """Returns how a letter sounds by the words of its name, or None if that isn't known."""
+    """Returns the sound of a letter, from the words of its Unicode name, or None if that isn't known."""
     if len(named) < 3:
         return None
     if named[0] in ("ARABIC", "HEBREW") and named[1] == "LETTER":
@@ -62,30 +63,30 @@ def sounds(named: list[str]) -> str | None:
     return None
 
 
-def one(name: str) -> str:
-    """Returns a name's form in a lab, without regard to others: `Zoë Müller` is `zoe-mueller`, and so is `Müller, Zoë`.
-    It is empty if no letter of it is known."""
+def lab_name(name: str) -> str:
+    """Returns a name's form in a lab, without regard to others: `zoe-mueller` for `Zoë Müller` and for `Müller,
+    Zoë`. It is empty if none of its letters is known."""
     last, comma, first = name.partition(",")
     folded = unicodedata.normalize("NFC", f"{first} {last}" if comma and "," not in first else name).lower()
     spelled = "".join("-" if char.isspace() or char in "-_.,/" else letters(char) for char in folded)
     short = re.sub("-+", "-", spelled).strip("-")
-    return (short if not short or short[0].isalpha() else f"s-{short}")[:MOST_BYTES].rstrip("-")
+    return (short if not short or short[0].isalpha() else f"s-{short}")[:limits.allowed().name].rstrip("-")
 
 
 def with_end(short: str, end: str) -> str:
-    """Returns a name with an end that tells it apart."""
-    return f"{short[: MOST_BYTES - len(end) - 1].rstrip('-')}-{end}"
+    """Returns a name with a suffix, within the limit of its length."""
+    return f"{short[: limits.allowed().name - len(end) - 1].rstrip('-')}-{end}"
 
 
 def all_of(people: Iterable[Person], taken: Iterable[str] = ()) -> dict[str, Person]:
-    """Returns the lab's names, each with its person. Those that come out alike are distinguished by what the list has,
-    or else by numbers; so is a name of which no letter is known."""
+    """Returns the lab's names, each with its person. Equal names get the person's identifier or a number as a
+    suffix. A name without a known letter becomes `s-` and such a suffix."""
     listed = list(people)
-    forms = [one(person.written) for person in listed]
+    forms = [lab_name(person.written) for person in listed]
     ids = [re.sub("[^a-z0-9]+", "-", person.id.lower()).strip("-") for person in listed]
     counts, used, made = Counter([*forms, *taken]), set(taken), dict[str, Person]()
     for index, (person, form, identifier) in enumerate(zip(listed, forms, ids), 1):
-        short = form or f"s-{identifier or index}"[:MOST_BYTES].rstrip("-")
+        short = form or f"s-{identifier or index}"[:limits.allowed().name].rstrip("-")
         if form and identifier and counts[form] > 1:
             short = with_end(form, identifier)
         first, number = short, 1

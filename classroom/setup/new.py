@@ -1,4 +1,4 @@
-"""`./class new`: labs from a class list, with a page of slips beside each."""
+"""`./class new`: makes labs from a class list, with a page of slips for each."""
 from __future__ import annotations
 
 import argparse
@@ -14,7 +14,7 @@ from dataclasses import dataclass
 from pathlib import Path
 
 from classroom.core import lab as labs
-from classroom.core import bounds, lists, networks
+from classroom.core import bounds, limits, lists, networks
 from classroom.core.lists import Person
 from classroom.core.program import CLASS, Fault, call, program
 from classroom.door import certificate
@@ -23,10 +23,10 @@ from classroom.setup.slips import Way
 
 
 def start(made: labs.Lab, word: str, chance: random.Random) -> None:
-    """Sets the registers at the beginning: all clean; at random at every node; hurt at one node in three; or the worst
-    that is known."""
+    """Sets the registers at the beginning: all clean, all random, random at one node in three (`hurt`), or the
+    worst known start."""
     if word == "worst":
-        registers = {node: (p, m) for node, p, m in shaking.broken([node.id for node in made.nodes], made.links)}
+        registers = {node: (p, m) for node, p, m in shaking.longest_start([node.id for node in made.nodes], made.links)}
         for node in made.nodes:
             node.p, node.m = registers[node.id]
         return
@@ -38,7 +38,7 @@ def start(made: labs.Lab, word: str, chance: random.Random) -> None:
 
 
 def make(words: argparse.Namespace, people: dict[str, Person], chance: random.Random) -> labs.Lab:
-    """Returns a lab for these students."""
+    """Returns a lab for these students, by the arguments."""
     students = list(people)
     if words.links:
         identifiers, links = networks.from_file(Path(words.links), words.nodes)
@@ -51,15 +51,16 @@ def make(words: argparse.Namespace, people: dict[str, Person], chance: random.Ra
         known[labs.HOUSE] = keys.for_programs()
         for node in nodes:
             node.owners.append(labs.HOUSE)
-    teacher = names.one(words.teacher) or "teacher", keys.for_programs()
-    made = labs.Lab(words.events or labs.MOST_EVENTS, words.sessions or labs.MOST_SESSIONS, teacher, known, nodes, links, people)
+    teacher = names.lab_name(words.teacher) or "teacher", keys.for_programs()
+    most = limits.allowed()
+    made = labs.Lab(words.events or most.events, words.sessions or most.sessions, teacher, known, nodes, links, people)
     start(made, words.start, chance)
     return made
 
 
 @dataclass(frozen=True)
 class Made:
-    """A lab that is to be written, where, and what the program says of its size."""
+    """A new lab with its file, and the program's line about its size."""
 
     lab: labs.Lab
     file: Path
@@ -67,10 +68,10 @@ class Made:
 
 
 def files(path: Path, count: int) -> list[Path]:
-    """Returns the files of so many labs."""
+    """Returns the files for this number of labs."""
     name = path.name.removesuffix(".toml")
     if not name.strip("."):
-        raise Fault(f"{path} is no file's name: NAME.toml")
+        raise Fault(f"{path} isn't a file name of the form NAME.toml")
     numbers = [""] if count == 1 else [f"-{number}" for number in range(1, count + 1)]
     return [path.with_name(f"{name}{number}.toml") for number in numbers]
 
@@ -80,8 +81,9 @@ def merge_of(path: Path) -> Path:
     return path.with_name(f"{path.name.removesuffix('.toml')}-slips.csv")
 
 
-def tried(made: labs.Lab, wanted: Path) -> str:
-    """Returns what the program says of a lab's size, or raises its error; the lab is written elsewhere for that."""
+def checked_size(made: labs.Lab, wanted: Path) -> str:
+    """Returns the program's line about a lab's size. Raises `Fault` if the program refuses the lab. Writes it only
+    to a temporary file."""
     with tempfile.TemporaryDirectory() as room:
         file = Path(room, "lab.toml")
         try:
@@ -90,12 +92,12 @@ def tried(made: labs.Lab, wanted: Path) -> str:
             raise Fault(str(fault).replace(str(file), str(wanted)), fault.status) from None
         answer = call("check", file)
     if answer.status != 0:
-        raise Fault(f"this would be no lab: {answer.error}", answer.status)
+        raise Fault(f"no lab can be made of this: {answer.error}", answer.status)
     return labs.with_house_apart(answer.output.strip().removeprefix("ok: "), made)
 
 
 def write(made: Made, way: Way, page: str, done: list[Path]) -> None:
-    """Writes a lab and its slips, and notes each file or folder that is written."""
+    """Writes a lab and its slips. Appends each written file or folder to `done`."""
     for file, content in ((made.file, labs.text(made.lab)), (slips.page_of(made.file), page),
                           (slips.teacher_of(made.file), slips.text(made.lab, made.lab.teacher[0], way))):
         labs.write_new(file, content)
@@ -106,7 +108,7 @@ def write(made: Made, way: Way, page: str, done: list[Path]) -> None:
 
 @contextlib.contextmanager
 def all_or_none() -> Iterator[list[Path]]:
-    """Returns a list for the files and folders that are written. Removes all of them if something fails."""
+    """Yields a list for the files and folders that are written. Removes all of them if something fails."""
     done: list[Path] = []
     try:
         yield done
@@ -120,13 +122,14 @@ def all_or_none() -> Iterator[list[Path]]:
 
 
 def new(words: argparse.Namespace) -> int:
-    """Makes the labs and their slips, once all of it is known to work, and prints who is where and what comes next."""
+    """Makes the labs and their slips after checking everything, and prints a summary and the next commands.
+    Returns the exit status."""
     program()
     people = lists.read(Path(words.students), words).people
     chance = random.Random(words.seed)
     if words.pairs and words.stand_in:
         raise Fault("--stand-in gives each node a second owner, the house, and --pairs another student: a node has at most two")
-    everywhere = names.all_of(people, [names.one(words.teacher) or "teacher", labs.HOUSE])
+    everywhere = names.all_of(people, [names.lab_name(words.teacher) or "teacher", labs.HOUSE])
     parts = dealing.parts(everywhere, words.groups, words.groups_by)
     where = files(Path(words.lab), len(parts))
     merge = merge_of(Path(words.lab))
@@ -136,15 +139,15 @@ def new(words: argparse.Namespace) -> int:
     every = [make(words, {name: everywhere[name] for name in part.names}, chance) for part in parts]
     if words.strict:
         refuse_idle(every, words)
-    made = [Made(lab, file, tried(lab, file)) for lab, file in zip(every, where, strict=True)]
-    ways = written(words, made, [part.room for part in parts], merge)
-    told(words, made, ways, len(everywhere))
-    print(f"\nnext: {next_words(words, made, merge)}")
+    made = [Made(lab, file, checked_size(lab, file)) for lab, file in zip(every, where, strict=True)]
+    ways = write_all(words, made, [part.room for part in parts], merge)
+    print_summary(words, made, ways, len(everywhere))
+    print(f"\nnext: {next_steps(words, made, merge)}")
     return 0
 
 
-def written(words: argparse.Namespace, made: list[Made], rooms: list[str], merge: Path) -> list[Way]:
-    """Writes all labs and slips, or nothing if one of them can't be written. Returns how one gets in."""
+def write_all(words: argparse.Namespace, made: list[Made], rooms: list[str], merge: Path) -> list[Way]:
+    """Writes all labs and slips, or nothing if one of them can't be written. Returns the ways in."""
     with all_or_none() as done:
         file = words.certificate or certificate.beside(made[0].file)
         is_new = bool(words.door) and not os.path.lexists(file)
@@ -157,8 +160,8 @@ def written(words: argparse.Namespace, made: list[Made], rooms: list[str], merge
     return ways
 
 
-def told(words: argparse.Namespace, made: list[Made], ways: list[Way], everybody: int) -> None:
-    """Prints the labs with their slips, who is where, and what a teacher has to know of them."""
+def print_summary(words: argparse.Namespace, made: list[Made], ways: list[Way], everybody: int) -> None:
+    """Prints the labs with their slips, notes about them, and the table of students."""
     for it in made:
         print(f"{it.file}: {it.size}; slips: {slips.page_of(it.file)} to print, {slips.folder_of(it.file)} for programs")
         print(f"  {dealing.counts(it.lab)}")
@@ -172,13 +175,13 @@ def told(words: argparse.Namespace, made: list[Made], ways: list[Way], everybody
         print(line)
 
 
-def next_words(words: argparse.Namespace, made: list[Made], merge: Path) -> str:
-    """Returns what is to be done next, as text."""
+def next_steps(words: argparse.Namespace, made: list[Made], merge: Path) -> str:
+    """Returns the text about what to do next."""
     every = " ".join(shlex.quote(str(it.file)) for it in made)
     pages = " ".join(str(slips.page_of(it.file)) for it in made)
     door = f" --door {words.door.rpartition(':')[2]}" if words.door else ""
     own = f"{slips.teacher_of(made[0].file)} is" if len(made) == 1 else f"the files {str(merge).removesuffix('-slips.csv')}-*-teacher.slip are"
-    return (f"print {pages}, or send each the file that {merge} names; {own} yours alone. Then\n"
+    return (f"print {pages}, or send each student the file that {merge} names; {own} for you alone. Then\n"
             f"  {CLASS} check {made[0].file}\n  {CLASS} run {every} --page{door or ' --play'}")
 
 
@@ -186,24 +189,24 @@ def tell_seats(made: labs.Lab, everybody: int, words: argparse.Namespace) -> Non
     """Prints a note if not all students of the lab can have a seat at once, with the number of labs that would be enough."""
     students = len(made.without_house().students)
     if made.sessions < students + 1 and words.groups_by:
-        print(f"note: {made.sessions} sessions for {students} students and a teacher: more --groups give all a seat")
+        print(f"note: {made.sessions} sessions for {students} students and a teacher: with more --groups all have a seat")
     elif made.sessions < students + 1:
         print(f"note: {made.sessions} sessions for {students} students and a teacher: "
-              f"--groups {-(-everybody // (labs.MOST_SESSIONS - 1))} makes labs in which all have a seat")
+              f"--groups {-(-everybody // limits.allowed().seats)} makes labs in which all have a seat")
 
 
 def tell_few(made: labs.Lab) -> None:
-    """Prints a note if the lab may be full before it comes to rest. The most events that a lab may have suffice for each
+    """Prints a note if the events may run out before the network is stable. The highest limit is enough for each
     network."""
-    if made.events == labs.MOST_EVENTS:
+    if made.events == limits.allowed().events:
         return
     least = bounds.of_lab(made).events
     if made.events < least:
-        print(f"note: {made.events} events may be too few: {least} suffice for grants and closes to rest")
+        print(f"note: {made.events} events may be too few: with {least}, grants and closes alone always reach rest")
 
 
 def without_node(made: labs.Lab, words: argparse.Namespace) -> str:
-    """Returns who has no node, and which network has enough, or nothing if each student has one."""
+    """Returns a text with the students who have no node and a network that has enough, or an empty text."""
     shown = made.without_house()
     idle = [name for name in shown.students if not shown.nodes_of(name)]
     if not idle:
@@ -214,14 +217,14 @@ def without_node(made: labs.Lab, words: argparse.Namespace) -> str:
 
 
 def tell_idle(made: labs.Lab, words: argparse.Namespace) -> None:
-    """Warns in a line if there are more students than nodes."""
+    """Prints a warning if there are more students than nodes."""
     idle = without_node(made, words)
     if idle:
         print(f"WARNING: more students than nodes: {idle}")
 
 
 def refuse_idle(made: list[labs.Lab], words: argparse.Namespace) -> None:
-    """Raises a fault if there are more students than nodes."""
+    """Raises `Fault` if there are more students than nodes."""
     for lab in made:
         idle = without_node(lab, words)
         if idle:

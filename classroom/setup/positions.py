@@ -1,4 +1,4 @@
-"""The line of a lab's file in which a thing stands, by the forms in which labs are commonly written."""
+"""Finding the line of a table, key or link in the text of a lab, as labs are commonly written."""
 from __future__ import annotations
 
 import re
@@ -12,7 +12,7 @@ IN_BRACES = ("teacher", "student", "node")  # the document's keys whose tables m
 
 @dataclass
 class Table:
-    """A table of the file: its name, the line in which it begins, and that of each of its keys."""
+    """A table in the file: its name, its first line, and the line of each of its keys."""
 
     name: str
     line: int
@@ -21,14 +21,15 @@ class Table:
 
 @dataclass
 class Value:
-    """The value of a key, which ends if its brackets are closed. Its tables in braces are added to a list."""
+    """The value of a key, which may go on over several lines until its brackets are closed. Its tables in braces
+    are appended to a list."""
 
     name: str = ""  # of the key
     tables: list[Table] = field(default_factory=list)
     brackets: str = ""  # those that are open, the outermost first
 
     def take(self, number: int, text: str) -> None:
-        """Reads a line, or what of it stands after the key. A table within another isn't added, nor are its keys."""
+        """Reads a line, or its rest after the key. Ignores tables within other tables in braces."""
         for found in BRACKET_OR_KEY.finditer(text):
             if found[0] in ("[", "{"):
                 self.brackets += found[0]
@@ -41,13 +42,13 @@ class Value:
 
 
 def without_texts(line: str) -> str:
-    """Returns a line without its comment and without what stands in quotes."""
+    """Returns a line without its comment and without the contents of its strings."""
     return re.sub(r"#.*", "", re.sub(r'"(\\.|[^"\\])*"|\'[^\']*\'', '""', line))
 
 
 def tables(text: str) -> list[Table]:
-    """Returns the file's tables in order; the first is the document's own. Those in braces count too, under the keys of
-    the document that take tables. A bracket that isn't closed ends at the next header, or at a key that isn't in
+    """Returns the tables of a file in their order. The first is the document itself. Tables in braces are included
+    if they belong to one of its known keys. An unclosed bracket ends at the next header, or at a key outside
     braces."""
     found, value = [Table("", 1)], Value()
     current = found[0]
@@ -68,14 +69,13 @@ def tables(text: str) -> list[Table]:
 
 
 def table(text: str, name: str, index: int) -> Table | None:
-    """Returns the table of that name and index, from 0, or None if there are fewer."""
+    """Returns the table with this name and index, counted from 0, or None."""
     named = [each for each in tables(text) if each.name == name]
     return named[index] if index < len(named) else None
 
 
 def link(text: str, index: int) -> int | None:
-    """Returns the line in which the link of that index, from 0, begins, found by counting brackets, or None if there
-    aren't so many."""
+    """Returns the line of the link with this index, counted from 0, or None. Counts brackets to find it."""
     inside, seen = False, 0
     for number, whole in enumerate(text.splitlines(), 1):
         line = without_texts(whole)

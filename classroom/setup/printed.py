@@ -1,4 +1,4 @@
-"""The page of slips to print: four a page, with lines to cut along."""
+"""The page with slips for printing: four on a sheet, with lines to cut along."""
 from __future__ import annotations
 
 import shutil
@@ -36,18 +36,19 @@ NO_SQUARE = "The slips have no QR codes: qrencode isn't installed (Debian's pack
 
 
 def address(way: Way, name: str, key: str) -> str:
-    """Returns the address of the page to play by, which has name and key after `#`: they aren't sent."""
+    """Returns the address of the page to play. Name and key are after `#`, so that browsers don't send them."""
     given = f"#name={quote(name)}&key={quote(key, safe='')}"
     return f"https://{way.door}/{way.network}/{given}" if way.door else f"http://127.0.0.1:{way.page}/{given}"
 
 
 def has_squares(way: Way) -> bool:
-    """Returns whether slips can have QR codes, which only addresses of a door have: another machine opens no other."""
+    """Returns whether slips can have QR codes: there is a door, since no other address works on another machine,
+    and qrencode is installed."""
     return bool(way.door) and shutil.which("qrencode") is not None
 
 
 def square(content: str) -> str:
-    """Returns a QR code as SVG. The program gets its content if others can't read it."""
+    """Returns a QR code as SVG. The content is passed by standard input, because others could read arguments."""
     done = run(["qrencode", "-t", "ASCII", "-m", "0", "-l", "M"], given=content.encode())
     if done.returncode != 0:
         raise Fault(f"qrencode: {done.stderr.decode(errors='replace').strip()}", FAILED)
@@ -59,17 +60,17 @@ def square(content: str) -> str:
 
 
 def forwards(way: Way) -> str:
-    """Returns the line by which ssh leads to the server and to the page to play by."""
+    """Returns the ssh command that forwards the ports of the server and of the page to play."""
     return f"ssh -N -L {way.port}:127.0.0.1:{way.port} -L {way.page}:127.0.0.1:{way.page} {way.ssh}"
 
 
 def in_parts(digits: str) -> str:
-    """Returns a fingerprint as browsers show it."""
+    """Returns a fingerprint in the form that browsers show."""
     return ":".join(digits[at:at + 2] for at in range(0, len(digits), 2)).upper()
 
 
 def rows(made: Lab, name: str, way: Way) -> Iterator[tuple[str, str]]:
-    """Yields what a slip has in lines, as HTML."""
+    """Yields the names and values on a slip, as HTML."""
     yield "name", f"<code>{escape(name)}</code>"
     yield "key", f'<code class="key">{escape(made.students[name])}</code>'
     nodes = made.nodes_of(name)
@@ -80,7 +81,7 @@ def rows(made: Lab, name: str, way: Way) -> Iterator[tuple[str, str]]:
 
 
 def slip(made: Lab, shown: Lab, name: str, way: Way) -> str:
-    """Returns one slip."""
+    """Returns one slip as HTML."""
     person, link = made.people.get(name, Person(name)), address(way, name, made.students[name])
     room = f" · {escape(way.room)}" if way.room else ""
     listed = "".join(f"<dt>{head}</dt><dd>{value}</dd>" for head, value in rows(shown, name, way))
@@ -102,7 +103,7 @@ def slip(made: Lab, shown: Lab, name: str, way: Way) -> str:
 
 
 def page(made: Lab, way: Way) -> str:
-    """Returns the page of all slips of a lab, without the teacher's."""
+    """Returns the page with the slips of all students of a lab."""
     shown = made.without_house()
     slips = [slip(made, shown, name, way) for name in shown.students]
     sheets = ["".join(slips[at:at + EACH]) for at in range(0, len(slips), EACH)]

@@ -1,4 +1,4 @@
-"""`./class key`: another key and slip for a student, in mid-course."""
+"""`./class key`: gives a student another key and slip during a course."""
 from __future__ import annotations
 
 import argparse
@@ -17,14 +17,14 @@ from classroom.setup.slips import FIRST_PORT, Way
 
 
 def add_words(words: argparse.ArgumentParser) -> None:
-    """Adds the words of `key`."""
-    words.add_argument("lab", metavar="LAB", help="the lab's file, or the folder of a run of it or of its class")
+    """Adds the arguments of `key`."""
+    words.add_argument("lab", metavar="LAB", help="the file of the lab, or the folder of a run or a class with this lab")
     words.add_argument("name", metavar="NAME", help="the student's name in the lab")
     words.set_defaults(work=rekey)
 
 
 def changed(path: Path, name: str, key: str) -> str:
-    """Returns the lab's text, in which that student alone has another key."""
+    """Returns the lab's text with another key for one student, and no other change."""
     before = labs.document(path)
     text = path.read_text(encoding="utf-8-sig")
     index = next((index for index, each in enumerate(before["student"]) if each["name"] == name), None)
@@ -40,12 +40,13 @@ def changed(path: Path, name: str, key: str) -> str:
     after = "".join(lines)
     before["student"][index]["key"] = key
     if labs.parsed(after) != before:
-        raise Fault(f"{path}: the key of {name} isn't written as `key = \"..\"` in a line; write another one by hand")
+        raise Fault(f"{path}: the key of {name} isn't written as `key = \"..\"` on one line; change it by hand")
     return after
 
 
 def files_of(word: str) -> tuple[list[Path], Path, Record | None]:
-    """Returns the lab's files that have the key, the one beside which slips lie, and what a run's folder keeps."""
+    """Returns the lab's files that contain the key, the one beside which the slips are, and the record of the
+    run's folder."""
     path = Path(word)
     if not path.is_dir():
         return [path], path, None
@@ -57,7 +58,7 @@ def files_of(word: str) -> tuple[list[Path], Path, Record | None]:
 
 @dataclass(frozen=True)
 class Changed:
-    """A student's other key: the files that have it, and the slip."""
+    """A student's new key: the files that have it, and the slip."""
 
     key: str
     files: list[Path]
@@ -65,7 +66,7 @@ class Changed:
 
 
 def change(word: str, name: str) -> Changed:
-    """Changes a student's key in all its places: in the lab, in a run's copy of it, and on the slips."""
+    """Changes a student's key in the lab, in a run's copy of it, and on the slips."""
     files, own, record = files_of(word)
     labs.read(files[0])
     key = keys.for_people()
@@ -83,12 +84,12 @@ def change(word: str, name: str) -> Changed:
 
 
 def rekey(words: argparse.Namespace) -> int:
-    """Gives a student another key, of a class that doesn't go on. Returns the exit status."""
+    """Gives a student of a class that isn't running another key. Returns the exit status."""
     words.lab = str(classes.run_of(Path(words.lab), words.name))
     it, record = change(words.lab, words.name), files_of(words.lab)[2]
     print(f"{words.name} has another key in {', '.join(map(str, it.files))}; slip: {it.slip}")
     if record is not None and record.goes_on():
-        print("the run that goes on still takes the old one: `key NAME` typed at its desk gives another at once")
+        print("the run that is going on still accepts the old key: type `key NAME` at its desk instead")
     elif record is not None:
         print(f"to go on with it: {CLASS} run --resume {words.lab}{' --again' if record.ended else ''}")
     return 0

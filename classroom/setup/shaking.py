@@ -1,5 +1,4 @@
-"""Transient faults that show what the course is about: registers that are drawn, and a start from which it takes
-long."""
+"""Transient faults for lessons: random registers, and a start with a long recovery."""
 from __future__ import annotations
 
 import random
@@ -22,7 +21,7 @@ def pairs_of(links: Iterable[Collection[int]]) -> list[tuple[int, int]]:
 
 
 def shaken(nodes: list[int], links: Iterable[Collection[int]], word: str, seed: int | None) -> list[Registers]:
-    """Returns registers for so many nodes, or for `all`, drawn with the seed."""
+    """Returns random registers for `word` nodes, or for `all`, drawn with the seed."""
     count = len(nodes) if word == "all" else int(word)
     if not 1 <= count <= len(nodes):
         raise Fault(f"shake {word}: 1 to {len(nodes)} nodes, or all")
@@ -32,11 +31,11 @@ def shaken(nodes: list[int], links: Iterable[Collection[int]], word: str, seed: 
     return [(node, chance.choice([None, *sorted(near[node])]), chance.choice([True, False])) for node in drawn]
 
 
-def broken(nodes: list[int], links: Iterable[Collection[int]]) -> list[Registers]:
-    """Returns the start from which a crowd may take the most moves, and halves the most rounds
-    (docs/SELF-STABILISATION.md). In another network each node claims to be married, and points at a higher neighbour,
-    which doesn't point back; one without such points at a lower one that doesn't point at it, or at none: no start has
-    a greater potential."""
+def longest_start(nodes: list[int], links: Iterable[Collection[int]]) -> list[Registers]:
+    """Returns the registers from which a crowd may take the most moves, and halves the most rounds
+    (docs/SELF-STABILISATION.md). In other networks m is true at each node, and it points at a higher neighbour
+    that doesn't point back, or else at a lower one that doesn't point at it, or at none. No start has a greater
+    potential."""
     pairs, order = pairs_of(links), sorted(nodes)
     for word, pointers in (("crowd", of_crowd), ("halves", of_halves)):
         placed = [(order[a - 1], order[b - 1]) for a, b in plain(word, len(order))]
@@ -52,8 +51,8 @@ def broken(nodes: list[int], links: Iterable[Collection[int]]) -> list[Registers
 
 
 def of_crowd(count: int) -> list[int | None]:
-    """Returns the pointers of a crowd's nodes: those of the first half point at the last ones, the first at the last;
-    the others each at the next, and the last at the second."""
+    """Returns the pointers of a crowd's nodes. The first half point at the last nodes in reverse order, and each
+    of the others at the next; the last points at the second."""
     return [count + 1 - node if 2 * node <= count else node + 1 if node < count else 2 for node in range(1, count + 1)]
 
 

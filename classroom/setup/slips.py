@@ -1,4 +1,4 @@
-"""Slips: what each student needs to come in, as a file for programs and as a page to print and cut."""
+"""Slips: the data that each student needs to connect, as a file for programs and on a page to print."""
 from __future__ import annotations
 
 import os
@@ -17,8 +17,8 @@ FIRST_PORT, FIRST_PAGE = 4711, 4790
 
 @dataclass(frozen=True)
 class Way:
-    """How one gets in, which is the same on all slips of a network: its name and room, the ports of its server and of its
-    page to play by, and a door with its certificate's fingerprint, or else an account for ssh."""
+    """The way into a network, which is the same on all its slips: its name and room, the ports of its server and
+    its page to play, and a door with its fingerprint, or else an account for ssh."""
 
     port: int
     network: str
@@ -29,14 +29,14 @@ class Way:
     ssh: str = ""
 
     def lines(self) -> list[str]:
-        """Returns the lines of a slip that say this; those of a door stand last."""
+        """Returns the lines of a slip with these values. Those of a door are last."""
         told = {"network": self.network, "room": self.room, "page": str(self.page), "ssh": self.ssh, "door": self.door,
                 "fingerprint": self.fingerprint}
         return [f"{word} {value}" for word, value in told.items() if value]
 
     @staticmethod
     def read(lab: Path) -> Way | None:
-        """Returns what a slip beside a lab says, or None if there is none that can be read."""
+        """Returns the way in from a slip beside a lab, or None if there is no readable slip."""
         for file in sorted(folder_of(lab).glob("*.slip")):
             try:
                 pairs = [line.partition(" ") for line in plain.read(file, plain.MOST_KEPT).decode().splitlines()]
@@ -54,17 +54,17 @@ def folder_of(lab: Path) -> Path:
 
 
 def page_of(lab: Path) -> Path:
-    """Returns the page of a lab's slips to print."""
+    """Returns the page with a lab's slips for printing."""
     return lab.with_name(f"{lab.stem}-slips.html")
 
 
 def teacher_of(lab: Path) -> Path:
-    """Returns the file of the teacher's slip, which lies apart from those that are handed out."""
+    """Returns the file of the teacher's slip, which is apart from the students' slips."""
     return lab.with_name(f"{lab.stem}-teacher.slip")
 
 
 def slip(made: Lab, name: str, port: int) -> list[str]:
-    """Returns the lines of a slip, as any client reads them."""
+    """Returns the lines of a slip that every client reads."""
     key = made.students[name] if name in made.students else made.teacher[1]
     nodes = ",".join(map(str, made.nodes_of(name)))
     return [f"port {port}", f"name {name}", f"key {key}", *([f"nodes {nodes}"] if nodes else [])]
@@ -76,7 +76,8 @@ def text(made: Lab, name: str, way: Way) -> str:
 
 
 def write_all(made: Lab, way: Way, folder: Path) -> None:
-    """Writes a file for each student, in a folder that nobody else reads, or no folder if one can't be written."""
+    """Writes a file for each student into a new folder that no other user can read. Leaves no folder if a file
+    can't be written."""
     try:
         folder.mkdir(mode=0o700)
     except OSError as error:
@@ -90,7 +91,7 @@ def write_all(made: Lab, way: Way, folder: Path) -> None:
 
 
 def replace(path: Path, content: str) -> None:
-    """Writes a file anew, which nobody else reads."""
+    """Replaces a file by a new one that no other user can read."""
     other = path.with_name(f".{path.name}.{os.getpid()}")
     write_new(other, content)
     other.replace(path)

@@ -1,0 +1,87 @@
+"""The limits of labs, lines, files and connections, as the host's program prints them (`mml limits`)."""
+from __future__ import annotations
+
+import re
+from dataclasses import dataclass
+from functools import cache
+
+from classroom.core.program import Fault, host, host_call
+from classroom.core.statuses import FAILED
+
+LINE = re.compile(r"(?P<name>[a-z]+(?:-[a-z]+)*) (?P<most>[1-9][0-9]{0,18}) (?P<unit>[a-z]+)")
+UNITS = {
+    "count": ("nodes", "students", "owners", "sessions", "events"),
+    "number": ("identifier",),
+    "characters": ("name", "key"),
+    "bytes": ("line", "lab", "journal", "entry", "seat-written", "seat-read"),
+    "seconds": ("greeting", "desk-greeting", "next-line", "write"),
+}
+UNIT_OF = {name: unit for unit, names in UNITS.items() for name in names}
+
+
+@dataclass(frozen=True)
+class Limits:
+    """The greatest number that is allowed of each. The units are those of UNITS."""
+
+    nodes: int
+    identifier: int
+    students: int
+    owners: int
+    sessions: int
+    events: int
+    name: int
+    key: int
+    line: int
+    lab: int
+    journal: int
+    entry: int
+    seat_written: int
+    seat_read: int
+    greeting: int
+    desk_greeting: int
+    next_line: int
+    write: int
+
+    @property
+    def seats(self) -> int:
+        """Returns how many students can play at once: one session is the teacher's."""
+        return self.sessions - 1
+
+
+def parsed(text: str) -> Limits:
+    """Returns the limits in these lines, `NAME NUMBER UNIT`. Lines with other names are ignored, since later versions may
+    have them. Raises `Fault` if a line has another form, if a name is repeated, or if a limit or its line's end is
+    missing."""
+    found: dict[str, int] = {}
+    for line in text.split("\n")[:-1]:
+        it = LINE.fullmatch(line)
+        if it is None or it["name"] in found or it["unit"] != UNIT_OF.get(it["name"], it["unit"]):
+            raise another(f"the limit {line!r}")
+        found[it["name"]] = int(it["most"])
+    for name in UNIT_OF:
+        if name not in found:
+            raise another(f"no limit {name}")
+    return Limits(**{name.replace("-", "_"): found[name] for name in UNIT_OF})
+
+
+def another(what: str) -> Fault:
+    """Returns the fault for a program that prints other limits than those that are read here."""
+    return Fault(f"mml_host is of another version, which prints {what}: build it again", FAILED)
+
+
+@cache
+def allowed() -> Limits:
+    """Returns the limits. Calls the host's program once. Raises `Fault` if it isn't built or prints something else."""
+    answer = host_call("limits")
+    if answer.status != 0:
+        raise another("no limits")
+    return parsed(answer.output)
+
+
+def known() -> Limits | None:
+    """Returns the limits, or None if the host's program isn't built or doesn't print them. A run continues without
+    them."""
+    try:
+        return allowed() if host() else None
+    except (Fault, OSError):
+        return None
