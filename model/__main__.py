@@ -14,7 +14,7 @@ from model.words import ended
 
 
 def main(words: list[str]) -> int:
-    """Does what the words ask for, and returns the exit status."""
+    """Runs a command, and returns the exit status."""
     if words == ["--all"]:
         return write_all()
     found = ended(words)

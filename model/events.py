@@ -1,12 +1,12 @@
-"""Events: what a granted request does to the world, and the contents of its reply."""
+"""Events: the effect of a granted request on the world, and the values in its reply."""
 from typing import Any
 
 from model.requests import Request
 from model.world import World
 
 
-def told(world: World, asked: Request) -> dict[str, Any]:
-    """Returns what the reply to a granted request has beside its word, by the world before the event."""
+def reply_values(world: World, asked: Request) -> dict[str, Any]:
+    """Returns the values of the reply to a granted request beside its word, from the world before the event."""
     place, number = world.place + 1, world.number
     if asked.do == "move":
         return {"at": number, "place": place, "node": asked.node, "rule": asked.move.rule}
@@ -20,7 +20,7 @@ def told(world: World, asked: Request) -> dict[str, Any]:
 
 
 def apply(world: World, asked: Request) -> None:
-    """Lets the event of a granted request happen, which takes the next place."""
+    """Applies the event of a granted request to the world. It takes the next place."""
     world.place += 1
     if asked.do == "move":
         world.chosen[asked.node] = asked.move

@@ -17,27 +17,27 @@ from model.world import Move, World
 MOST = 16 << 20  # bytes of a file
 
 
-def is_(value: int | None) -> str:
-    """Returns the text of a pointer."""
+def pointer_text(value: int | None) -> str:
+    """Returns a pointer as a text."""
     return "null" if value is None else str(value)
 
 
 def no_update(world: World, i: int) -> str:
-    """Returns why Update isn't enabled at a node: m says already whether it is married."""
+    """Returns why Update isn't enabled at a node: m agrees with whether it is married."""
     return f"m of {i} is {'true and it is' if world.m[i] else 'false and it is not'} married, so there is nothing to update"
 
 
 def no_marriage(world: World, i: int, k: int | None) -> str:
-    """Returns which part of the guard of Marriage with k fails at a node whose m is right."""
+    """Returns the part of the guard of Marriage with k that fails at a node whose m is right."""
     if world.p[i] is not None:
         return f"p of {i} isn't null, it is {world.p[i]}"
     if k not in world.links[i]:
         return f"{k} is no neighbour of {i}"
-    return f"p of {k} isn't {i}, it is {is_(world.p[k])}"
+    return f"p of {k} isn't {i}, it is {pointer_text(world.p[k])}"
 
 
 def no_seduction(world: World, i: int) -> str:
-    """Returns which part of the guard of Seduction fails at a node whose m is right."""
+    """Returns the part of the guard of Seduction that fails at a node whose m is right."""
     if world.p[i] is not None:
         return f"p of {i} isn't null, it is {world.p[i]}"
     suitors = [k for k in world.near(i) if world.p[k] == i]
@@ -52,7 +52,7 @@ def no_seduction(world: World, i: int) -> str:
 
 
 def no_abandonment(world: World, i: int) -> str:
-    """Returns which part of the guard of Abandonment fails at a node whose m is right."""
+    """Returns the part of the guard of Abandonment that fails at a node whose m is right."""
     j = world.p[i]
     if j is None:
         return f"p of {i} is null, so there is nobody to abandon"
@@ -62,7 +62,7 @@ def no_abandonment(world: World, i: int) -> str:
 
 
 def failing(world: World, i: int, move: Move) -> str:
-    """Returns the first part of a rule's guard that fails at a node, or nothing if the guard holds."""
+    """Returns the first part of a rule's guard that fails at a node, or an empty text if the guard holds."""
     if world.guard(i, move):
         return ""
     if move.rule == "update":
@@ -75,7 +75,7 @@ def failing(world: World, i: int, move: Move) -> str:
 
 
 def right_line(world: World, i: int) -> str:
-    """Returns what a right bot would send for a node now."""
+    """Returns what a correct bot would send for a node now."""
     if i in world.chosen:
         return f"a right bot would send nothing for {i}: its move waits for the step to close"
     moves = world.moves(i)
@@ -88,7 +88,8 @@ def right_line(world: World, i: int) -> str:
 
 
 def explained(world: World, asked: Request) -> str:
-    """Returns the explanation of a move, before it is answered, or nothing if it isn't one of a node that is there."""
+    """Returns the explanation of a requested move before it is answered, or an empty text if it isn't a move of an
+    existing node."""
     if asked.do != "move" or asked.node not in world.links:
         return ""
     parts = [failing(world, asked.node, asked.move)] if asked.at == world.number and asked.node not in world.chosen else []
@@ -111,7 +112,8 @@ def explanations(lab: Lab, script: bytes) -> list[str]:
 
 
 def main(words: list[str]) -> int:
-    """Explains a script; the exit status is 1 for other words, and else that of the model."""
+    """Prints the explanations for a script. Returns the exit status: 1 for wrong arguments, or the status of an
+    error."""
     if len(words) != 2:
         print(__doc__, file=sys.stderr)
         return 1

@@ -1,9 +1,9 @@
-"""What ends a call early, and the reading of files."""
+"""Errors that end a call, and reading files."""
 from pathlib import Path
 
 
 class Fault(Exception):
-    """An error line with the exit status that goes with it, and what was printed before it."""
+    """An error: its line, the exit status, and the output before it."""
 
     def __init__(self, line: str, status: int, out: bytes = b"") -> None:
         super().__init__(line)
@@ -11,7 +11,7 @@ class Fault(Exception):
 
 
 def read_file(file: Path, what: str, most: int) -> bytes:
-    """Returns the bytes of a file. The error is that it can't be opened or read, or has more bytes than the limit."""
+    """Returns the bytes of a file. Raises `Fault` if it can't be read, or has more bytes than the limit."""
     try:
         with file.open("rb") as it:
             content = it.read(most + 1)

@@ -43,13 +43,13 @@ class Lab:
         return [name for name in self.keys if name != self.teacher]
 
     def shared(self) -> dict[int, list[str]]:
-        """Returns the nodes that two students own, each with its owners, in the order of nodes and students."""
+        """Returns the nodes with two owners, each with its owners, in the order of nodes and students."""
         both = {i: owners for i, owners in sorted(self.owners.items()) if len(owners) == 2}
         return {i: [name for name in self.students() if name in owners] for i, owners in both.items()}
 
 
 class Node(NamedTuple):
-    """A node as the file spells it."""
+    """A node as the file has it."""
 
     id: int
     owners: list[str]
@@ -59,12 +59,12 @@ class Node(NamedTuple):
 
 
 def fault(text: str) -> Fault:
-    """Returns the error of a file that spells no lab."""
+    """Returns the error for a file that isn't a lab."""
     return Fault(f"lab: {text}", 2)
 
 
 def is_within(value: Any, depth: int = 0) -> bool:
-    """Returns whether all integers of a document have 64 bits, and its values aren't nested too deep."""
+    """Returns whether all integers of a document have at most 64 bits, and its values aren't nested too deep."""
     if isinstance(value, (dict, list)):
         inner = value.values() if isinstance(value, dict) else value
         return depth <= DEEPEST and all(is_within(item, depth + 1) for item in inner)
@@ -72,7 +72,7 @@ def is_within(value: Any, depth: int = 0) -> bool:
 
 
 def document(content: bytes) -> dict[str, Any]:
-    """Returns the table that a TOML document spells."""
+    """Returns the table of a TOML document. Raises `Fault` if it isn't one."""
     try:
         found = tomllib.loads(content.decode("utf-8").removeprefix("\ufeff"))
         if is_within(found):
@@ -83,7 +83,7 @@ def document(content: bytes) -> dict[str, Any]:
 
 
 def of_kind(value: Any, key: str, kind: type) -> Any:
-    """Returns a value that is of a kind to the letter: a truth value is no integer."""
+    """Returns a value if it has exactly this type. A truth value isn't an integer. Raises `Fault` otherwise."""
     if value is MISSING:
         raise fault(f"{key} is missing")
     if type(value) is not kind:
@@ -98,7 +98,7 @@ def account_of(table: dict[str, Any], key: str) -> Account:
 
 
 def node_of(value: Any) -> Node:
-    """Returns the node that an element of `node` spells."""
+    """Returns the node in an element of `node`."""
     table = of_kind(value, "node", dict)
     number = of_kind(table.get("id", MISSING), "node.id", int)
     # The kinds of `owner` and `owners` come first, then that one of the two is there.
@@ -122,13 +122,13 @@ def link_of(value: Any) -> Link:
 
 
 def repeated(values: list[Any]) -> list[int]:
-    """Returns the indices of values that stand earlier in the list too."""
+    """Returns the indices of values that occur earlier in the list too."""
     first: dict[Any, int] = {}
     return [x for x, value in enumerate(values) if first.setdefault(value, x) != x]
 
 
 def faults_of(people: list[Account], nodes: list[Node], links: list[Link], events: int, sessions: int) -> Iterator[str]:
-    """Yields the errors of what a file spells, in the order of `docs/LAB.md`; only the first is ever reported."""
+    """Yields the errors of a lab in the order of `docs/LAB.md`. Only the first is ever reported."""
     yield from (f"node {x}: owner and owners" for x, node in enumerate(nodes) if node.has_both)
     if not nodes:
         yield "no nodes"
@@ -157,7 +157,7 @@ def faults_of(people: list[Account], nodes: list[Node], links: list[Link], event
 
 
 def read_lab(content: bytes) -> Lab:
-    """Returns the lab that a file spells. The error is the first one, in the order of `docs/LAB.md`."""
+    """Returns the lab in a file. Raises `Fault` with its first error, in the order of `docs/LAB.md`."""
     table = document(content)
     events, sessions = (of_kind(table.get(key, MISSING), key, int) for key in ("events", "sessions"))
     people = [account_of(of_kind(table.get("teacher", MISSING), "teacher", dict), "teacher")]

@@ -1,4 +1,5 @@
-"""The policy: who may see and do what. The clauses of each request are tried in order; the first unmet one is the denial."""
+"""The policy: who may see and do what. The clauses of each request are checked in order, and the first one that
+fails is the denial."""
 from model.lab import Lab
 from model.requests import Request
 from model.world import World
@@ -30,7 +31,7 @@ def visible(lab: Lab, world: World, who: str, i: int) -> bool:
 
 
 def denial_of_hello(lab: Lab, known: str | None, asked: Request) -> str | None:
-    """Returns the first unmet clause of a hello on a connection that has this name, or none yet."""
+    """Returns the first failing clause of a hello, or None. `known` is the name of the connection, if it has one."""
     # Clause 1: the connection has no name yet.
     if known is not None:
         return "greeted"
@@ -39,7 +40,7 @@ def denial_of_hello(lab: Lab, known: str | None, asked: Request) -> str | None:
 
 
 def denial_of_view(lab: Lab, world: World, who: str, asked: Request) -> str | None:
-    """Returns the first unmet clause of a see, a look or a report."""
+    """Returns the first failing clause of a see, a look or a report, or None."""
     exists = asked.node in world.links
     # See, clause 1: the node exists and is visible to the one who asks.
     if asked.do == "see":
@@ -52,7 +53,7 @@ def denial_of_view(lab: Lab, world: World, who: str, asked: Request) -> str | No
 
 
 def denial_of_move(lab: Lab, world: World, who: str, asked: Request) -> str | None:
-    """Returns the first unmet clause of a move."""
+    """Returns the first failing clause of a move, or None."""
     # Clause 1: the node exists and is the asker's own.
     if asked.node not in world.links or who not in lab.owners[asked.node]:
         return "not-owner"
@@ -67,7 +68,7 @@ def denial_of_move(lab: Lab, world: World, who: str, asked: Request) -> str | No
 
 
 def denial_of_act(lab: Lab, world: World, who: str, asked: Request) -> str | None:
-    """Returns the first unmet clause of a close, a fault, a release, a link or a cut."""
+    """Returns the first failing clause of a close, a fault, a release, a link or a cut, or None."""
     # Clause 1 of each: the teacher asks.
     if who != lab.teacher:
         return "not-teacher"
@@ -96,7 +97,7 @@ def denial_of_act(lab: Lab, world: World, who: str, asked: Request) -> str | Non
 
 
 def denial(lab: Lab, world: World, who: str, asked: Request) -> str | None:
-    """Returns the first unmet clause of what the teacher or a student asks for, or None if it may be granted."""
+    """Returns the first failing clause of a request of the teacher or a student, or None if it may be granted."""
     if asked.do in ("see", "look", "report"):
         return denial_of_view(lab, world, who, asked)
     return (denial_of_move if asked.do == "move" else denial_of_act)(lab, world, who, asked)

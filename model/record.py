@@ -1,4 +1,4 @@
-"""The record: what each line asked and was answered, in a file for each seat, and how it is verified beside a journal."""
+"""The record: each line with its reply, in a file for each seat, and its verification with a journal."""
 import re
 from dataclasses import dataclass, field
 from pathlib import Path
@@ -26,13 +26,14 @@ FRESH, OPEN, OVER, CUT, PAUSED, RESUMING = "fresh", "open", "over", "cut", "paus
 
 
 def is_command(line: bytes) -> bool:
-    """Returns whether a line asks for what the clauses decide."""
+    """Returns whether a line is a request that the clauses decide."""
     asked = read_request(line)
     return asked is not None and asked.do not in ("hello", "bye")
 
 
 class Entry(NamedTuple):
-    """An entry: its mark, how many events had been seen, if its text ends, and of an answered line both texts."""
+    """An entry: its mark, the number of events that had been seen, where its text ends, and for an answered line
+    both texts."""
 
     mark: bytes
     seen: int
@@ -42,7 +43,7 @@ class Entry(NamedTuple):
 
 
 class Said(NamedTuple):
-    """A line that was answered: who was known when it came, the line, and its reply."""
+    """An answered line: the name of the connection when it came, the line, and its reply."""
 
     known: str | None
     line: bytes
@@ -51,7 +52,7 @@ class Said(NamedTuple):
 
 @dataclass
 class Record:
-    """What the records of all seats come to."""
+    """The contents of all seats' records."""
 
     begun: int = 0  # how many events came before
     sessions: int = 0
@@ -66,12 +67,12 @@ class Record:
         return not self.is_cut and not self.is_paused
 
     def whole(self, lab: Lab) -> list[str]:
-        """Returns the word `whole` and the accounts whose record is whole, the teacher first."""
+        """Returns the word `whole` and the names whose record is complete, the teacher first."""
         return ["whole", *(name for name in lab.keys if not self.is_cut and name not in self.lacking)]
 
 
 class Seat:
-    """The record of a seat, which is read entry by entry beside the events of a journal."""
+    """The record of a seat, read entry by entry along the events of a journal."""
 
     def __init__(self, lab: Lab, events: list[Event], number: int, record: Record) -> None:
         self.lab, self.events, self.number, self.record = lab, events, number, record
@@ -80,7 +81,7 @@ class Seat:
         self.stage = FRESH
 
     def entry(self, text: bytes, at: int) -> Entry | str:
-        """Returns the entry that begins at a byte of the text, or why none does."""
+        """Returns the entry that begins at a byte of the text, or the reason why there is none."""
         said, mark = SAID.match(text, at), MARK.match(text, at)
         if said and self.is_stamp(said) and said.group(1, 2) == said.group(5, 6):
             return Entry(said[3], int(said[2]), said.end(), said[4], said[7])
@@ -93,15 +94,15 @@ class Seat:
         return "torn" if not newline or is_asked and b"\n" not in rest else "not an entry"
 
     def is_stamp(self, found: re.Match[bytes]) -> bool:
-        """Returns whether an entry has the seat's number, and a number of events of 64 bits."""
+        """Returns whether an entry has the seat's number, and a number of events within 64 bits."""
         return int(found[1]) == self.number and int(found[2]) <= GREATEST
 
     def advance(self) -> None:
-        """Lets the next event of the journal happen."""
+        """Applies the next event of the journal."""
         apply(self.world, self.events[self.world.place].asked)
 
     def take(self, entry: Entry) -> str | None:
-        """Takes an entry as the next one of the seat, or returns why it can't be that."""
+        """Takes the next entry of the seat. Returns the reason if it is impossible, or None."""
         if entry.seen < self.world.place:
             return "goes back"
         if entry.seen > len(self.events):
@@ -133,7 +134,7 @@ class Seat:
         return None
 
     def may_rise(self, entry: Entry) -> bool:
-        """Returns whether more events may have been seen at an entry than before it."""
+        """Returns whether more events may have been seen at an entry than at the one before."""
         # Recording pauses at a line that isn't recorded; it resumes, or is cut, after what isn't recorded.
         if self.stage in (FRESH, PAUSED, CUT) or entry.mark in (b"!", b"+") or entry.mark == b"-" and self.known is not None:
             return True
@@ -144,7 +145,8 @@ class Seat:
         return entry.mark == b">" and entry.reply != NO_MEMORY and self.known is not None and is_command(entry.line)
 
     def judge(self, entry: Entry) -> str | None:
-        """Takes an answered line if one may come and its reply is that of the rules, or returns why it can't be."""
+        """Takes an answered line. Returns the reason if no line may come now or its reply isn't that of the rules,
+        or None."""
         if self.stage in (OVER, CUT, PAUSED):
             return "not the session's end"
         before = self.known
@@ -156,7 +158,7 @@ class Seat:
         return why
 
     def check(self, entry: Entry) -> str | None:
-        """Takes an answered line if its reply is that of the rules, or returns why it isn't."""
+        """Takes an answered line. Returns the reason if its reply isn't that of the rules, or None."""
         place = self.world.place
         found = answer(self.lab, self.world, self.known, entry.line)
         said = Said(self.known, entry.line, entry.reply)
@@ -181,7 +183,7 @@ class Seat:
         return None
 
     def read(self, text: bytes) -> None:
-        """Reads the text of the seat's record. The error names the line of the first entry that can't be."""
+        """Reads the text of the seat's record. Raises `Fault` with the line of the first impossible entry."""
         at = 0
         while at < len(text):
             entry = self.entry(text, at)
@@ -192,7 +194,7 @@ class Seat:
 
 
 def check_places(record: Record, events: int) -> None:
-    """Refuses a record unless its seats grant each event once; events before the record began none of them may grant."""
+    """Raises `Fault` unless the seats grant each event once. No seat may grant an event before the record began."""
     seen: set[int] = set()
     for place in record.granted:
         if place <= record.begun:
@@ -206,7 +208,7 @@ def check_places(record: Record, events: int) -> None:
 
 
 def read_record(lab: Lab, events: list[Event], folder: Path) -> Record:
-    """Returns what the record in a folder comes to beside the events of a journal. The error is why it doesn't pass."""
+    """Returns the record in a folder, read along the events of a journal. Raises `Fault` if it doesn't pass."""
     begun = read_file(folder / "begun", "record", MOST_BEGUN).removesuffix(b"\n")
     if not re.fullmatch(rb"[0-9]{1,19}", begun):
         raise Fault("read fault: record", 4)
@@ -218,7 +220,7 @@ def read_record(lab: Lab, events: list[Event], folder: Path) -> Record:
 
 
 def verified(lab: Lab, record: Record, events: list[Event]) -> str:
-    """Returns what verifying prints of a record that passes."""
+    """Returns the output of `verify` for a record that passes."""
     end = "" if record.is_whole() else ", not whole"
     first = f"ok: {record.sessions} sessions, {len(record.said)} lines, {len(events)} events{end}"
     return f"{first}\n{' '.join(record.whole(lab))}\nbegun after {record.begun} events\n"

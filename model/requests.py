@@ -1,4 +1,4 @@
-"""Requests: which lines are requests, and what they ask for."""
+"""Requests: which lines are requests, and their values."""
 import json
 import math
 import re
@@ -15,7 +15,7 @@ STRING = re.compile(r'"(?:[^"\\]|\\.)*"')
 
 @dataclass(frozen=True)
 class Request:
-    """The word of a request, and the values of the keys that belong to it. The other values are never read."""
+    """The word of a request, and the values of its keys. The other values are never read."""
 
     do: str
     name: str = ""
@@ -30,16 +30,16 @@ class Request:
 
 
 class Malformed(ValueError):
-    """The line is no request."""
+    """The error that a line isn't a request."""
 
 
 def no_constant(word: str) -> NoReturn:
-    """Refuses NaN and the infinities, which Python reads and JSON doesn't have."""
+    """Raises `Malformed` for NaN and the infinities, which Python reads and JSON doesn't have."""
     raise Malformed(word)
 
 
 def finite(text: str) -> float:
-    """Returns the value of a number, which must not be past the greatest double."""
+    """Returns the value of a number. Raises `Malformed` if it is beyond the greatest double."""
     value = float(text)
     if not math.isfinite(value):
         raise Malformed("a number out of range")
@@ -53,7 +53,7 @@ def integer(text: str) -> float | int:
 
 
 def check_letters(value: Any) -> None:
-    """Refuses strings that have one half of a surrogate pair alone."""
+    """Raises `Malformed` for strings with one half of a surrogate pair alone."""
     if isinstance(value, str) and any("\ud800" <= letter <= "\udfff" for letter in value):
         raise Malformed("a lone surrogate")
     if isinstance(value, list):
@@ -62,7 +62,7 @@ def check_letters(value: Any) -> None:
 
 
 def members(items: Iterable[tuple[str, Any]]) -> dict[str, Any]:
-    """Returns an object's members: of a key that stands twice the last value counts."""
+    """Returns an object's members. If a key occurs twice, the last value counts."""
     found = {}
     for key, value in items:
         check_letters(key)
@@ -72,7 +72,7 @@ def members(items: Iterable[tuple[str, Any]]) -> dict[str, Any]:
 
 
 def depth(text: str) -> int:
-    """Returns how deep the brackets of a JSON text are nested."""
+    """Returns the depth of nested brackets in a JSON text."""
     deepest = now = 0
     for letter in STRING.sub("", text):
         now += (letter in "[{") - (letter in "]}")
@@ -81,7 +81,7 @@ def depth(text: str) -> int:
 
 
 def document(line: bytes) -> dict[str, Any]:
-    """Returns the object that a line spells in strict JSON."""
+    """Returns the object in a line of strict JSON."""
     text = line.decode("utf-8")
     if depth(text) > DEEPEST:
         raise Malformed("nested too deep")
@@ -94,14 +94,14 @@ def document(line: bytes) -> dict[str, Any]:
 
 
 def named(value: dict[str, Any], key: str, *kinds: type) -> Any:
-    """Returns the value of a key, which must be there and of one of these kinds to the letter."""
+    """Returns the value of a key. Raises `Malformed` if it is missing or has none of these types."""
     if key not in value or type(value[key]) not in kinds:
         raise Malformed(key)
     return value[key]
 
 
 def move_of(value: dict[str, Any]) -> Move:
-    """Returns the rule of a move; for a marriage also its partner."""
+    """Returns the rule of a move, and for a marriage its partner."""
     rule = named(value, "rule", str)
     if rule not in RULES:
         raise Malformed("rule")
@@ -109,7 +109,7 @@ def move_of(value: dict[str, Any]) -> Move:
 
 
 def request_of(value: dict[str, Any]) -> Request:
-    """Returns what an object asks for."""
+    """Returns the request in an object."""
     do = named(value, "do", str)
     if do == "hello":
         return Request(do, name=named(value, "name", str), key=named(value, "key", str))
@@ -128,7 +128,7 @@ def request_of(value: dict[str, Any]) -> Request:
 
 
 def read_request(line: bytes) -> Request | None:
-    """Returns the request that a line spells, or None if it is malformed."""
+    """Returns the request in a line, or None if it is malformed."""
     try:
         return request_of(document(line))
     except (ValueError, RecursionError):

@@ -3,7 +3,7 @@ import json
 import re
 from typing import Any, NamedTuple
 
-from model.events import apply, told
+from model.events import apply, reply_values
 from model.journal import event_line
 from model.lab import Lab
 from model.policy import DENIALS, denial, denial_of_hello
@@ -17,8 +17,8 @@ SCRIPT_LINE = re.compile(rb"([1-9][0-9]?) (.*)", re.DOTALL)
 
 
 class Answer(NamedTuple):
-    """The reply to a line, who is known on its connection from then on, the request if it was granted as an event, and
-    whether the reply shows something."""
+    """The reply to a line, the name of its connection afterwards, the request if it was granted as an event, and
+    whether the reply is a view."""
 
     reply: str
     known: str | None
@@ -39,7 +39,7 @@ def denied(world: World, name: str) -> str:
 
 
 def answer(lab: Lab, world: World, known: str | None, line: bytes) -> Answer:
-    """Returns the answer to a line of a connection on which someone, or no one, is known. It changes nothing."""
+    """Returns the answer to a line of a connection with or without a name. Changes nothing."""
     asked = read_request(line)
     # A line that is no request is refused before any clause is tried.
     if asked is None:
@@ -62,11 +62,11 @@ def answer(lab: Lab, world: World, known: str | None, line: bytes) -> Answer:
     # After the clauses no event is granted if the lab has had all its events.
     if world.place == lab.events:
         return Answer(text_of(refuse="full"), known)
-    return Answer(text_of(ok=asked.do, **told(world, asked)), known, asked)
+    return Answer(text_of(ok=asked.do, **reply_values(world, asked)), known, asked)
 
 
 class Run:
-    """The state of a run over a lab: its world, who is known on which connection, and what it wrote."""
+    """The state of a run over a lab: its world, the name of each connection, and its output."""
 
     def __init__(self, lab: Lab) -> None:
         self.lab = lab
@@ -76,7 +76,7 @@ class Run:
         self.journal: list[str] = []
 
     def answer(self, connection: int, line: bytes) -> str:
-        """Returns the reply to a line of a connection, both without their newlines, and lets its event happen."""
+        """Returns the reply to a line of a connection, both without newlines, and applies its event."""
         found = answer(self.lab, self.world, self.names.pop(connection, None), line)
         if found.known is not None:
             self.names[connection] = found.known
@@ -87,7 +87,7 @@ class Run:
         return found.reply
 
     def printed(self) -> bytes:
-        """Returns all replies, as a script prints them."""
+        """Returns all replies in the form of a script's output."""
         return "".join(self.replies).encode("ascii")
 
     def written(self) -> bytes:
@@ -96,7 +96,7 @@ class Run:
 
 
 def script_line(lab: Lab, line: bytes) -> tuple[int, bytes] | None:
-    """Returns the connection and the request of a script's line, or None if it is no script line."""
+    """Returns the connection and the request of a script's line, or None if it isn't one."""
     found = SCRIPT_LINE.fullmatch(line)
     if found is None or int(found[1]) > lab.sessions or len(found[2]) > LONGEST_REQUEST:
         return None
@@ -104,7 +104,8 @@ def script_line(lab: Lab, line: bytes) -> tuple[int, bytes] | None:
 
 
 def play(lab: Lab, script: bytes) -> tuple[Run, int | None]:
-    """Plays a script to its end, or to its first bad line, whose number is returned with the run."""
+    """Plays a script to its end, or to its first wrong line. Returns the run, and the number of the wrong line or
+    None."""
     run = Run(lab)
     *lines, last = script.split(b"\n")
     for k, line in enumerate(lines, 1):

@@ -1,4 +1,4 @@
-"""The stored outputs of scripts, in `examples` and `tests/scripts`: the model writes them anew beside the old ones."""
+"""The stored outputs of scripts, in `examples` and `tests/scripts`. The model writes new ones beside them."""
 import difflib
 import sys
 from pathlib import Path
@@ -17,7 +17,8 @@ def lab_of(script: Path) -> Path:
 
 
 def renew(stored: Path, content: bytes) -> int:
-    """Writes an output beside the stored one if it differs, and prints the difference. Returns how many differ: 1 or 0."""
+    """Writes an output beside the stored one if it differs, and prints the difference. Returns 1 if it differs, or
+    else 0."""
     new = stored.with_name(f"{stored.name}.new")
     new.unlink(missing_ok=True)
     old = stored.read_bytes() if stored.exists() else b""
@@ -30,7 +31,8 @@ def renew(stored: Path, content: bytes) -> int:
 
 
 def write_all() -> int:
-    """Plays all scripts; of each output that isn't the stored one writes FILE.new. Returns the exit status."""
+    """Plays all scripts. Writes FILE.new for each output that differs from the stored one. Returns the exit
+    status."""
     scripts = [script for folder in FOLDERS for script in sorted((TOP / folder).glob("*.script"))]
     others = 0
     for script in scripts:

@@ -1,8 +1,9 @@
-"""The tally: what marks are counted from, by a plain count of a journal's events and of a record's lines."""
+"""The tally: the numbers for marks, counted from the events of a journal and the lines of a record."""
 import json
 from collections.abc import Iterable
 from dataclasses import dataclass, field
 
+from model.events import apply
 from model.journal import Event
 from model.lab import Lab
 from model.record import Record, Said
@@ -10,6 +11,8 @@ from model.requests import read_request
 from model.world import RULES, World
 
 CLAUSES = (1, 2, 3, 4)
+REFUSALS = ("journal", "memory", "full")
+DENIALS = ("greeted", "hidden", "not-owner", "not-teacher", "stale", "chosen", "guard")
 CHANGES = ("fault", "link", "cut")
 
 
@@ -20,7 +23,7 @@ def none() -> dict[str, int]:
 
 @dataclass
 class Student:
-    """What is counted of a student."""
+    """The counts of a student."""
 
     granted: dict[str, int] = field(default_factory=none)
     applied: dict[str, int] = field(default_factory=none)
@@ -29,7 +32,7 @@ class Student:
     shared: int = 0
 
     def words(self) -> list[object]:
-        """Returns the columns: a first and a last place only if there was a grant."""
+        """Returns the columns. The first and the last place are `-` without a grant."""
         ends: list[object] = [self.places[0], self.places[-1]] if self.places else ["-", "-"]
         return [*self.granted.values(), *self.applied.values(), self.closes, *ends, self.shared]
 
@@ -60,7 +63,7 @@ class Count:
             self.chosen.clear()
 
     def grant(self, event: Event) -> None:
-        """Counts a move that is granted: for its student, and at a node that two own."""
+        """Counts a granted move for its student, and at a node with two owners."""
         node, rule = event.asked.node, event.asked.move.rule
         self.students[event.who].granted[rule] += 1
         self.students[event.who].places.append(event.place)
@@ -69,7 +72,7 @@ class Count:
         self.chosen[node] = (event.who, rule)
 
     def close(self) -> None:
-        """Counts the chosen moves as applied, and the close for each student who has one of them."""
+        """Counts the chosen moves as applied, and the close for each student with such a move."""
         for node, (name, rule) in self.chosen.items():
             self.students[name].applied[rule] += 1
             self.students[name].shared += node in self.shared
@@ -82,12 +85,13 @@ class Count:
 
 
 def at_shared(word: str, counts: dict[int, dict[str, dict[str, int]]]) -> list[list[object]]:
-    """Returns a line for each node that two students own: for each of them its name and a number for each rule."""
+    """Returns a line for each node with two owners: for each owner its name, and a number for each rule."""
     return [[word, i, *(it for name, rules in owners.items() for it in (name, *rules.values()))] for i, owners in counts.items()]
 
 
 def lines_asked(lab: Lab, said: Iterable[Said]) -> list[list[object]]:
-    """Returns the lines of what students asked for: denials by clause, malformed lines, and moves at shared nodes."""
+    """Returns the lines about the students' requests: denials by clause, malformed lines, and moves at shared
+    nodes."""
     denied = {name: dict.fromkeys([*CLAUSES, "malformed"], 0) for name in lab.students()}
     moves = {i: {name: none() for name in owners} for i, owners in lab.shared().items()}
     for it in said:
@@ -104,8 +108,20 @@ def lines_asked(lab: Lab, said: Iterable[Said]) -> list[list[object]]:
     return [["denied", name, *counts.values()] for name, counts in denied.items()] + at_shared("asked", moves)
 
 
+def lines_by_reply(lab: Lab, said: list[Said], word: str, key: str, columns: tuple[str, ...]) -> list[list[object]]:
+    """Returns a line for each student, with this word: how many of its lines had a reply with each of these words under the key."""
+    counts = {name: dict.fromkeys(columns, 0) for name in lab.students()}
+    for it in said:
+        found = json.loads(it.reply).get(key)
+        # The refusal of a line that is no request has no column: such lines are counted as malformed.
+        if it.known in counts and found in columns:
+            counts[it.known][found] += 1
+    return [[word, name, *count.values()] for name, count in counts.items()]
+
+
 def bounds(world: World) -> list[object]:
-    """Returns how many moves, rounds, and grants and closes there may be to rest: 3n + 2 min(L, n²/4), 2n, and twice the moves.
+    """Returns the line with the most moves, rounds, and grants and closes until a network is stable: 3n + 2 min(L,
+    n²/4), 2n, and twice the moves.
 
     With an odd number of nodes there is one round less.
     """
@@ -114,8 +130,33 @@ def bounds(world: World) -> list[object]:
     return ["bounds", moves, 2 * nodes - nodes % 2, 2 * moves]
 
 
+def privileged(world: World) -> set[int]:
+    """Returns the nodes at which a rule is enabled."""
+    return {i for i in world.nodes() if world.enabled(i) is not None}
+
+
+def rounds_since(lab: Lab, events: list[Event]) -> int:
+    """Returns how many rounds ended since the last fault, link or cut.
+
+    A node has its turn in a round if at some point no rule is enabled there, or if a close applies its move. A round ends with the
+    close by which each node has had its turn, and there the next one begins.
+    """
+    world, rounds = lab.opening(), 0
+    waiting = privileged(world)
+    for event in events:
+        moved = set(world.chosen)
+        apply(world, event.asked)
+        if event.asked.do == "close":
+            waiting = (waiting - moved) & privileged(world)
+            if not waiting:
+                rounds, waiting = rounds + 1, privileged(world)
+        elif event.asked.do in CHANGES:
+            rounds, waiting = 0, privileged(world)
+    return rounds
+
+
 def tally(lab: Lab, world: World, events: list[Event], record: Record | None) -> str:
-    """Returns the tally of a journal that passes and leads to this world, and of its record, if one is named."""
+    """Returns the tally of a journal that passes and leads to this world, and of its record if there is one."""
     count = Count(lab)
     for event in events:
         count.take(event)
@@ -127,5 +168,9 @@ def tally(lab: Lab, world: World, events: list[Event], record: Record | None) ->
     changes = [count.words[word] for word in CHANGES]
     run = [world.place, world.number, "stable" if world.stable() else "unstable", count.words["close"], *changes]
     lines += [bounds(world), ["run", *run, count.moves, count.moves_since, count.closes_since]]
-    lines += [] if record is None else [[*record.whole(lab)]]
+    if record is not None:
+        lines.append([*record.whole(lab)])
+        lines += lines_by_reply(lab, record.said, "refused", "refuse", REFUSALS)
+        lines += lines_by_reply(lab, record.said, "denials", "deny", DENIALS)
+    lines.append(["rounds", rounds_since(lab, events)])
     return "".join(" ".join(map(str, line)) + "\n" for line in lines)

@@ -1,4 +1,4 @@
-"""The command line: the words of the proved program that serve nobody, and what each prints."""
+"""The command line: the commands of the proved program that serve nobody, and their output."""
 from collections.abc import Callable
 from pathlib import Path
 from typing import NamedTuple
@@ -14,7 +14,7 @@ MOST_FILE, MOST_JOURNAL = 2**20, 2**24
 
 
 class Ended(NamedTuple):
-    """How a call ended: its exit status, and the bytes of standard output and standard error."""
+    """The result of a call: its exit status, and the bytes of standard output and standard error."""
 
     status: int
     out: bytes
@@ -22,7 +22,7 @@ class Ended(NamedTuple):
 
 
 def check(lab: Lab) -> bytes:
-    """Returns the size of a lab."""
+    """Returns the line about a lab's size."""
     links = sum(map(len, lab.world.links.values())) // 2
     return f"ok: {len(lab.owners)} nodes, {links} links, {len(lab.students())} students\n".encode()
 
@@ -47,26 +47,26 @@ def script(lab: Lab, file: str, journal: str | None = None) -> bytes:
 
 
 def print_audit(lab: Lab, journal: str) -> bytes:
-    """Returns if a journal leads."""
+    """Returns the output of the audit of a journal."""
     world, _ = audit(lab, read_file(Path(journal), "journal", MOST_JOURNAL))
     return audited(world).encode()
 
 
 def print_tally(lab: Lab, journal: str, record: str | None = None) -> bytes:
-    """Returns the tally of a journal, and of its record, if one is named."""
+    """Returns the tally of a journal, and of its record if there is one."""
     world, events = audit(lab, read_file(Path(journal), "journal", MOST_JOURNAL))
     found = None if record is None else read_record(lab, events, Path(record))
     return tally(lab, world, events, found).encode()
 
 
 def verify(lab: Lab, journal: str, record: str) -> bytes:
-    """Returns what a record comes to."""
+    """Returns the output of the verification of a record."""
     _, events = audit(lab, read_file(Path(journal), "journal", MOST_JOURNAL))
     return verified(lab, read_record(lab, events, Path(record)), events).encode()
 
 
 class Word(NamedTuple):
-    """What a word prints of a lab and further files, and how many files it takes with the lab."""
+    """A command: the function that returns its output, and the allowed numbers of files, including the lab."""
 
     work: Callable[..., bytes]
     counts: tuple[int, ...]
@@ -82,7 +82,7 @@ WORDS = {
 
 
 def ended(words: list[str]) -> Ended:
-    """Returns how a call with these words ends, as that of the proved program would."""
+    """Returns the result of a call with these arguments, the same as that of the proved program."""
     name, *files = words or [""]
     if name not in WORDS or len(files) not in WORDS[name].counts or any(file.startswith("-") for file in files):
         return Ended(1, b"", b"command line: not understood\n")

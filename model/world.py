@@ -6,7 +6,7 @@ RULES = ("update", "marriage", "seduction", "abandonment")
 
 @dataclass(frozen=True)
 class Move:
-    """A rule; for a marriage also the neighbour to marry."""
+    """A rule, and for a marriage the neighbour to marry."""
 
     rule: str
     partner: int | None = None
@@ -76,13 +76,13 @@ class World:
         return None, self.m[i]
 
     def moves(self, i: int) -> list[Move]:
-        """Returns each move whose guard holds at a node. These are several only if several neighbours point at it."""
+        """Returns all moves whose guards hold at a node. There are several only if several neighbours point at it."""
         alone = [Move(rule) for rule in RULES if rule != "marriage"]
         marriages = [Move("marriage", j) for j in self.near(i) if self.p[j] == i]
         return [move for move in alone + marriages if self.guard(i, move)]
 
     def enabled(self, i: int) -> str | None:
-        """Returns the rule whose guard holds at a node, if there is one: there are never two."""
+        """Returns the rule whose guard holds at a node, or None. There is never more than one."""
         rules = {move.rule for move in self.moves(i)}
         assert len(rules) <= 1, f"{rules} are enabled at {i}"
         return rules.pop() if rules else None
@@ -92,12 +92,13 @@ class World:
         return all(self.enabled(i) is None for i in self.links)
 
     def renew(self) -> None:
-        """Makes the next configuration, in which no node has a chosen move."""
+        """Begins the next configuration, in which no node has a chosen move."""
         self.number += 1
         self.chosen = {}
 
     def step(self) -> None:
-        """Applies all chosen moves at once: all read the same configuration, and each writes its own node's registers."""
+        """Applies all chosen moves at once. All read the same configuration, and each writes the registers of its
+        own node."""
         after = {i: self.effect(i, move) for i, move in self.chosen.items()}
         for i, registers in after.items():
             self.p[i], self.m[i] = registers
@@ -109,13 +110,13 @@ class World:
         self.renew()
 
     def link(self, a: int, b: int) -> None:
-        """Links two nodes, which changes no register."""
+        """Links two nodes. Changes no register."""
         self.links[a].add(b)
         self.links[b].add(a)
         self.renew()
 
     def cut(self, a: int, b: int) -> None:
-        """Removes a link. Pointers along it become null; m stays."""
+        """Removes a link. Sets pointers along it to null, and leaves m unchanged."""
         self.links[a].remove(b)
         self.links[b].remove(a)
         self.p[a] = None if self.p[a] == b else self.p[a]
