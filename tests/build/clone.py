@@ -1,4 +1,5 @@
-"""A small clone with a stand-in `rt`, which proves nothing: it says what `rt ci` says, and keeps what it has "proved"."""
+"""A small clone with a stand-in for `rt`, which proves nothing. It prints what `rt ci` would print, and keeps what
+it has "proved"."""
 from __future__ import annotations
 
 import os
@@ -94,7 +95,7 @@ class InClone(unittest.TestCase):
                 "PYTHONDONTWRITEBYTECODE": "1", "RT_JOBS": "1", **more}
 
     def set(self, name: str, text: str) -> None:
-        """Tells the stand-in something."""
+        """Writes a setting for the stand-in."""
         (self.room / name).write_text(text, encoding="utf-8")
 
     def call(self, *words: str | Path, **more: str) -> subprocess.CompletedProcess[str]:
@@ -103,7 +104,7 @@ class InClone(unittest.TestCase):
                               env=self.environment(**more), timeout=LIMIT, check=False)
 
     def begun(self, *words: str | Path) -> subprocess.Popen[str]:
-        """Starts a command as the leader of a group, and waits until the stand-in waits in it."""
+        """Starts a command as the leader of a group, and waits until the stand-in runs in it."""
         (self.room / "pids").unlink(missing_ok=True)
         going = subprocess.Popen(words, cwd=self.clone, stdin=subprocess.DEVNULL, stdout=subprocess.PIPE, stderr=subprocess.PIPE,
                                  text=True, env=self.environment(), start_new_session=True)
@@ -114,18 +115,18 @@ class InClone(unittest.TestCase):
         return going
 
     def pids(self) -> list[int]:
-        """Returns the processes of the stand-in that waits."""
+        """Returns the processes of the running stand-in."""
         text = (self.room / "pids").read_text(encoding="utf-8") if (self.room / "pids").exists() else ""
         return [int(it) for it in text.split()]
 
     def ended(self, going: subprocess.Popen[str]) -> str:
-        """Waits until a command and the stand-in have ended, and returns what the command said on standard error."""
+        """Waits until a command and the stand-in have ended. Returns the command's standard error."""
         _, error = going.communicate(timeout=LIMIT)
         self.waits(lambda: not is_there(self.pids()[0]))
         return str(error)
 
     def waits(self, holds: object) -> None:
-        """Waits until something holds."""
+        """Waits until a condition holds."""
         assert callable(holds)
         until = time.monotonic() + LIMIT
         while not holds():
@@ -133,7 +134,7 @@ class InClone(unittest.TestCase):
             time.sleep(0.02)
 
     def clear(self, going: subprocess.Popen[str]) -> None:
-        """Kills a command with its group, and the stand-in, if they go on."""
+        """Kills a command with its group, and the stand-in, if they are running."""
         if going.poll() is None:
             os.killpg(going.pid, signal.SIGKILL)
             going.communicate(timeout=LIMIT)
@@ -147,7 +148,7 @@ class InClone(unittest.TestCase):
 
 
 def is_there(pid: int) -> bool:
-    """Returns whether a process hasn't ended."""
+    """Returns whether a process is running."""
     try:
         return Path(f"/proc/{pid}/stat").read_text(encoding="utf-8").rpartition(") ")[2][0] != "Z"
     except OSError:

@@ -1,4 +1,4 @@
-"""How programs are built: what `rt` is given, the progress line, and what a signal leaves."""
+"""Building programs: the calls of `rt`, the progress line, and what is left after a signal."""
 from __future__ import annotations
 
 import os
@@ -24,7 +24,7 @@ class Estimates(unittest.TestCase):
     """The order of proofs, and how long the rest takes."""
 
     def test_order(self) -> None:
-        """A crate is proved after those below it, and first the crate with the longest chain above it."""
+        """A crate is proved after those below it. The crate with the longest chain above it comes first."""
         self.assertEqual(chains(USES, SECONDS), {"a": 65.0, "b": 125.0, "c": 55.0, "d": 25.0, "e": 5.0})
         progress = Progress(USES, SECONDS, 1)
         for crate in "bacde":
@@ -52,7 +52,8 @@ class Estimates(unittest.TestCase):
         self.assertEqual(progress.line(0.0), "5 of 5 crates proved, 2 of them earlier")
 
     def test_shares(self) -> None:
-        """Crates and processes of each fill the processors, and one proof more fills what a proof leaves idle at its ends."""
+        """The crates and the processes of each fill the processors. One more proof runs, since each proof is a
+        single process at its ends."""
         with unittest.mock.patch.dict(os.environ, {"RT_JOBS": ""}):
             shares = [(number, jobs_of(number), at_once_of(number)) for number in (1, 2, 4, 6, 8, 16)]
         self.assertEqual(shares, [(1, 1, 1), (2, 1, 2), (4, 2, 3), (6, 3, 3), (8, 4, 3), (16, 4, 5)])
@@ -60,7 +61,7 @@ class Estimates(unittest.TestCase):
             self.assertEqual((processors(), jobs_of(3), at_once_of(3)), (3, 1, 3))
 
     def test_another_pace(self) -> None:
-        """A machine that takes twice as long as the table says is expected to go on so."""
+        """If the machine takes twice as long as the table says, the rest is expected to take twice as long too."""
         seconds = {crate: 100 * it for crate, it in SECONDS.items()}
         progress = Progress(USES, seconds, 1)
         progress.begun = {"b": 0.0}
@@ -110,7 +111,7 @@ class Builds(InClone):
         self.assertEqual((each["low"], each["left"], each["right"]), (2 * number, 2 * number, number))
 
     def test_where_it_is_proved(self) -> None:
-        """In a clone of Git the repository stands on the clone's disk, if no check looks, and is removed at the end."""
+        """In a Git clone the repository is on the clone's disk, where no check looks. It is removed at the end."""
         git = self.clone / ".git"
         git.mkdir()
         self.set("waits", "left")
@@ -122,7 +123,7 @@ class Builds(InClone):
         self.waits(lambda: not [*self.temporary.iterdir(), *git.iterdir()])
 
     def test_libraries(self) -> None:
-        """The clone has the libraries afterwards, but where `rt check` built one, which has a stamp."""
+        """The clone gets the libraries. One that `rt check` built there, which has a stamp, stays."""
         for crate, stamp in (("low", "stamp"), ("left", "none")):
             for name in (f"{crate}.rlib/format", stamp):
                 file = self.clone / "crates" / crate / "out/rlib" / name
@@ -134,7 +135,7 @@ class Builds(InClone):
         self.assertFalse((self.clone / "crates/left/out/rlib/none").exists())
 
     def test_progress(self) -> None:
-        """It is said beforehand how long that takes, and each time how far it is."""
+        """Prints the expected time first, and the progress after each crate."""
         done = self.call("./mml", "build", RT_JOBS="3")
         self.assertEqual(done.returncode, 0, done.stderr)
         self.assertRegex(done.stderr, r"^mml: building mml_server and mml_host, after proving 5 crates; .*\n"
@@ -166,7 +167,7 @@ class Builds(InClone):
         self.assertFalse(any("\n" in line for line in shown[:-1]), shown)
 
     def test_side_by_side(self) -> None:
-        """What doesn't wait for one another is proved side by side, each crate in a repository of its own."""
+        """Crates that don't depend on each other are proved side by side, each in its own repository."""
         self.set("meets", "left right")
         done = self.call("./mml", "build", RT_JOBS="2")
         self.assertEqual(done.returncode, 0, done.stderr)
@@ -176,7 +177,7 @@ class Builds(InClone):
         self.assertEqual(sorted(runs[4:]), ["low left mml_server", "low left right mml_host"])
 
     def test_nothing_is_kept(self) -> None:
-        """If the machine keeps nothing, one run proves all, and not one for each crate all that is below it."""
+        """If the machine keeps nothing, a single run proves everything."""
         self.set("lacks", "the store cannot be used, so nothing is kept: the next run, and the merge, prove all again")
         done = self.call("./mml", "build")
         self.assertEqual(done.returncode, 0, done.stderr)
@@ -186,7 +187,8 @@ class Builds(InClone):
         self.assertEqual(self.call("./mml").stdout, "new\n")
 
     def test_a_second_clone(self) -> None:
-        """What was proved on this machine is taken: the host's build proves what the server's didn't, a second clone nothing."""
+        """Crates that this machine has proved are taken: the host's build proves only what the server's didn't,
+        and a second clone proves nothing."""
         self.call("./mml")
         done = self.call("./mml", "build")
         self.assertTrue(done.stderr.endswith("\nmml: 4 of 4 crates proved, 2 of them earlier\n"), done.stderr)
@@ -215,7 +217,7 @@ class Builds(InClone):
         self.assertTrue(done.stderr.endswith("\nmml: 5 of 5 crates proved, 2 of them earlier\n"), done.stderr)
 
     def test_killed(self) -> None:
-        """If the build is killed at once, `rt` is ended, and the next call clears up."""
+        """If the build is killed, `rt` is ended, and the next call cleans up."""
         self.set("waits", "right")
         going = self.begun("./mml", "build")
         rt = self.pids()[0]
@@ -230,7 +232,7 @@ class Builds(InClone):
         self.assertEqual([*self.temporary.iterdir()], [])
 
     def test_failed(self) -> None:
-        """A crate that isn't proved is reported with what is wrong, and an older program stays."""
+        """A crate that fails is reported with the error, and the old program stays."""
         self.call("./mml", "build")
         (self.clone / "crates/low/src/lib.rt").write_text("// another\n", encoding="utf-8")
         self.set("fails", "left")

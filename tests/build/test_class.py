@@ -1,4 +1,5 @@
-"""What a word of `./class` does in a clone whose programs aren't built, and that nothing is left half made."""
+"""Commands of `./class` in a clone whose programs aren't built. They build the programs, and leave nothing half
+done."""
 from __future__ import annotations
 
 import os
@@ -7,9 +8,14 @@ import signal
 import subprocess
 
 from tests.build.clone import TOP, InClone
+from tests.common.limits import TEXT
 
-# A program that takes every lab, but for those that have a student called refused.
-PROGRAM = '#!/bin/sh\n! grep -q refused "$2" || { echo "lab fault: 3" >&2; exit 2; }\necho "ok: 4 nodes, 4 students"\n'
+# A program that prints the limits, and takes every lab, but for those that have a student called refused.
+PROGRAM = f"""#!/bin/sh
+[ "$1" != limits ] || exec printf %s '{TEXT}'
+! grep -q refused "$2" || {{ echo "lab fault: 3" >&2; exit 2; }}
+echo "ok: 4 nodes, 4 students"
+"""
 WORDS = ("maths.toml", "--students", "names.txt")
 FIRST = ("maths.toml", "maths-slips.html", "maths-slips", "maths-slips.csv", "maths-teacher.slip")
 
@@ -25,7 +31,7 @@ class SetsUp(InClone):
         self.set("program", PROGRAM)
 
     def made(self) -> list[str]:
-        """Returns the names of what `new` makes that are there."""
+        """Returns the names of the files that `new` has made."""
         return sorted(it.name for it in self.clone.glob("maths*"))
 
     def new(self, *words: str, **more: str) -> subprocess.CompletedProcess[str]:
@@ -33,7 +39,7 @@ class SetsUp(InClone):
         return self.call("./class", "new", *WORDS, *words, **more)
 
     def test_it_builds_and_goes_on(self) -> None:
-        """It says how long the build takes and how far it is, on standard error alone, and then does what was asked for."""
+        """Prints the expected time and the progress on standard error only, and then runs the command."""
         done = self.new()
         self.assertEqual(done.returncode, 0, done.stderr)
         self.assertTrue(done.stdout.startswith("maths.toml: 4 nodes, 4 students; slips: "), done.stdout)
@@ -47,13 +53,13 @@ class SetsUp(InClone):
         self.assertEqual((done.returncode, done.stderr), (0, ""))
 
     def test_words_that_need_no_program(self) -> None:
-        """Help, version and words that aren't understood build nothing."""
+        """Help, the version and unknown commands build nothing."""
         for words in (("--help",), ("--version",), ("new", "--help"), ("new",), ("demo", "more")):
             self.assertNotIn("building", self.call("./class", *words).stderr, words)
         self.assertFalse((self.room / "words").exists())
 
     def test_each_word(self) -> None:
-        """Each word builds the programs before it does anything: if that fails, it does nothing."""
+        """Each command builds the programs first. If that fails, it does nothing."""
         self.set("fails", "low")
         before = sorted(self.clone.rglob("*"))
         for words in (("new", *WORDS), ("check", "it.toml"), ("run", "it.toml"), ("attach", "it"), ("slips", "it.toml"), ("key", "it.toml", "ana"),
@@ -66,14 +72,14 @@ class SetsUp(InClone):
         self.assertEqual(sorted(self.clone.rglob("*")), before)
 
     def test_no_toolchain(self) -> None:
-        """Without `rt` it says where a release is made, and what that needs."""
+        """Without `rt` the message names the command that makes a release, and its requirements."""
         done = self.new(PATH="/usr/bin:/bin")
         self.assertEqual((done.returncode, done.stdout, self.made()), (1, "", []))
         self.assertIn("mml: a release runs without it, on x86_64 Linux with Bash, and Python 3.11 for ./class", done.stderr)
         self.assertIn("./release makes one in a clone where rt is", done.stderr)
 
     def test_stopped(self) -> None:
-        """A signal ends the build and the word, which leaves nothing; the next word goes on with the build."""
+        """A signal ends the build and the command, which leaves nothing. The next command continues the build."""
         for number, is_group in ((signal.SIGINT, True), (signal.SIGINT, False), (signal.SIGTERM, False)):
             self.set("waits", "right")
             going = self.begun("./class", "new", *WORDS)
@@ -88,21 +94,22 @@ class SetsUp(InClone):
         self.assertEqual(self.made(), sorted(FIRST))
 
     def test_named_programs(self) -> None:
-        """Programs that the environment names aren't built; if they aren't there, nothing is made."""
+        """Programs that the environment names aren't built. If they don't exist, nothing is made."""
         done = self.new(MML_PROGRAM=str(self.room / "none"), MML_HOST="/bin/true")
         self.assertEqual((done.returncode, done.stdout, self.made()), (1, "", []))
         self.assertIn("mml isn't built", done.stderr)
         self.assertFalse((self.room / "words").exists())
 
     def test_all_labs_or_none(self) -> None:
-        """If one of several labs isn't taken, none is left."""
+        """If one of several labs is refused, none is left."""
         (self.clone / "names.txt").write_text("".join(f"student{number}\n" for number in range(7)) + "refused\n", encoding="utf-8")
         done = self.new("--groups", "2")
         self.assertEqual((done.returncode, done.stdout, self.made()), (2, "", []))
-        self.assertIn("this would be no lab: lab fault: 3", done.stderr)
+        self.assertIn("no lab can be made of this: lab fault: 3", done.stderr)
 
     def test_a_full_disk(self) -> None:
-        """If a file can't be written whole, neither it nor the others are left: here under a limit on the size of files."""
+        """If a file can't be written completely, neither it nor the others are left. A limit on file sizes stands
+        for a full disk."""
         (self.clone / "names.txt").write_text("".join(f"student{number}\n" for number in range(40)), encoding="utf-8")
         self.assertEqual(self.call("./mml", "build").returncode, 0)
         for most, full in ((1, "maths.toml"), (8, "maths-slips.html")):

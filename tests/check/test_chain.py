@@ -26,30 +26,32 @@ class Chains(unittest.TestCase):
         self.addCleanup(patched.stop)
 
     def test_the_chain(self) -> None:
-        """Of the crates that a crate uses, it waited for the one that was proved last."""
+        """A crate waits for the one that is proved last among those that it uses."""
         self.assertEqual(chain.chain(SPANS, "top"), ["low", "slow", "top"])
         self.assertEqual(chain.chain(SPANS, "tests"), ["low", "quick", "tests"])
         without = {crate: it for crate, it in SPANS.items() if crate != "low"}
         self.assertEqual(chain.chain(without, "top"), ["slow", "top"])
 
     def test_tables(self) -> None:
-        """Waiting for a processor is printed apart; the last crate's chain is printed if no crate is named."""
-        rows = [line.split() for line in chain.told(SPANS, ["top"]).splitlines()[1:]]
+        """The time of waiting for a processor has its own column. Without an argument the chain of the last crate
+        is printed."""
+        rows = [line.split() for line in chain.chain_tables(SPANS, ["top"]).splitlines()[1:]]
         self.assertEqual(rows, [["low", "0", "100", "100", "99"], ["slow", "0", "300", "400", "280"], ["top", "10", "40", "450", "39"],
                                 ["sum", "10", "440", "450", "418"]])
-        self.assertIn("the chain to tests, ", chain.told(SPANS, []))
+        self.assertIn("the chain to tests, ", chain.chain_tables(SPANS, []))
         self.assertEqual(chain.short(SPANS), "the longest chain, in seconds: low 100, quick 30, tests 80; it ended after 480: ./check chain says more")
         self.assertEqual(chain.table(SPANS).splitlines()[1:], ["low 99", "quick 29", "slow 280", "other 90", "top 39", "tests 80"])
 
     def test_what_is_kept(self) -> None:
         with tempfile.TemporaryDirectory() as room:
             file = Path(room) / "out/proofs.txt"
-            self.assertEqual(chain.kept(file), {})
-            chain.keep(SPANS, file)
-            self.assertEqual(chain.kept(file), SPANS)
+            self.assertEqual(chain.saved_spans(file), {})
+            chain.save_spans(SPANS, file)
+            self.assertEqual(chain.saved_spans(file), SPANS)
 
     def test_what_was_seen(self) -> None:
-        """Of a crate all checks count, from the first's begin to the last's end; tests and wrong bodies don't."""
+        """A crate's time is from the beginning of its first check to the end of its last. Tests and wrong bodies
+        don't count."""
         checks = Checks()
         for pid, begin, work, end, used in ((1, 1000, ("low", "proof"), 1100.0, 90.0), (2, 1105, ("low", "proof"), 1110.0, 4.0),
                                             (3, 1110, ("top", "proof"), 1200.0, 80.0), (4, 990, ("top", "tests"), 1300.0, 70.0)):
@@ -67,7 +69,7 @@ class Words(InTree):
         self.assertEqual((done.returncode, done.stdout, done.stderr), (1, "", "check: no ./check has proved anything in this tree\n"))
 
     def test_the_last_run(self) -> None:
-        """A run keeps the times of what it proves, and prints the chain as a line; `chain` prints it as a table."""
+        """A run saves the times of its proofs, and prints the chain as a line. `chain` prints it as a table."""
         prover = self.room / "rattle"
         prover.write_text("#!/bin/sh\nwhile [ ! -e \"$ROOM/$3\" ]; do sleep 0.1; done\n", encoding="utf-8")
         prover.chmod(0o755)

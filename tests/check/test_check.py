@@ -26,7 +26,7 @@ WAITS = 'touch "$ROOM/begun"; until [ -e "$ROOM/go" ] || [ ! -d "$ROOM" ]; do sl
 
 
 class Words(InTree):
-    """Words, statuses and last lines."""
+    """Arguments, exit statuses and last lines."""
 
     def setUp(self) -> None:
         super().setUp()
@@ -82,7 +82,7 @@ class Outcomes(InTree):
     """What makes a check fail."""
 
     def failing(self, line: str) -> str:
-        """Checks that a part whose line this is makes the whole fail, and returns what it prints."""
+        """Checks that a part with this output makes the whole check fail. Returns what the check prints."""
         self.stand_in(part("well", WELL), part("other", line))
         done = self.check("quick")
         self.assertEqual((done.returncode, done.stdout.splitlines()[-1]), (1, "1 passed, 1 failed"), line)
@@ -115,7 +115,8 @@ class Outcomes(InTree):
         self.assertIn("not done, since the proofs failed: well, wrong\n", done.stdout)
 
     def test_what_is_missing(self) -> None:
-        """It is named with its Debian package; if nothing may be left out it is asked for, and then fails."""
+        """A missing tool is named with its Debian package. If nothing may be left out, the check asks for it and
+        then fails."""
         self.stand_in(part("well", WELL), part("needy", WELL, needs=("nothing",)), part("choosy", WELL, likes=("nothing",)))
         bin = self.room / "bin"
         bin.mkdir()
@@ -143,7 +144,7 @@ class Outcomes(InTree):
         self.assertRegex(done.stdout, r"(?m)^FAILED one, two: needs what a check is of$")
 
     def test_what_a_part_leaves(self) -> None:
-        """A process that a part leaves is ended with the check."""
+        """A process that a part leaves running is ended with the check."""
         self.stand_in(part("well", 'setsid sleep 1000 > /dev/null 2>&1 & echo $! > "$ROOM/pid"; echo 1 call'))
         self.assertEqual(self.check("quick").returncode, 0)
         self.assertFalse(is_there(int((self.room / "pid").read_text(encoding="utf-8"))))
@@ -153,13 +154,13 @@ class Beside(InTree):
     """Wrong bodies beside the proofs."""
 
     def wrong_tells(self, proofs: str, last: str = "echo 7 passed, 0 failed") -> str:
-        """Returns the input of the wrong bodies beside such proofs, by which they begin, and what the check prints."""
+        """Returns the input of the wrong bodies beside proofs with this output, and what the check prints."""
         self.stand_in(part("well", WELL), wrong=f'touch "$ROOM/begun"; cat > "$ROOM/told"; {last}', proofs=proofs)
         self.said = self.check().stdout
         return (self.room / "told").read_text(encoding="utf-8")
 
     def test_crates_that_stand(self) -> None:
-        """Each crate is reported while the proofs go on, and nothing after their end."""
+        """Each crate is passed on while the proofs run, and nothing after their end."""
         told = self.wrong_tells("""
             echo "rt: one proved"; until [ -s "$ROOM/told" ]; do sleep 0.05; done
             echo "rt: one: its tests are proved"; echo "== two"; echo "rt: two is kept: an earlier run proved it"; echo "rt: three NOT PROVED"
@@ -168,7 +169,7 @@ class Beside(InTree):
         self.assertEqual((told, self.said.splitlines()[-1]), ("one\ntwo\n", "13 passed, 0 failed"))
 
     def test_one_that_reads_nothing(self) -> None:
-        """Wrong bodies that have ended already fail by themselves."""
+        """If the wrong bodies end early, only they fail."""
         self.stand_in(wrong='touch "$ROOM/begun"; exit 1', proofs="""
             until [ -e "$ROOM/begun" ]; do sleep 0.05; done; sleep 1
             for it in 1 2 3; do echo "rt: one proved"; sleep 0.3; done; echo 5 passed, 0 failed
@@ -177,7 +178,7 @@ class Beside(InTree):
         self.assertEqual((done.returncode, done.stdout.splitlines()[-1]), (1, "5 passed, 1 failed"), done.stdout)
 
     def test_proofs_that_fail(self) -> None:
-        """They end the wrong bodies, whatever these do."""
+        """If the proofs fail, the wrong bodies are ended."""
         self.stand_in(part("well", WELL), wrong=GOES_ON, proofs='until [ -e "$ROOM/begun" ]; do sleep 0.05; done; echo 1 passed, 1 failed; exit 1')
         done = self.check()
         self.assertEqual((done.returncode, done.stdout.splitlines()[-1]), (1, "1 passed, 1 failed"))
@@ -185,7 +186,7 @@ class Beside(InTree):
         self.assertEqual([pid for pid in pids if is_there(pid)], [])
 
     def test_both_ended(self) -> None:
-        """Nothing is left of either if the check is ended."""
+        """If the check is ended, nothing is left of either."""
         self.stand_in(part("well", WELL), wrong=GOES_ON, proofs="sleep 1000")
         going = self.begun()
         going.send_signal(signal.SIGTERM)
@@ -199,7 +200,7 @@ class Ends(InTree):
     """A check that is ended, and two at once."""
 
     def ended(self, number: signal.Signals, whole_group: bool) -> None:
-        """Checks that nothing is left of a check that such a signal ends."""
+        """Checks that nothing is left of a check that this signal ends."""
         for name in ("begun", "pids"):
             (self.room / name).unlink(missing_ok=True)
         self.stand_in(part("well", WELL), part("on", GOES_ON))
@@ -244,8 +245,8 @@ class Ends(InTree):
         self.assertEqual(self.check("quick").returncode, 0)
 
     def killed(self, kill: Callable[[int], None]) -> int:
-        """Checks that nothing is left of a check of which something is killed at once, and another runs; answers its
-        status."""
+        """Checks that nothing is left of a check in which `kill` has killed a process, after another check has
+        run. Returns the status of the first."""
         for name in ("begun", "pids"):
             (self.room / name).unlink(missing_ok=True)
         self.stand_in(part("on", GOES_ON))
@@ -264,12 +265,12 @@ class Ends(InTree):
         self.assertEqual(self.killed(lambda pid: os.killpg(pid, signal.SIGKILL)), -signal.SIGKILL)
 
     def test_one_whose_checking_process_is_killed(self) -> None:
-        def kill(pid: int) -> None:
+        def kill_child_of(pid: int) -> None:
             children = [below for below, it in processes().items() if it.parent == pid]
             self.assertEqual(len(children), 1)
             os.kill(children[0], signal.SIGKILL)
 
-        self.assertEqual(self.killed(kill), 128 + signal.SIGKILL)
+        self.assertEqual(self.killed(kill_child_of), 128 + signal.SIGKILL)
 
 
 if __name__ == "__main__":

@@ -1,4 +1,5 @@
-"""The imports of `classroom` go one way: each package uses those below it, and no module uses itself through others."""
+"""The imports of `classroom` go in one direction: each package uses only those below it, and no module depends on
+itself through others."""
 from __future__ import annotations
 
 import ast
@@ -28,14 +29,14 @@ def name_of(file: Path) -> str:
 
 
 def height(module: str) -> int:
-    """Returns how high a module stands: a package is as high as its modules."""
+    """Returns the level of a module, which is that of its package."""
     if module in (BOTTOM, "classroom"):
         return -1
     return len(PACKAGES) if module == TOPMOST else PACKAGES.index(module.split(".")[1])
 
 
 def origin(module: str, node: ast.ImportFrom, is_package: bool) -> str:
-    """Returns the module from which a statement imports, even if its name begins with dots."""
+    """Returns the module from which a statement imports, also if its name begins with dots."""
     parts = module.split(".")
     near = parts[:len(parts) + is_package - node.level] if node.level else []
     return ".".join([*near, *([node.module] if node.module else [])])
@@ -43,8 +44,8 @@ def origin(module: str, node: ast.ImportFrom, is_package: bool) -> str:
 
 @cache
 def statements(module: str, text: str, is_package: bool) -> tuple[tuple[str, str], ...]:
-    """Returns from which module a module imports each name, wherever in it the statement stands: `?` for what is named only as it
-    runs."""
+    """Returns each imported name with its module, wherever the statement is. A name that is only known at run time
+    is `?`."""
     found: list[tuple[str, str]] = []
     for node in ast.walk(ast.parse(text)):
         if isinstance(node, ast.Import):
@@ -64,7 +65,7 @@ def imported(module: str, known: Sources) -> list[str]:
 
 
 def circle(uses: dict[str, list[str]]) -> list[str]:
-    """Modules each of which the one before it imports, from one back to itself; none if there is no such circle."""
+    """Returns a cycle of imports as a list of modules, or none if there is no cycle."""
     try:
         TopologicalSorter(uses).prepare()
     except CycleError as error:
@@ -92,7 +93,7 @@ class Imports(unittest.TestCase):
         self.assertEqual(faults(sources()), [])
 
     def test_each_that_goes_up_is_refused(self) -> None:
-        """Each is planted in the sources as they are."""
+        """Each forbidden import is added to the real sources in turn."""
         above = (
             ("core.lab", "from classroom.run import desk", "classroom.run.desk"),
             ("core.lab", "import classroom.bots.grade", "classroom.bots.grade"),
@@ -124,7 +125,7 @@ class Imports(unittest.TestCase):
         self.assertEqual({it.suffix for it in files if it.parent.name != "pages"}, {".py"})
 
     def planted(self, name: str, line: str) -> list[str]:
-        """Returns what is wrong if a module has one more line."""
+        """Returns what is wrong after a line is added to a module."""
         known = sources()
         known[f"classroom.{name}"] += f"\n{line}\n"
         return faults(known)

@@ -1,4 +1,5 @@
-"""The plain model stands alone, is short enough to be read in an hour, and prints what scripts have stored."""
+"""The plain model imports nothing else, is short enough to be read in an hour, and reproduces the stored outputs
+of scripts."""
 from __future__ import annotations
 
 import ast
@@ -54,7 +55,7 @@ class Model(unittest.TestCase):
 
 
 class Called(unittest.TestCase):
-    """Calls of the model, in a folder that has it and the examples alone."""
+    """Calls of the model in a folder that has only the model and the examples."""
 
     def setUp(self) -> None:
         room = tempfile.TemporaryDirectory()
@@ -64,7 +65,7 @@ class Called(unittest.TestCase):
             shutil.copytree(TOP / name, self.room / name, ignore=shutil.ignore_patterns("__pycache__"))
 
     def called(self, *words: str | Path) -> tuple[int, str, str]:
-        """Returns how a call ends: status, output, and standard error."""
+        """Returns the exit status, the output and the standard error of a call."""
         done = subprocess.run([sys.executable, "-B", "-m", "model", *words], cwd=self.room, capture_output=True, text=True, check=False)
         return done.returncode, done.stdout, done.stderr
 

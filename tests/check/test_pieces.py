@@ -1,4 +1,4 @@
-"""What becomes of parts, what they take, and how they share the processors."""
+"""The results of parts, their times, and how they share the processors."""
 from __future__ import annotations
 
 import tempfile
@@ -15,12 +15,12 @@ SHELL = ("sh", "-c")
 
 
 def done(output: str, status: int = 0) -> Done:
-    """Returns a part that ended so."""
+    """Returns the outcome of a part with this output and status."""
     return Done(Part("it", ("true",), 1, 1), status, 1.0, 0.5, output)
 
 
 class Results(unittest.TestCase):
-    """What is read from a part's output."""
+    """Reading a part's output."""
 
     def test_results(self) -> None:
         for output, status, wanted in (
@@ -51,7 +51,7 @@ class Results(unittest.TestCase):
 
 
 class Figures(unittest.TestCase):
-    """The table at the end."""
+    """The table of times at the end."""
 
     def test_one_table(self) -> None:
         checks = Checks()
@@ -79,20 +79,20 @@ class Sharing(unittest.TestCase):
         self.assertEqual(minutes([narrow, wide], 2), 6)
 
     def test_minutes_beside(self) -> None:
-        """What is beside takes what the others don't leave idle, and its last piece at least."""
+        """A part that runs beside others takes the time that they leave idle, and at least that of its last piece."""
         work, beside = Part("w", (), 8, 4, ALL), Part("b", (), 16, 2, ALL, is_beside=True)
         self.assertEqual([minutes_of([[work], [beside]], number) for number in (1, 2, 4, 8)], [[8, 16], [4, 8], [4, 2], [4, 2]])
         self.assertEqual(minutes_of([[work], [Part("s", (), 2, 2)], [beside]], 4), [4, 2, 2])
         self.assertEqual(minutes_of([[work], [Part("b", (), 40, 2, ALL, is_beside=True)]], 4), [4, 8])
 
     def test_some_crates(self) -> None:
-        """What some crates take is estimated by their sizes."""
+        """The time for some crates is estimated from their sizes."""
         self.assertAlmostEqual(sum(wrong_of([it]).work for it in uses()), WRONG.work)
         low, high = (proofs_of([it]).work for it in ("mml_ids", "mml_host"))
         self.assertTrue(0 < low < high < proofs_of([]).work == PROOFS.work, (low, high))
 
     def test_side_by_side(self) -> None:
-        """Parts share the processors; one that is as wide as the machine runs alone, on one processor too."""
+        """Parts share the processors. One as wide as the machine runs alone, also on a single processor."""
         for processors in (1, 2, 4):
             with tempfile.TemporaryDirectory() as folder:
                 log = Path(folder) / "log"

@@ -52,7 +52,7 @@ class InTree(unittest.TestCase):
         needs.write_text(text.replace("\ndef apt(", NEED + "\n\ndef apt("), encoding="utf-8")
 
     def stand_in(self, *quick: Quick, proofs: str = "echo 5 passed, 0 failed", wrong: str = "echo 7 passed, 0 failed") -> None:
-        """Sets the parts, and notes what stands in the tree then."""
+        """Sets the parts, and notes which files exist then."""
         tables = TABLES.format(quick=[*quick], proofs=proofs, wrong=wrong)
         (self.tree / "tools/check/parts.py").write_text(self.original + tables, encoding="utf-8")
         self.stood = self.files()
@@ -62,25 +62,26 @@ class InTree(unittest.TestCase):
         return sorted(str(it.relative_to(self.tree)) for it in self.tree.rglob("*"))
 
     def environment(self, **more: str) -> dict[str, str]:
-        """Returns the environment of a check: no gate, and temporary files if they are counted."""
+        """Returns the environment of a check: without a gate, and with its own folder for temporary files if they
+        are checked."""
         kept = {name: it for name, it in os.environ.items() if name != "CI"}
         return {**kept, "TMPDIR": str(self.temporary), "ROOM": str(self.room), **more}
 
     def check(self, *words: str, program: str = "check", **more: str) -> subprocess.CompletedProcess[str]:
-        """Calls the check to its end, which leaves nothing."""
+        """Runs the check to its end, and checks that it leaves nothing."""
         done = self.check_beside(*words, program=program, **more)
         self.nothing_left()
         return done
 
     def check_beside(self, *words: str, program: str = "check", **more: str) -> subprocess.CompletedProcess[str]:
-        """Calls the check to its end, beside another one, or after one that was killed at once and left something."""
+        """Runs the check to its end while another one runs, or after one that was killed and left files."""
         return subprocess.run(
             [self.tree / program, *words], cwd="/", stdin=subprocess.DEVNULL, capture_output=True, text=True,
             env=self.environment(**more), timeout=LIMIT, check=False,
         )
 
     def nothing_left(self) -> None:
-        """Checks for no temporary file, and no file that wasn't there."""
+        """Checks that there is no temporary file and no new file."""
         self.assertEqual([*self.temporary.iterdir()], [])
         self.assertEqual(self.files(), self.stood)
 
@@ -97,7 +98,7 @@ class InTree(unittest.TestCase):
         return going
 
     def waits(self, holds: object) -> None:
-        """Waits until something holds."""
+        """Waits until a condition holds."""
         assert callable(holds)
         until = time.monotonic() + LIMIT
         while not holds():
@@ -106,14 +107,14 @@ class InTree(unittest.TestCase):
 
 
 def ended(going: subprocess.Popen[str]) -> None:
-    """Ends a check where it goes on."""
+    """Ends a check if it is running."""
     if going.poll() is None:
         going.terminate()
         going.communicate(timeout=LIMIT)
 
 
 def is_there(pid: int) -> bool:
-    """Returns whether a process hasn't ended."""
+    """Returns whether a process is running."""
     try:
         return Path(f"/proc/{pid}/stat").read_text(encoding="utf-8").rpartition(") ")[2][0] != "Z"
     except OSError:

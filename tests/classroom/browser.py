@@ -1,4 +1,4 @@
-"""One browser for all tests of a process, and what stands in a page."""
+"""The browser that all tests of a process share, and the contents of its page."""
 from __future__ import annotations
 
 import atexit
@@ -29,10 +29,17 @@ ATTRIBUTES = """
 const nodes = [...document.querySelectorAll('#drawing .node')].map((node) => ({...node.dataset}));
 return [{...document.getElementById('drawing').dataset}, nodes, document.getElementById('event').textContent];
 """
+# Calls back once no animation with an end runs, and two frames have been drawn since.
+SETTLED = """
+const [done] = arguments;
+const isMoving = (one) => one.playState === 'running' && Number.isFinite(one.effect.getComputedTiming().endTime);
+const look = () => requestAnimationFrame(document.getAnimations().some(isMoving) ? look : () => requestAnimationFrame(() => done()));
+look();
+"""
 
 
 def started() -> Any:
-    """Returns a browser without a window."""
+    """Starts a browser without a window."""
     made: Any = Options
     options = made()
     options.binary_location = "/usr/bin/chromium"
@@ -50,38 +57,38 @@ def started() -> Any:
 
 @cache
 def browser() -> Any:
-    """Returns the one of this process."""
+    """Returns the browser of this process."""
     driver = started()
     atexit.register(driver.quit)
     return driver
 
 
 def is_ready(driver: Any) -> bool:
-    """Returns whether the page shows something."""
+    """Returns whether the page shows its drawing."""
     found: bool = driver.execute_script("return document.body !== null && document.body.dataset.ready === 'true'")
     return found
 
 
 def until(driver: Any, holds: Any) -> None:
-    """Waits for what the page has to show."""
+    """Waits until the page satisfies a condition."""
     wait: Any = WebDriverWait
     wait(driver, LIMIT, poll_frequency=0.05).until(holds)
 
 
 def press(driver: Any, *keys: str) -> None:
-    """Presses keys, at what has the focus."""
+    """Presses keys at the element with the focus."""
     chain: Any = ActionChains
     chain(driver).send_keys(*keys).perform()
 
 
 def shown(driver: Any) -> Shown:
-    """Returns what the page shows."""
+    """Returns the contents of the page."""
     root, nodes, line = driver.execute_script(ATTRIBUTES)
     return root, sorted(nodes, key=lambda node: int(node["node"])), line
 
 
 def told(state: State, frame: Frame) -> Shown:
-    """Returns what a page has to show of a state."""
+    """Returns the contents that a page must show for a state."""
     root = {
         "place": str(state.place), "number": str(state.number), "privileged": str(len(state.privileged)),
         "pairs": str(len(state.pairs)),
@@ -134,13 +141,18 @@ return found;
 
 
 def show_as(driver: Any, theme: str = "light", media: str = "") -> None:
-    """Shows pages as for a reader who has set this theme, on a screen or on paper."""
+    """Emulates a theme, and a screen or paper."""
     setting = {"media": media, "features": [{"name": "prefers-color-scheme", "value": theme}]}
     driver.execute_cdp_cmd("Emulation.setEmulatedMedia", setting)
 
 
+def settle(driver: Any) -> None:
+    """Waits until a page has drawn two frames in which no animation runs, so that all that observes its size has been called."""
+    driver.execute_async_script(SETTLED)
+
+
 def pale(driver: Any, on_paper: bool = False) -> tuple[int, list[tuple[str, float]]]:
-    """Returns how many texts a page shows, and those whose contrast is under 4.5 to 1."""
+    """Returns the number of texts on a page, and those with a contrast below 4.5 to 1."""
     texts = driver.execute_script(TEXTS, on_paper)
     told = [(text, contrast(front, back)) for text, front, back in texts]
     return len(told), [(text, ratio) for text, ratio in told if ratio < LEAST]
@@ -165,7 +177,7 @@ class Played(unittest.TestCase):
         return output
 
     def open(self, page: Path, fragment: str = "") -> float:
-        """Opens a page, and returns the seconds until it shows something."""
+        """Opens a page. Returns the seconds until it shows its drawing."""
         start = time.monotonic()
         self.driver.get("about:blank")
         self.driver.get(page.as_uri() + fragment)

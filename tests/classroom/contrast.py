@@ -1,11 +1,11 @@
-"""How well a colour is seen over another, as WCAG 2 counts it."""
+"""The contrast of two colours, as WCAG 2 defines it."""
 from __future__ import annotations
 
 LEAST = 4.5  # the contrast of a text
 
 
 def luminance(colour: list[float]) -> float:
-    """Returns how light a colour is."""
+    """Returns the luminance of a colour."""
     parts = [part / 255 for part in colour]
     red, green, blue = (part / 12.92 if part <= 0.04045 else ((part + 0.055) / 1.055) ** 2.4 for part in parts)
     lightness: float = 0.2126 * red + 0.7152 * green + 0.0722 * blue

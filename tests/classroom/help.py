@@ -1,4 +1,4 @@
-"""What the tests share: calls of `./class`, labs, and clients of runs that are going on."""
+"""Helpers of the tests: calls of `./class`, labs, and clients of running classes."""
 from __future__ import annotations
 
 import fcntl
@@ -36,7 +36,7 @@ LIMIT = 300  # seconds after which something hangs; a slow machine needs a small
 
 
 def words(*given: str | Path, typed: str | None = None, **more: str) -> subprocess.CompletedProcess[str]:
-    """Calls `./class` to its end."""
+    """Runs `./class` with these arguments to its end."""
     return subprocess.run(
         [sys.executable, TOP / "class", *given], input=typed or "", capture_output=True, text=True, check=False,
         env={**os.environ, **more}, timeout=LIMIT,
@@ -44,8 +44,7 @@ def words(*given: str | Path, typed: str | None = None, **more: str) -> subproce
 
 
 def a_port() -> int:
-    """Returns a port that is free, below those that Linux gives to connections, so that it is free as well if a class goes
-    on."""
+    """Returns a free port below those that Linux gives to connections, so that it stays free."""
     while True:
         port = random.randint(20000, 32000)
         with socket.socket() as it:
@@ -59,14 +58,14 @@ def a_port() -> int:
 
 @contextmanager
 def no_server() -> Iterator[int]:
-    """Yields a port at which nobody listens, and that nobody else gets meanwhile."""
+    """Yields a port on which nobody listens, and reserves it meanwhile."""
     with socket.socket() as it:
         it.bind(("127.0.0.1", 0))
         yield it.getsockname()[1]
 
 
 def wait_until(holds: Callable[[], object], what: str = "") -> None:
-    """Waits until a condition holds; raises an error with `what` if that takes too long."""
+    """Waits until a condition holds. Raises an error with `what` after a time limit."""
     end = time.monotonic() + LIMIT
     while not holds():
         assert time.monotonic() < end, what
@@ -74,7 +73,8 @@ def wait_until(holds: Callable[[], object], what: str = "") -> None:
 
 
 def stop(process: int) -> None:
-    """Stops a process, and waits until each of its threads stands still: one that has no processor yet still answers."""
+    """Stops a process, and waits until all its threads are stopped. A thread that waits for a processor would
+    still answer."""
     os.kill(process, signal.SIGSTOP)
     while any(state(task) != "T" for task in Path(f"/proc/{process}/task").iterdir()):
         time.sleep(0.01)
@@ -86,7 +86,7 @@ def state(task: Path) -> str:
 
 
 class InRoom(unittest.TestCase):
-    """A test with a folder of its own."""
+    """A test with its own folder."""
 
     def setUp(self) -> None:
         room = tempfile.TemporaryDirectory()
@@ -94,19 +94,19 @@ class InRoom(unittest.TestCase):
         self.room = Path(room.name)
 
     def file(self, name: str, text: str) -> Path:
-        """Returns a new file."""
+        """Writes a new file, and returns its path."""
         path = self.room / name
         path.write_text(text, encoding="utf-8")
         return path
 
 
 class Going:
-    """A run that is going on; its lines are read one by one."""
+    """A running class. Its lines are read one by one."""
 
     def __init__(self, test: InRoom, lab: Path | None, *more: str | Path, before: tuple[str, ...] = (), ready: str = "^words: ",
                  **environment: str) -> None:
-        """`before` are words before the call: another program that makes it. Without a lab, `more` are all words. `ready`
-        is the line up to which it is read."""
+        """`before` are words before the call: a program that makes the call. Without a lab, `more` are all
+        arguments. Reads up to a line that matches `ready`."""
         self.lines: list[str] = []
         words: list[str | Path] = ["run", lab, "--into", test.room / "runs", "--port", str(a_port()), *more] if lab else [*more]
         self.process = subprocess.Popen(
@@ -121,21 +121,21 @@ class Going:
         self.until(ready)
 
     def until(self, pattern: str) -> str:
-        """Reads lines until one has the pattern; a run that doesn't print it is ended."""
+        """Reads lines until one matches the pattern. Ends the run if none does."""
         for line in self.read():
             if re.search(pattern, line):
                 return line
         raise AssertionError(f"no {pattern} in {self.lines}")
 
     def until_each(self, *patterns: str) -> None:
-        """Reads lines until each pattern was in one, in whichever order."""
+        """Reads lines until each pattern has matched one, in any order."""
         left = list(patterns)
         while left:
             line = self.until("|".join(left))
             left = [pattern for pattern in left if not re.search(pattern, line)]
 
     def read(self) -> Iterator[str]:
-        """Yields the next lines; a run that goes on for too long is ended."""
+        """Yields the next lines. Ends a run that takes too long."""
         assert self.process.stdout is not None
         late = threading.Timer(LIMIT, self.process.terminate)
         late.start()
@@ -153,24 +153,24 @@ class Going:
         self.process.stdin.flush()
 
     def ended(self) -> int:
-        """Ends the class by its word, which is typed twice, and returns the status."""
+        """Ends the class by typing `end` twice. Returns the status."""
         self.type("end\nend")
         return self.ends()
 
     def ends(self) -> int:
-        """Reads to the end, and returns the status."""
+        """Reads all lines to the end. Returns the status."""
         for _ in self.read():
             pass
         return self.process.wait(LIMIT)
 
     def server(self) -> int:
-        """Returns the process of the server."""
+        """Returns the process number of the server."""
         children = Path(f"/proc/{self.process.pid}/task/{self.process.pid}/children").read_text(encoding="ascii").split()
         assert len(children) == 1
         return int(children[0])
 
     def close(self) -> None:
-        """Ends what is left of it."""
+        """Ends all processes of the class that are left."""
         if self.process.poll() is None:
             self.process.send_signal(signal.SIGTERM)
             self.process.communicate(timeout=LIMIT)
@@ -183,7 +183,7 @@ class Going:
 
 
 class Rows:
-    """The lines that come to a page, and all bytes of them."""
+    """The lines that a page receives, and all bytes that came, those of the headers too."""
 
     def __init__(self, address: str, name: str, key: str) -> None:
         parts = urlsplit(address)
@@ -203,20 +203,21 @@ class Rows:
                 return row
 
     def at(self, number: int) -> dict[str, Any]:
-        """Returns the line of that configuration."""
+        """Returns the line of a configuration."""
         while (row := self.next())["at"] != number:
             pass
         return row
 
     def rest(self) -> list[dict[str, Any]]:
-        """Returns all lines to the end."""
+        """Returns all remaining lines."""
         text = self.answer.read()
         self.bytes += text
         return [json.loads(line) for line in text.splitlines()]
 
 
 class InTerminal:
-    """A run in a terminal of its own, up to its words; over the cycle, closed by hand, if none are given."""
+    """A run in its own terminal, read up to its commands. Without arguments, a run over the cycle whose steps are
+    closed by hand."""
 
     def __init__(self, test: InRoom, *words: str | Path) -> None:
         self.ours, theirs = pty.openpty()
@@ -230,14 +231,14 @@ class InTerminal:
         self.until(b"words: ")
 
     def until(self, wanted: bytes) -> None:
-        """Reads until that was written."""
+        """Reads until a text was printed."""
         while wanted not in self.text:
             if not select.select([self.ours], [], [], LIMIT)[0]:
                 raise AssertionError(f"no {wanted!r} in {self.text!r}")
             self.text += os.read(self.ours, 4096)
 
     def type(self, line: bytes, wanted: bytes) -> None:
-        """Types a line where lines are edited, which isn't so for a moment after another one, and reads until that was written."""
+        """Types a line when the line editor is ready, and reads until a text was printed."""
         end = time.monotonic() + LIMIT
         while termios.tcgetattr(self.ours)[3] & termios.ICANON:
             assert time.monotonic() < end, self.text
@@ -250,7 +251,7 @@ class Cycle(InRoom):
     """Runs over the cycle of `examples/`, or a lab with its students."""
 
     def bot(self, going: Going, name: str, *command: str | Path) -> subprocess.Popen[bytes]:
-        """Returns a student's bot."""
+        """Starts the bot of a student."""
         bot = subprocess.Popen(
             [*(command or (sys.executable, EXAMPLES / "bot.py")), self.slip(going.port, name)],
             stdin=subprocess.DEVNULL, stdout=subprocess.DEVNULL, stderr=subprocess.DEVNULL,
@@ -260,13 +261,13 @@ class Cycle(InRoom):
         return bot
 
     def slip(self, port: int, name: str) -> Path:
-        """Returns a student's slip."""
+        """Writes the slip of a student, and returns its path."""
         nodes = ",".join(map(str, read(CYCLE).nodes_of(name)))
         made = self.room / f"{name}-{port}.slip"  # Who was given it before may still be about to read it.
         return made if made.exists() else self.file(made.name, f"port {port}\nname {name}\nkey {KEYS[name]}\nnodes {nodes}\n")
 
     def whole(self, folder: Path) -> int:
-        """Checks for a finished folder, which nobody else reads. Returns the number of its events."""
+        """Checks that the folder of an ended run is complete and private. Returns the number of its events."""
         self.assertEqual(folder.stat().st_mode & 0o777, 0o700)
         for name in ("lab.toml", "journal", "audit.txt", "marks.txt", "marks.json", "run.html", "run.txt", "server.txt"):
             self.assertTrue((folder / name).is_file(), name)

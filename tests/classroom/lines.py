@@ -58,7 +58,7 @@ def texts(node: ast.AST) -> Iterator[str]:
 
 
 class Page(HTMLParser):
-    """The texts of a page: those that it shows, and those that a screen reader says."""
+    """The texts of a page: those that it shows, and those for screen readers."""
 
     def __init__(self) -> None:
         super().__init__()
@@ -69,7 +69,7 @@ class Page(HTMLParser):
         self.found.append(" ".join(data.split()))
 
     def handle_starttag(self, tag: str, attrs: list[tuple[str, str | None]]) -> None:
-        """Keeps the texts of a tag that are read aloud, or shown at the mouse."""
+        """Keeps the texts of a tag that are read aloud or shown as a tooltip."""
         self.found += [value for name, value in attrs if name in ("title", "aria-label", "placeholder") and value]
 
 

@@ -1,4 +1,4 @@
-"""Two machines that a cable joins: network namespaces, each with a loopback of its own. Only root can make them."""
+"""Two machines joined by a cable: network namespaces, each with its own loopback. Only root can make them."""
 from __future__ import annotations
 
 import os
@@ -13,7 +13,7 @@ TEACHERS, STUDENTS = "10.77.0.1", "10.77.0.2"  # the addresses at both ends of t
 
 @dataclass(frozen=True)
 class Machine:
-    """A machine, and what is put before a command that runs there."""
+    """A machine, and the words before a command that runs on it."""
 
     process: int
 
@@ -23,12 +23,12 @@ class Machine:
         return "nsenter", f"--net=/proc/{self.process}/ns/net"
 
     def call(self, *words: str) -> None:
-        """Runs a command there."""
+        """Runs a command on the machine."""
         subprocess.run([*self.on, *words], check=True, stdin=subprocess.DEVNULL, capture_output=True)
 
 
 def can_be_made() -> bool:
-    """Returns whether machines can be made here."""
+    """Returns whether machines can be made on this system."""
     if os.geteuid() != 0 or not all(map(shutil.which, ("ip", "unshare", "nsenter"))):
         return False
     return subprocess.run(["unshare", "--net", "true"], check=False, capture_output=True).returncode == 0
@@ -36,7 +36,7 @@ def can_be_made() -> bool:
 
 @contextmanager
 def two() -> Iterator[tuple[Machine, Machine]]:
-    """Yields the teacher's machine and the students'."""
+    """Yields the teacher's machine and that of the students."""
     holders = [subprocess.Popen(["unshare", "--net", "sh", "-c", "echo; exec sleep 100000"], stdout=subprocess.PIPE) for _ in range(2)]
     try:
         for it in holders:

@@ -1,4 +1,4 @@
-"""Labs and journals that the tests show."""
+"""Labs and journals for tests of pages."""
 from __future__ import annotations
 
 import json
@@ -14,20 +14,20 @@ STUDENTS = (("ana", "a-key"), ("ben", "b-key"))
 
 
 def journal_of(lab: Path, script: Path, journal: Path) -> Path:
-    """Returns the journal that a script makes over a lab."""
+    """Writes the journal of a script over a lab, and returns its path."""
     subprocess.run([PROGRAM, "script", lab, script, journal], stdout=subprocess.DEVNULL, check=True)
     return journal
 
 
 def examples(room: Path) -> list[tuple[Path, Path]]:
-    """Returns each lab of examples/ that has a run, with the run's journal, and the built-in one with its own."""
+    """Returns each lab of examples/ that has a run, with the run's journal, and the built-in lab with its journal."""
     runs = [(lab, lab.with_name(f"{lab.stem}-run.script")) for lab in sorted(EXAMPLES.glob("*.toml"))]
     made = [(lab, journal_of(lab, script, room / f"{lab.stem}.journal")) for lab, script in runs if script.exists()]
     return [*made, (BUILT_IN, EXAMPLES / "whole-run.journal")]
 
 
 def lab_text(nodes: int, links: list[tuple[int, int]], events: int) -> str:
-    """Returns a lab whose nodes ana and ben own together, but for those with an odd identifier, which are ana's."""
+    """Returns a lab in which ana and ben share the nodes with an even identifier, and ana owns the others."""
     rows = [f"events = {events}", "sessions = 2", f"links = {[list(link) for link in links]}"]
     rows += ["[teacher]", 'name = "tess"', 'key = "chalk"']
     for name, key in STUDENTS:
@@ -38,8 +38,8 @@ def lab_text(nodes: int, links: list[tuple[int, int]], events: int) -> str:
 
 
 def many_owners(room: Path, nodes: int) -> Path:
-    """Returns a cycle of so many nodes: names with the same initial, another one, and two owners for each third
-    node."""
+    """Writes a cycle with this number of nodes: names with the same initial, another name, and two owners for each
+    third node."""
     names = [f"student-{number}" for number in range(1, 13)] + ["zoe"]
     lab = room / f"owners-{nodes}.toml"
     rows = ["events = 9", "sessions = 2", "links = [" + ", ".join(f"[{a}, {a % nodes + 1}]" for a in range(1, nodes + 1)) + "]"]
@@ -68,7 +68,7 @@ def edited_run(room: Path) -> tuple[Path, Path]:
 
 
 def largest_run(room: Path) -> tuple[Path, Path]:
-    """1,000 events over 256 nodes of which each two are linked."""
+    """Writes a run of 1,000 events over a complete graph of 256 nodes. Returns the lab and the journal."""
     lab, script = room / "largest.toml", room / "largest.script"
     lab.write_text(lab_text(256, [(a, b) for a in range(1, 257) for b in range(a + 1, 257)], 1000))
     lines = ['1 {"do":"hello","name":"ana","key":"a-key"}', '2 {"do":"hello","name":"tess","key":"chalk"}']
@@ -83,7 +83,8 @@ def largest_run(room: Path) -> tuple[Path, Path]:
 
 
 def long_run(room: Path, events: int) -> tuple[Path, Path]:
-    """So many events over a path of 15 nodes, each three of which are a fault, the move that it makes possible, and a close."""
+    """Writes a run over a path of 15 nodes. It repeats a fault, the move that it enables, and a close. Returns the
+    lab and the journal."""
     lab, journal = room / "long.toml", room / "long.journal"
     lab.write_text(lab_text(15, [(a, a + 1) for a in range(1, 15)], events))
     rows = []

@@ -1,4 +1,4 @@
-"""A checker for the JSON Schemas in `docs/`: the keywords that they use, and no others."""
+"""A checker for the JSON Schemas in `docs/`. It supports only the keywords that they use."""
 from __future__ import annotations
 
 import json
@@ -23,7 +23,7 @@ def read(name: str) -> Schema:
 
 
 def fits(value: Any, schema: Schema, top: Schema) -> bool:
-    """Returns whether a value is as a schema says, which is a part of the whole one."""
+    """Returns whether a value is valid for a schema, which is a part of `top`."""
     if unknown := schema.keys() - KEYWORDS:
         raise ValueError(f"keywords that aren't checked: {unknown}")
     if "$ref" in schema:
@@ -42,7 +42,7 @@ def fits(value: Any, schema: Schema, top: Schema) -> bool:
 
 
 def object_fits(value: dict[str, Any], schema: Schema, top: Schema) -> bool:
-    """Returns whether an object's keys are there, and as a schema says."""
+    """Returns whether an object has the required keys, and valid values."""
     known: Schema = schema.get("properties", {})
     if not value.keys() >= set(schema.get("required", [])) or schema.get("additionalProperties") is False and value.keys() - known.keys():
         return False
@@ -50,7 +50,7 @@ def object_fits(value: dict[str, Any], schema: Schema, top: Schema) -> bool:
 
 
 def array_fits(value: list[Any], schema: Schema, top: Schema) -> bool:
-    """Returns whether a list's items are as a schema says."""
+    """Returns whether all items of a list are valid."""
     if not schema.get("minItems", 0) <= len(value) <= schema.get("maxItems", len(value)):
         return False
     first: list[Schema] = schema.get("prefixItems", [])

@@ -1,4 +1,4 @@
-"""A class of several networks whose desk is typed at, for the tests."""
+"""A class of several networks whose desk reads typed lines, for tests."""
 from __future__ import annotations
 
 import json
@@ -19,7 +19,7 @@ NAMES = ("Zoë Müller", "José García", "Lukas Schmidt", "Lukas Schmidt", "Ana
 
 
 class GoingClass(Going):
-    """The desk of a class that is going on; its lines are read one by one."""
+    """The desk of a running class. Its lines are read one by one."""
 
     def __init__(self, test: InRoom, *more: str | Path, **environment: str) -> None:
         self.lines: list[str] = []
@@ -35,7 +35,7 @@ class GoingClass(Going):
         self.until("^words: ")
 
     def record(self, name: str) -> Record:
-        """Returns what the folder of a network keeps."""
+        """Returns the record in the folder of a network."""
         record = Record.read(self.folder / name)
         assert record is not None
         return record
@@ -49,12 +49,12 @@ class GoingClass(Going):
         return state_of(self.folder / name) or {}
 
     def marks(self, name: str) -> dict[str, int]:
-        """Returns what the marks of a network's run say of it."""
+        """Returns the marks in the folder of a network's run."""
         run: dict[str, int] = json.loads((self.folder / name / "marks.json").read_text(encoding="utf-8"))["runs"][0]
         return run
 
     def end_servers(self) -> None:
-        """Ends what is left of its servers and of the processes that hold their desks."""
+        """Ends the servers that are left, and the processes of their desks."""
         if self.process.poll() is None:
             self.process.kill()
         for folder in self.folder.iterdir() if hasattr(self, "folder") else ():
@@ -65,7 +65,7 @@ class GoingClass(Going):
 
 
 class Classes(InRoom):
-    """Tests over the two networks of a class of eight."""
+    """Tests over a class of eight students in two networks."""
 
     def setUp(self) -> None:
         super().setUp()
@@ -75,7 +75,7 @@ class Classes(InRoom):
         self.labs = [self.room / "maths-1.toml", self.room / "maths-2.toml"]
 
     def begin(self, *more: str | Path) -> GoingClass:
-        """Returns the desk of a class that begins."""
+        """Starts a class, and returns its desk."""
         return GoingClass(self, "run", *self.labs, "--into", self.room / "runs", "--port", str(a_port()), *more)
 
     def bot(self, desk: GoingClass, network: str, name: str) -> subprocess.Popen[bytes]:

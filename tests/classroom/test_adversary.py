@@ -1,4 +1,4 @@
-"""The adversary: what it searches with stays as it was, and runs that it closes are longer."""
+"""The adversary: its search changes nothing, and it makes runs longer."""
 from __future__ import annotations
 
 import random
@@ -19,15 +19,15 @@ from tests.classroom.help import CYCLE, EXAMPLES, KEYS, Cycle, Going, words
 
 
 def rows(daemon: str, family: str, nodes: int, seeds: range) -> list[Row]:
-    """Runs of a daemon."""
+    """Returns the rows of runs with a daemon."""
     return [row for row, _ in runs(Setting(family, nodes, Daemon.of(daemon), "random"), list(seeds))]
 
 
 class Search(unittest.TestCase):
-    """The search alone."""
+    """The search by itself."""
 
     def over(self, made: labs.Lab) -> tuple[Adversary, list[int]]:
-        """Returns an adversary with its program, and who is privileged."""
+        """Returns an adversary with its program, and the privileged nodes."""
         it = Adversary("test")
         self.addCleanup(it.close)
         report = it.bench_over(made).begin(made)
@@ -43,7 +43,7 @@ class Search(unittest.TestCase):
         report = bench.begin(made)
         it.registers = {node: (p, m) for node, p, m in before}
         for nodes in ([privileged[0]], [privileged[-1]], privileged):
-            it.tried(bench, report, nodes, 3)
+            it.value_of(bench, report, nodes, 3)
             self.assertEqual([(node.id, node.p, node.m) for node in bench.present().nodes], before)
             self.assertEqual(it.registers, {node: (p, m) for node, p, m in before})
         self.assertTrue(bench.step(report, [privileged[0]], min))  # Under the number of its report.
@@ -82,10 +82,10 @@ class Search(unittest.TestCase):
 
 
 class Long(unittest.TestCase):
-    """Runs to their ends."""
+    """Complete runs."""
 
     def test_the_schedule_takes_all_moves_and_rounds_that_are_proved(self) -> None:
-        """All moves on a crowd, and all rounds on halves, from their worst starts."""
+        """From the worst starts, it takes all moves on a crowd, and all rounds on halves."""
         for nodes in range(4, 17, 2):
             for family in ("crowd", "halves"):
                 row, = (row for row, _ in runs(Setting(family, nodes, Daemon.of("schedule"), "worst"), [1]))
@@ -94,7 +94,8 @@ class Long(unittest.TestCase):
                                  (most.moves if family == "crowd" else most.rounds, True), (family, nodes))
 
     def test_the_adversary_takes_most_of_the_moves_that_are_proved(self) -> None:
-        """From the worst start four fifths at least, and from others more than the schedule in all."""
+        """From the worst start it takes at least four fifths of the moves, and from other starts more than the
+        schedule in total."""
         for nodes in (4, 6, 8, 10):
             row, = (row for row, _ in runs(Setting("crowd", nodes, Daemon.of("adversary"), "worst"), [1]))
             self.assertGreaterEqual(row.moves, 0.8 * bounds.of(nodes, row.links).moves, nodes)
@@ -102,17 +103,17 @@ class Long(unittest.TestCase):
         self.assertGreaterEqual(search, schedule)
 
     def test_runs_are_longer_than_by_a_central_daemon(self) -> None:
-        """By the same seeds, so the same networks and registers."""
+        """The seeds are the same, so the networks and registers are too."""
         for family, nodes in (("complete", 5), ("cycle", 6)):
             central, worse = (rows(daemon, family, nodes, range(1, 9)) for daemon in ("central", "adversary"))
-            self.assertTrue(all(row.stable and not row.breaks() for row in worse))
+            self.assertTrue(all(row.stable and not row.exceeds_bounds() for row in worse))
             self.assertEqual([(row.links, row.seed) for row in central], [(row.links, row.seed) for row in worse])
             self.assertLess(sum(row.moves for row in central) * 1.05, sum(row.moves for row in worse), family)
 
     def test_a_run_is_the_same_again_and_its_script_has_nothing_of_the_search(self) -> None:
         setting = Setting("path", 4, Daemon("adversary"), "random")
         self.assertEqual(rows("adversary", "path", 4, range(3, 5)), rows("adversary", "path", 4, range(3, 5)))
-        with unittest.mock.patch.object(Row, "breaks", lambda row: True):
+        with unittest.mock.patch.object(Row, "exceeds_bounds", lambda row: True):
             (row, script), = runs(setting, [3])
         self.assertEqual(script.count(b'"do": "close"'), row.closes)
         self.assertEqual(script.count(b'"do": "see"'), 0)
@@ -136,7 +137,7 @@ class Long(unittest.TestCase):
 
 
 class Everywhere(Cycle):
-    """The word in a run, at home, in a grade and in an experiment."""
+    """The daemon as an argument of run, practise, grade and experiment."""
 
     def test_a_run_comes_back_under_it(self) -> None:
         going = Going(self, CYCLE, "--daemon", "by-hand")
@@ -162,7 +163,7 @@ class Everywhere(Cycle):
         table = self.room / "runs.csv"
         done = words("experiment", "--family", "path", "--nodes", "4", "--daemon", "adversary,central", "--runs", "2", "--csv", table)
         self.assertEqual(done.returncode, 0, done.stdout + done.stderr)
-        self.assertIn("4 of 4 runs, all within what is proved", done.stdout)
+        self.assertIn("4 of 4 runs, all within the proved bounds", done.stdout)
         (self.room / "labs").mkdir()
         made = words("new", self.room / "labs/one.toml", "--students", self.file("names", "Ana\nBen\n"), "--nodes", "4", "--start", "hurt")
         self.assertEqual(made.returncode, 0, made.stderr)

@@ -1,4 +1,5 @@
-"""`./class grade` among bots that read, copy, spoil and fill: each is kept apart if the system lets it, or tried alone."""
+"""`./class grade` with bots that read, copy, disturb and fill: they are kept apart if the system allows it, and
+else tried one after another."""
 from __future__ import annotations
 
 import json
@@ -10,7 +11,7 @@ import sys
 import unittest
 from pathlib import Path
 
-from classroom.bots.bots import no_worlds
+from classroom.bots.bots import namespaces_refusal
 from classroom.core.program import TOP
 from tests.classroom.help import EXAMPLES, LIMIT, InRoom
 
@@ -20,12 +21,12 @@ WITHOUT = ("unshare", "-U", "--map-root-user", "sh", "-c", 'echo 0 > /proc/sys/u
 
 
 def can_be_without() -> bool:
-    """Returns whether a program can be run here that gets no namespaces."""
+    """Returns whether a program can be run here that can't make namespaces."""
     return shutil.which("unshare") is not None and subprocess.run([*WITHOUT, "true"], capture_output=True, check=False).returncode == 0
 
 
 def spelled(*words: str | Path) -> str:
-    """Words that a bot reads, and that name no file in its command."""
+    """Returns words for a bot that don't look like a file's path in its command."""
     return " ".join(str(word).encode().hex() for word in words)
 
 
@@ -38,7 +39,7 @@ class Grades(InRoom):
         shutil.copy(EXAMPLES / "path.toml", self.room / "labs")
 
     def grades(self, *faults: str, before: tuple[str, ...] = (), more: tuple[str | Path, ...] = ()) -> str:
-        """Returns what a grade of these over the three usual daemons prints."""
+        """Returns the output of a grade of these bots with the three usual daemons."""
         bots = [f"python3 {FAULTY} {fault}" for fault in faults]
         call: list[str | Path] = [*before, sys.executable, TOP / "class", "grade", *bots, "--labs", self.room / "labs", "--timeout", "60",
                                   "--memory", "200", "--into", self.room / "grades", "--json", self.room / "cases.json", *more]
@@ -48,15 +49,15 @@ class Grades(InRoom):
         return done.stdout
 
     def passed(self, output: str, fault: str) -> int:
-        """Returns how many of its cases a bot passed."""
+        """Returns the number of cases that a bot passed."""
         found = re.search(rf"(?m)^python3 faulty.py {fault}: (\d) of 3 cases passed$", output)
         assert found is not None, output
         return int(found[1])
 
 
-@unittest.skipIf(no_worlds(), f"bots can't be kept apart here: {no_worlds()}")
+@unittest.skipIf(namespaces_refusal(), f"bots can't be kept apart here: {namespaces_refusal()}")
 class Apart(Grades):
-    """Each has namespaces of its own."""
+    """Each bot has its own namespaces."""
 
     def test_nobody_spoils_what_another_does(self) -> None:
         output = self.grades("right", "spoils")
@@ -86,7 +87,7 @@ class Apart(Grades):
         self.assertEqual(len(seen), 2 * len(files) + 3)
 
     def peeked(self, *bots: str, more: tuple[str | Path, ...] = ()) -> str:
-        """Returns what the first bot printed last."""
+        """Returns the last line of the first bot."""
         call: list[str | Path] = [sys.executable, TOP / "class", "grade", *bots, "--labs", self.room / "labs", "--daemon", "central",
                                   "--into", self.room / "grades", "--json", self.room / "cases.json", "--timeout", "60", *more]
         done = subprocess.run(call, stdin=subprocess.DEVNULL, capture_output=True, text=True, check=False, timeout=LIMIT)
@@ -118,13 +119,13 @@ class Apart(Grades):
 
 
 class Together(Grades):
-    """The system gives no namespaces, or isn't asked for any."""
+    """The system has no namespaces, or they aren't asked for."""
 
     @unittest.skipUnless(can_be_without(), "a program can't be run here so that it gets no namespaces")
     def test_without_namespaces_one_is_tried_after_another_and_it_is_told_why(self) -> None:
         output = self.grades("right", "spoils", "copies", before=WITHOUT)
         self.assertEqual([self.passed(output, fault) for fault in ("right", "copies")], [3, 0], output)
-        self.assertTrue(output.startswith("class: bots aren't kept apart (unshare: No space left on device): they run one after another, as you, "
+        self.assertTrue(output.startswith("class: bots aren't kept apart (unshare: No space left on device): they run one after another, with your rights, "
                                           "and see your files (docs/COURSE.md)\n"), output)
 
     def test_limits_hold_as_well(self) -> None:

@@ -1,4 +1,4 @@
-"""A class outlives the `run` that began it, and its terminal: `./class attach`."""
+"""`./class attach`: a class that outlives the `run` that started it, and its terminal."""
 from __future__ import annotations
 
 import json
@@ -19,7 +19,7 @@ class Attach(Cycle):
     """Runs over the cycle of `examples/`."""
 
     def killed(self, *more: str) -> Going:
-        """Returns a run that was killed after a move, a close and a fault; its server lives."""
+        """Returns a run that was killed after a move, a close and a fault. Its server is still running."""
         going = Going(self, CYCLE, "--close", "by-hand", *more)
         server = going.server()
         self.addCleanup(self.end, server)
@@ -35,12 +35,12 @@ class Attach(Cycle):
         return going
 
     def end(self, server: int) -> None:
-        """Ends a server that a test has left."""
+        """Ends a server that a test has left running."""
         if Process.of(server).lives():
             os.kill(server, signal.SIGKILL)
 
     def marks(self, folder: Path) -> dict[str, int]:
-        """Returns how many moves each student had applied."""
+        """Returns the number of applied moves of each student."""
         students = json.loads((folder / "marks.json").read_text(encoding="utf-8"))["runs"][0]["students"]
         return {name: sum(it["applied"].values()) for name, it in students.items()}
 
@@ -99,10 +99,10 @@ class Attach(Cycle):
         self.addCleanup(self.end, server)
         going.process.send_signal(signal.SIGTERM)
         going.until("^the desk: no answer in ")
-        going.until(f"^waiting for the server's end, process {server}; end leaves it to itself$")
+        going.until(f"^waiting until the server ends, process {server}; type `end` to stop waiting$")
         going.type("end")
         self.assertEqual(going.ends(), 4, going.lines)
-        self.assertTrue(going.lines[-1].startswith(f"the server is left to itself, process {server}: "), going.lines)
+        self.assertTrue(going.lines[-1].startswith(f"the server keeps running without a desk, process {server}: "), going.lines)
         self.assertTrue(Process.of(server).lives())
         os.kill(server, signal.SIGCONT)
         end = time.monotonic() + LIMIT
@@ -112,7 +112,7 @@ class Attach(Cycle):
         self.assertIn("1 events, configuration 1, ", words("mark", going.folder).stdout)
 
     def until_told(self, folder: Path, line: str) -> None:
-        """Waits until a run's own lines have one."""
+        """Waits until `run.txt` has a line."""
         end = time.monotonic() + LIMIT
         while line not in (folder / "run.txt").read_text(encoding="utf-8"):
             self.assertLess(time.monotonic(), end)
@@ -121,7 +121,7 @@ class Attach(Cycle):
     def test_what_can_not_be_taken(self) -> None:
         going = Going(self, CYCLE, "--close", "by-hand")
         done = words("attach", going.folder)
-        self.assertEqual((done.returncode, done.stderr), (1, f"class: {going.folder}: process {going.process.pid} holds its desk\n"))
+        self.assertEqual((done.returncode, done.stderr), (1, f"class: {going.folder}: process {going.process.pid} controls this run already\n"))
         self.assertEqual(going.ended(), 0, going.lines)
         done = words("attach", going.folder)
         self.assertEqual((done.returncode, done.stderr), (1, f"class: {going.folder}: its server has ended: {CLASS} run --resume {going.folder}\n"))

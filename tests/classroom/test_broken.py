@@ -1,4 +1,4 @@
-"""What can go wrong in a run: kills, a full disk, terminals that go away, no seat, bots that race and guess."""
+"""Failures of a run: kills, full disks, closed terminals, missing seats, bots that race and guess."""
 from __future__ import annotations
 
 import json
@@ -29,10 +29,10 @@ MOUNT = "mount -t tmpfs -o size=128k tmpfs \"$1\" && shift && exec \"$@\""
 
 
 class Broken(Cycle):
-    """Whatever ends a run, its folder is whole."""
+    """Tests in which a run ends in some way and its folder is complete."""
 
     def lab(self, name: str, sessions: int) -> Path:
-        """Returns a lab of `examples/` with so many seats."""
+        """Writes a lab of `examples/` with this number of seats."""
         text = (EXAMPLES / name).read_text(encoding="utf-8")
         return self.file(name, re.sub(r"(?m)^sessions = \d+", f"sessions = {sessions}", text))
 
@@ -73,7 +73,7 @@ class Broken(Cycle):
         self.assertGreaterEqual(self.whole(going.folder), 3)
 
     def mounted(self) -> tuple[str, ...]:
-        """Words that make a call in which the folder of runs is a small disk of its own."""
+        """Returns words that run a call in which the folder of runs is a small disk."""
         (self.room / "runs").mkdir()
         for way in (["unshare", "-m"], ["unshare", "-rm"]):
             words = (*way, "sh", "-c", MOUNT, "sh", str(self.room / "runs"))
@@ -82,7 +82,7 @@ class Broken(Cycle):
         self.skipTest("not tried: a full disk, since nothing can be mounted")
 
     def fill(self, folder: Path) -> None:
-        """Leaves no byte free."""
+        """Fills the disk of a folder."""
         for turn in range(3):  # What looks whether there is room holds some for a moment.
             with (folder / f"filler{turn}").open("wb", buffering=0) as it:
                 try:
@@ -94,7 +94,7 @@ class Broken(Cycle):
     def test_a_full_disk(self) -> None:
         going = Going(self, CYCLE, "--close", "by-hand", before=self.mounted())
         self.fill(Path(f"/proc/{going.process.pid}/root{going.folder}"))
-        going.until("^the disk is full: the next line of the journal can't be written, and from then on nothing is granted; make room$")
+        going.until("^the disk is full: the next line of the journal can't be written, and after this failure nothing is granted any longer; make room$")
         with Client(going.port, "gus", KEYS["gus"]) as gus:
             with self.assertRaises(Refused) as refused:
                 gus.move(gus.look(4))
@@ -108,14 +108,14 @@ class Broken(Cycle):
 
     @unittest.skipUnless(host(), "not tried: no host is built")
     def test_a_limit_that_leaves_no_trace(self) -> None:
-        """A line of which no byte was written, and nobody acts at the desk."""
+        """No byte of the line is written, and nobody acts at the desk."""
         going = Going(self, CYCLE, "--close", "by-hand")
         going.type("\n".join(["fault 1 2 true"] * 60))
         going.until("^configuration 60: ")
         journal = going.folder / "journal"
         size = journal.stat().st_size
         resource.prlimit(going.server(), resource.RLIMIT_FSIZE, (size, size))
-        going.until("^the journal is as large as a file of its server may be, and what isn't written isn't granted ")
+        going.until("^the journal has reached the limit on the server's files, so nothing more is granted ")
         with Client(going.port, "gus", KEYS["gus"]) as gus, self.assertRaises(Refused) as refused:
             gus.move(gus.look(4))
         self.assertEqual((refused.exception.word, journal.stat().st_size), ("journal", size))
@@ -124,8 +124,7 @@ class Broken(Cycle):
         self.assertEqual(self.whole(going.folder), 60)
 
     def lost(self, act: Callable[[Path], object], status: int = 4) -> Going:
-        """Returns a run of three events, to whose journal something was done, and which has ended by that with a
-        status."""
+        """Returns a run of three events that has ended with this status after `act` was done to its journal."""
         going = Going(self, CYCLE, "--close", "by-hand", "--beside")
         for number in range(1, 4):
             going.type("fault 1 2 true")
@@ -137,13 +136,13 @@ class Broken(Cycle):
 
     @unittest.skipUnless(host(), "not tried: no host is built")
     def test_a_journal_that_is_removed_moved_or_replaced(self) -> None:
-        """Nobody asks for anything: the teacher is still informed, and nothing is lost."""
+        """Nobody asks for anything. The teacher is informed all the same, and nothing is lost."""
         for act in (self.remove, self.move, self.replace):
             going = self.lost(act)
-            told = f"its file was removed, moved or replaced; put back what stood there, then {CLASS} run --resume {going.folder}"
+            told = f"its file was removed, moved or replaced; put the old file back, then {CLASS} run --resume {going.folder}"
             self.assertIn(f"nothing more is granted: journal: {told}", going.lines)
             kept = going.folder / ("journal.saved" if act == self.replace else "journal")
-            self.assertIn(f"what the journal had is in {kept}", going.lines)
+            self.assertIn(f"the journal's old content is saved in {kept}", going.lines)
             self.assertEqual(kept.read_bytes().count(b"\n"), 3)
             kept.replace(going.folder / "journal")
             again = Going(self, None, "run", "--resume", going.folder)
@@ -159,7 +158,7 @@ class Broken(Cycle):
         journal.rename(self.room / "moved")
 
     def replace(self, journal: Path) -> None:
-        """Replaces a journal by another file, as an editor does it."""
+        """Replaces a journal by another file, like an editor."""
         other = journal.with_name("other")
         other.write_text("1 0 fault 1 2 true\n", encoding="ascii")
         other.replace(journal)
@@ -173,7 +172,7 @@ class Broken(Cycle):
         acts: list[tuple[Callable[[Path], object], int]] = [(lambda journal: os.truncate(journal, 19), 4), (lengthen, 3)]
         for act, status in acts:
             going = self.lost(act, status)
-            self.assertTrue(any(line.startswith("nothing more is granted: journal: its file was changed; put back what stood there, then ")
+            self.assertTrue(any(line.startswith("nothing more is granted: journal: its file was changed; put the old file back, then ")
                                 for line in going.lines), going.lines)
 
     def test_no_event_is_left(self) -> None:
@@ -270,14 +269,14 @@ class Broken(Cycle):
         listens = (4711, 0, "0A", "1")
         served = [(4711, port, "01", "2") for port in (5, 6, 7)]
         found = Connected(4711, 2, 7)
-        self.assertEqual(found.compared([listens, served[2]]), [])
-        self.assertEqual(found.compared([listens, *served[1:]]), ["connected: someone from elsewhere"])
-        lines = found.compared([listens, *served])
+        self.assertEqual(found.changes([listens, served[2]]), [])
+        self.assertEqual(found.changes([listens, *served[1:]]), ["connected: someone from elsewhere"])
+        lines = found.changes([listens, *served])
         self.assertEqual((lines[0], lines[1][:20]), ("connected: someone from elsewhere", "all seats are taken:"))
-        self.assertEqual(found.compared([listens, *served]), [])
-        self.assertEqual(found.compared([listens, *served[1:]]), ["gone: someone from elsewhere"])
-        self.assertEqual(found.compared([listens, *served]), ["connected: someone from elsewhere"])
-        self.assertEqual(Connected(4711, 2, 7).compared(served[1:])[1][:35], "each connection of this server was ")
+        self.assertEqual(found.changes([listens, *served]), [])
+        self.assertEqual(found.changes([listens, *served[1:]]), ["gone: someone from elsewhere"])
+        self.assertEqual(found.changes([listens, *served]), ["connected: someone from elsewhere"])
+        self.assertEqual(Connected(4711, 2, 7).changes(served[1:])[1][:48], "this server has let in as many connections as it")
         found.known = {6: "first", 5: "second"}
         self.assertEqual(found.who(), "2 of 2 seats: first, second")
 
@@ -313,7 +312,7 @@ class Broken(Cycle):
         self.assertEqual(set(marks["students"]), set(KEYS))
 
     def guess(self, port: int, guesses: Counter[str]) -> None:
-        """Guesses the teacher's key, and asks without a name."""
+        """Guesses the teacher's key, and sends requests without a hello."""
         with socket.create_connection(("127.0.0.1", port), timeout=LIMIT) as it, it.makefile("rb") as replies:
             for _ in range(200):
                 hello = {"do": "hello", "name": "tess", "key": secrets.token_hex(4)}

@@ -1,4 +1,4 @@
-"""The page at which a student plays by hand, in a real browser and by what comes over the wire."""
+"""The page on which a student plays by hand, in a real browser and by its HTTP requests."""
 from __future__ import annotations
 
 import http.client
@@ -20,7 +20,7 @@ from selenium.webdriver.support.select import Select
 
 from classroom.client import Client
 from classroom.core.lab import read
-from classroom.pages.by_hand import Hands, open_hands
+from classroom.pages.by_hand import PlayServer, open_play_page
 from tests.classroom.browser import browser, show_as, until
 from tests.classroom.help import CYCLE, KEYS, LIMIT, Going, InRoom, Rows, a_port
 from tests.classroom.test_page import hashed
@@ -47,7 +47,7 @@ NOTHING = "nothing to do now: waiting for the step"
 
 
 class Playing(InRoom):
-    """Runs over the cycle of `examples/`, at whose page gus plays."""
+    """Runs over the cycle of `examples/`. Gus plays on the page."""
 
     def setUp(self) -> None:
         super().setUp()
@@ -60,12 +60,12 @@ class Playing(InRoom):
         self.address = self.going.until("^page to play http").removeprefix("page to play ")
 
     def open(self, more: str = "") -> None:
-        """Opens the page anew."""
+        """Loads the page again."""
         self.driver.get("about:blank")
         self.driver.get(self.address + more)
 
     def come(self, name: str = "gus", key: str = "") -> None:
-        """Comes in by a slip's name and key."""
+        """Enters a name and a key on the page."""
         for field, text in (("name", name), ("key", key or KEYS[name])):
             element = self.driver.find_element("id", field)
             element.clear()
@@ -73,21 +73,21 @@ class Playing(InRoom):
         self.driver.find_element("id", "come").click()
 
     def is_in(self) -> None:
-        """Waits until something is played."""
+        """Waits until the page shows a node."""
         until(self.driver, lambda driver: driver.execute_script("return document.body.dataset.played === 'true'"))
 
     def is_told(self, text: str) -> None:
-        """Waits until the page shows that of its connection, and lets one come in again."""
+        """Waits until the page shows this text about its connection, and lets the student enter again."""
         until(self.driver, lambda driver: text in driver.find_element("id", "connection").text)
         until(self.driver, lambda driver: driver.find_element("id", "come").is_displayed() and driver.find_element("id", "come").is_enabled())
 
     def card(self, node: int) -> dict[str, Any]:
-        """Returns what the page shows of a node."""
+        """Returns what the page shows about a node."""
         found: dict[str, Any] = self.driver.execute_script(CARD, str(node))
         return found
 
     def press(self, node: int, rule: str) -> str:
-        """Presses a rule's button. Returns what is replied."""
+        """Presses the button of a rule. Returns the reply."""
         self.driver.execute_script("for (const it of document.querySelectorAll('.reply')) it.textContent = ''")
         for card in self.driver.find_elements("css selector", "#nodes section"):
             if card.find_element("class name", "id").text == str(node):
@@ -99,7 +99,7 @@ class Playing(InRoom):
         return reply
 
     def act(self, node: int) -> str:
-        """Presses the large button of a node. Returns what is replied."""
+        """Presses the large button of a node. Returns the reply."""
         self.driver.execute_script("for (const it of document.querySelectorAll('.reply')) it.textContent = ''")
         for button in self.driver.find_elements("css selector", ".btn.act"):
             if button.text.startswith(f"Node {node}: "):
@@ -115,23 +115,23 @@ class Playing(InRoom):
         self.shows(number)
 
     def shows(self, number: int) -> None:
-        """Waits until the page shows that configuration."""
+        """Waits until the page shows a configuration."""
         until(self.driver, lambda driver: driver.find_element("id", "number").text == str(number))
 
     def seats(self, wanted: str) -> None:
-        """Waits until the desk prints that of who has a seat."""
+        """Waits until `who` at the desk prints this."""
         end = time.monotonic() + LIMIT
         while wanted not in (told := self.who()):
             self.assertLess(time.monotonic(), end, told)
             time.sleep(0.2)
 
     def who(self) -> str:
-        """Returns what the desk prints of who has a seat."""
+        """Returns the output of `who` at the desk."""
         self.going.type("who")
         return self.going.until("^connected: .* seats: ")
 
     def compare(self, client: Client, nodes: list[int]) -> None:
-        """Checks of these nodes what the server answers them, in words and in the picture."""
+        """Checks that the page shows the server's replies about these nodes, in words and in the picture."""
         looks = {node: client.look(node) for node in nodes}
         drawn = {int(each["node"]): each for each in self.driver.execute_script(DRAWN)}
         self.assertEqual(drawn.keys(), {*nodes, *(near.node for look in looks.values() for near in look.near)})
@@ -192,13 +192,13 @@ class Playing(InRoom):
         self.keeps_no_key()
 
     def enter_beside(self, name: str) -> Client:
-        """Returns a student's program beside the page."""
+        """Returns a connection of a student's program, beside the page."""
         client = Client(self.going.port, name, KEYS[name])
         self.addCleanup(client.hang_up)
         return client
 
     def keeps_no_key(self) -> None:
-        """Checks for no key in what the run keeps, but in its lab."""
+        """Checks that no file of the run but its lab contains a key."""
         for file in self.going.folder.iterdir():
             if file.is_file() and file.name not in ("lab.toml", "journal.lab"):
                 for key in (*KEYS.values(), read(CYCLE).teacher[1]):
@@ -280,10 +280,10 @@ class Playing(InRoom):
 
 
 class Wire(InRoom):
-    """The page's bytes, asked without a browser."""
+    """HTTP requests without a browser."""
 
     def ask(self, hands: str, verb: str, path: str, body: object = None, **head: str) -> tuple[http.client.HTTPResponse, bytes]:
-        """Returns an answer that is whole."""
+        """Returns a complete answer."""
         parts = urlsplit(hands)
         connection = http.client.HTTPConnection("127.0.0.1", parts.port or 0, timeout=LIMIT)
         self.addCleanup(connection.close)
@@ -293,7 +293,7 @@ class Wire(InRoom):
         return answer, answer.read()
 
     def enter(self, address: str, name: str, key: str) -> Rows:
-        """Returns the lines that come to who comes in."""
+        """Enters with a name and a key. Returns the lines that the server sends."""
         rows = Rows(address, name, key)
         self.addCleanup(rows.connection.close)
         return rows
@@ -404,8 +404,8 @@ class Wire(InRoom):
         _, text = self.nobody(hands)
         self.assertIn("no server at port", text)
 
-    def nobody(self, hands: Hands) -> tuple[int, str]:
-        """Returns what is printed if no server listens."""
+    def nobody(self, hands: PlayServer) -> tuple[int, str]:
+        """Returns the answer if no server of the class listens."""
         with served(self) as other:
             other.show(hands.students, print)
             answer, told = self.ask(other.address, "POST", "/enter", {"name": "gus", "key": "a"})
@@ -417,11 +417,11 @@ class Wire(InRoom):
             rows = self.enter(hands.address, "gus", "a")
             self.assertEqual((rows.next()["who"], rows.next()["at"]), ("gus", 0))
             hands.stop()
-            self.assertIn("come again", rows.rest()[-1]["ended"])
+            self.assertIn("play again", rows.rest()[-1]["ended"])
 
 
 class Host:
-    """What answers as a server does, and ends each connection as a test asks, when it asks."""
+    """A stand-in for a server, which ends each connection when a test asks for it."""
 
     def __init__(self, ends: list[str]) -> None:
         self.ends, self.go, self.lines = ends, threading.Event(), list[bytes]()
@@ -438,7 +438,7 @@ class Host:
         self.listener.close()
 
     def serve(self) -> None:
-        """One connection after the other."""
+        """Serves one connection after another."""
         for word in [*self.ends, "over"]:
             try:
                 its, _ = self.listener.accept()
@@ -448,7 +448,7 @@ class Host:
                 self.answer(its, word)
 
     def answer(self, its: socket.socket, word: str) -> None:
-        """Answers hello and looks, until it is to end."""
+        """Answers a hello and looks until the connection is to end."""
         for line in its.makefile("rb"):
             self.lines.append(line)
             asked = json.loads(line)
@@ -461,9 +461,9 @@ class Host:
 
 
 @contextmanager
-def served(test: unittest.TestCase) -> Iterator[Hands]:
-    """Pages over the cycle, whose server isn't there yet."""
-    hands = open_hands(a_port(), "cycle", read(CYCLE))
+def served(test: unittest.TestCase) -> Iterator[PlayServer]:
+    """Yields the server of the page over the cycle, without a server of the class."""
+    hands = open_play_page(a_port(), "cycle", read(CYCLE))
     hands.show(1, print)
     try:
         yield hands

@@ -1,18 +1,19 @@
-"""`./class check`: what the program refuses, and every warning."""
+"""`./class check`: labs that the program refuses, and every warning."""
 from __future__ import annotations
 
 import math
 import unittest
 
 from classroom.core import lab as labs
-from classroom.setup.check import bits, key_warnings, strange
+from classroom.setup.check import bits, key_warnings, unknown_keys
 from classroom.setup.positions import table as table_at
 from classroom.setup.positions import tables
 from tests.classroom.help import EXAMPLES, InRoom, words
+from tests.common.limits import MOST
 
 
 def table(head: str, *lines: str) -> str:
-    """Returns a table of a lab's file, after an empty line."""
+    """Returns the text of a table in a lab's file, after an empty line."""
     return "\n".join(("", head, *lines, ""))
 
 
@@ -29,10 +30,10 @@ PAIR = ('id = 12\nowner = "ana"', 'id = 12\nowners = ["ana", "jonas"]')
 
 
 class Check(InRoom):
-    """A good lab, and one change each."""
+    """A correct lab, with one change in each test."""
 
     def says(self, status: int, *wanted: str, change: tuple[str, str] = ("", ""), text: str = GOOD) -> str:
-        """Checks for a status and lines."""
+        """Checks the status and the lines."""
         self.assertTrue(change[0] in text)
         done = words("check", self.file("lab.toml", text.replace(*change, 1) if change[0] else text))
         self.assertEqual(done.returncode, status, done.stdout + done.stderr)
@@ -41,7 +42,7 @@ class Check(InRoom):
         return done.stdout
 
     def warns(self, *wanted: str, change: tuple[str, str]) -> None:
-        """Checks for these warnings and no other."""
+        """Checks that these are the only warnings."""
         self.assertEqual(self.says(5, *wanted, change=change).count("warning: "), len(wanted))
 
     def test_nothing_to_say(self) -> None:
@@ -62,12 +63,12 @@ class Check(InRoom):
         self.assertEqual(words("check", self.room / "none.toml").returncode, 4)
 
     def test_keys_of_the_format(self) -> None:
-        self.warns("line 3: link is no key of a lab, and ignored; did you mean links?", "node 11 has no neighbour",
+        self.warns("line 3: link isn't a key of a lab, so it is ignored; did you mean links?", "node 11 has no neighbour",
                    "node 12 has no neighbour", "node 17 has no neighbour", "the network is in 3 parts",
                    "no node is privileged at the beginning", change=("links =", "link ="))
-        self.warns("line 8: links is no key of a lab, and ignored; did you mean links above the first header?",
+        self.warns("line 8: links isn't a key of a lab, so it is ignored; did you mean links above the first header?",
                    change=('61357"\n\n[[student]]\nname = "ana"', '61357"\nlinks = []\n\n[[student]]\nname = "ana"'))
-        self.warns("line 20: colour is no key of a lab, and ignored", change=('owner = "ana"', 'owner = "ana"\ncolour = "red"'))
+        self.warns("line 20: colour isn't a key of a lab, so it is ignored", change=('owner = "ana"', 'owner = "ana"\ncolour = "red"'))
 
     def test_keys(self) -> None:
         self.warns("ana's key is one of the examples'", change=("1f3b5a7c9d1e2f48a6b8c0d2e4f61357", "a-key"))
@@ -118,8 +119,14 @@ class Check(InRoom):
         self.warns("25 events are fewer than the class may need: 13 moves and as many closes", change=("events = 1000", "events = 25"))
         self.says(0, change=("events = 1000", "events = 26"))
 
+    def test_more_people_than_any_lab_has_sessions(self) -> None:
+        most = MOST["sessions"]
+        for students, rest in ((most - 1, "\n"), (most, f"; no lab has more than {most}: ./class new --groups\n")):
+            more = "".join(table("[[student]]", f'name = "s{number}"', f'key = "{number:032x}"') for number in range(students - 2))
+            self.says(5, f"warning: 4 sessions are fewer than {students} students and a teacher{rest}", text=GOOD + more)
+
     def test_the_largest_lab_has_events_enough(self) -> None:
-        self.assertLessEqual(67072, labs.MOST_EVENTS)
+        self.assertLessEqual(67072, MOST["events"])
         for events, is_few in ((67071, True), (67072, False)):
             lab = self.room / f"{events}.toml"
             done = words("new", lab, "--students", self.file("students", "Ana\nBen\n"), "--family", "complete", "--nodes", "256",
@@ -136,19 +143,20 @@ class Check(InRoom):
         for lab in sorted(EXAMPLES.glob("*.toml")):
             done = words("check", lab)
             self.assertEqual(done.returncode, 5)
-            self.assertNotIn("is no key of a lab", done.stdout)
+            self.assertNotIn("isn't a key of a lab", done.stdout)
             self.assertNotIn("can't", done.stdout)
 
 
 class Tables(unittest.TestCase):
-    """The lines of a lab's tables and keys, and what is printed of those that the format doesn't name."""
+    """Finding the lines of tables and keys, and unknown keys."""
 
     def hints(self, *lines: str) -> list[tuple[int, str, str | None]]:
-        """Returns what is printed of a file of these lines."""
-        return list(strange("\n".join(lines) + "\n"))
+        """Returns the hints about a file with these lines."""
+        return list(unknown_keys("\n".join(lines) + "\n"))
 
-    def is_told_alone(self, *lines: str) -> None:
-        """Checks that the key `note` is reported in the first line, once, and one below it, and no other."""
+    def check_hints(self, *lines: str) -> None:
+        """Checks that there are exactly two hints: about the key `note` in the first line, and about the one in
+        the last."""
         below = len(lines) + 1
         self.assertEqual(self.hints(*lines, "sesions = 4"), [(1, "note", "node"), (below, "sesions", "sessions")])
 
@@ -156,10 +164,10 @@ class Tables(unittest.TestCase):
         for value in ("{ a = 1 }", "{a=1}", "{}", "{ a = 1 } # more", "{ a = { b = [1, 2] } }",
                       "[{ a = 1 }, { b = 2 }]", "[ { a = 1 } ]", "[]", "[1, 2]", '"{"', '{ a = "}" }', "['[']",
                       '{ a = "\\"{" }'):
-            self.is_told_alone(f"note = {value}")
-        self.is_told_alone("note = [", "  { a = 1 },", "  { b = { c = 2 } }", "]")
-        self.is_told_alone("note = [{ a = 1 },", "  { sesions = 2 }]")
-        self.is_told_alone("note = [{ a = [", "  1 ] }, {", "  sesions = 2 }]")
+            self.check_hints(f"note = {value}")
+        self.check_hints("note = [", "  { a = 1 },", "  { b = { c = 2 } }", "]")
+        self.check_hints("note = [{ a = 1 },", "  { sesions = 2 }]")
+        self.check_hints("note = [{ a = [", "  1 ] }, {", "  sesions = 2 }]")
 
     def test_an_unknown_table_may_be_meant_for_another(self) -> None:
         self.assertEqual(self.hints("nodes = [{ id = 1 }]", "links = []"), [(1, "nodes", "node")])
@@ -214,7 +222,7 @@ class Tables(unittest.TestCase):
         self.assertEqual(self.hints("student = [{ name = 'ana' },", "sesions = 4"), [(2, "sesions", "sessions")])
         self.assertEqual(self.hints("teacher = {", "  nam = 'tess',", "[[node]]", "i = 1"),
                          [(2, "nam", "name"), (4, "i", "id")])
-        self.is_told_alone("note = ]}")
+        self.check_hints("note = ]}")
 
 
 if __name__ == "__main__":

@@ -1,4 +1,4 @@
-"""`client.py` as a module: what it says before a line is sent, what comes after bye, and the schemas of lines."""
+"""`client.py` as a module: errors before a line is sent, the state after bye, and the schemas of lines."""
 from __future__ import annotations
 
 import base64
@@ -10,10 +10,11 @@ import subprocess
 import sys
 import threading
 import unittest
+import unittest.mock
 import zipfile
-from collections.abc import Iterator
+from collections.abc import Callable, Iterator
 
-from classroom.client import Client, Closed, Look, Malformed, Near, line_of, wrong
+from classroom.client import Client, Closed, Look, Malformed, Near, Refused, Slip, again, enter, line_of, wrong
 from classroom.core.program import TOP
 from tests.classroom import schemas
 from tests.classroom.help import LIMIT, InRoom
@@ -41,7 +42,7 @@ HURT = (
     ('{"do"="look","node"=4}',
      'not JSON at byte 6 (write : between key and value)'),
     ('{"do":"look","node":4',
-     "not JSON: it isn't closed at its end, and a request is one line"),
+     "not JSON: the object isn't closed at its end, and a request is one line"),
     ('{"do":"look,"node":4}',
      'not JSON at byte 14 (a double quote is missing before this)'),
     ('{"do":"look","node":4}}',
@@ -116,13 +117,13 @@ HURT = (
      'not JSON: NaN is no number'),
 )
 
-HINT = "; --help tells the words"  # after wrong words
+HINT = "; --help prints what to type"  # after wrong words
 # What a schema can't say of a line.
 BEYOND = ("not UTF-8", "a byte order mark", "half of a surrogate pair", "nested deeper than", "a number past", "out of range")
 
 
 class Server:
-    """A port at which each line is answered by the next of these replies."""
+    """A listener that answers each line by the next one of these replies."""
 
     def __init__(self, test: unittest.TestCase, *replies: bytes) -> None:
         self.lines: list[bytes] = []
@@ -150,7 +151,7 @@ def scripts() -> Iterator[tuple[bytes, dict[str, object]]]:
 
 
 class Hurt(unittest.TestCase):
-    """Lines that are no requests."""
+    """Lines that aren't requests."""
 
     def test_each_line_is_told_how_to_mend_it(self) -> None:
         self.assertEqual(len(HURT), 47)
@@ -159,7 +160,7 @@ class Hurt(unittest.TestCase):
 
 
 class Before(unittest.TestCase):
-    """What the client sees before it sends."""
+    """Errors that the client finds before it sends."""
 
     def test_a_line_that_is_no_request_isnt_sent(self) -> None:
         server = Server(self, b'{"ok":"hello","who":"gus"}', b'{"ok":"bye"}')
@@ -174,9 +175,9 @@ class Before(unittest.TestCase):
             self.assertEqual(malformed.exception.word, "malformed")
             self.assertIn(f"malformed, and not sent: {why}", str(malformed.exception))
         look = Look(4, None, False, 0, None, None, (Near(3, None, False),))
-        with self.assertRaisesRegex(Malformed, "no rule is enabled at 4 by this look"):
+        with self.assertRaisesRegex(Malformed, "by this look no rule is enabled at node 4"):
             me.move(look)
-        with self.assertRaisesRegex(Malformed, "nobody whom 4 may marry points at it"):
+        with self.assertRaisesRegex(Malformed, "no neighbour of node 4 points at it"):
             me.move(look, "marriage")
         me.bye()
         self.assertEqual([json.loads(line)["do"] for line in server.lines], ["hello", "bye"])
@@ -185,8 +186,19 @@ class Before(unittest.TestCase):
         with Client(Server(self, b'{"ok":"hello","who":"gus"}', b'{"ok":"bye"}').port, "gus", "k") as me:
             me.bye()
             for _ in range(2):
-                with self.assertRaisesRegex(Closed, "this connection has ended: greet again"):
+                with self.assertRaisesRegex(Closed, "this connection has ended: make another Client"):
                     me.look(4)
+
+    def test_who_greets_asks_again_when_the_server_is_out_of_memory(self) -> None:
+        """This holds at first and after a lost connection. Any other refusal is raised."""
+        slip = Slip(1, "gus", "heron", (4,))
+        greetings: tuple[Callable[[], object], ...] = (lambda: enter(slip), lambda: again(slip, Closed("lost")))
+        for greets in greetings:
+            came = unittest.mock.Mock(side_effect=[Refused("memory"), Refused("busy"), "greeted"])
+            with unittest.mock.patch.object(Client, "of", came), unittest.mock.patch("time.sleep"):
+                self.assertEqual(greets(), "greeted")
+            with unittest.mock.patch.object(Client, "of", side_effect=Refused("journal")), unittest.mock.patch("time.sleep"):
+                self.assertRaisesRegex(Refused, "journal", greets)
 
     def test_a_right_request_is_its_line(self) -> None:
         self.assertEqual(line_of({"do": "look", "node": 4}), b'{"do": "look", "node": 4}')
@@ -196,7 +208,7 @@ class CommandLine(InRoom):
     """`client.py` as a program."""
 
     def called(self, *given: str) -> tuple[int, str, str]:
-        """The status, and what is printed."""
+        """Returns the status, the output and the standard error."""
         done = subprocess.run([sys.executable, TOP / "classroom/client.py", *given], capture_output=True, text=True, check=False, timeout=LIMIT)
         return done.returncode, done.stdout, done.stderr
 
@@ -212,17 +224,17 @@ class CommandLine(InRoom):
         for given, why in (
             (["--lgo"], "--lgo: there is no such option (did you mean --log?)" + HINT),
             ([slip, "--verbose"], "--verbose: there is no such option" + HINT),
-            ([slip, "--log"], "--log FILE: the file is missing" + HINT),
-            ([slip, "again"], "again: no word is taken there" + HINT),
+            ([slip, "--log"], "--log needs the name of a file" + HINT),
+            ([slip, "again"], "again: nothing more is expected" + HINT),
             (["4711", "gus"], "SLIP, or PORT NAME KEYFILE NODE,.." + HINT),
-            (["--tunnel", slip], "--tunnel SLIP [PORT]: the slip names a door" + HINT),
-            (["none.slip"], "none.slip: No such file or directory"), (["0", "gus", slip], "0 is no port: 1 to 65535"),
+            (["--tunnel", slip], "--tunnel SLIP [PORT]: the slip has to name a door" + HINT),
+            (["none.slip"], "none.slip: No such file or directory"), (["0", "gus", slip], "0 isn't a port: write a number from 1 to 65535"),
         ):
             self.assertEqual(self.called(*given), (1, "", f"client.py: {why}\n"), given)
 
 
 class Installed(InRoom):
-    """`classroom-client/`, which pip installs."""
+    """The package `classroom-client/`."""
 
     def setUp(self) -> None:
         super().setUp()

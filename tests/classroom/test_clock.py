@@ -12,7 +12,7 @@ from classroom.core.lists import Person
 from classroom.core.program import host
 from classroom.core.shown_names import ShownNames, display_names, short
 from classroom.run import wording
-from classroom.run.clock import Clock, hour, kept, next_time
+from classroom.run.clock import Clock, hour, kept_end, next_time
 from tests.classroom.help import CYCLE, EXAMPLES, Cycle, Going, words
 
 NOW = datetime(2026, 11, 24, 10, 2, 30)
@@ -32,9 +32,9 @@ class Clocks(unittest.TestCase):
                 hour(word)
 
     def test_a_run_that_goes_on_keeps_an_end_that_is_to_come(self) -> None:
-        self.assertEqual(kept("2026-11-24T10:45:00", NOW), datetime(2026, 11, 24, 10, 45))
+        self.assertEqual(kept_end("2026-11-24T10:45:00", NOW), datetime(2026, 11, 24, 10, 45))
         for text in ("2026-11-24T10:00:00", "2026-11-24T10:45:00+00:00", "x", "", None):
-            self.assertIsNone(kept(text, NOW))
+            self.assertIsNone(kept_end(text, NOW))
 
     def test_warnings_come_once_and_in_time(self) -> None:
         clock = Clock(datetime(2026, 11, 24, 10, 45), NOW)
@@ -50,7 +50,7 @@ class Clocks(unittest.TestCase):
 
 @unittest.skipUnless(host(), "not tried: no host is built")
 class Ends(Cycle):
-    """A run that ends by the clock."""
+    """A run with `--ends`."""
 
     def test_it_warns_and_ends(self) -> None:
         end = (datetime.now() + timedelta(seconds=90)).replace(second=0, microsecond=0)
@@ -107,7 +107,7 @@ class Names(unittest.TestCase):
 
 
 class Wording(unittest.TestCase):
-    """Many of a kind are one line."""
+    """Texts of many events of one kind."""
 
     def test_moves_of_a_step(self) -> None:
         moved = [(node, f"s{node}", "update" if node % 3 else "marriage") for node in range(1, 56)]

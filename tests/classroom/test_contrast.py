@@ -22,7 +22,7 @@ TEXTS = re.compile(r"\btext\b|\.identifier|\.owner|\.mark")
 
 
 def of_a_page(name: str) -> set[tuple[str, str]]:
-    """Returns the colours of the texts of HTML that a style sets, each with its background."""
+    """Returns the colours of all texts for which a style sets one, each with its background."""
     found = {("ink", ground) for ground in GROUNDS}
     for rule in RULE.finditer((colours.STYLE.parent / name).read_text("utf-8")):
         front, back, fill = COLOUR.search(rule["set"]), BACKGROUND.search(rule["set"]), FILL.search(rule["set"])
@@ -34,10 +34,10 @@ def of_a_page(name: str) -> set[tuple[str, str]]:
 
 
 class Palette(unittest.TestCase):
-    """Needs no browser: what it computes holds for each of them."""
+    """Computed contrasts, without a browser."""
 
     def readable(self, pairs: set[tuple[str, str]]) -> None:
-        """Checks for the contrast of a text in both themes."""
+        """Checks that these pairs of colours have enough contrast in both themes."""
         for theme in colours.THEMES:
             for front, back in sorted(pairs):
                 one, other = ([float(int(colours.value(f"--{name}", theme)[at:at + 2], 16)) for at in (1, 3, 5)] for name in (front, back))

@@ -1,4 +1,4 @@
-"""Daemons and faults at the desk of `./class run`, and how it is reported that the class came back."""
+"""Daemons and faults at the desk of `./class run`, and the lines about recoveries."""
 from __future__ import annotations
 
 import os
@@ -14,7 +14,7 @@ from classroom.core.program import Fault
 from classroom.pages.frames import frames_of
 from classroom.run.daemons import Daemon, Sight, applied, movers
 from classroom.run.striking import Striker
-from classroom.setup.shaking import broken, shaken
+from classroom.setup.shaking import longest_start, shaken
 from tests.classroom.help import CYCLE, Cycle, Going, KEYS
 
 SERVE = tuple(os.environ.get("MML_SERVE", "").split())
@@ -22,7 +22,7 @@ BACK = r"^stable (again )?after \d+ moves?, \d+ closes?, \d+ rounds?; proved: at
 
 
 class Alone(unittest.TestCase):
-    """What a daemon does with what it sees, and registers that are drawn."""
+    """A daemon's choice for a given state, and drawn registers."""
 
     def test_which_moves_a_close_applies(self) -> None:
         chance = random.Random(1)
@@ -66,13 +66,13 @@ class Alone(unittest.TestCase):
                 self.assertIn(p, near[node])
         with self.assertRaisesRegex(Fault, "shake 5: 1 to 4 nodes, or all"):
             shaken(nodes, links, "5", 1)
-        self.assertEqual(broken(nodes, links), [(1, 2, True), (2, 3, True), (3, 4, True), (4, None, True)])
-        self.assertEqual(broken([1, 2, 3], [(1, 3), (2, 3), (1, 2)]), [(1, 3, True), (2, 3, True), (3, None, True)])
-        self.assertEqual(broken([1, 2, 3, 4], [(1, 2), (1, 3), (2, 3), (1, 4)])[3], (4, None, True))
+        self.assertEqual(longest_start(nodes, links), [(1, 2, True), (2, 3, True), (3, 4, True), (4, None, True)])
+        self.assertEqual(longest_start([1, 2, 3], [(1, 3), (2, 3), (1, 2)]), [(1, 3, True), (2, 3, True), (3, None, True)])
+        self.assertEqual(longest_start([1, 2, 3, 4], [(1, 2), (1, 3), (2, 3), (1, 4)])[3], (4, None, True))
 
 
 class Beside:
-    """A desk at which moves are granted while others are taken back."""
+    """A stand-in for a desk at which moves are granted while others are released."""
 
     def __init__(self, later: list[int]) -> None:
         self.closing = Daemon("central")
@@ -82,27 +82,27 @@ class Beside:
         self.known, self.announcer = self, unittest.mock.Mock(over="")
         self.done: list[object] = []
 
-    def seen(self) -> None:
-        """The network, for which this daemon doesn't ask."""
+    def present_lab(self) -> None:
+        """Returns the network. This daemon doesn't need it."""
         raise AssertionError("a central daemon searches nothing")
 
     def release(self, node: int) -> None:
-        """A move is taken back."""
+        """Releases a move."""
         self.done.append(node)
         del self.book.chosen[node]
 
     def read(self) -> None:
-        """What was granted meanwhile."""
+        """Grants the next move, as if it had been granted meanwhile."""
         if self.later:
             self.book.chosen[self.later.pop()] = ("cyd", "update")
 
     def close(self) -> None:
-        """The close."""
+        """Closes the step."""
         self.done.append(f"close of {sorted(self.book.chosen)}")
 
 
 class Striking(unittest.TestCase):
-    """Which moves a close at the desk leaves."""
+    """The moves that remain at a close."""
 
     def test_central_takes_all_back_but_the_first(self) -> None:
         desk = Beside([4, 2])
@@ -120,7 +120,7 @@ class Desk(Cycle):
     """Runs with the four bots of the cycle."""
 
     def comes_back(self, daemon: str, *words: str) -> Path:
-        """Does the words, waits for the class each time, and ends. Returns the folder."""
+        """Types the commands, waits after each until the class is stable, and ends. Returns the folder."""
         going = Going(self, CYCLE, "--daemon", daemon, *SERVE)
         for name in KEYS:
             self.bot(going, name)
@@ -138,7 +138,7 @@ class Desk(Cycle):
         return going.folder
 
     def steps(self, folder: Path) -> list[tuple[set[int], set[int]]]:
-        """Who was privileged before each close, and whose moves it applied."""
+        """Returns the privileged nodes before each close, and the nodes whose moves it applied."""
         _, frames = frames_of(folder / "lab.toml", folder / "journal")
         privileged, chosen = set(next(frames).state.privileged), set[int]()
         found = []
@@ -149,7 +149,7 @@ class Desk(Cycle):
         return found
 
     def test_central_lets_one_move_in_a_step(self) -> None:
-        """But for what is granted in the moment between the desk's last look and its close."""
+        """An exception is a move that is granted between the desk's last check and its close."""
         steps = self.steps(self.comes_back("central", "break"))
         self.assertLess(len(steps), 3 * sum(len(moved) == 1 for _, moved in steps))
 
@@ -166,11 +166,11 @@ class Desk(Cycle):
         going.until("^steps are closed synchronous$")
         going.until(r"^waiting for .*\(gus\): ")
         going.type("daemon fair")
-        going.until("^fair is none of central, synchronous, ")
+        going.until("^fair isn't one of central, synchronous, ")
         going.type("shake 9")
         going.until("^shake 9: 1 to 7 nodes, or all$")
         going.type("shake 0")
-        going.until(r"^not understood; it is shake K\|all \[SEED\]$")
+        going.until(r"^not understood; write shake K\|all \[SEED\]$")
         going.type("shake 2 5")
         going.until("^the registers of 2 nodes were set$")
         lab = labs.read(CYCLE)

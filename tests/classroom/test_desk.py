@@ -1,4 +1,4 @@
-"""The desk of `./class run`: its words, what it says of limits and of late servers, and its terminal."""
+"""The desk of `./class run`: its commands, its lines about limits and slow servers, and its terminal."""
 from __future__ import annotations
 
 import contextlib
@@ -26,37 +26,39 @@ from classroom.run import server
 from classroom.run.attend import Room, attend
 from classroom.run.daemons import Daemon
 from classroom.run.desk import Desk
-from classroom.run.taking import greeted
+from classroom.run.taking import greet
 from classroom.run.teller import Teller
-from classroom.run.typed import FORMS, NOW, Terminal, Typed, understood
+from classroom.run.typed import FORMS, NOW, Terminal, Typed, parse_command
 from tests.classroom.help import CYCLE, EXAMPLES, KEYS, LIMIT, Cycle, Going, InRoom, InTerminal, a_port, stop, words
+
+ROOM_AGAIN = "the disk has room again. If a line couldn't be written, the journal is halted and moves are refused as `journal`"
 
 
 class Forms(unittest.TestCase):
-    """The words alone."""
+    """Commands by themselves."""
 
     def test_each_word_has_one_form(self) -> None:
         for line in ("close", "fault 1 2 true", "fault 1 null false", "fault 1 - false", "link 1 2", "cut 1 2", "release 3", "report",
                      "wait", "who", "every 5", "every 0.5", "when-idle 2", "by-hand", "help", "end"):
-            self.assertEqual(understood(line), line.split())
-        self.assertEqual(understood(""), ["wait"])
+            self.assertEqual(parse_command(line), line.split())
+        self.assertEqual(parse_command(""), ["wait"])
         for line in ("close 3", "fault 1 2", "fault 1 2 yes", "link 1", "cut 1 2 3", "release", "release x", "report 1", "who ana",
                      "every", "every x", "every -1", "by-hand 2", "end now", "release ٣"):
             with self.assertRaises(ValueError) as error:
-                understood(line)
-            self.assertEqual(str(error.exception), f"not understood; it is {FORMS[line.split()[0]]}")
+                parse_command(line)
+            self.assertEqual(str(error.exception), f"not understood; write {FORMS[line.split()[0]]}")
         with self.assertRaisesRegex(ValueError, "^not understood; did you mean close\\? words: close, fault NODE"):
-            understood("clsoe")
+            parse_command("clsoe")
 
     def test_what_others_write_is_printable(self) -> None:
         self.assertEqual(printable("Zoë\x1b[2J\nk\x07 \u202e"), "Zoë\\x1b[2J\nk\\x07 \\u202e")
 
 
 class Completed(unittest.TestCase):
-    """What the tab key offers."""
+    """Completion by the tab key."""
 
     def offers(self, line: str) -> list[str]:
-        """Returns what the tab key offers at the end of a line, if nodes are 1, 12 and 7."""
+        """Returns the completions at the end of a line. The nodes are 1, 12 and 7."""
         terminal = object.__new__(Terminal)
         terminal.words, terminal.readline = ["1", "12", "7"], unittest.mock.Mock()
         terminal.readline.get_line_buffer.return_value = line
@@ -74,14 +76,14 @@ class Completed(unittest.TestCase):
 
 
 class Words(Cycle):
-    """Runs that take words."""
+    """Runs in which commands are typed."""
 
     def test_the_end_is_asked_for_twice(self) -> None:
         going = Going(self, CYCLE, "--close", "by-hand")
         going.type("end")
-        going.until("^not stable, 3 privileged: end once more ends the run all the same$")
+        going.until("^not stable, 3 privileged: type `end` once more to end the run anyway$")
         going.type("close 3")
-        going.until("^not understood; it is close$")
+        going.until("^not understood; write close$")
         going.type("end")
         going.until("^not stable, 3 privileged: ")
         going.type("end")
@@ -121,7 +123,7 @@ class Words(Cycle):
             going.type("fault 1 2 true")
             going.until(f"^configuration {number}: .*; events {number} of 10$")
             if number == 9:
-                going.until("^events 9 of 10: nothing more is granted after the last$")
+                going.until("^events 9 of 10: after the last one nothing more is granted$")
         line = going.until("^nothing more is granted: ")
         self.assertRegex(line, "full: events 10 of 10; ")
         self.assertEqual(going.ends(), 5, going.lines)
@@ -152,15 +154,15 @@ class Words(Cycle):
 
 
 class InATerminal(Cycle):
-    """A terminal of its own."""
+    """Runs in their own terminal."""
 
     def test_editing_history_completion_and_the_end_of_input(self) -> None:
         terminal = InTerminal(self)
         terminal.type(b"fau\t1 2 true\n", b"fault at node 1: p 2, m true; ")
         terminal.type(b"\x1b[A\n", b"configuration 2: fault at node 1: p 2, m true; ")
         terminal.type(b"clossse\x1b[D\x7f\x7f\n", b"no: empty")
-        terminal.type(b"\x04", b"to end the run type end")
-        terminal.type(b"end\n", b"end once more ends the run")
+        terminal.type(b"\x04", b"to end the run, type `end`")
+        terminal.type(b"end\n", b"type `end` once more to end the run")
         terminal.type(b"end\n", b"all of it is in ")
         self.assertEqual(terminal.process.wait(LIMIT), 0)
         os.close(terminal.ours)
@@ -168,14 +170,14 @@ class InATerminal(Cycle):
 
 @unittest.skipUnless(host(), "not tried: no host is built")
 class Late(Cycle):
-    """Servers that are late, and runs that go on already."""
+    """Slow servers, and runs that are going on already."""
 
     def test_a_server_that_is_late_is_waited_for(self) -> None:
         lab = labs.read(CYCLE)
         it = server.start(self.room, CYCLE, 29000, self.room / "journal")
-        self.addCleanup(lambda: it.ended() or it.stop())
+        self.addCleanup(lambda: it.has_ended() or it.stop())
         lines: list[str] = []
-        desk = Desk(lab, self.room / "journal", greeted(it, lab.teacher), Daemon("by-hand"), lines.append)
+        desk = Desk(lab, self.room / "journal", greet(it, lab.teacher), Daemon("by-hand"), lines.append)
         typed, found = Typed(), []
         room = Room(self.room)
         self.addCleanup(room.close)
@@ -189,7 +191,7 @@ class Late(Cycle):
         typed.put("fault 1 2 true")
         self.until(lambda: any(line.startswith("the desk: no answer in 0.5 seconds") for line in lines))
         os.kill(it.process.number, signal.SIGCONT)
-        self.until(lambda: "the desk is held again" in lines)
+        self.until(lambda: "the desk is connected again" in lines)
         typed.put("link 1 3")
         self.until(lambda: any("link 1 3" in line for line in lines))
         self.assertTrue(any("configuration 1: fault at node 1: p 2, m true" in line for line in lines), lines)
@@ -198,10 +200,10 @@ class Late(Cycle):
         desk.known.journal.close()
         self.assertEqual(found, ["end"])
         desk.client.bye()
-        self.assertTrue(it.ended(LIMIT))
+        self.assertTrue(it.has_ended(LIMIT))
 
     def until(self, holds: object) -> None:
-        """Waits for it."""
+        """Waits until a condition holds."""
         end = time.monotonic() + LIMIT
         assert callable(holds)
         while not holds():
@@ -272,7 +274,7 @@ class Late(Cycle):
 
 
 class Kept(InRoom):
-    """What is kept of what a run says."""
+    """The lines of a run in its folder."""
 
     def test_each_line_has_its_hour_and_minute(self) -> None:
         tell, heard = Teller(self.room), list[str]()
@@ -288,11 +290,11 @@ class Kept(InRoom):
 
 
 class Disk(InRoom):
-    """What is printed of a disk."""
+    """Lines about the disk."""
 
     def test_little_room_none_and_room_again(self) -> None:
         told = self.told(self.disk(), 10**9, 65536, 65535, 4096, 0, 0, 10**9, 10**9)
-        self.assertEqual(told, [[], [], ["the disk has little room"], [], ["the disk is full"], [], ["the disk has room again"], []])
+        self.assertEqual(told, [[], [], ["the disk has little room"], [], ["the disk is full"], [], [ROOM_AGAIN], []])
 
     def disk(self) -> Room:
         """Returns the room on the disk of the test's folder."""
@@ -301,7 +303,7 @@ class Disk(InRoom):
         return room
 
     def told(self, room: Room, *free: int) -> list[list[str]]:
-        """Returns the beginnings of what is printed if so many bytes are free, one after the other."""
+        """Returns the beginnings of the lines that are printed for each number of free bytes in turn."""
         told = []
         for left in free:
             room.due = 0.0
@@ -318,7 +320,7 @@ class Disk(InRoom):
             self.assertEqual(self.told(room, 10**9, 10**9), [["the disk takes nothing (File too large)"], []])
         finally:
             resource.setrlimit(resource.RLIMIT_FSIZE, before)
-        self.assertEqual(self.told(room, 10**9), [["the disk has room again"]])
+        self.assertEqual(self.told(room, 10**9), [[ROOM_AGAIN]])
         self.assertEqual(list(self.room.iterdir()), [])
         self.assertEqual(self.told(Room(self.room / "none"), 10**9), [[]])
 
@@ -331,16 +333,16 @@ class Disk(InRoom):
         told = []
         for size in (34_464, 34_465, 50_000, 99_900, 100_000):
             journal.write_bytes(bytes(size))
-            told.append([line.partition(":")[0] for line in room.of_limit()])
-        self.assertEqual(told, [[], ["the journal may grow by 65535 bytes more, since a file of its server has a limit (ulimit -f)"], [],
-                                ["the journal is as large as a file of its server may be, and what isn't written isn't granted (ulimit -f)"], []])
+            told.append([line.partition(":")[0] for line in room.limit_news()])
+        self.assertEqual(told, [[], ["the journal may only grow by 65535 more bytes, since there is a limit on the server's files (ulimit -f)"], [],
+                                ["the journal has reached the limit on the server's files, so nothing more is granted (ulimit -f)"], []])
         unbounded = Room(self.room, os.getpid())
         self.addCleanup(unbounded.close)
-        self.assertEqual(unbounded.of_limit(), [])
+        self.assertEqual(unbounded.limit_news(), [])
 
 
 class Memory(InRoom):
-    """A server that has no memory for an answer."""
+    """A server that is out of memory."""
 
     def test_a_report_that_is_refused_is_asked_for_again(self) -> None:
         reports = [Report(at, at == 1, (), (), (), ()) for at in (0, 1)]
@@ -362,10 +364,10 @@ class Memory(InRoom):
 
 
 class NotDone(Cycle):
-    """What can't be done is reported in a line, and no folder is left."""
+    """Commands that fail print a line, and leave no folder."""
 
     def says(self, status: int, line: str, *asked: str | Path) -> None:
-        """Checks for a status and one line of error."""
+        """Checks the status and the only error line."""
         done = words(*asked)
         self.assertEqual((done.returncode, done.stdout), (status, ""), done.stderr)
         self.assertRegex(done.stderr, f"^{line}\n$")
@@ -373,14 +375,14 @@ class NotDone(Cycle):
     def test_a_line_each(self) -> None:
         into = self.room / "runs"
         for word, port in (("--port", "65536"), ("--port", "0"), ("--page", "70000"), ("--page", "x")):
-            self.says(1, f"class run: argument {word}: {port} is no port: 1 to 65535; class run --help prints the words",
+            self.says(1, f"class run: argument {word}: {port} isn't a port: write a number from 1 to 65535; class run --help prints what to type",
                       "run", CYCLE, word, port, "--into", into)
         self.says(4, f"class: {self.room}/none.toml: No such file or directory", "run", self.room / "none.toml", "--into", into)
         self.says(4, f"class: {self.room}: .*", "run", self.room, "--into", into)
-        self.says(1, "class: the following arguments are required: .*; class --help prints the words")
+        self.says(1, "class: the following arguments are required: .*; class --help prints what to type")
         file = self.file("file", "")
-        self.says(4, f"class: {file}/.*: Not a directory; --into FOLDER names another folder", "run", CYCLE, "--into", file)
-        self.says(4, "class: /proc/none/.*; --into FOLDER names another folder", "run", CYCLE, "--into", "/proc/none")
+        self.says(4, f"class: {file}/.*: Not a directory; name another folder by --into FOLDER", "run", CYCLE, "--into", file)
+        self.says(4, "class: /proc/none/.*; name another folder by --into FOLDER", "run", CYCLE, "--into", "/proc/none")
         self.assertFalse(into.exists() and list(into.iterdir()))
 
     def test_no_folder_is_left_where_no_server_starts(self) -> None:
@@ -403,7 +405,7 @@ class NotDone(Cycle):
     def test_names_with_dots(self) -> None:
         students = self.file("students", "Ana\nBen\nCyd\n")
         for name in ("..", "..."):
-            self.says(1, "class: .* is no file's name: NAME.toml", "new", f"{self.room}/x/{name}", "--students", students)
+            self.says(1, "class: .* isn't a file name of the form NAME.toml", "new", f"{self.room}/x/{name}", "--students", students)
         for name, made in (("maths.2026", "maths.2026.toml"), ("a.b.toml", "a.b.toml")):
             self.assertEqual(words("new", self.room / name, "--students", students).returncode, 0)
             self.assertTrue((self.room / made).is_file())

@@ -1,4 +1,5 @@
-"""The one table of the desk's words, by who reads it: what is typed, done, shown, sent by a page, replayed and counted."""
+"""The table of the desk's commands, checked by all that use it: typing, running, showing, the page, replays and
+counts."""
 from __future__ import annotations
 
 import json
@@ -18,7 +19,7 @@ from classroom.pages.page import live_page
 from classroom.pages.replay import request
 from classroom.run.daemons import Daemon
 from classroom.run.desk import Desk
-from classroom.run.typed import understood
+from classroom.run.typed import parse_command
 from tests.classroom.help import CYCLE, InRoom
 
 # What is typed, and what the desk asks the server for.
@@ -45,10 +46,10 @@ TOLD = {
     "shake 3 1": "the registers of 3 nodes were set",
     "shake all": "the registers of 7 nodes were set",
     "break": "the registers of 7 nodes were set",
-    "page": "there is no page: --page",
-    "key gus": "another key is for a host: without --serve",
+    "page": "there is no page: start the run with --page",
+    "key gus": "a key can't be changed in a run with --serve",
     "help": "  close ",
-    "end": "not stable, 1 privileged: end once more ends the run all the same",
+    "end": "not stable, 1 privileged: type `end` once more to end the run anyway",
 }
 # What each button of the page says, where three nodes are asked for, every 5 seconds are chosen, and node 4 is picked.
 SENT = {
@@ -71,7 +72,7 @@ EVENTS = {
 
 
 class AtDesk(InRoom):
-    """What the desk does at each word."""
+    """The reaction of the desk to each command."""
 
     def setUp(self) -> None:
         super().setUp()
@@ -117,7 +118,7 @@ class Buttons(HTMLParser):
 
 
 class OnPage(unittest.TestCase):
-    """What the page to act at sends."""
+    """The lines that the page on which the teacher acts sends."""
 
     def test_each_button_sends_a_line_that_can_be_typed(self) -> None:
         lab = labs.read(TOP / "examples/cycle.toml")
@@ -127,19 +128,19 @@ class OnPage(unittest.TestCase):
         self.assertEqual({*buttons.names} - {"freeze", "whole", "witnesses", "cancel", "go-on", "do-end"}, {*SENT})
         self.assertEqual({name: self.filled(line) for name, line in buttons.data["buttons"].items()}, SENT)
         for line in (*SENT.values(), *(f"{word} 1 3" for word in buttons.data["byLinks"].values())):
-            self.assertEqual(understood(line), line.split())
+            self.assertEqual(parse_command(line), line.split())
             self.assertTrue(WORDS[line.split()[0]].is_on_page)
         self.assertEqual(buttons.data["byLinks"], {"1": "link", "-1": "cut"})
         fields = {name for button in BUTTONS.values() for name in re.findall(r"#(\w+)", button.line)}
         self.assertEqual(fields - {name for name in fields if f'id="{name}"' in page}, set())
 
     def filled(self, line: str) -> str:
-        """Returns the line with the fields' values."""
+        """Returns a button's line with the values of the fields."""
         return re.sub(r"#(\w+)", lambda found: FIELDS[found[1]], line)
 
 
 class InJournal(unittest.TestCase):
-    """What the table says of a journal's events."""
+    """The table's data about events of a journal."""
 
     def test_events(self) -> None:
         for line, (asked, nodes, links, is_edit) in EVENTS.items():

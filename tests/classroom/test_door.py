@@ -1,4 +1,4 @@
-"""The door by itself, before a server that answers each line: what it lets through, and what it does with whom it doesn't."""
+"""The door by itself, with a stand-in for the class's server: what it forwards, and what it rejects."""
 from __future__ import annotations
 
 import contextlib
@@ -22,7 +22,7 @@ from classroom.client import Client, Closed, NoDoor, NoServer, NoSlip, Over, Ref
 from classroom.core.folders import Process, Record
 from classroom.core.program import Fault
 from classroom.door import bounds, certificate, opening, routes
-from classroom.door.asking import Asked, Bad
+from classroom.door.asking import Asked, BadRequest
 from classroom.door.bounds import Bounds, Handshake, Meter, origin
 from classroom.door.opening import Place
 from tests.classroom.help import EXAMPLES, LIMIT, InRoom
@@ -31,7 +31,8 @@ CLIENT = EXAMPLES.parent / "classroom/client.py"
 
 
 class Lines:
-    """A server that answers each line by its word and its own name, and hangs up after `bye`, or after a last word."""
+    """A server that answers each line with its own name and the line. It hangs up after `bye`, or after a last
+    line of its own."""
 
     def __init__(self, name: str, last: bytes = b"") -> None:
         self.name, self.last, self.taken = name, last, list[bytes]()
@@ -40,7 +41,7 @@ class Lines:
         threading.Thread(target=self.serve, daemon=True).start()
 
     def serve(self) -> None:
-        """Takes connections until the listener is closed."""
+        """Serves connections until the listener is closed."""
         while True:
             try:
                 connection, _ = self.listener.accept()
@@ -49,7 +50,7 @@ class Lines:
             threading.Thread(target=self.one, args=[connection], daemon=True).start()
 
     def one(self, connection: socket.socket) -> None:
-        """One connection."""
+        """Serves one connection."""
         with connection, connection.makefile("rb") as lines:
             if self.last:
                 connection.sendall(self.last)
@@ -66,7 +67,7 @@ class Lines:
 
 
 class Afterwards(Lines):
-    """A server that answers once it knows that no more is asked."""
+    """A server that answers only after it has received the end of all requests."""
 
     def one(self, connection: socket.socket) -> None:
         """Reads to the end, and then answers each line."""
@@ -78,13 +79,13 @@ class Afterwards(Lines):
 
 
 class Page(BaseHTTPRequestHandler):
-    """A page's server, which answers with what it was asked."""
+    """A server of a page that answers with the request that it got."""
 
     def log_message(self, *_: object) -> None:
-        """Nothing is printed."""
+        """Prints nothing."""
 
     def do_GET(self) -> None:
-        """Tells method, path, head and body."""
+        """Answers with the method, path, headers and body of the request."""
         body = self.rfile.read(int(self.headers.get("Content-Length") or 0)).decode()
         told = json.dumps({"asked": f"{self.command} {self.path}", "heads": dict(self.headers), "body": body}).encode()
         self.send_response(200)
@@ -96,13 +97,13 @@ class Page(BaseHTTPRequestHandler):
 
 
 class AtDoor(InRoom):
-    """A door of this machine, with networks that answer."""
+    """A door on this machine, with stand-ins for networks."""
 
     def setUp(self) -> None:
         super().setUp()
         self.told: list[str] = []
-        self.known = certificate.ready(self.room / "door.pem", "localhost")
-        self.door = opening.opened(Place("127.0.0.1", 0), self.room, self.room / "door.pem", self.told.append)
+        self.known = certificate.make_if_missing(self.room / "door.pem", "localhost")
+        self.door = opening.open_door(Place("127.0.0.1", 0), self.room, self.room / "door.pem", self.told.append)
         self.addCleanup(self.ended)
         self.wait(lambda: (kept := routes.Kept.read(self.door.folder)) is not None and kept.process.lives())
 
@@ -113,7 +114,7 @@ class AtDoor(InRoom):
         self.door.child.wait()
 
     def wait(self, until: object, seconds: float = LIMIT) -> None:
-        """Waits until something is so."""
+        """Waits until a condition holds."""
         end = time.monotonic() + seconds
         assert callable(until)
         while not until():
@@ -121,7 +122,7 @@ class AtDoor(InRoom):
             time.sleep(0.02)
 
     def network(self, name: str, students: int, page: int | None = None, play: int | None = None) -> Path:
-        """Returns a network whose run goes on, as this test does."""
+        """Makes the folder of a network whose run goes on as long as this test."""
         run = self.room / f"run-{name}"
         run.mkdir(exist_ok=True)
         routes.announce(self.door.folder, name, run, ["class.example"])
@@ -129,7 +130,7 @@ class AtDoor(InRoom):
         return run
 
     def record(self, run: Path, students: int, page: int | None = None, play: int | None = None) -> None:
-        """Writes the ports of a run into its folder, as a run does."""
+        """Writes the record of a run with these ports into its folder."""
         me = Process.of(os.getpid())
         Record("lab.toml", students, 1, page, "by-hand", None, me, me, play, looks="look-token").write(run)
 
@@ -141,18 +142,18 @@ class AtDoor(InRoom):
         return it
 
     def slip(self, name: str, fingerprint: str = "") -> Slip:
-        """Returns a slip that leads to a network."""
+        """Returns a slip that leads to a network through the door."""
         return Slip(4711, "gus", "heron-31", (1,), f"127.0.0.1:{self.door.port}", name, fingerprint or self.known)
 
     def files(self, slip: Slip) -> Path:
-        """Returns the file of a slip."""
+        """Writes a slip, and returns its path."""
         path = self.room / "gus.slip"
         path.write_text(f"port {slip.port}\nname gus\nkey heron-31\nnodes 1\ndoor {slip.door}\nnetwork {slip.network}\n"
                         f"fingerprint {slip.fingerprint}\n", encoding="utf-8")
         return path
 
     def raw(self, name: str) -> ssl.SSLSocket:
-        """Returns a connection after its handshake, with a server name or without."""
+        """Returns a TLS connection after its handshake, with or without a server name."""
         context = ssl.SSLContext(ssl.PROTOCOL_TLS_CLIENT)
         context.check_hostname, context.verify_mode = False, ssl.CERT_NONE
         it = context.wrap_socket(socket.create_connection(("127.0.0.1", self.door.port), LIMIT), server_hostname=name or None)
@@ -160,14 +161,14 @@ class AtDoor(InRoom):
         return it
 
     def half_closed(self, name: str, lines: bytes) -> bytes:
-        """What still comes after these lines and the word of TLS that no more are sent."""
+        """Sends lines and the end of TLS, and returns all bytes that come after that."""
         context = ssl.SSLContext(ssl.PROTOCOL_TLS_CLIENT)
         context.check_hostname, context.verify_mode = False, ssl.CERT_NONE
         come, goes, got = ssl.MemoryBIO(), ssl.MemoryBIO(), b""
         it = context.wrap_bio(come, goes, server_hostname=name)
         with socket.create_connection(("127.0.0.1", self.door.port), LIMIT) as plain:
             def done(step: Callable[[], bytes | None]) -> bytes | None:
-                """Does a step, with all that has to be received for it."""
+                """Does a step of TLS, and receives all that it needs."""
                 while True:
                     try:
                         return step()
@@ -187,7 +188,7 @@ class AtDoor(InRoom):
         return got
 
     def asks(self, path: str, host: str = "", method: str = "GET", **more: str) -> tuple[int, bytes]:
-        """Status and body of an answer to a request."""
+        """Returns the status and the body of an answer."""
         context = ssl.SSLContext(ssl.PROTOCOL_TLS_CLIENT)
         context.check_hostname, context.verify_mode = False, ssl.CERT_NONE
         it = http.client.HTTPSConnection("127.0.0.1", self.door.port, timeout=LIMIT, context=context)
@@ -197,7 +198,7 @@ class AtDoor(InRoom):
 
 
 class Bots(AtDoor):
-    """Who comes with lines."""
+    """Connections with lines."""
 
     def test_each_name_leads_to_its_network(self) -> None:
         for name in ("maths-1", "maths-2"):
@@ -258,7 +259,8 @@ class Bots(AtDoor):
     def test_a_door_without_room_is_busy(self) -> None:
         with socket.create_server(("127.0.0.1", 0)) as full:
             def turn_away(most: int) -> None:
-                """Takes so many bytes of a connection, and ends it: in order, or if some weren't taken by a reset."""
+                """Reads at most `most` bytes of a connection and closes it: with a reset if some bytes weren't
+                read."""
                 connection, _ = full.accept()
                 with connection:
                     connection.recv(most)
@@ -314,7 +316,7 @@ class Tunnels(AtDoor):
 
     @contextmanager
     def tunnel(self, slip: Path, *more: str) -> Iterator[str]:
-        """Yields a tunnel, once it has printed its line."""
+        """Starts a tunnel, and yields its lines after the first."""
         with subprocess.Popen([sys.executable, CLIENT, "--tunnel", slip, *more], stdout=subprocess.PIPE, stderr=subprocess.PIPE, text=True) as it:
             try:
                 assert it.stdout is not None
@@ -362,7 +364,7 @@ class Tunnels(AtDoor):
 
 
 class Pages(AtDoor):
-    """Who asks for a page."""
+    """Requests for pages."""
 
     def setUp(self) -> None:
         super().setUp()
@@ -439,7 +441,7 @@ class Pages(AtDoor):
 
     def test_no_page_where_the_run_has_none(self) -> None:
         self.record(self.room / "run-maths", self.bots.port)
-        self.assertEqual(self.asks("/maths/"), (404, b"this class has no page to play by\n"))
+        self.assertEqual(self.asks("/maths/"), (404, b"this class has no page to play on\n"))
         self.assertEqual(self.asks("/maths/look/look-token/")[0], 404)
         self.assertEqual(self.bots.taken, [])
 
@@ -457,7 +459,7 @@ class Pages(AtDoor):
 
 
 class Crowds(AtDoor):
-    """Very many, and none that is right."""
+    """Very many connections, none of which is correct."""
 
     def test_slow_handshakes_end_and_leave_room(self) -> None:
         self.lines("maths")
@@ -510,7 +512,7 @@ class Crowds(AtDoor):
 
 
 class Counts(unittest.TestCase):
-    """What is counted of whom."""
+    """The counts of connections by address."""
 
     def test_connections(self) -> None:
         it = Bounds()
@@ -540,12 +542,12 @@ class Counts(unittest.TestCase):
     def test_bytes(self) -> None:
         now = [0.0]
         it = Meter(100, lambda: now[0])
-        self.assertEqual(it.wait(200), 0)
-        self.assertEqual(it.wait(50), 0.5)
+        self.assertEqual(it.spend(200), 0)
+        self.assertEqual(it.spend(50), 0.5)
         now[0] = 1.0
-        self.assertEqual(it.wait(50), 0)
+        self.assertEqual(it.spend(50), 0)
         now[0] = 100.0
-        self.assertEqual(it.wait(300), 1.0)
+        self.assertEqual(it.spend(300), 1.0)
 
     def test_addresses(self) -> None:
         for address, of in (("192.0.2.7", "192.0.2.7"), ("::ffff:192.0.2.7", "192.0.2.7"), ("2001:db8::7", "2001:db8::/64"),
@@ -554,8 +556,8 @@ class Counts(unittest.TestCase):
 
     def test_heads(self) -> None:
         asked = Asked.read(b"POST /maths/move HTTP/1.1\r\nHost: a\r\nContent-Length: 12\r\nX-Any: 1\r\n\r\n")
-        self.assertEqual(asked.for_page(80, "/move"), b"POST /move HTTP/1.0\r\nHost: 127.0.0.1:80\r\nConnection: close\r\nContent-Length: 12\r\n\r\n")
-        with self.assertRaises(Bad):
+        self.assertEqual(asked.head_for_page(80, "/move"), b"POST /move HTTP/1.0\r\nHost: 127.0.0.1:80\r\nConnection: close\r\nContent-Length: 12\r\n\r\n")
+        with self.assertRaises(BadRequest):
             Asked.read(b"GET http://a/ HTTP/1.1\r\n\r\n")
 
     def test_places_and_names(self) -> None:
@@ -574,9 +576,9 @@ class Certificates(InRoom):
 
     def test_one_is_made_once(self) -> None:
         file = self.room / "door.pem"
-        known = certificate.ready(file, "class.example")
+        known = certificate.make_if_missing(file, "class.example")
         self.assertRegex(known, "^[0-9a-f]{64}$")
-        self.assertEqual((file.stat().st_mode & 0o777, certificate.ready(file, "other.example")), (0o600, known))
+        self.assertEqual((file.stat().st_mode & 0o777, certificate.make_if_missing(file, "other.example")), (0o600, known))
         told = subprocess.run(["openssl", "x509", "-in", file, "-noout", "-fingerprint", "-sha256", "-ext", "subjectAltName"], capture_output=True,
                               text=True, check=True).stdout
         self.assertIn(known, told.replace(":", "").lower())
@@ -584,7 +586,7 @@ class Certificates(InRoom):
 
     def test_none_can_be_had(self) -> None:
         with mock.patch("shutil.which", return_value=None), self.assertRaisesRegex(Fault, "there is no certificate, and no `openssl` to make one"):
-            certificate.ready(self.room / "door.pem", "class.example")
+            certificate.make_if_missing(self.room / "door.pem", "class.example")
         for text in ("", "-----BEGIN CERTIFICATE-----\nAAA\n-----END CERTIFICATE-----\n"):
             with self.assertRaises(Fault):
                 certificate.fingerprint(self.file("bad.pem", text))
@@ -594,13 +596,13 @@ class Certificates(InRoom):
             certificate.make(self.room / "a.pem", "a b")
 
     def test_a_port_that_is_taken(self) -> None:
-        certificate.ready(self.room / "door.pem", "localhost")
-        with socket.create_server(("127.0.0.1", 0)) as taken, self.assertRaisesRegex(Fault, "^no door at 127.0.0.1:"):
-            opening.opened(Place("127.0.0.1", taken.getsockname()[1]), self.room, self.room / "door.pem", print)
+        certificate.make_if_missing(self.room / "door.pem", "localhost")
+        with socket.create_server(("127.0.0.1", 0)) as taken, self.assertRaisesRegex(Fault, "^the door can't listen at 127.0.0.1:"):
+            opening.open_door(Place("127.0.0.1", taken.getsockname()[1]), self.room, self.room / "door.pem", print)
 
 
 def opening_port() -> int:
-    """Returns a port that is free."""
+    """Returns a free port."""
     with socket.create_server(("127.0.0.1", 0)) as it:
         port: int = it.getsockname()[1]
     return port

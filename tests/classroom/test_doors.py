@@ -1,4 +1,4 @@
-"""Connections to the port of a page: not too many at a time, and none that takes its time."""
+"""Connections to the port of a page: their number and their time are limited."""
 from __future__ import annotations
 
 import http.client
@@ -11,7 +11,7 @@ import unittest
 from unittest import mock
 
 from classroom.core.lab import read
-from classroom.pages.by_hand import open_hands
+from classroom.pages.by_hand import open_play_page
 from classroom.pages.frames import State
 from classroom.pages.projector import open_pages
 from classroom.pages.watch import Present
@@ -20,7 +20,7 @@ from tests.classroom.help import CYCLE, LIMIT, a_port
 
 
 class Doors(unittest.TestCase):
-    """Pages of a run that nobody plays."""
+    """Pages of a run in which nobody plays."""
 
     path = "/"
     posts = "/act"
@@ -31,7 +31,7 @@ class Doors(unittest.TestCase):
         self.port = self.opened(a_port()).server_port
 
     def opened(self, port: int) -> Web:
-        """Returns the page for the projector."""
+        """Returns the server of the page for the projector."""
         pages = open_pages(port, "cycle", read(CYCLE), queue.SimpleQueue())
         pages.show(Present(State(0, 0, frozenset()), "by-hand"), self.told.append)
         self.addCleanup(pages.stop)
@@ -39,11 +39,11 @@ class Doors(unittest.TestCase):
         return pages
 
     def unserved(self) -> Web:
-        """Returns the page as it is before its run is there: it listens, and takes nobody."""
+        """Returns the server of the page before it serves: it listens, and accepts nobody."""
         return open_pages(a_port(), "cycle", read(CYCLE), queue.SimpleQueue())
 
     def connect(self) -> socket.socket:
-        """Returns a connection that says nothing yet."""
+        """Returns a connection that has sent nothing."""
         it = socket.create_connection(("127.0.0.1", self.port), LIMIT)
         self.addCleanup(it.close)
         return it
@@ -60,7 +60,7 @@ class Doors(unittest.TestCase):
             connection.close()
 
     def request(self, method: str, path: str, *heads: str) -> bytes:
-        """Returns a request as its bytes."""
+        """Returns the bytes of a request."""
         return "\r\n".join([f"{method} {path} HTTP/1.1", f"Host: 127.0.0.1:{self.port}", *heads, "", ""]).encode("ascii")
 
     def test_a_size_of_many_digits_is_no_error_of_the_page(self) -> None:
@@ -75,18 +75,18 @@ class Doors(unittest.TestCase):
         numbers = iter(range(1000))
 
         def fails(_: object) -> bool:
-            """Returns an error whose text is another each time."""
+            """Raises an error with another text each time."""
             raise ValueError(f"the {next(numbers)}th")
 
-        with mock.patch("classroom.pages.web.Asked.is_elsewhere", fails):
+        with mock.patch("classroom.pages.web.Asked.reject_foreign_host", fails):
             for _ in range(5):
                 self.assertEqual(self.asks(), 0)
-        with mock.patch("classroom.pages.web.Asked.is_elsewhere", side_effect=KeyError("another")):
+        with mock.patch("classroom.pages.web.Asked.reject_foreign_host", side_effect=KeyError("another")):
             self.assertEqual(self.asks(), 0)
         self.assertEqual([line.partition(": ")[2] for line in self.told], ["ValueError: the 0th", "KeyError: 'another'"])
 
     def test_who_takes_no_answer_has_five_seconds(self) -> None:
-        """The page is larger than what the system keeps for who doesn't read."""
+        """The page is larger than the system's buffer for a connection that doesn't read."""
         with mock.patch("classroom.pages.projector.live_page", return_value=("x" * 1_000_000, "")):
             begun = time.monotonic()
             for _ in range(CONNECTIONS):
@@ -146,21 +146,21 @@ class Doors(unittest.TestCase):
 
 
 class DoorsOfHands(Doors):
-    """The page at which students play by hand, and nobody has come in."""
+    """The page to play by hand, on which nobody has entered."""
 
     path = "/events"
 
     def opened(self, port: int) -> Web:
-        """Returns the page at which students play by hand."""
-        hands = open_hands(port, "cycle", read(CYCLE))
+        """Returns the server of the page to play by hand."""
+        hands = open_play_page(port, "cycle", read(CYCLE))
         hands.show(1, self.told.append)
         self.addCleanup(hands.stop)
         self.page, self.posts = "/", "/enter"
         return hands
 
     def unserved(self) -> Web:
-        """Returns the page as it is before its run is there: it listens, and takes nobody."""
-        return open_hands(a_port(), "cycle", read(CYCLE))
+        """Returns the server of the page before it serves: it listens, and accepts nobody."""
+        return open_play_page(a_port(), "cycle", read(CYCLE))
 
 
 if __name__ == "__main__":

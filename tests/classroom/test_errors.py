@@ -1,4 +1,4 @@
-"""What can go wrong if bots are tried: full disks, no labs, no browser, programs that misbehave at home."""
+"""Failures while bots are tried: full disks, missing labs, no browser, programs that misbehave."""
 from __future__ import annotations
 
 import argparse
@@ -25,7 +25,7 @@ FULL = 'mount -t tmpfs -o size=64k none "$1" && head -c 1000000 /dev/zero > "$1/
 
 
 def full_disk(test: InRoom) -> tuple[Path, tuple[str, ...]]:
-    """Returns a folder, and the words of a call in which it is a full disk."""
+    """Returns a folder, and the words that run a call in which it is a full disk."""
     disk = test.room / "disk"
     disk.mkdir()
     for way in (["unshare", "-m"], ["unshare", "-rm"]):
@@ -36,7 +36,7 @@ def full_disk(test: InRoom) -> tuple[Path, tuple[str, ...]]:
 
 
 class Disks(InRoom):
-    """Records and tables that don't fit."""
+    """Records and tables for which there is no room."""
 
     def setUp(self) -> None:
         super().setUp()
@@ -44,7 +44,7 @@ class Disks(InRoom):
         shutil.copy(EXAMPLES / "path.toml", self.room / "labs")
 
     def grades(self, before: tuple[str, ...], *more: str | Path) -> subprocess.CompletedProcess[str]:
-        """Grades a right bot and one that isn't there."""
+        """Grades a correct bot and a missing one."""
         given = ("grade", EXAMPLES / "bot.py", "no-such-bot", "--labs", self.room / "labs", "--daemon", "synchronous", "--timeout", "100")
         call: list[str | Path] = [*before, sys.executable, TOP / "class", *given, *more]
         return subprocess.run(call, stdin=subprocess.DEVNULL, capture_output=True, text=True, check=False, timeout=LIMIT)
@@ -54,7 +54,7 @@ class Disks(InRoom):
         table = self.room / "cases.json"
         done = self.grades(before, "--into", disk, "--json", table)
         self.assertEqual(done.returncode, 5, done.stdout + done.stderr)
-        self.assertRegex(done.stdout, "(?m)^class: .*: no record: No space left on device; --into names another folder$")
+        self.assertRegex(done.stdout, "(?m)^class: .*: no record: No space left on device; name another folder by --into$")
         self.assertIn("bot.py: 1 of 1 cases passed\nno-such-bot: not tried: it can't be started\n", done.stdout)
         self.assertEqual([each["passed"] for each in json.loads(table.read_text(encoding="utf-8"))], [True, False])
 
@@ -63,7 +63,7 @@ class Disks(InRoom):
         junit = self.room / "cases.xml"
         done = self.grades(before, "--into", self.room / "grades", "--json", disk / "cases.json", "--junit", junit)
         self.assertEqual(done.returncode, 4, done.stdout + done.stderr)
-        self.assertIn(f"class: {disk}/cases.json: No space left on device; what stood there stays: make room, or name another file\n", done.stdout)
+        self.assertIn(f"class: {disk}/cases.json: No space left on device; the old file is unchanged: make room, or name another file\n", done.stdout)
         self.assertIn("bot.py: 1 of 1 cases passed\n", done.stdout)
         self.assertIn("</testsuites>", junit.read_text(encoding="utf-8"))
 
@@ -71,14 +71,14 @@ class Disks(InRoom):
         disk, before = full_disk(self)
         call: list[str | Path] = [*before, sys.executable, TOP / "class", "experiment", "--family", "path", "--nodes", "4", "--runs", "2"]
         rows: tuple[tuple[tuple[str | Path, ...], str], ...] = (
-            (("--csv", disk / "runs.csv"), "runs.csv: No space left on device; make room, or --csv names another file; the same words go on"),
-            (("--csv", self.room / "runs.csv", "--plot", disk / "runs.svg"), "runs.svg: No space left on device; make room, or --plot names"),
+            (("--csv", disk / "runs.csv"), "runs.csv: No space left on device; make room, or name another file by --csv; the same command continues"),
+            (("--csv", self.room / "runs.csv", "--plot", disk / "runs.svg"), "runs.svg: No space left on device; make room, or name another file by --plot"),
         )
         for given, why in rows:
             done = subprocess.run([*call, *given], capture_output=True, text=True, check=False, timeout=LIMIT)
             self.assertEqual((done.returncode, done.stderr.count("\n")), (4, 1), done.stderr)
             self.assertIn(f"class: {disk}/{why}", done.stderr)
-        self.assertIn("4 of 4 runs, all within what is proved", done.stdout)
+        self.assertIn("4 of 4 runs, all within the proved bounds", done.stdout)
         self.assertEqual(len((self.room / "runs.csv").read_text(encoding="utf-8").splitlines()), 5)
 
     def test_practice_says_where_there_may_be_room(self) -> None:
@@ -86,7 +86,7 @@ class Disks(InRoom):
         done = subprocess.run([*before, sys.executable, TOP / "class", "practise", EXAMPLES / "bot.py", "--into", disk],
                               capture_output=True, text=True, check=False, timeout=LIMIT)
         self.assertEqual((done.returncode, done.stderr.count("\n")), (4, 1), done.stderr)
-        self.assertRegex(done.stderr, f"^class: {disk}/2.*-practise: No space left on device; --into names another folder$")
+        self.assertRegex(done.stderr, f"^class: {disk}/2.*-practise: No space left on device; name another folder by --into$")
 
     def test_a_bot_without_room_of_its_own_is_not_tried(self) -> None:
         told = argparse.Namespace(timeout=20.0, memory=512, own_rule=False, at_once=2)
@@ -95,7 +95,7 @@ class Disks(InRoom):
         with unittest.mock.patch.object(Path, "write_text", side_effect=OSError(28, "No space left on device", "/tmp/slip")):
             found = list(grade.results_of([Bot.of("true"), Bot.of("false")], [case], told, self.room, threading.Event()))
         self.assertEqual([result.why for result in found],
-                         ["not tried: /tmp/slip: No space left on device; TMPDIR names another folder"] * 2)
+                         ["not tried: /tmp/slip: No space left on device; name another folder by the variable TMPDIR"] * 2)
         self.assertFalse(any(result.passed for result in found))
 
 
@@ -103,11 +103,11 @@ class AtHome(InRoom):
     """Programs that misbehave while a student practises."""
 
     def practises(self, bot: str, seconds: str = "3") -> str:
-        """Returns what is printed of a bot that hangs or ends; one that does something before has more seconds."""
+        """Returns the output of `practise` with a bot that hangs or ends, within these seconds."""
         done = words("practise", bot, "--family", "path", "--nodes", "3", "--start", "clean", "--daemon", "synchronous", "--timeout", seconds,
                      "--into", self.room / "runs")
         self.assertEqual(done.returncode, 5, done.stdout + done.stderr)
-        self.assertRegex(done.stdout, r"(?m)^page: .*/run.html; what was said: .*/conversation.txt$")
+        self.assertRegex(done.stdout, r"(?m)^page: .*/run.html; all lines and replies: .*/conversation.txt$")
         return done.stdout
 
     def test_bytes_replies_and_silence(self) -> None:
@@ -142,14 +142,14 @@ def cmdline(process: Path) -> list[bytes]:
 
 
 class Folders(InRoom):
-    """Labs that are none."""
+    """Files that aren't labs."""
 
     def test_each_is_a_line_with_the_remedy(self) -> None:
         (self.room / "empty").mkdir()
         (self.room / "wrong").mkdir()
         (self.room / "wrong/one.toml").write_bytes(os.urandom(50))
         rows = (
-            ("none", 4, "none: No such file or directory; it is a folder of labs, NAME.toml"),
+            ("none", 4, "none: No such file or directory; --labs takes a folder of labs, NAME.toml"),
             ("empty", 2, "empty: no labs; they are files NAME.toml, which ./class new makes"),
             ("wrong", 2, f"one.toml: lab: not a TOML document; `{CLASS} check"),
         )

@@ -1,4 +1,4 @@
-"""`./class experiment`: its table, its chart, and a run that breaks what is proved, which is kept whole."""
+"""`./class experiment`: its table, its chart, and a run that exceeds a bound, which is saved."""
 from __future__ import annotations
 
 import csv
@@ -17,8 +17,7 @@ from xml.etree import ElementTree
 
 from classroom.bots import experiment
 from classroom.bots.measuring import Row, Setting, drawn, runs
-from classroom.core import lab as labs
-from classroom.core import bounds
+from classroom.core import bounds, limits
 from classroom.core.program import TOP, call
 from classroom.core.rounds import Recovery
 from classroom.core.tally import Bounds
@@ -86,7 +85,8 @@ class Runs(InRoom):
     def test_one_program_after_another_where_events_are_used_up(self) -> None:
         setting = Setting("path", 5, Daemon("central"), "random")
         wanted = runs(setting, list(range(6)))
-        with unittest.mock.patch.object(labs, "MOST_EVENTS", 250):
+        few = replace(limits.allowed(), events=250)
+        with unittest.mock.patch.object(limits, "allowed", return_value=few):
             self.assertEqual(runs(setting, list(range(6))), wanted)
 
     def test_a_run_that_breaks_what_is_proved_is_kept_whole(self) -> None:
@@ -95,7 +95,7 @@ class Runs(InRoom):
         with unittest.mock.patch.object(bounds, "of", return_value=most):
             found = [(row, script) for row, script in runs(setting, [8, 9]) if row.rounds]
         row, script = found[-1]
-        folder = experiment.keep_news(self.room / "runs.csv", row, script)
+        folder = experiment.save_counterexample(self.room / "runs.csv", row, script)
         answer = call("script", folder / "lab.toml", folder / "script", folder / "journal")
         replies = [json.loads(line.partition(" ")[2]) for line in answer.output.splitlines()]
         self.assertTrue(all("ok" in reply for reply in replies))
@@ -110,7 +110,7 @@ class Runs(InRoom):
 
 
 class Words(InRoom):
-    """The word itself."""
+    """The subcommand."""
 
     def test_the_table_has_a_row_for_each_number_of_nodes(self) -> None:
         rows = [Row("path", nodes, nodes - 1, "central", "random", seed, moves, moves, 1, True)
@@ -126,7 +126,7 @@ class Words(InRoom):
         table, plot = self.room / "runs.csv", self.room / "runs.svg"
         done = words("experiment", *TINY, "--csv", table, "--plot", plot)
         self.assertEqual(done.returncode, 0, done.stdout + done.stderr)
-        self.assertIn("54 of 54 runs, all within what is proved", done.stdout)
+        self.assertIn("54 of 54 runs, all within the proved bounds", done.stdout)
         rows = read(table)
         self.assertEqual(list(rows[0]), "family,nodes,links,daemon,start,seed,moves,closes,rounds,stable".split(","))
         self.assertEqual(len(rows), 54)
@@ -164,15 +164,15 @@ class Words(InRoom):
         going.send_signal(signal.SIGINT)
         output, _ = going.communicate(timeout=LIMIT)
         self.assertEqual(going.returncode, 4, output)
-        self.assertIn("interrupted; the same words go on with it", output)
+        self.assertIn("interrupted; run the same command again to continue", output)
         self.assertLess(0, len(read(table)))
 
     def test_what_is_no_experiment(self) -> None:
         other = self.file("other.csv", "name,mark\nana,1\n")
         rows: tuple[tuple[tuple[str | Path, ...], str], ...] = (
-            (("--csv", other), "is no table of an experiment"),
-            (("--daemon", "by-hand"), "--daemon by-hand: nobody is here to close a step"),
-            (("--nodes", "9..3"), "9..3 is no A..B within 1..256"),
+            (("--csv", other), "isn't the table of an experiment"),
+            (("--daemon", "by-hand"), "--daemon by-hand: an experiment has nobody to close steps; name another daemon"),
+            (("--nodes", "9..3"), "9..3 isn't A..B or A..B/STEP with numbers from 1 to 256"),
             (("--family", "ring"), "no family ring"),
         )
         for given, why in rows:
@@ -195,7 +195,7 @@ class InTheReadme(InRoom):
 
 
 class Forms(unittest.TestCase):
-    """A row, there and back."""
+    """Reading and writing rows."""
 
     def test_rows_are_read_as_they_are_written(self) -> None:
         row = Row("random:6:9", 6, 9, "random:0.5", "hurt", 3, 12, 9, 4, True)

@@ -1,4 +1,5 @@
-"""A class whose students sit at another machine: 44 of them in four networks through one door, and another key meanwhile."""
+"""A class whose students are at another machine: 44 students in four networks through one door. One of them gets
+another key meanwhile."""
 from __future__ import annotations
 
 import csv
@@ -38,7 +39,7 @@ class Far(InRoom):
         self.port, self.told = a_port(), self.room / "told"
 
     def new(self, count: int, *more: str) -> list[Path]:
-        """Makes labs for so many students in two rooms, and returns their files."""
+        """Makes labs for this number of students in two rooms. Returns their files."""
         rows = "".join(f"Student {number},s{number}@x.example,{'A 1' if number % 2 else 'B 2'}\n" for number in range(count))
         students = self.file("list.csv", f"Name,Email address,Room\n{rows}")
         done = words("new", self.room / "maths.toml", "--students", students, "--door", f"{TEACHERS}:{self.port}", "--start", "hurt", *more)
@@ -47,7 +48,7 @@ class Far(InRoom):
 
     @contextmanager
     def crowd(self, slips: list[Path]) -> Iterator[subprocess.Popen[bytes]]:
-        """Bots of these slips at the students' machine."""
+        """Runs bots with these slips on the students' machine."""
         with subprocess.Popen([*self.students.on, sys.executable, CROWD, self.told, *slips], stdin=subprocess.DEVNULL, stderr=subprocess.PIPE) as it:
             try:
                 yield it
@@ -55,15 +56,15 @@ class Far(InRoom):
                 it.kill()
 
     def greeted(self) -> list[str]:
-        """Who was greeted until now, one for each time."""
+        """Returns the name of each granted hello so far."""
         return self.told.read_text(encoding="utf-8").split() if self.told.exists() else []
 
     def reaches(self, machine: Machine, port: int) -> bool:
-        """Returns whether the teacher's machine takes connections from a machine at a port."""
+        """Returns whether a machine can connect to a port of the teacher's machine."""
         return subprocess.run([*machine.on, sys.executable, "-c", REACHES, TEACHERS, str(port)], check=False, capture_output=True).returncode == 0
 
     def gets(self, path: str) -> tuple[int, int]:
-        """Status and size of a page that is asked for at the students' machine."""
+        """Returns the status and the size of a page, requested from the students' machine."""
         done = subprocess.run([*self.students.on, sys.executable, "-c", GETS, TEACHERS, str(self.port), path], check=False, capture_output=True, text=True)
         status, size = map(int, done.stdout.split())
         return status, size
@@ -107,7 +108,8 @@ class Far(InRoom):
         wait_until(lambda: not self.reaches(self.students, self.port))  # It stays open a little after its last network.
 
     def page_for_all(self, folder: Path, looks: list[str]) -> str:
-        """Wants the page for all networks at the students' machine, with pages that are there too, and none to act. Returns its path."""
+        """Checks from the students' machine that the page for all networks and their pages to look at can be
+        opened, and none to act at. Returns the path of the page."""
         kept = json.loads((folder / "class.json").read_text(encoding="utf-8"))
         path = f"/all/look/{kept['looks']}/"
         self.assertEqual(self.gets(path)[0], 200)
@@ -118,14 +120,15 @@ class Far(InRoom):
         return path
 
     def networks(self, path: str) -> list[dict[str, Any]]:
-        """Returns what the page for all networks shows of them at the students' machine."""
+        """Returns the networks in the state of the page for all, requested from the students' machine."""
         done = subprocess.run([*self.students.on, sys.executable, "-c", GETS.replace("len(answer.read())", "answer.read().decode()"), TEACHERS,
                                str(self.port), f"{path}state"], check=True, capture_output=True, text=True)
         networks: list[dict[str, Any]] = json.loads(done.stdout.removeprefix("200 "))["networks"]
         return networks
 
     def killed(self, number: int, server: int, path: str, run: subprocess.Popen[str], students: set[str]) -> None:
-        """Kills the server of a network, which is down on the page for all until the desk resumes it; its bots come back."""
+        """Kills the server of a network, and checks that it is down on the page for all until the desk resumes it.
+        Then its bots come back."""
         before = {name: self.greeted().count(name) for name in students}
         os.kill(server, signal.SIGKILL)
         wait_until(lambda: bool(self.networks(path)[number - 1]["status"] == "down"))

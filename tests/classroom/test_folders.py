@@ -1,4 +1,4 @@
-"""The folder of a run as somebody else may hand it in: pipes, devices and endless or strange files in the place of its own."""
+"""The folder of a run that another user hands in: with pipes, devices, and endless or strange files."""
 from __future__ import annotations
 
 import json
@@ -15,7 +15,7 @@ from classroom.core import plain
 from classroom.core.folders import RECORD, Record
 from classroom.core.program import Fault, host
 from classroom.core.record import Reader
-from classroom.marks.vouched import front
+from classroom.marks.vouched import entries_up_to
 from classroom.run.heard import Heard
 from tests.classroom.help import CYCLE, Going, words
 from tests.classroom.test_history import MOVE, Disputed, Raw
@@ -26,25 +26,25 @@ Spoils = Callable[[Path], object]
 
 
 def pipe(path: Path) -> None:
-    """Puts a pipe, to which nobody writes, in a file's place."""
+    """Replaces a file by a pipe that nobody writes to."""
     path.unlink(missing_ok=True)
     os.mkfifo(path)
 
 
 def endless(path: Path) -> None:
-    """Puts a link to a device that has no end in a file's place."""
+    """Replaces a file by a link to a device without an end."""
     path.unlink(missing_ok=True)
     path.symlink_to("/dev/zero")
 
 
 def huge(path: Path) -> None:
-    """Makes a file larger than any that is read, of which nothing is written."""
+    """Makes a file that is larger than any limit, but uses no room."""
     with path.open("ab") as it:
         it.truncate(1 << 34)
 
 
 def nowhere(path: Path) -> None:
-    """Puts a link in a file's place that leads nowhere."""
+    """Replaces a file by a link without a target."""
     path.unlink(missing_ok=True)
     path.symlink_to(path.with_name("none"))
 
@@ -54,7 +54,7 @@ SPOILS = (pipe, endless, huge, nowhere)
 
 @unittest.skipUnless(host(), "not tried: no host is built")
 class Hostile(Disputed):
-    """Copies of one folder, each with something else in it, and what each word says of them in a line."""
+    """Copies of a folder with a strange file each, and the error line of each subcommand."""
 
     def setUp(self) -> None:
         super().setUp()
@@ -67,13 +67,13 @@ class Hostile(Disputed):
         self.whole_one = self.ended(going)
 
     def copy(self) -> Path:
-        """Returns another copy of the folder."""
+        """Makes another copy of the folder."""
         folder = self.room / f"copy-{len(list(self.room.iterdir()))}"
         shutil.copytree(self.whole_one, folder)
         return folder
 
     def says(self, done: subprocess.CompletedProcess[str], status: int, *named: Path | str) -> None:
-        """Checks for a status, and one line that names these."""
+        """Checks the status, and that the only line has these texts."""
         told = done.stderr.strip()
         self.assertEqual((done.returncode, told.count("\n"), told.startswith("class: ")), (status, 0, True), told or done.stdout)
         for each in named:
@@ -103,7 +103,7 @@ class Hostile(Disputed):
                               ("run", "--resume", folder, "--again"), ("key", folder, "gus")]
                 for given in calls:
                     with self.subTest(name=name, spoil=spoil.__name__, word=given[0]):
-                        self.says(words(*given), 4, f"{folder / name}: it is no plain file")
+                        self.says(words(*given), 4, f"{folder / name}: this isn't a regular file")
                 shutil.rmtree(folder)
 
     def test_the_program_waits_for_no_pipe(self) -> None:
@@ -121,7 +121,8 @@ class Hostile(Disputed):
                 shutil.rmtree(folder)
 
     def test_a_class_goes_on_beside_a_record_that_is_none(self) -> None:
-        """If the record's lab or its beginning is no plain file, it is kept as it is, and another one is begun."""
+        """If the record's lab or its beginning isn't a plain file, the record stays as it is, and a new one is
+        begun."""
         it = host()
         assert it is not None
         for name, spoil in (("lab", pipe), ("lab", endless), ("begun", pipe), ("begun", endless)):
@@ -182,7 +183,7 @@ class Hostile(Disputed):
             self.assertEqual(done.returncode, 0, done.stderr)
         self.says(words("attach", folder), 1, "its server has ended")
         (folder / RECORD).write_text(json.dumps(kept | {"close": "when-it-likes"}), encoding="utf-8")
-        self.says(words("run", "--resume", folder, "--again"), 4, folder / RECORD, "when-it-likes is none of ")
+        self.says(words("run", "--resume", folder, "--again"), 4, folder / RECORD, "when-it-likes isn't one of ")
         (folder / RECORD).write_text(" " * (plain.MOST_KEPT + 1), encoding="utf-8")
         self.assertIsNone(Record.read(folder))
 
@@ -196,22 +197,22 @@ class Hostile(Disputed):
             folder = self.copy()
             (folder / "record" / "lab").write_text(changed, encoding="utf-8")
             with self.subTest(what):
-                self.says(words("mark", folder), 5, "record: its lab is another than the run's lab.toml")
-                self.says(words("history", folder, "gus"), 2, "its lab is another than the run's lab.toml")
+                self.says(words("mark", folder), 5, "record: its lab isn't the same as the run's lab.toml")
+                self.says(words("history", folder, "gus"), 2, "its lab isn't the same as the run's lab.toml")
         folder = self.copy()
         (folder / "lab.toml").write_text(text.replace(key[1], "another-key-1"), encoding="utf-8")
         self.assertEqual(words("mark", folder).returncode, 0)
 
 
 class Plainly(Disputed):
-    """What is read, by hand."""
+    """Reading plain files."""
 
     def test_limits(self) -> None:
         it = self.file("it", "1234")
         self.assertEqual((plain.read(it, 4), plain.tail(it, 2), plain.tail(it, 9)), (b"1234", b"34", b"1234"))
         self.assertRaisesRegex(Fault, "it has more than 3 bytes", plain.read, it, 3)
-        self.assertRaisesRegex(Fault, "it is no plain file", plain.read, Path("/dev/zero"), 1 << 40)
-        self.assertRaisesRegex(Fault, "it is no plain file", plain.read, self.room, 10)
+        self.assertRaisesRegex(Fault, "this isn't a regular file", plain.read, Path("/dev/zero"), 1 << 40)
+        self.assertRaisesRegex(Fault, "this isn't a regular file", plain.read, self.room, 10)
         self.assertRaisesRegex(Fault, "No such file", plain.read, self.room / "none", 10)
         self.assertEqual([plain.number(text) for text in (b"0", b"007", b"9" * 19, b"9" * 20, b"", b"-1", b" 1", "٣".encode())],
                          [0, 7, 10 ** 19 - 1, None, None, None, None, None])
@@ -219,7 +220,7 @@ class Plainly(Disputed):
     def test_places_of_many_digits(self) -> None:
         many = MANY.encode()
         self.assertEqual(list(Reader().take(b"4 %s .\n%s 0 .\n4 1 .\n" % (many, many)))[0].place, 1)
-        self.assertEqual(front(b"4 0 .\n4 %s .\n" % many, 10 ** 6), b"4 0 .\n")
+        self.assertEqual(entries_up_to(b"4 0 .\n4 %s .\n" % many, 10 ** 6), b"4 0 .\n")
 
 
 if __name__ == "__main__":

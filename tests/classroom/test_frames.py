@@ -1,4 +1,4 @@
-"""A journal is shown as the program answers, and in no other way."""
+"""The frames of a journal show exactly the program's replies."""
 from __future__ import annotations
 
 import re

@@ -1,4 +1,5 @@
-"""`./class grade`: right bots pass each case, bots of known faults fail the case that is theirs, and nothing is left of them."""
+"""`./class grade`: correct bots pass each case, bots with known faults fail the right case, and no process is
+left."""
 from __future__ import annotations
 
 import concurrent.futures
@@ -19,7 +20,7 @@ from xml.etree import ElementTree
 from classroom.bots import suites, troubles
 from classroom.bots.attempt import Limits
 from classroom.bots.bots import Bot
-from classroom.bots.trial import Result, tried
+from classroom.bots.trial import Result, try_bot
 from classroom.core.processes import parents
 from classroom.core.program import TOP, call
 from classroom.run.daemons import Daemon
@@ -32,15 +33,15 @@ SECONDS = 20  # that a case may take: a slow machine starts a bot in a part of i
 OWN = {
     "never-updates": ("path-4", rf"isn't stable after {SECONDS} seconds: waiting for \d \(bot\): update"),
     "marries-anyone": ("alone-path-4", r"move \d+ marriage \d+ is denied as guard, clause 4: .*; (update|seduction|abandonment) would be"),
-    "asks-always": ("alone-cycle-4", r"asks for a move of \d under 1\d\d\d, and never looked at \d under that number"),
-    "floods": ("path-4", "it floods: "),
+    "asks-always": ("alone-cycle-4", r"asks for a move of node \d with `at` 1\d\d\d, and no look at node \d had that number"),
+    "floods": ("path-4", "it floods the server: "),
     "hangs": ("path-4", rf"isn't stable after {SECONDS} seconds: waiting for "),
     "ignores-faults": ("complete-4", rf"it didn't ask for \w+ at \d+, which is privileged, in {SECONDS} seconds; its last line came "),
     "needs-order": ("alone-path-4", rf"isn't stable after {SECONDS} seconds: waiting for "),
-    "sulks": ("random-6", rf"its connection was closed, and in {SECONDS} seconds it neither came again nor ended"),
+    "sulks": ("random-6", rf"its connection was closed, and in {SECONDS} seconds it didn't connect again"),
     "binary": ("path-4", r"^malformed: not UTF-8 at byte 1: \\x80"),
     "quotes-numbers": ("path-4", r'^malformed: node is a string, not a number \(write \d, without quotes\): {"do": "look", "node": "\d"}$'),
-    "never-ends-a-line": ("path-4", rf"no hello in {SECONDS} seconds; a line came that has no newline at its end$"),
+    "never-ends-a-line": ("path-4", rf"no hello in {SECONDS} seconds; it sent a line without a newline at the end$"),
     "forks": ("path-4", "it ended by itself, status 0"),
     "bombs": ("path-4", "it was ended: more than 64 processes"),
     "eats-memory": ("path-4", "it was ended: more than 200 megabytes of memory"),
@@ -50,21 +51,21 @@ PLANS = {plan.name: plan for plan in suites.SMALL}
 
 
 def faulty(fault: str) -> Bot:
-    """Returns the bot of a fault."""
+    """Returns the bot with a fault."""
     return Bot.of(f"{sys.executable} {FAULTY} {fault}")
 
 
 def case(bot: Bot, plan: str, limits: Limits, room: Path) -> Result:
-    """Returns how a bot does in a case of `small`."""
+    """Returns the result of a bot in a case of the suite `small`."""
     it = PLANS[plan]
     with tempfile.TemporaryDirectory() as own:
-        found = tried(bot, suites.planned(it, 1, it.daemon), limits, Path(own), room / bot.name / plan, threading.Event())
+        found = try_bot(bot, suites.planned(it, 1, it.daemon), limits, Path(own), room / bot.name / plan, threading.Event())
     assert found is not None
     return found
 
 
 def left_behind() -> list[str]:
-    """Processes that a bot started and that go on."""
+    """Returns the running processes that a bot has started."""
     found = []
     for each in Path("/proc").iterdir():
         try:
@@ -89,7 +90,7 @@ def end(process: int) -> None:
 
 
 def command_of(process: int) -> list[bytes]:
-    """Returns the words of a process; none if it has ended."""
+    """Returns the command line of a process, or nothing if it has ended."""
     try:
         return Path(f"/proc/{process}/cmdline").read_bytes().split(b"\0")
     except OSError:
@@ -97,7 +98,7 @@ def command_of(process: int) -> list[bytes]:
 
 
 def nothing_left(test: unittest.TestCase) -> None:
-    """Checks that nothing goes on which a bot started. Other tests beside this one have such bots, for a moment."""
+    """Checks that no process of a bot is left. Waits a moment, because other tests run such bots too."""
     end = time.monotonic() + LIMIT
     while left := left_behind():
         test.assertLess(time.monotonic(), end, left)
@@ -105,7 +106,7 @@ def nothing_left(test: unittest.TestCase) -> None:
 
 
 class Faults(InRoom):
-    """Bots of known faults."""
+    """Bots with known faults."""
 
     def test_each_fails_the_case_that_is_its_own(self) -> None:
         # What is at rest is watched for longer, since a slow machine may halt a bot for a while.
@@ -123,7 +124,7 @@ class Faults(InRoom):
             for result in pool.map(lambda plan: case(faulty("right"), plan, Limits(60), self.room), plans):
                 self.assertTrue(result.passed, result)
                 self.assertEqual(result.why, "")
-                self.assertLessEqual(result.denied.keys(), {"stale", "chosen"})
+                self.assertLessEqual(result.denied.keys(), {"stale", "chosen", "memory"})
                 folder = self.room / "python3 faulty.py right" / result.lab
                 answer = call("audit", folder / "lab.toml", folder / "journal")
                 self.assertRegex(answer.output, "^ok: .*, stable$")
@@ -133,7 +134,7 @@ class Faults(InRoom):
 
 
 class Cases(unittest.TestCase):
-    """What a case is drawn from."""
+    """The contents of cases."""
 
     def test_a_seed_gives_the_same_labs_but_for_the_keys(self) -> None:
         for plan in suites.FULL:
@@ -150,15 +151,15 @@ class Cases(unittest.TestCase):
         for word in ("central", "synchronous", "random:0.25", "every:2", "when-idle:0.5", "by-hand"):
             self.assertEqual(Daemon.of(word).spelled(), word)
         for word in ("", "fair", "central:1", "random:0", "random:1.5", "every:x", "when-idle:-1"):
-            with self.assertRaisesRegex(ValueError, "is none of central"):
+            with self.assertRaisesRegex(ValueError, "isn't one of central"):
                 Daemon.of(word)
 
 
 class Commands(InRoom):
-    """What a word names."""
+    """The bots that arguments name."""
 
     def test_a_file_that_is_there_is_meant(self) -> None:
-        """With a path or without one, and whatever may run it."""
+        """This holds with and without a path, and with any interpreter."""
         before = Path.cwd()
         self.addCleanup(os.chdir, before)
         os.chdir(self.room)
@@ -180,7 +181,7 @@ class Commands(InRoom):
 
 
 class Calls(InRoom):
-    """The word itself."""
+    """The subcommand."""
 
     @unittest.skipUnless(shutil.which("java"), "no java: Bot.java wasn't graded")
     def test_the_examples_pass_all_of_small(self) -> None:
@@ -249,17 +250,17 @@ class Calls(InRoom):
         nothing_left(self)
 
     def test_bots_that_fight_their_keeper_take_no_result_away(self) -> None:
-        """In namespaces of their own they don't reach it, and without them they end it."""
+        """In namespaces they can't reach the keeper, and without namespaces they end it."""
         labs = self.room / "labs"
         labs.mkdir()
         shutil.copy(EXAMPLES / "path.toml", labs)
         self.fight(labs)
         whys = self.fight(labs, "--not-apart")
-        self.assertEqual(whys["halts"], {"it was ended: it stopped its keeper"})
-        self.assertEqual(whys["kills"], {"it was ended: it killed its keeper"})
+        self.assertEqual(whys["halts"], {"it was ended: it halted the process that watches it"})
+        self.assertEqual(whys["kills"], {"it was ended: it killed the process that watches it"})
 
     def fight(self, labs: Path, *more: str) -> dict[str, set[str]]:
-        """Grades them beside a right one; gives why each failed."""
+        """Grades such bots together with a correct one. Returns why each of them failed."""
         table = self.room / "cases.json"
         faults = ("swaps-output", "halts", "kills", "right")
         done = words("grade", *(f"python3 {FAULTY} {fault}" for fault in faults), "--labs", labs, "--timeout", "60", "--into", self.room / "grades",
@@ -273,7 +274,7 @@ class Calls(InRoom):
         return whys
 
     def test_a_second_interrupt_ends_it_whatever_it_waits_for(self) -> None:
-        """What was graded before is kept. It waits for programs that answer no more."""
+        """Earlier results are kept. The grade waits for programs that never answer."""
         table = self.room / "cases.json"
         rooms = self.room / "rooms"
         rooms.mkdir()

@@ -1,4 +1,4 @@
-"""The page for all networks of a class: its addresses, its state, and what it can have done."""
+"""The page for all networks of a class: its addresses, its state, and the lines that it accepts."""
 from __future__ import annotations
 
 import json
@@ -17,7 +17,7 @@ from tests.classroom.several import Classes
 
 
 def ask(address: str, line: str | None = None) -> tuple[int, str]:
-    """Returns the status and the text of an answer; with a line it is posted."""
+    """Returns the status and the text of an answer. If a line is given, posts it."""
     try:
         with urllib.request.urlopen(address, None if line is None else line.encode(), LIMIT) as answer:
             return answer.status, answer.read().decode()
@@ -27,14 +27,14 @@ def ask(address: str, line: str | None = None) -> tuple[int, str]:
 
 
 def two(port: int | None = None) -> ClassState:
-    """Returns the state of a class of two networks, one of which is down."""
+    """Returns the state of a class with two networks, one of which is down."""
     state = {"configuration": 3, "stable": True, "privileged": [], "pairs": [[1, 2]], "open": 0, "moves": 4, "most": 9, "missing": ["Zoë M."]}
     return ClassState("<maths>", [NetworkState(1, "maths-1", "A", port, "", 15, 4, "runs", "", state),
                                   NetworkState(2, "maths-2", "B", None, "", 15, 4, "down", "its server was killed; resume 2")], ["a line"])
 
 
 class Served(unittest.TestCase):
-    """The page's server."""
+    """The server of the page."""
 
     def setUp(self) -> None:
         self.acts: list[str] = []
@@ -70,7 +70,7 @@ class Served(unittest.TestCase):
         opened = threading.Event()
 
         def read() -> None:
-            """Reads the news to their end."""
+            """Reads all events to the end."""
             with urllib.request.urlopen(f"{self.hall.address}events", timeout=LIMIT) as news:
                 for line in news:
                     got.append(line.decode().strip())
@@ -97,7 +97,7 @@ class Served(unittest.TestCase):
 
 @unittest.skipUnless(host(), "not tried: no host is built")
 class OfAClass(Classes):
-    """The page of a class that is going on."""
+    """The page of a running class."""
 
     def test_it_shows_closes_shakes_and_ends(self) -> None:
         port = a_port()
@@ -127,7 +127,7 @@ class OfAClass(Classes):
         self.assertEqual(desk.ends(), 0, desk.lines)
 
     def until_state(self, looks: str, holds: object) -> None:
-        """Reads the page's news until a state of the class is so."""
+        """Reads events until a state satisfies a condition."""
         assert callable(holds)
         with urllib.request.urlopen(f"{looks}events", timeout=LIMIT) as news:
             for line in news:

@@ -1,4 +1,5 @@
-"""The page for all networks of a class, in a real browser: what it shows of each state, in four windows and both themes."""
+"""The page for all networks of a class in a real browser: its contents for each state, in four windows and both
+themes."""
 from __future__ import annotations
 
 import random
@@ -37,14 +38,14 @@ for (const region of document.querySelectorAll('[aria-live], [role=status]')) {
 
 
 def network(word: str, count: int | None) -> tuple[labs.Lab, Links]:
-    """A lab of a family's network."""
+    """Returns a lab of a family, and its links."""
     size, links = family(word, count, 0, random.Random(1))
     nodes = [labs.Node(node, [f"s{node}"]) for node in range(1, size + 1)]
     return labs.Lab(1000, 16, ("t", "key"), {f"s{node}": "key" for node in range(1, size + 1)}, nodes, links), links
 
 
 def state_of(links: Links, nodes: int, privileged: Sequence[Sequence[Any]], pairs: Links, rows: Sequence[Sequence[Any]]) -> dict[str, Any]:
-    """The state of a network, as its run writes it; the other nodes are clean."""
+    """Returns the state of a network in the form that its run writes. All nodes that aren't given are clean."""
     told = {row[0]: row for row in rows}
     return {"configuration": 3, "stable": not privileged, "privileged": privileged, "pairs": [list(pair) for pair in pairs], "open": 2, "moves": 4,
             "most": 70, "events": 9, "limit": 100, "closing": "by-hand", "waiting": [], "missing": ["Zoë M.", "Jonas E."], "idle": [],
@@ -52,7 +53,7 @@ def state_of(links: Links, nodes: int, privileged: Sequence[Sequence[Any]], pair
 
 
 class Page(unittest.TestCase):
-    """A class of four networks, one of which is down, and one at rest."""
+    """A class of four networks, one of which is down and one stable."""
 
     def setUp(self) -> None:
         self.driver: Any = browser()
@@ -73,12 +74,12 @@ class Page(unittest.TestCase):
         self.addCleanup(self.hall.close)
 
     def open(self, address: str) -> None:
-        """Opens the page anew."""
+        """Loads the page again."""
         self.driver.get(address)
         until(self.driver, is_ready)
 
     def texts(self, of: str) -> list[str]:
-        """The texts that are seen, of each network."""
+        """Returns the visible texts of each network."""
         return [it.text for it in self.driver.find_elements("css selector", f"article {of}")]
 
     def test_each_network_is_drawn_as_its_state_is(self) -> None:
@@ -121,7 +122,7 @@ class Page(unittest.TestCase):
         self.assertLessEqual(self.driver.execute_script("return document.documentElement.scrollHeight"), WINDOWS[1][1])
 
     def test_a_new_state_is_said_once(self) -> None:
-        """And what is the same stays: who is at a button with the keyboard stays there."""
+        """Unchanged elements stay, and the focus of the keyboard too."""
         self.open(self.hall.address_to_act)
         self.driver.execute_script(LISTEN)
         self.driver.find_element("css selector", "article[data-number='1'] button").send_keys("")

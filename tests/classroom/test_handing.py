@@ -1,4 +1,4 @@
-"""Slips as they are handed out: by ssh or through a door, with QR codes or without, and made anew."""
+"""Slips for students: with ssh or a door, with or without QR codes, and made again."""
 from __future__ import annotations
 
 import csv
@@ -22,22 +22,22 @@ class Slips(InRoom):
     """Labs for four students in two rooms."""
 
     def new(self, *more: str | Path, status: int = 0, **environment: str) -> str:
-        """Makes the labs, and returns what was printed."""
+        """Makes the labs. Returns the output."""
         students = self.file("list.csv", "Name,Email,Room\nZoë Müller,z@x.example,A 1\nBen,b@x.example,B 2\nCyd,c@x.example,A 1\nDan,,B 2\n")
         done = words("new", self.room / "maths.toml", "--students", students, "--groups-by", "Room", "--family", "path", *more, **environment)
         self.assertEqual(done.returncode, status, done.stdout + done.stderr)
         return done.stdout + done.stderr
 
     def page(self, number: int) -> str:
-        """The page of slips of a network."""
+        """Returns the page with the slips of a network."""
         return (self.room / f"maths-{number}-slips.html").read_text(encoding="utf-8")
 
     def slips(self) -> dict[str, str]:
-        """The texts of all slips, by their names."""
+        """Returns the texts of all slips, by their names."""
         return {file.stem: file.read_text(encoding="utf-8") for file in sorted(self.room.glob("**/*.slip"))}
 
     def path_with(self, **programs: str | None) -> str:
-        """A path on which these programs stand alone: of a text, or the system's own."""
+        """Returns a search path with only these programs. Each has a given text, or is the system's."""
         folder = self.room / "path"
         shutil.rmtree(folder, ignore_errors=True)
         folder.mkdir()
@@ -52,7 +52,7 @@ class Slips(InRoom):
 
 
 class Made(Slips):
-    """What `new` makes."""
+    """The files that `new` makes."""
 
     def test_each_slip_has_the_ssh_line_of_its_own_network(self) -> None:
         self.new("--ssh", "student@class.example")
@@ -108,7 +108,7 @@ class Anew(Slips):
     """`./class slips`."""
 
     def again(self, *more: str, status: int = 0) -> str:
-        """Makes the slips of both networks anew, and returns what was printed."""
+        """Makes the slips of both networks again. Returns the output."""
         done = words("slips", self.room / "maths-1.toml", self.room / "maths-2.toml", *more)
         self.assertEqual(done.returncode, status, done.stdout + done.stderr)
         return done.stdout + done.stderr
@@ -119,7 +119,7 @@ class Anew(Slips):
         told = self.again("--door", "other.example:4701")
         for number in (1, 2):
             self.assertIn(f"{self.room}/maths-{number}-slips.html to print, {self.room}/maths-{number}-slips for programs, "
-                          f"{self.room}/maths-{number}-teacher.slip yours alone\n", told)
+                          f"{self.room}/maths-{number}-teacher.slip for you alone\n", told)
             self.assertIn("https://other.example:4701/", self.page(number))
             self.assertNotIn(DOOR, self.page(number))
         self.assertEqual(self.slips(), {name: text.replace(DOOR, "other.example:4701") for name, text in before.items()})
@@ -156,7 +156,7 @@ class Anew(Slips):
 
 
 class Ways(unittest.TestCase):
-    """How one gets in."""
+    """The ways in for students."""
 
     def test_names_that_an_address_can_t_have(self) -> None:
         way = Way(4711, "maths", door=DOOR, fingerprint="0" * 64)

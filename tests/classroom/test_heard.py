@@ -1,4 +1,4 @@
-"""What `./class run` prints from the record: who comes and goes, guesses keys, asks without success, floods."""
+"""The lines that `./class run` prints from the record: connections, guessed keys, denied requests, floods."""
 from __future__ import annotations
 
 import unittest
@@ -15,7 +15,7 @@ MOVE = '{"do":"move","node":4,"rule":"update","at":0}'
 
 
 class Listened(InRoom):
-    """Records by hand, which grow."""
+    """Growing records that are written by hand."""
 
     def setUp(self) -> None:
         super().setUp()
@@ -25,7 +25,7 @@ class Listened(InRoom):
         self.now = self.heard.last
 
     def put(self, seat: int, text: str) -> None:
-        """Adds to a seat's file."""
+        """Appends a text to a seat's file."""
         with (self.folder / f"{seat}.record").open("a", encoding="utf-8", newline="") as it:
             it.write(text)
 
@@ -38,7 +38,7 @@ class Listened(InRoom):
         self.say(seat, 0, HELLO % (name, "some-key"), f'{{"ok":"hello","who":"{name}"}}')
 
     def news(self, step: int = 0, seconds: float = 1.0) -> list[str]:
-        """Returns what is printed after so many seconds."""
+        """Returns the lines that are printed after so many seconds. `step` is the place of the last step."""
         self.now += seconds
         return self.heard.look(step, self.now)
 
@@ -125,11 +125,11 @@ class Listened(InRoom):
         self.say(5, 0, MOVE, STALE, lines - 1)
         self.assertEqual(self.news(seconds=3)[-1], f"gus: denied stale {lines - 1} times since the last step")
         self.say(5, 0, MOVE, STALE, lines)
-        self.assertEqual(self.news(seconds=3)[-1], f"a flood: {FLOOD:.0f} lines a second of gus")
+        self.assertEqual(self.news(seconds=3)[-1], f"a flood: {FLOOD:.0f} lines a second from gus")
         self.assertEqual(self.heard.amiss()[-1], f"a flood of gus, {FLOOD:.0f} lines a second")
         self.say(5, 0, MOVE, STALE, lines)
         self.assertFalse(any("flood" in line for line in self.news(seconds=3)))
-        self.assertEqual(self.news(seconds=3), ["no flood any longer of gus"])
+        self.assertEqual(self.news(seconds=3), ["no flood any longer from gus"])
         self.put(5, "5 0 !\n5 0 .\n")
         self.assertEqual(self.news(), [
             "gone: gus", "the rest of what gus sends isn't recorded: its share of the record is used up, or the disk is full"])

@@ -1,4 +1,4 @@
-"""What is shown of lines that others sent: no key, and no character that a terminal obeys."""
+"""Lines of others, in the form that is shown: without keys and without characters that a terminal obeys."""
 from __future__ import annotations
 
 import json
@@ -19,10 +19,10 @@ CASES = (
     (b'{"do":"hello","key":["heron","-31"]}', '{"do":"hello","key":***, and more'),
     (b'{"do":"hello","key":12}', '{"do":"hello","key":***, and more'),
     (b'{"do":"move","node":4,"rule":"update","at":7}', '{"do":"move","node":4,"rule":"update","at":7}'),
-    (b'{"do":"hello","name":"gus","key":"heron-31"', '{"do":"hello","name":"gus",".. (15 more that may have a key)'),
-    (b"gus heron-31", "gus .. (8 more that may have a key)"),
-    (b'"h\\u0065ron-31"', '"h.. (13 more that may have a key)'),
-    (b'["chalk"]', '[".. (7 more that may have a key)'),
+    (b'{"do":"hello","name":"gus","key":"heron-31"', '{"do":"hello","name":"gus",".. (15 more characters, which may contain a key)'),
+    (b"gus heron-31", "gus .. (8 more characters, which may contain a key)"),
+    (b'"h\\u0065ron-31"', '"h.. (13 more characters, which may contain a key)'),
+    (b'["chalk"]', '[".. (7 more characters, which may contain a key)'),
     (b"look 4", "look 4"),
     (b"\x1b[2J\xffgo\r\xe2\x80\xae", "\\x1b[2J\\xffgo\\r\\u202e"),
     (b'{"do":"\x7f"}', '{"do":"\\x7f"}'),
@@ -33,7 +33,7 @@ ESCAPED = ('ab"cd', "ef\\gh", "/ij/", "\\\"")
 
 
 class Hiding(unittest.TestCase):
-    """Lines by hand."""
+    """Lines that are written by hand."""
 
     def test_a_key_that_is_escaped_is_hidden_in_any_line(self) -> None:
         for key in ESCAPED:

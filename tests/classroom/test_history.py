@@ -1,5 +1,5 @@
-"""A class's record: what `run` prints from it, what `mark` says of it, and `./class history`, which shows a student's
-lines."""
+"""The record of a class: the lines that `run` prints from it, its counts in `mark`, and `./class history`, which
+shows a student's lines."""
 from __future__ import annotations
 
 import csv
@@ -18,7 +18,7 @@ from classroom.core.lab import read
 from classroom.core.program import Fault, host, host_call
 from classroom.core.record import begun
 from classroom.core.tally import DENIED as COLUMNS
-from classroom.marks.vouched import front
+from classroom.marks.vouched import entries_up_to
 from tests.classroom.browser import browser, is_ready, shown, until
 from tests.classroom.help import CYCLE, KEYS, Cycle, Going, words
 
@@ -45,14 +45,14 @@ DENIED = f"""\
                    < {STALE}
   after 3, seat SEAT > {{"do":"move","node":4,"rule":"update","at":1}}
                    < {GUARD}
-  after 3, seat SEAT > \\x1b[2J\\xff=1+1 {{".. (16 more that may have a key)
+  after 3, seat SEAT > \\x1b[2J\\xff=1+1 {{".. (16 more characters, which may contain a key)
                    < {{"refuse":"malformed"}}
   after 3, seat SEAT: this connection ended
 """
 
 
 class Raw:
-    """A connection, as the bytes that go over it."""
+    """A connection that shows the bytes of its lines."""
 
     def __init__(self, port: int, name: str = "", key: str = "") -> None:
         self.socket = socket.create_connection(("127.0.0.1", port))
@@ -80,10 +80,10 @@ def hello(name: str, key: str) -> bytes:
 
 @unittest.skipUnless(host(), "not tried: no host is built")
 class Disputed(Cycle):
-    """A class in which gus says that the server was wrong."""
+    """A class in which gus claims that the server was wrong."""
 
     def disputed(self, stale: int = 1) -> Going:
-        """Gus moves once, is denied as stale and by the guard, and sends what is no request."""
+        """Returns a run in which gus moves once, is denied as stale and by the guard, and sends a malformed line."""
         going = Going(self, CYCLE, "--close", "by-hand")
         with Raw(going.port) as wrong:
             self.assertEqual(wrong.ask(hello("gus", "heron-13")), UNKNOWN)
@@ -108,22 +108,22 @@ class Disputed(Cycle):
         return going
 
     def ended(self, going: Going) -> Path:
-        """Returns its folder, after its end."""
+        """Ends the run, and returns its folder."""
         self.assertEqual(going.ended(), 0, going.lines)
         return going.folder
 
     def seat(self, folder: Path) -> Path:
-        """Returns the file of the seat in which gus was known."""
+        """Returns the file of the seat that gus had."""
         return next(file for file in (folder / "record").glob("*.record") if b'"who":"gus"' in file.read_bytes())
 
     def history(self, folder: Path, *more: str | Path, name: str = "gus") -> str:
-        """Returns what is printed."""
+        """Returns the output of `history`."""
         done = words("history", folder, name, *more)
         self.assertEqual((done.returncode, done.stderr), (0, ""))
         return done.stdout
 
     def wanted(self, folder: Path) -> str:
-        """Returns what the history of gus has to be, whichever seats were free."""
+        """Returns the expected history of gus, whatever seats were free."""
         seat = self.seat(folder).name.partition(".")[0]
         other = next(file.name.partition(".")[0] for file in (folder / "record").glob("*.record") if b"heron-13" in file.read_bytes())
         guessed, greeted = GUESSED.replace("SEAT", other), GREETED.replace("SEAT", seat)
@@ -132,7 +132,7 @@ class Disputed(Cycle):
 
 
 class Told(Disputed):
-    """What is reported while a class goes on, and after it."""
+    """The output during a class and after it."""
 
     def test_a_student_is_answered(self) -> None:
         going = self.disputed()
@@ -222,10 +222,10 @@ class Told(Disputed):
 
 
 class Verified(Disputed):
-    """Records that aren't as they were, and what is said of them."""
+    """Records that were changed, and the verdicts on them."""
 
     def denied(self, folder: Path) -> list[int | None]:
-        """Returns what `mark` prints about gus: by each clause, and malformed."""
+        """Returns the denied lines of gus in `mark`: by clause, and malformed ones."""
         run = json.loads(words("mark", folder, "--json").stdout)["runs"][0]
         gus = run["students"]["gus"]
         return [*(gus[column] for column in COLUMNS), run["whole"]]
@@ -254,8 +254,8 @@ class Verified(Disputed):
         shutil.rmtree(record)
         done = words("mark", folder)
         self.assertEqual(done.returncode, 0)
-        self.assertIn("\nno record: what was asked for and denied isn't known\n", done.stdout)
-        self.assertEqual(json.loads(words("mark", folder, "--json").stdout)["runs"][0]["records"], ["no record: what was asked for and denied isn't known"])
+        self.assertIn("\nno record, so requests and denials aren't known\n", done.stdout)
+        self.assertEqual(json.loads(words("mark", folder, "--json").stdout)["runs"][0]["records"], ["no record, so requests and denials aren't known"])
         self.assertEqual(self.denied(folder), [None] * 5 + [False])
         self.assertEqual(words("history", folder, "gus").returncode, 1)
 
@@ -326,7 +326,7 @@ class Verified(Disputed):
                 self.assertIn('"deny":"stale"', gus.ask(MOVE % 7))
             going.until("^the rest of what gus sends isn't recorded: ")
         self.assertEqual(going.ended(), 5, going.lines)
-        self.assertIn("the record isn't whole: the disk didn't take all of it; the journal is", going.lines)
+        self.assertIn("the record isn't whole, since the disk didn't take all of it; the journal is whole", going.lines)
         self.assertIn("the run is ended", going.lines)
         self.assertRegex((going.folder / "marks.txt").read_text(encoding="utf-8"), r"(?m)^record: ok: .*, not whole$")
         self.assertEqual(self.whole(going.folder), 0)
@@ -342,13 +342,13 @@ class Verified(Disputed):
     def test_whole_entries_up_to_an_event(self) -> None:
         whole = b'4 0 > x\n4 0 < {"refuse":"malformed"}\n4 0 > y\n4 0 < {"at":0,"ok":"move","place":1}\n4 2 .\n'
         ends = [0, whole.index(b"4 0 > y"), len(whole) - 6, len(whole)]
-        self.assertEqual([len(front(whole, events)) for events in range(4)], [ends[1], ends[2], ends[3], ends[3]])
+        self.assertEqual([len(entries_up_to(whole, events)) for events in range(4)], [ends[1], ends[2], ends[3], ends[3]])
         for at in range(len(whole) + 1):
-            self.assertEqual(len(front(whole[:at], 9)), max(end for end in ends if end <= at))
+            self.assertEqual(len(entries_up_to(whole[:at], 9)), max(end for end in ends if end <= at))
 
 
 def squeezed(text: str) -> str:
-    """Returns the text with one space for several."""
+    """Returns a text in which each run of spaces is a single space."""
     return re.sub(r" +", " ", text)
 
 

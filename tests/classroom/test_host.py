@@ -1,4 +1,4 @@
-"""`./class run` over the built host: its seats go from one connection to the next."""
+"""`./class run` with the built host: a seat goes from one connection to the next."""
 from __future__ import annotations
 
 import json
@@ -18,24 +18,24 @@ TEACHER = read(CYCLE).teacher
 
 @unittest.skipUnless(host(), "not tried: no host is built")
 class Hosted(Cycle):
-    """Runs over the cycle of `examples/`, with three seats of which one is the desk's, or with all."""
+    """Runs over the cycle of `examples/`, with three seats, one of which is the desk's, or with all seats."""
 
     def begin(self, sessions: int, *more: str) -> Going:
-        """Starts a run over a lab with so many seats."""
+        """Starts a run over a lab with this number of seats."""
         text = re.sub(r"(?m)^sessions = \d+", f"sessions = {sessions}", CYCLE.read_text(encoding="utf-8"))
         going = Going(self, self.file("cycle.toml", text), *more)
         self.assertTrue(any(f"for {sessions - 1} students at once; folder" in line for line in going.lines), going.lines)
         return going
 
     def ended(self, going: Going) -> None:
-        """Checks for a run that was ended by the bye at its desk, and its folder whole."""
+        """Checks that a run was ended by the bye at its desk, and that its folder is complete."""
         self.assertEqual(going.ends(), 0, going.lines)
         events = self.whole(going.folder)
         self.assertRegex((going.folder / "server.txt").read_text(encoding="utf-8"),
                          rf"^listening on port \d+, desk on port \d+\ndone: {events} events, configuration \d+\n$")
 
     def let_in(self, port: int, name: str, key: str) -> Client:
-        """Returns a connection, as soon as a seat is free."""
+        """Returns a connection as soon as a seat is free."""
         while True:
             try:
                 return Client(port, name, key)
@@ -66,7 +66,7 @@ class Hosted(Cycle):
         gus = self.bot(going, "gus")
         going.until("^connected: gus$")
         self.bot(going, "hana")
-        going.until_each("^connected: hana$", "^all seats are taken: newcomers are turned away; type who to see whose they are$")
+        going.until_each("^connected: hana$", "^all seats are taken: newcomers are turned away; type who to see which students have them$")
         going.type("who")
         going.until("^connected: 2 of 2 seats: gus, hana$")
         for _ in range(3):

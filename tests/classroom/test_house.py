@@ -1,4 +1,4 @@
-"""Absent students: the house plays in its own name, and no student is marked by it."""
+"""Absent students: the house plays in its own name, and changes no student's marks."""
 from __future__ import annotations
 
 import csv
@@ -24,7 +24,7 @@ NAMES = "Name\nAna Lima\nGus Roy\nHouse\nEva Sol\n"
 
 
 class Alone(unittest.TestCase):
-    """When a node is the house's to play."""
+    """The nodes that the house may play."""
 
     def setUp(self) -> None:
         lab = read(CYCLE)
@@ -35,7 +35,7 @@ class Alone(unittest.TestCase):
         self.told: list[str] = []
 
     def house(self, seconds: float | None) -> House:
-        """Returns one that plays, since somebody has come."""
+        """Returns a house that plays, because a student has come."""
         house = House(self.lab, 1, seconds, self.told.append)
         house.begun = True
         return house
@@ -88,7 +88,7 @@ class Alone(unittest.TestCase):
 
 @unittest.skipUnless(host(), "not tried: no host is built")
 class Standing(InRoom):
-    """Runs of a class of four, one of whom is called House."""
+    """Runs of a class with four students, one of whom is called House."""
 
     def setUp(self) -> None:
         super().setUp()
@@ -100,7 +100,7 @@ class Standing(InRoom):
         self.lab: Lab = read(self.made)
 
     def bot(self, going: Going, name: str) -> None:
-        """A student's bot."""
+        """Starts the bot of a student."""
         slip = self.file(f"{name}.slip", re.sub(r"port \d+", f"port {going.port}", self.slip(name).read_text(encoding="utf-8")))
         bot = subprocess.Popen([sys.executable, EXAMPLES / "bot.py", slip], stdin=subprocess.DEVNULL, stdout=subprocess.DEVNULL,
                                stderr=subprocess.DEVNULL)
@@ -108,11 +108,11 @@ class Standing(InRoom):
         self.addCleanup(bot.kill)
 
     def slip(self, name: str) -> Path:
-        """Returns a student's slip."""
+        """Writes the slip of a student, and returns its path."""
         return self.room / "maths-slips" / f"{name}.slip"
 
     def grants(self, folder: Path) -> dict[str, set[int]]:
-        """Returns at which nodes each name was granted moves."""
+        """Returns the nodes at which each name was granted moves."""
         found: dict[str, set[int]] = {}
         for event in events((folder / "journal").read_text(encoding="ascii")):
             if event.kind == "grant":
@@ -161,7 +161,7 @@ class Standing(InRoom):
         self.assertEqual((list(rows), rows["House"], rows["Gus Roy"]), (["Ana Lima", "Gus Roy", "House", "Eva Sol"], 0, 0))
 
     def greet(self, going: Going, name: str = "ana-lima") -> None:
-        """A student comes, and goes without a move."""
+        """Connects as a student, and leaves without a move."""
         with Client(going.port, name, self.lab.students[name]):
             pass
 
@@ -198,7 +198,7 @@ class Standing(InRoom):
         self.assertEqual(self.grants(going.folder), before)
 
     def comes_back_without(self, going: Going, nodes: list[int]) -> None:
-        """Closes steps until none of these nodes is waited for."""
+        """Closes steps until the class waits for none of these nodes."""
         with Client(going.port, "gus-roy", self.lab.students["gus-roy"]) as me:
             moved = 0
             while True:
@@ -258,25 +258,25 @@ class Standing(InRoom):
         lab = self.file("one.toml", re.sub(r"(?m)^sessions = \d+", "sessions = 2", self.made.read_text(encoding="utf-8")))
         going = Going(self, lab, "--stand-in", "0.1s", "--daemon", "synchronous")
         with Client(going.port, "ana-lima", self.lab.students["ana-lima"]):
-            going.until("^no seat is free for the house, which would play now; type who to see whose they are$")
+            going.until("^the house would play now, but no seat is free for it; type who to see which students have the seats$")
         going.until("^stable after ")
         first = next(at for at, line in enumerate(going.lines) if line.startswith("configuration "))  # Then it has a seat now and then.
         self.assertEqual(sum("no seat is free" in line for line in going.lines[:first]), 1)
 
 
 class Refused(InRoom):
-    """If nobody can stand in."""
+    """Runs in which nobody can stand in."""
 
     def test_labs_without_a_house_say_how_to_get_one(self) -> None:
         done = words("run", CYCLE, "--stand-in", "20s", "--into", self.room / "runs")
         self.assertEqual((done.returncode, done.stdout), (1, ""))
         self.assertEqual(done.stderr, f"class: {CYCLE}: no node has the second owner `house`, who could stand in: "
-                                      "./class new .. --stand-in makes a lab in which each node has it\n")
+                                      "`./class new NAME --stand-in` makes a lab in which each node has a stand-in\n")
         self.assertFalse((self.room / "runs").exists())
         going = Going(self, CYCLE, "--close", "by-hand")
         for word in ("play", "stop"):
             going.type(f"{word} gus")
-            going.until("^no node has a second owner who could play for gus: ./class new .. --stand-in makes a lab in which each node has it$")
+            going.until("^no node has a second owner who could play for gus: `./class new NAME --stand-in` makes a lab in which each node has a stand-in$")
 
     def test_no_third_owner(self) -> None:
         students = self.file("students", "Ana\nBen\n")
@@ -289,7 +289,7 @@ class Refused(InRoom):
         for word in ("0s", "x", "-1", "20m"):
             done = words("run", CYCLE, "--stand-in", word, "--into", self.room / "runs")
             self.assertEqual(done.returncode, 1)
-            self.assertIn("is no number of seconds", done.stderr)
+            self.assertIn("isn't a number of seconds", done.stderr)
 
 
 if __name__ == "__main__":

@@ -1,4 +1,4 @@
-"""The layout that a run's folder keeps: it is searched for once, and what is no layout is left alone."""
+"""The layout in a run's folder: it is searched for only once, and a file that isn't a layout is ignored."""
 from __future__ import annotations
 
 import json
@@ -15,13 +15,13 @@ from tests.classroom.help import InRoom
 
 
 def lab(word: str, seed: int = 1) -> labs.Lab:
-    """A lab of a family's network."""
+    """Returns a lab of a family."""
     count, links = family(word, None, 0, random.Random(seed))
     return labs.Lab(1000, 2, ("t", "key"), {"s": "key"}, [labs.Node(node, ["s"]) for node in range(1, count + 1)], sorted(links))
 
 
 class Kept(InRoom):
-    """A folder, and what is found in it."""
+    """A folder, and the layout in it."""
 
     def setUp(self) -> None:
         super().setUp()
@@ -32,7 +32,7 @@ class Kept(InRoom):
         self.addCleanup(known.stop)
 
     def forget(self) -> None:
-        """Begins anew, as another process does."""
+        """Forgets the known layouts, as a new process does."""
         springs.KNOWN.clear()
         shapes.kept_shape.cache_clear()
         springs.searched.cache_clear()
@@ -41,20 +41,20 @@ class Kept(InRoom):
         made = lab("random:40:60")
         nodes = [node.id for node in made.nodes]
         first = lay_out(nodes, made.links)
-        kept_layout.keep(self.room, made)
+        kept_layout.save(self.room, made)
         self.forget()
-        kept_layout.take(self.room)
+        kept_layout.load(self.room)
         with unittest.mock.patch.object(springs, "searched", side_effect=AssertionError("searched again")):
             self.assertEqual(lay_out(nodes, made.links), first)
             with self.assertRaisesRegex(AssertionError, "searched again"):
                 lay_out(nodes, made.links[1:])
         before = (self.room / LAYOUT).read_bytes()
-        kept_layout.keep(self.room, lab("random:40:60", 2))
+        kept_layout.save(self.room, lab("random:40:60", 2))
         self.assertEqual((self.room / LAYOUT).read_bytes(), before)
 
     def test_other_shapes_keep_nothing(self) -> None:
         for word in ("grid:4x3", "random:12:11", "random:8:28"):
-            kept_layout.keep(self.room, lab(word))
+            kept_layout.save(self.room, lab(word))
             self.assertEqual([*self.room.iterdir()], [], word)
 
     def test_what_is_no_layout_is_left_alone(self) -> None:
@@ -64,13 +64,13 @@ class Kept(InRoom):
                  json.dumps(whole | {"points": {"x": [0, 0]}}), json.dumps(whole | {"points": {"1": [0, 0, 0]}})]
         for text in texts:
             (self.room / LAYOUT).write_text(text, encoding="utf-8")
-            kept_layout.take(self.room)
+            kept_layout.load(self.room)
             self.assertEqual(springs.KNOWN, {}, text[:80])
         (self.room / LAYOUT).write_text(json.dumps(whole), encoding="utf-8")
-        kept_layout.take(self.room)
+        kept_layout.load(self.room)
         self.assertEqual(len(springs.KNOWN), 1)
         (self.room / LAYOUT).unlink()
-        kept_layout.take(self.room)
+        kept_layout.load(self.room)
 
 
 if __name__ == "__main__":

@@ -1,4 +1,4 @@
-"""The example bots in other languages than Python, each if its compiler or interpreter is on this machine."""
+"""The example bots in other languages than Python. Each is tested if its compiler or interpreter is installed."""
 from __future__ import annotations
 
 import os
@@ -23,13 +23,13 @@ ROOM = tempfile.TemporaryDirectory()  # of what is compiled; it goes with this p
 
 
 def tearDownModule() -> None:
-    """What was compiled goes."""
+    """Removes the compiled programs."""
     ROOM.cleanup()
 
 
 @cache
 def bots() -> dict[str, Command]:
-    """Returns each bot that can be tried here, by its file's name: the words to which a slip is added."""
+    """Returns the command of each bot that can run here, by the name of its file."""
     found: dict[str, Command] = {}
     for name, program in PROGRAMS.items():
         if shutil.which(program) is None:
@@ -55,7 +55,7 @@ class Languages(unittest.TestCase):
 
 
 class Bots(Cycle):
-    """What the bots of each language do at a run."""
+    """The behaviour of the bots in a run."""
 
     def test_all_in_one_run(self) -> None:
         going = Going(self, CYCLE, "--close", "when-idle:0.5", "--until", "stable")
@@ -77,7 +77,7 @@ class Bots(Cycle):
                 self.assertEqual((said.returncode, said.stderr.count("\n")), (status, 1), (name, text, said.stderr))
 
     def all_in(self, going: Going) -> list[tuple[str, subprocess.Popen[str]]]:
-        """Returns a bot in each language, of one student, all of whom have greeted."""
+        """Starts a bot in each language, all for one student. Returns them after all have greeted."""
         every: dict[str, Command] = {"bot.py": (sys.executable, EXAMPLES / "bot.py"), **bots()}
         playing = []
         for name, command in every.items():
@@ -90,7 +90,7 @@ class Bots(Cycle):
         return playing
 
     def are_ended(self, playing: list[tuple[str, subprocess.Popen[str]]], status: int, why: str) -> None:
-        """Checks that all end so."""
+        """Checks that all bots end with this status and reason."""
         for name, bot in playing:
             said = bot.communicate(timeout=LIMIT)[1]
             self.assertEqual((bot.returncode, said.partition(": ")[2].partition(" (")[0].rstrip()), (status, why), (name, said))
@@ -118,7 +118,7 @@ class Bots(Cycle):
 
 
 class Reset(InRoom):
-    """A server that resets a connection instead of an answer, as the system does for one that was killed."""
+    """A server that resets a connection in place of a reply, as the system does after a kill."""
 
     def test_they_come_again(self) -> None:
         every: dict[str, Command] = {"bot.py": (sys.executable, EXAMPLES / "bot.py"), **bots()}
@@ -141,7 +141,7 @@ class Reset(InRoom):
 
 
 class Graded(InRoom):
-    """What the bots of each language are worth."""
+    """The grades of the bots in each language."""
 
     def test_each_passes_all_of_small(self) -> None:
         given = [command[-1] for name, command in bots().items() if name != "Bot.java"]  # That one is graded in test_grade.py.

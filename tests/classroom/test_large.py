@@ -1,4 +1,5 @@
-"""The page of the largest run: it opens and steps in time, counted by the browser. And that of the longest: it isn't large."""
+"""The page of the largest run opens and steps in time, as measured by the browser. The page of the longest run
+isn't large."""
 from __future__ import annotations
 
 import unittest
@@ -39,7 +40,7 @@ return counts;
 
 
 class Large(Played):
-    """256 nodes of which each two are linked, and 1,000 events."""
+    """256 nodes in a complete graph, and 1,000 events."""
 
     def setUp(self) -> None:
         super().setUp()
@@ -48,24 +49,24 @@ class Large(Played):
         self.driver.set_script_timeout(300)
 
     def spent(self) -> float:
-        """Returns the milliseconds of a processor that the page's tasks have taken: what else runs isn't in it."""
+        """Returns the processor time of the page's tasks in milliseconds, without other processes."""
         metrics = self.driver.execute_cdp_cmd("Performance.getMetrics", {})["metrics"]
         return 1000 * next(float(metric["value"]) for metric in metrics if metric["name"] == "TaskDuration")
 
     def slowness(self) -> float:
-        """Returns how many times slower than that machine this one is now; 1 if it is quicker."""
+        """Returns how many times slower this machine is now than the reference machine, or 1 if it is faster."""
         start = self.spent()
         self.driver.execute_script(LOAD)
         return max(1.0, (self.spent() - start) / LOADED)
 
     def step(self, place: int) -> float:
-        """Returns the time of a step that ends at the place."""
+        """Returns the time of a step to a place."""
         start = self.spent()
         self.driver.execute_async_script(STEP, place)
         return self.spent() - start
 
     def opened(self, page: Path) -> float:
-        """Returns the time in which the page opens, on that machine."""
+        """Returns the time to open the page, converted to the reference machine."""
         self.driver.get("about:blank")
         slowness = self.slowness()
         self.driver.get(page.as_uri())
@@ -74,7 +75,7 @@ class Large(Played):
         return self.spent() / slowness
 
     def stepped(self, places: list[int]) -> list[float]:
-        """Returns the time of a step to each place, on that machine."""
+        """Returns the time of a step to each place, converted to the reference machine."""
         slowness = self.slowness()
         self.step(places[0] - 1)
         return [self.step(place) / slowness for place in places]

@@ -1,4 +1,4 @@
-"""Nodes are drawn so that the family of their network is seen, and with labels that lie upon nothing."""
+"""Layouts show the family of a network, and labels overlap nothing."""
 from __future__ import annotations
 
 import math
@@ -9,10 +9,10 @@ from itertools import combinations, pairwise
 
 from classroom.core.journal import RULES
 from classroom.core.networks import Links, family
-from classroom.pages.labels import LEAST_FRAMED, Box, View, framed, view_of, wide
+from classroom.pages.labels import LEAST_FRAMED, Box, View, framed, view_of, text_width
 from classroom.pages.layout import CELL, RING, TALL, WIDE, Layout, lay_out
 from classroom.pages.shapes import shape_of
-from classroom.pages.springs import FEW_NODES, LEAST, away, by_springs, distances, tangles
+from classroom.pages.springs import FEW_NODES, LEAST, distance_to_line, by_springs, distances, tangles
 
 FAMILIES = ("path", "cycle", "star", "tree", "complete", "grid:4x3", "grid:3x7", "grid:10x10", "random:12:16", "random:30:40", "random:64:90",
             "random:15:60", "crowd")
@@ -28,23 +28,23 @@ def network(word: str, size: int = 15) -> tuple[list[int], Links]:
 
 
 def renamed(nodes: list[int], links: Links, seed: int) -> tuple[list[int], Links]:
-    """Returns the same network under other identifiers."""
+    """Returns the same network with other identifiers."""
     drawn = random.Random(seed).sample(range(1, 60000), len(nodes))
     names = dict(zip(nodes, drawn))
     return drawn, [(names[a], names[b]) for a, b in links]
 
 
 def viewed(word: str, size: int = 15) -> tuple[View, Links]:
-    """Returns a drawing of a family's network for a screen, with names."""
+    """Returns the drawing of a family's network for a screen, with names."""
     nodes, links = network(word, size)
     return view_of({node: [NAMES[node % len(NAMES)]] for node in nodes}, links, WIDE), links
 
 
 class Shapes(unittest.TestCase):
-    """What a network is, is recognised from its links alone, and is seen."""
+    """The shape of a network is recognised from its links alone, and is visible."""
 
     def shape(self, word: str, size: int = 15, seed: int = 0) -> tuple[str, Layout, list[int]]:
-        """Returns the kind of a network, its layout, and its nodes as the family numbers them."""
+        """Returns the kind of a network, its layout, and its nodes in the family's numbering."""
         nodes, links = network(word, size)
         if seed:
             nodes, links = renamed(nodes, links, seed)
@@ -156,7 +156,7 @@ class Shapes(unittest.TestCase):
 
 
 class Springs(unittest.TestCase):
-    """Any other network: as far apart as the paths between nodes are long."""
+    """Any other network: distances correspond to the lengths of paths."""
 
     def test_parts_that_no_path_joins_are_drawn_apart(self) -> None:
         links = [(1, 2), (2, 3), (1, 3), (3, 4), (5, 6), (6, 7), (5, 7), (7, 8)]
@@ -167,7 +167,7 @@ class Springs(unittest.TestCase):
         self.assertEqual((len(layout.points), tangles(layout.points, links, layout.radius)), (9, 0))
 
     def test_a_few_pivots_draw_as_all_nodes_do(self) -> None:
-        """A grid that lacks one link is no grid, and both ways unfold it."""
+        """A grid without one of its links isn't a grid. Both methods unfold it."""
         for word in ("grid:9x8", "grid:10x9"):
             nodes, links = network(word)
             links.remove((11, 12))
@@ -178,8 +178,8 @@ class Springs(unittest.TestCase):
 
     def test_how_far_a_node_is_from_a_link(self) -> None:
         for point, far in (((5.0, 3.0), 3.0), ((-3.0, 4.0), 5.0), ((13.0, -4.0), 5.0), ((10.0, 0.0), 0.0)):
-            self.assertEqual(away(point, (0.0, 0.0), (10.0, 0.0)), far)
-        self.assertEqual(away((3.0, 4.0), (0.0, 0.0), (0.0, 0.0)), 5.0)
+            self.assertEqual(distance_to_line(point, (0.0, 0.0), (10.0, 0.0)), far)
+        self.assertEqual(distance_to_line((3.0, 4.0), (0.0, 0.0), (0.0, 0.0)), 5.0)
 
     def test_a_crossing_a_touch_and_a_node_on_a_link(self) -> None:
         square = {1: (0.0, 0.0), 2: (10.0, 0.0), 3: (10.0, 10.0), 4: (0.0, 10.0), 5: (5.0, 0.5)}
@@ -188,14 +188,14 @@ class Springs(unittest.TestCase):
 
 
 class Labels(unittest.TestCase):
-    """Names and rules lie upon no disc, no link and no other label."""
+    """Names and rules overlap no disc, no link and no other label."""
 
     def boxes(self, view: View) -> dict[int, Box]:
-        """Returns what each label takes at most: the name, and the widest rule."""
+        """Returns the largest box of each label: the name, and the widest rule."""
         form, found = view.form, {}
         for node, label in view.labels.items():
             x, y = view.layout.points[node]
-            width = max(form.widest_pill, wide(label.text, form.size))
+            width = max(form.widest_pill, text_width(label.text, form.size))
             left = {"start": 0.0, "middle": -width / 2, "end": -width}[label.anchor] + x + label.x
             lines = sorted((label.name_y - form.size, label.name_y + 0.25 * form.size, label.pill_y - 0.7 * form.pill, label.pill_y + 0.7 * form.pill))
             found[node] = Box(left, y + lines[0], left + width, y + lines[-1])
@@ -216,7 +216,7 @@ class Labels(unittest.TestCase):
                     self.assertEqual([link for link in links if box.on_line(*(view.layout.points[node] for node in link)) > 0], [])
 
     def test_letters_of_rules_lie_upon_no_neighbour(self) -> None:
-        """In random networks too, on a phone and in a small drawing: neither upon another node nor upon another letter."""
+        """In random networks, on a phone and in a small drawing, letters overlap neither nodes nor other letters."""
         looked = 0
         for seed in range(8):
             for word in ("random:8:12", "random:12:18", "random:14:22", "random:16:24", "complete", "crowd"):
@@ -250,7 +250,8 @@ class Labels(unittest.TestCase):
             self.assertEqual(view_of({node: ["ana"] for node in nodes}, links, field).labels, {})
 
     def test_texts_are_large_enough_for_a_laptop_and_a_phone(self) -> None:
-        """A screen of 1280 pixels shows a field for screens nearly as large as it is, a phone's one too."""
+        """A laptop with 1280 pixels shows the field for screens nearly at its full size, and a phone shows its
+        own."""
         for word in (*FAMILIES, "grid:8x8"):
             for field in (WIDE, TALL):
                 nodes, links = network(word)
@@ -258,11 +259,11 @@ class Labels(unittest.TestCase):
                 self.assertGreaterEqual(min(view.form.size, view.form.pill), 12.7)
                 if view.layout.radius > 13:
                     self.assertGreaterEqual(view.identifier_size, 12.7, word)
-                self.assertGreater(view.form.widest_pill, max(wide(view.form.word(rule), view.form.pill) for rule in RULES))
+                self.assertGreater(view.form.widest_pill, max(text_width(view.form.word(rule), view.form.pill) for rule in RULES))
 
 
 def near(box: Box, point: tuple[float, float]) -> float:
-    """Returns how far a point is from a box."""
+    """Returns the distance of a point from a box."""
     return math.dist(point, (min(max(point[0], box.left), box.right), min(max(point[1], box.top), box.bottom)))
 
 

@@ -1,4 +1,4 @@
-"""A lesson of two hours, played by script: late students, a wrong key, faults, a crash, a full disk, a closed terminal."""
+"""A scripted lesson of two hours: late students, a wrong key, faults, a crash, a full disk, a closed terminal."""
 from __future__ import annotations
 
 import csv
@@ -37,7 +37,7 @@ class Lesson(InRoom):
         self.lab: Lab = read(self.file_of_lab)
 
     def bots(self, names: list[str]) -> list[subprocess.Popen[str]]:
-        """Bots of these students, by their slips."""
+        """Starts the bots of these students with their slips."""
         started = [
             subprocess.Popen([sys.executable, BOT, self.slip(name)], stdin=subprocess.DEVNULL, stdout=subprocess.DEVNULL,
                              stderr=subprocess.PIPE, text=True)
@@ -49,12 +49,12 @@ class Lesson(InRoom):
         return started
 
     def slip(self, name: str) -> Path:
-        """Returns a student's slip."""
+        """Writes the slip of a student, and returns its path."""
         return self.room / "maths-slips" / f"{name}.slip"
 
     def are_told_of_the_end(self, bots: list[subprocess.Popen[str]], *statuses: int) -> None:
-        """Checks that bots ended with one of these where their server or its grants did, and said so, one that came too
-        late for it too."""
+        """Checks that the bots ended with the right status and message when their server or its grants ended. This
+        includes one that came too late."""
         for bot in bots:
             said = bot.communicate(timeout=LIMIT)[1]
             why = {0: "the run is over\n", 4: f"no server at port {self.port}", 6: "nothing is granted any longer: tell your teacher"}
@@ -62,11 +62,11 @@ class Lesson(InRoom):
             self.assertIn(why[bot.returncode], said)
 
     def journal(self, folder: Path) -> list[str]:
-        """Returns the whole lines of its journal."""
+        """Returns the complete lines of the journal."""
         return [line.decode("ascii") for line in (folder / "journal").read_bytes().split(b"\n")[:-1]]
 
     def applied(self, folder: Path) -> Counter[str]:
-        """Returns how many moves of each student were applied, counted here."""
+        """Returns the number of applied moves of each student, counted by the test itself."""
         chosen: dict[str, str] = {}
         found: Counter[str] = Counter()
         for line in self.journal(folder):
@@ -86,7 +86,8 @@ class Lesson(InRoom):
         self.marks(folder)
 
     def first_half(self) -> Path:
-        """Most come, one with a wrong key, some late; two faults; then the server is killed."""
+        """Most students come, one with a wrong key, some late. There are two faults, and then the server is
+        killed."""
         going = Going(self, self.file_of_lab, "--close", "every:0.3", "--port", str(self.port))
         self.assertEqual(going.port, self.port)
         bots = self.bots([name for name in self.lab.students if name not in LATE])
@@ -109,8 +110,8 @@ class Lesson(InRoom):
         return going.folder
 
     def full_disk(self, folder: Path) -> None:
-        """Goes on, until the disk takes no more; so far each file has room, the record of a desk that closed without success
-        too."""
+        """Continues until the disk is full. Before, each file has room, including the record of a desk that closed
+        without success."""
         journal = folder / "journal"
         most = max(file.stat().st_size for file in (journal, *(folder / "record").iterdir())) // 1024 + 1
         limited = self.file("host", f'#!/bin/bash\ntrap "" XFSZ\nulimit -f {most}\nexec "{host()}" "$@"\n')
@@ -124,7 +125,8 @@ class Lesson(InRoom):
         self.are_told_of_the_end(bots, 0, 4, 6)
 
     def second_half(self, folder: Path) -> None:
-        """Goes on in a terminal, which is closed; the desk is taken, and all end if the network is stable."""
+        """Continues in a terminal, which is closed. The desk is taken over, and all end when the network is
+        stable."""
         terminal = InTerminal(self, "run", "--resume", folder)
         terminal.type(b"fault 3 null true\n", b": fault at node 3: p null, m true; ")
         bots = self.bots(list(self.lab.students))
@@ -153,14 +155,14 @@ class Lesson(InRoom):
         self.are_told_of_the_end(bots, 0, 4)
 
     def told(self, folder: Path, line: str) -> None:
-        """Waits until the run has printed a line, with its hour and minute."""
+        """Waits until `run.txt` has a line, after its hour and minute."""
         end = time.monotonic() + LIMIT
         while not re.search(rf"(?m)^\d\d:\d\d {re.escape(line)}$", (folder / "run.txt").read_text(encoding="utf-8")):
             self.assertLess(time.monotonic(), end)
             time.sleep(0.05)
 
     def marks(self, folder: Path) -> None:
-        """Marks for all, in the list's order and form, as the journal has them."""
+        """Checks that the marks of all students are in the order and form of the list, and match the journal."""
         self.assertRegex(call("audit", folder / "lab.toml", folder / "journal").output, "^ok: .*, stable\n$")
         done = words("mark", folder, "--roster", self.list, "--total")
         self.assertEqual((done.returncode, done.stderr), (0, ""))

@@ -1,4 +1,4 @@
-"""A run with a door: what it prints, and the same door for a run that goes on."""
+"""A run with a door: its lines, and the same door for a resumed run."""
 from __future__ import annotations
 
 import os
@@ -12,14 +12,14 @@ from classroom.client import Client, Closed, NoServer, Refused, Slip
 from classroom.core.folders import Record
 from classroom.core.program import host
 from classroom.door.routes import Kept
-from classroom.run.run import as_on_slips
+from classroom.run.run import ports_for
 from tests.classroom.help import LIMIT, Going, InRoom, a_port, wait_until, words
 from tests.classroom.several import GoingClass
 
 
 @unittest.skipUnless(host(), "not tried: no host is built")
 class Doors(InRoom):
-    """Runs of a lab whose slips lead through a door."""
+    """Runs of a lab whose slips name a door."""
 
     def setUp(self) -> None:
         super().setUp()
@@ -30,11 +30,11 @@ class Doors(InRoom):
         self.slip = Slip.read(self.room / "maths-slips/ben.slip")
 
     def begin(self, *more: str) -> Going:
-        """Returns a run that lets students in."""
+        """Starts a run with a door."""
         return Going(self, self.lab, "--door", f"127.0.0.1:{self.port}", "--close", "by-hand", "--page", str(a_port()), *more)
 
     def door(self, going: Going) -> Kept:
-        """Returns what is kept of the door of a run."""
+        """Returns the data in the folder of the run's door."""
         record = Record.read(going.folder)
         assert record is not None and record.door is not None
         kept = Kept.read(Path(record.door))
@@ -42,7 +42,7 @@ class Doors(InRoom):
         return kept
 
     def comes(self) -> Client:
-        """Returns a connection through the door, once there is a way in."""
+        """Returns a connection through the door. Tries again until there is one."""
         end = time.monotonic() + LIMIT
         while True:
             try:
@@ -52,7 +52,7 @@ class Doors(InRoom):
                 time.sleep(0.1)
 
     def grants(self, client: Client) -> int:
-        """Asks for what is enabled at the student's node, and returns how many events the class has then."""
+        """Asks for the enabled move of the student's node. Returns the number of events after that."""
         look = client.look(self.slip.nodes[0])
         return client.move(look).place if look.rule and not look.chosen else 0
 
@@ -98,12 +98,12 @@ class Doors(InRoom):
     def test_slips_that_lead_elsewhere_are_named(self) -> None:
         self.port = a_port()
         going = self.begin()
-        self.assertTrue(any(line.startswith(f"the slips of {self.lab} don't lead there: ") for line in going.lines), going.lines)
+        self.assertTrue(any(line.startswith(f"the slips of {self.lab} lead to another address: ") for line in going.lines), going.lines)
         self.assertEqual(going.ended(), 0, going.lines)
         done = words("slips", self.lab, "--door", f"127.0.0.1:{self.port}")
         self.assertEqual(done.returncode, 0, done.stderr)
         going = self.begin()
-        self.assertFalse([line for line in going.lines if "don't lead there" in line])
+        self.assertFalse([line for line in going.lines if "lead to another address" in line])
         self.assertEqual(going.ended(), 0, going.lines)
 
     def test_another_certificate(self) -> None:
@@ -124,14 +124,14 @@ class Doors(InRoom):
 
 
 class Ports(InRoom):
-    """The ports of labs, which their slips have."""
+    """The ports of labs, taken from their slips."""
 
     def test_those_of_the_slips(self) -> None:
-        self.assertEqual(as_on_slips(None, 4711, [4711, 4720, 4712]), [4711, 4720, 4712])
-        self.assertEqual(as_on_slips(5000, 4711, [4711, 4720]), [5000, 5001])
+        self.assertEqual(ports_for(None, 4711, [4711, 4720, 4712]), [4711, 4720, 4712])
+        self.assertEqual(ports_for(5000, 4711, [4711, 4720]), [5000, 5001])
         shared_or_lacking: list[list[int | None]] = [[4711, 4711], [None, 4720], [None, None]]
         for known in shared_or_lacking:
-            self.assertEqual(as_on_slips(None, 4711, known), [4711, 4712])
+            self.assertEqual(ports_for(None, 4711, known), [4711, 4712])
 
     @unittest.skipUnless(host(), "not tried: no host is built")
     def test_labs_in_another_order(self) -> None:

@@ -1,4 +1,4 @@
-"""`./class mark`: counts by hand, forms, and journals that are refused."""
+"""`./class mark`: counts that are checked by hand, its forms, and refused journals."""
 from __future__ import annotations
 
 import csv
@@ -39,10 +39,10 @@ node = [{ id = 1, owner = "ana" }, { id = 2, owner = "ben" }, { id = 3, owner = 
 
 
 class Mark(InRoom):
-    """Journals of scripts."""
+    """Journals that scripts make."""
 
     def journal(self, lab: Path, script: Path) -> Path:
-        """Returns the journal of a script."""
+        """Writes the journal of a script, and returns its path."""
         path = self.room / f"{script.stem}.journal"
         answer = program.call("script", lab, script, path)
         self.assertEqual(answer.status, 0, answer.error)
@@ -113,7 +113,8 @@ class Mark(InRoom):
         journal = self.file("journal", "1 0 grant ana 11 seduction\n2 0 close\n")
         self.assertEqual(marked(lab, journal).tally.events, 2)
         for old, new, error in (
-            ('"ok":"move"', '"deny":"guard"', '"rule":"seduction"} is answered {"at":0,'), ('"place":2', '"place":3', "place 2 is answered as place 3"),
+            ('"ok":"move"', '"deny":"guard"', '"rule":"seduction"} is answered {"at":0,'),
+            ('"place":2', '"place":3', "the program's reply to event 2 of the journal names event 3"),
             ('"stable":false', '"stable":true', "tally and report disagree"),
         ):
             def another(made: labs.Lab, script: list[str]) -> str:
@@ -132,7 +133,7 @@ class Mark(InRoom):
         self.assertIn("audit: line 1: illegal, not-owner: 1 0 grant jonas 11 seduction", done.stderr)
         done = words("mark", self.file("journal", "1 0 close\n"), lab)
         self.assertEqual((done.returncode, done.stderr),
-                         (2, f"class: {self.room / 'journal'}: lab: not a TOML document; a lab is named before its journals\n"))
+                         (2, f"class: {self.room / 'journal'}: lab: not a TOML document; name a lab before its journals\n"))
         folder = self.room / "empty"
         folder.mkdir()
         self.assertEqual(words("mark", folder).returncode, 1)
@@ -161,7 +162,7 @@ class Mark(InRoom):
         self.assertEqual(words("mark", lab, one, two, "--total").stdout.splitlines()[1], '"Müller, Zoë",s1,2,1,0,0,1,0,1,0,2,0,0,0,0,0,0,2,lab')
 
     def recorded(self) -> Path:
-        """Returns a run's folder with a record: a hello that is denied, then a move that is granted, and a close."""
+        """Makes a run's folder with a record: a denied hello, a granted move, and a close."""
         folder = self.room / "run"
         (folder / "record").mkdir(parents=True)
         run = Recording(read_lab(BUILT_IN.encode()))
@@ -254,7 +255,7 @@ class Mark(InRoom):
         journal = self.file("journal", "1 0 grant ana 11 seduction\n2 0 close\n")
         rows = list(csv.reader(io.StringIO(words("mark", "--csv", lab, journal).stdout)))
         self.assertEqual([row[1:4] for row in rows], [["student", "granted", "applied"], ["ana", "1", "1"], ["jonas", "0", "0"]])
-        self.assertIn("Not in a journal", words("mark", lab, journal).stdout)
+        self.assertIn("A journal doesn't say when a line was written", words("mark", lab, journal).stdout)
 
 
 if __name__ == "__main__":

@@ -17,16 +17,18 @@ from classroom.core import lists, program
 from classroom.core.lists import Person
 from classroom.setup import names
 from tests.classroom.help import InRoom, words
+from tests.common.limits import MOST
 
 SCRIPTS = (
     "Zoë Müller", "Łukasz Żółć", "Иван Жуков", "Γιώργος Παπάς", "かな さくら", "김철수", "გიორგი", "王小明", "محمد علي", "שרה לוי",
     "आरव शर्मा", "สมชาย ใจดี", "Արամ", "O'Brien", "1337", "-", "a" * 80, "José María de la Cruz-Ñuñez y Todos los Santos",
 )
 FORM = re.compile(r"[a-z][a-z0-9-]{0,31}")
+SEATS = MOST["sessions"] - 1  # of students
 
 
 class Names(unittest.TestCase):
-    """Names as people write them."""
+    """Names in a class list, and in the lab."""
 
     def test_forms(self) -> None:
         made = names.all_of(map(Person, [*SCRIPTS, *SCRIPTS]))
@@ -40,7 +42,7 @@ class Names(unittest.TestCase):
                  "かな さくら": "kana-sakura", "O'Brien": "obrien", "1337": "s-1337", "王小明": "",
                  "Müller, Zoë": "zoe-mueller", "محمد علي": "mhmd-aly", "שרה לוי": "shrh-lvy", "आरव शर्मा": "aarava-sharamaaa"}
         for name, form in known.items():
-            self.assertEqual(names.one(name), form)
+            self.assertEqual(names.lab_name(name), form)
 
     def test_numbers(self) -> None:
         listed = map(Person, ["Ana", "ana", "Ána", "Teacher", "王小明"])
@@ -56,10 +58,10 @@ class Names(unittest.TestCase):
 
 
 class Lists(InRoom):
-    """Lists of people in the forms in which they come."""
+    """Class lists in different forms."""
 
     def people(self, content: bytes, name: str = "list.csv", **words: str) -> list[tuple[str, str]]:
-        """Written names and ids of a file."""
+        """Returns the names and identifiers in a file."""
         path = self.room / name
         path.write_bytes(content)
         asked = argparse.Namespace(**{"column": None, "first_name": None, "last_name": None, "id": None} | words)
@@ -94,14 +96,14 @@ class New(InRoom):
     """Labs and slips."""
 
     def new(self, *more: str, students: int = 5, status: int = 0) -> str:
-        """Makes a lab, and returns what was printed."""
+        """Makes a lab. Returns the output."""
         list_file = self.file("students", "".join(f"Student {number}\n" for number in range(students)))
         done = words("new", self.room / "lab.toml", "--students", list_file, *more)
         self.assertEqual(done.returncode, status, done.stderr)
         return done.stdout + done.stderr
 
     def clean(self) -> None:
-        """Takes away what was made."""
+        """Removes all files that were made."""
         for file in self.room.glob("lab*"):
             if file.is_dir():
                 shutil.rmtree(file)
@@ -111,7 +113,7 @@ class New(InRoom):
     def test_a_lesson_has_events_enough_and_all_seats(self) -> None:
         self.new()
         made = labs.read(self.room / "lab.toml")
-        self.assertEqual((made.events, made.sessions), (100_000, 16))
+        self.assertEqual((made.events, made.sessions), (MOST["events"], MOST["sessions"]))
         self.clean()
         self.new("--events", "70", "--sessions", "6")
         made = labs.read(self.room / "lab.toml")
@@ -154,7 +156,7 @@ class New(InRoom):
         self.assertRegex(done.stdout, r'\nZoë "Z" Müller \(7\) +zoe-z-mueller +lab +1\n😀 王 \(8\) +s-8 +lab +2\nBen +ben +lab +3\n')
         people = labs.read(self.room / "lab.toml").people
         self.assertEqual(people, {"zoe-z-mueller": Person('Zoë "Z" Müller', "7"), "s-8": Person("😀 王", "8"), "ben": Person("Ben")})
-        self.assertNotIn("is no key of a lab", words("check", self.room / "lab.toml").stdout)
+        self.assertNotIn("isn't a key of a lab", words("check", self.room / "lab.toml").stdout)
 
     def test_pairs_keys_and_slips(self) -> None:
         self.new("--pairs", "--nodes", "6")
@@ -180,21 +182,22 @@ class New(InRoom):
 
     def test_few_events_are_told(self) -> None:
         asked = ("--family", "path", "--events")
-        self.assertIn("note: 45 events may be too few: 46 suffice", self.new(*asked, "45"))
+        self.assertIn("note: 45 events may be too few: with 46, grants and closes alone always reach rest", self.new(*asked, "45"))
         self.clean()
         self.assertNotIn("note", self.new(*asked, "46"))
 
     def test_groups(self) -> None:
-        self.assertIn("--groups 2", self.new(students=24))
+        many = SEATS + 9
+        self.assertIn("--groups 2", self.new(students=many))
         self.clean()
-        told = self.new("--groups", "2", students=24)
+        told = self.new("--groups", "2", students=many)
         self.assertNotIn("note", told)
         for number in (1, 2):
             it = tomllib.loads((self.room / f"lab-{number}.toml").read_text(encoding="utf-8"))
-            self.assertEqual((len(it["student"]), it["sessions"], it["events"]), (12, 16, 100_000))
+            self.assertEqual((len(it["student"]), it["sessions"], it["events"]), (many // 2, MOST["sessions"], MOST["events"]))
 
     def rooms(self, sizes: dict[str, int], *more: str, status: int = 0) -> str:
-        """Makes labs by the rooms of a list that has so many students in each, one after another; gives what was printed."""
+        """Makes labs by rooms, for a list with this number of students in each room in turn. Returns the output."""
         names = [f"Student {room} {number},{room}" for room, size in sizes.items() for number in range(size)]
         students = self.file("rooms.csv", "Name,Room\n" + "\n".join(sorted(names, key=lambda line: line[::-1])) + "\n")
         done = words("new", self.room / "lab.toml", "--students", students, "--groups-by", "room", "--family", "path", *more)
@@ -202,7 +205,8 @@ class New(InRoom):
         return done.stdout + done.stderr
 
     def sizes(self) -> list[tuple[str, int]]:
-        """The room and the number of students of each lab, by its slips; those of a lab are of one room."""
+        """Returns the room and the number of students of each lab, from its slips. Checks that all slips of a lab
+        have the same room."""
         found = []
         for file in sorted(self.room.glob("lab-*.toml")):
             texts = [slip.read_text(encoding="utf-8") for slip in file.with_name(f"{file.stem}-slips").iterdir()]
@@ -212,22 +216,24 @@ class New(InRoom):
         return found
 
     def test_rooms_have_as_many_networks_as_give_all_a_seat(self) -> None:
-        told = self.rooms({"A": 31, "B": 15, "C": 2})
+        many = 2 * SEATS + 1
+        told = self.rooms({"A": many, "B": SEATS, "C": 2})
         self.assertNotIn("note", told)
-        self.assertEqual(sorted(self.sizes()), [("A", 10), ("A", 10), ("A", 11), ("B", 15), ("C", 2)])
+        self.assertEqual(sorted(self.sizes()), [*(("A", (many + at) // 3) for at in range(3)), ("B", SEATS), ("C", 2)])
 
     def test_rooms_share_a_number_of_networks(self) -> None:
         self.rooms({"A": 12, "B": 5, "C": 2}, "--groups", "5")
         self.assertEqual(sorted(self.sizes()), [("A", 4), ("A", 4), ("A", 4), ("B", 5), ("C", 2)])
         self.clean()
-        told = self.rooms({"A": 20, "B": 5}, "--groups", "2")
-        self.assertEqual(sorted(self.sizes()), [("A", 20), ("B", 5)])
-        self.assertIn("note: 16 sessions for 20 students and a teacher: more --groups give all a seat\n", told)
+        many = SEATS + 5
+        told = self.rooms({"A": many, "B": 5}, "--groups", "2")
+        self.assertEqual(sorted(self.sizes()), [("A", many), ("B", 5)])
+        self.assertIn(f"note: {SEATS + 1} sessions for {many} students and a teacher: with more --groups all have a seat\n", told)
         self.clean()
         refused = self.rooms({"A": 4, "B": 4}, "--groups", "1", status=1)
         self.assertRegex(refused, r"^class: --groups 1: by room there are 2 rooms: (A, B|B, A)\n$")
         refused = self.rooms({"A": 4, "": 1}, status=1)
-        self.assertEqual(refused, "class: --groups-by room: nothing stands there for Student  0\n")
+        self.assertEqual(refused, "class: --groups-by room: this column is empty for Student  0\n")
         self.assertEqual([*self.room.glob("lab*")], [])
 
     def test_several_labs_are_made_or_none(self) -> None:
@@ -253,8 +259,8 @@ class New(InRoom):
         self.assertIn("no column who", done.stderr)
 
     def test_no_lab(self) -> None:
-        for more in (["--family", "ring"], ["--family", "random:5:3"], ["--family", "grid:0x4"], ["--nodes", "300"],
-                     ["--events", "100001"], ["--family", "cycle", "--nodes", "2"]):
+        for more in (["--family", "ring"], ["--family", "random:5:3"], ["--family", "grid:0x4"], ["--nodes", str(MOST["nodes"] + 1)],
+                     ["--events", str(MOST["events"] + 1)], ["--family", "cycle", "--nodes", "2"]):
             self.new(*more, status=2 if "--events" in more else 1)
             self.assertEqual(list(self.room.glob("lab*")), [])
 

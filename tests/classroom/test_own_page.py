@@ -1,4 +1,5 @@
-"""The page of a student's own run: each denial at its moment with the part of the guard that failed, and each line at its place."""
+"""The page of a student's own run: each line is at its place, and each denial has the part of the guard that
+failed."""
 from __future__ import annotations
 
 import re
@@ -33,15 +34,15 @@ ITEM = re.compile(r'<li><a href="#p=(\d+)">([^<]*)</a>(.*?)</li>')
 
 
 def items(page: str) -> list[tuple[str, str, str]]:
-    """The place, the moment and the text of each entry beside a page's player."""
+    """Returns the place, the moment and the text of each entry beside the player."""
     return [(place, after, unescape(re.sub("<[^>]*>", "", rest))) for place, after, rest in ITEM.findall(page)]
 
 
 class Beginnings(unittest.TestCase):
-    """The lines by which a session begins: the record has them at the place of what the seat saw before."""
+    """The first lines of a session. The record has them at the place of the seat's last session."""
 
     def listed(self, *said: Entry) -> list[Said]:
-        """The rows of a session in a record, and those of a step after ten events and one after forty-one."""
+        """Returns the rows of a session, together with a step after ten events and one after forty-one."""
         part = Vouched(Path("record"), Path("copy"), 0, "ok")
         lines = rows_of([(part, [*said], {"gus"})], "gus", Hider({"heron-31"}, ["gus"]))
         return merged(lines, [Said(10, event="a step"), Said(41, event="another step")])
@@ -55,7 +56,8 @@ class Beginnings(unittest.TestCase):
         self.assertIn('\n  after 0 to 41, seat 3 > {"do":"hello","name":"gus","key":"***"}\n', text([], rows))
 
     def test_where_nothing_is_known_it_stays(self) -> None:
-        """A session with nothing else, one of nobody, and one whose first line came at once."""
+        """Three sessions: one that has only a beginning, one without a name, and one whose first line came at
+        once."""
         for said in ([Entry(3, 0, *HELLO), Entry(3, 0, mark=ENDED)], [Entry(3, 5, b"x", b'{"refuse":"malformed"}'), Entry(3, 5, mark=ENDED)],
                      [Entry(3, 0, *HELLO), Entry(3, 0, *MOVE), Entry(3, 41, mark=ENDED)]):
             rows = [row for row in self.listed(*said) if row.seat and not row.event]
@@ -64,7 +66,7 @@ class Beginnings(unittest.TestCase):
 
 
 class Reasons(unittest.TestCase):
-    """Which part of a guard failed, at its place in the journal."""
+    """The part of a guard that failed, at its place in the journal."""
 
     def test_each_denial_is_explained_at_its_moment(self) -> None:
         lab = labs.read(EXAMPLES / "built-in.toml")
@@ -80,7 +82,7 @@ class Reasons(unittest.TestCase):
 
 
 class Practised(InRoom):
-    """What `practise` and `grade` leave."""
+    """The pages that `practise` and `grade` make."""
 
     def test_practise_keeps_each_denial_with_its_reason(self) -> None:
         done = words("practise", f"python3 {FAULTY} marries-anyone", "--family", "path", "--nodes", "4", "--node", "1,2,3,4",
@@ -117,7 +119,7 @@ class Practised(InRoom):
 
 
 class Read(Played):
-    """The page in four windows, light and dark."""
+    """The page in four windows and both themes."""
 
     def test_the_page_can_be_read_and_leads_to_each_entry(self) -> None:
         self.addCleanup(resize, self.driver, None)
@@ -144,7 +146,7 @@ class Read(Played):
 
 @unittest.skipUnless(host(), "not tried: no host is built")
 class OfARun(Cycle):
-    """What a run leaves for each student."""
+    """The pages that a run makes for its students."""
 
     def test_each_student_has_a_page(self) -> None:
         from tests.classroom.test_history import Raw

@@ -1,4 +1,4 @@
-"""The page of a run that is going on, in a real browser."""
+"""The page of a running class, in a real browser."""
 from __future__ import annotations
 
 import base64
@@ -24,7 +24,7 @@ CYCLE = EXAMPLES / "cycle.toml"
 
 
 class Live(InRoom):
-    """Runs over the cycle of `examples/`, of which students are played here."""
+    """Runs over the cycle of `examples/`, in which the test plays students."""
 
     def setUp(self) -> None:
         super().setUp()
@@ -40,13 +40,13 @@ class Live(InRoom):
         self.open()
 
     def open(self) -> None:
-        """Opens the page anew."""
+        """Loads the page again."""
         self.driver.get("about:blank")
         self.driver.get(self.address)
         until(self.driver, is_ready)
 
     def find(self, name: str) -> None:
-        """Clicks on what has the name."""
+        """Clicks on the element with this name."""
         self.driver.find_element("id", name).click()
 
     def click_node(self, node: int) -> None:
@@ -54,13 +54,13 @@ class Live(InRoom):
         self.driver.find_element("css selector", f'#drawing .node[data-node="{node}"] .identifier').click()
 
     def fill_seconds(self, text: str) -> None:
-        """Types how many seconds pass between closings."""
+        """Types the seconds between closes."""
         seconds = self.driver.find_element("id", "seconds")
         seconds.clear()
         seconds.send_keys(text)
 
     def close_by(self, button: str, seconds: str = "") -> None:
-        """Chooses when steps are closed, and waits until the page says so."""
+        """Chooses when steps are closed, and waits until the page shows it."""
         if seconds:
             self.fill_seconds(seconds)
         self.find(button)
@@ -68,7 +68,7 @@ class Live(InRoom):
         until(self.driver, lambda driver: driver.find_element("id", "closes").get_attribute("data-closing") == wanted)
 
     def sees(self, event: str) -> Shown:
-        """Waits until the page's newest event is this one, after its place."""
+        """Waits until this is the newest event on the page. Returns the contents of the page."""
         until(self.driver, lambda driver: shown(driver)[2].partition(": ")[2] == event)
         return shown(self.driver)
 
@@ -83,7 +83,7 @@ class Live(InRoom):
             connection.close()
 
     def end(self) -> Path:
-        """Ends the run, whose last frame is what the page has shown; gives its folder."""
+        """Ends the run, and checks that its last frame is what the page showed. Returns its folder."""
         self.assertEqual(self.going.ended(), 0, self.going.lines)
         until(self.driver, lambda driver: "over" in driver.find_element("id", "connection").text)
         last = shown(self.driver)
@@ -164,7 +164,8 @@ class Live(InRoom):
         self.end()
 
     def test_the_end_is_asked_about(self) -> None:
-        """One click ends nothing; the question is answered by a key or a click, and the run ends even if it isn't stable."""
+        """One click ends nothing. The question is answered by a key or a click, and the run ends even if it isn't
+        stable."""
         self.begin()
         menu = self.driver.find_element("css selector", ".acts summary")
         for answer in ("go-on", "do-end"):
@@ -180,7 +181,8 @@ class Live(InRoom):
         self.assertEqual(self.going.ends(), 0, self.going.lines)
 
     def test_the_chart_has_a_bar_for_each_step(self) -> None:
-        """Also for a page that is opened later: how many could move, as the report said, and how many were chosen."""
+        """A bar shows how many nodes could move, from the report, and how many were chosen. A page that is opened
+        later has all bars too."""
         self.begin()
         gus = self.student("gus")
         gus.move(gus.look(4))
@@ -246,7 +248,7 @@ class Live(InRoom):
         self.end()
 
     def drawn(self) -> list[str]:
-        """Returns the lines of links that are drawn."""
+        """Returns the path data of all drawn links."""
         found: list[str] = self.driver.execute_script(
             "return [...document.querySelectorAll('g.links path, g.open path')]"
             ".flatMap((path) => (path.getAttribute('d') || '').split('M')).sort()"
@@ -386,7 +388,7 @@ class Live(InRoom):
 
 
 def hashed(text: str) -> str:
-    """Returns what a policy calls a text."""
+    """Returns the hash of a text in the form of a content policy."""
     return f"'sha256-{base64.b64encode(hashlib.sha256(text.encode()).digest()).decode()}'"
 
 

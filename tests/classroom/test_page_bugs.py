@@ -1,4 +1,4 @@
-"""Bugs of the player that were planted: each is seen by the test that is named beside it, which passes without it."""
+"""Bugs that are planted into the player. For each bug the named test fails, and it passes without the bug."""
 from __future__ import annotations
 
 import unittest
@@ -29,13 +29,13 @@ PLANTS = (
 
 
 def planted(of: type[Played], test: str, old: str, new: str) -> unittest.TestResult:
-    """Runs a test over pages in which a text is replaced by another one."""
+    """Runs a test over pages in which a text is replaced."""
 
     class Buggy(of):  # type: ignore[valid-type, misc]
-        """The same tests over other pages."""
+        """The same tests over changed pages."""
 
         def page(self, lab: Path, journal: Path) -> Path:
-            """A page with the bug."""
+            """Returns the page with the bug."""
             made: Path = super().page(lab, journal)
             text = made.read_text(encoding="utf-8")
             self.assertEqual(text.count(old), 1, old)
@@ -48,7 +48,7 @@ def planted(of: type[Played], test: str, old: str, new: str) -> unittest.TestRes
 
 
 class Bugs(unittest.TestCase):
-    """Each by itself."""
+    """One test for each bug."""
 
     def test_each_bug_is_seen(self) -> None:
         for bug, old, new, (of, test) in PLANTS:

@@ -1,4 +1,5 @@
-"""Parts of experiments and grades: the merged table is that of one run, byte for byte, also if GNU parallel runs the parts."""
+"""Parts of experiments and grades: the merged table is the same as that of one run, byte for byte, also with GNU
+parallel."""
 from __future__ import annotations
 
 import argparse
@@ -19,7 +20,7 @@ CALL = f"{shlex.quote(sys.executable)} {shlex.quote(str(TOP / 'class'))}"
 
 
 class Numbers(unittest.TestCase):
-    """Which of them a part has."""
+    """The items of a part."""
 
     def test_each_is_in_one_part(self) -> None:
         for count in (0, 1, 7, 20):
@@ -37,7 +38,7 @@ class Experiments(InRoom):
     """Tables of experiments."""
 
     def one_run(self) -> bytes:
-        """Returns the table that one run makes."""
+        """Returns the table of a single run."""
         whole = self.room / "whole.csv"
         done = words(*RUNS, "--csv", whole)
         self.assertEqual(done.returncode, 0, done.stderr)
@@ -54,11 +55,11 @@ class Experiments(InRoom):
         merged = self.room / "merged.csv"
         done = words(*RUNS, "--merge", *files[::-1], "--csv", merged)
         self.assertEqual((done.returncode, merged.read_bytes()), (0, whole), done.stderr)
-        self.assertIn("54 of 54 runs, all within what is proved", done.stdout)
+        self.assertIn("54 of 54 runs, all within the proved bounds", done.stdout)
         self.lacks_a_part(files)
 
     def lacks_a_part(self, files: list[Path]) -> None:
-        """Checks that a merge says what is missing, and refuses tables that differ or aren't there."""
+        """Checks that a merge names missing runs, and refuses tables that differ or don't exist."""
         done = words(*RUNS, "--merge", *files[:2], "--csv", self.room / "two.csv")
         self.assertEqual(done.returncode, 5)
         self.assertIn("36 of 54 runs, ", done.stdout)
@@ -68,12 +69,12 @@ class Experiments(InRoom):
         other = self.file("other.csv", "\n".join([text[0], ",".join(row)]) + "\n")
         said = words(*RUNS, "--merge", *files, other, "--csv", self.room / "differ.csv")
         self.assertEqual((said.returncode, said.stdout), (4, ""))
-        self.assertIn(f"{other}: another table has this run with other numbers: ", said.stderr)
+        self.assertIn(f"{other}: this run is in another table with different numbers: ", said.stderr)
         self.assertEqual(words(*RUNS, "--merge", self.room / "none.csv", "--csv", self.room / "x.csv").returncode, 4)
 
     @unittest.skipUnless(shutil.which("parallel"), "not tried: parallel")
     def test_gnu_parallel_spreads_the_parts(self) -> None:
-        """By the commands of docs/OPERATE.md, of which the first words are those of this test."""
+        """Runs the commands of docs/OPERATE.md, with the test's own programs as first words."""
         whole = self.one_run()
         shown = (TOP / "docs/OPERATE.md").read_text(encoding="utf-8")
         for line in ("parallel ./class experiment --runs 1000 --part {}/8 --csv part-{}.csv ::: $(seq 8)",
@@ -90,12 +91,12 @@ class Grades(InRoom):
     """Results of grades."""
 
     def results(self, file: Path, number: int, count: int) -> None:
-        """Writes the results of a part that was tried, without trying it."""
+        """Writes results for a part without running it."""
         every = json.loads((self.room / "whole.json").read_text(encoding="utf-8"))
         file.write_text(json.dumps(of(every, (number, count))), encoding="utf-8")
 
     def test_the_merged_results_are_those_of_one_run(self) -> None:
-        """Each part takes its own cases; the first one is tried, the others are taken from the whole."""
+        """Each part has its own cases. The first part is run, and the others are copied from the whole."""
         labs = self.room / "labs"
         labs.mkdir()
         (labs / "cycle.toml").write_bytes((EXAMPLES / "cycle.toml").read_bytes())
@@ -116,13 +117,14 @@ class Grades(InRoom):
         self.assertEqual((self.room / "all.scope").read_bytes(), (self.room / "whole.scope").read_bytes())
         lacking = words(*asked, "--merge", files[0])
         self.assertEqual(lacking.returncode, 5)
-        self.assertIn("class: 1 case without a result in any part: bot.py cycle central 1\n", lacking.stdout)
+        self.assertIn("class: no part has a result of 1 case: bot.py cycle central 1\n", lacking.stdout)
         other = words("grade", EXAMPLES / "bot.py", "--suite", "small", "--merge", *files)
         self.assertEqual(other.returncode, 4)
-        self.assertIn("is no case of this grade: the words have to be those of the parts", other.stderr)
+        self.assertIn("isn't a case of this command: name the same bots and options as for the parts", other.stderr)
 
     def same(self, file: Path) -> None:
-        """Replaces the results of a part by those of the whole: how many moves a case takes depends on the time."""
+        """Replaces the results of a part by those of the whole, because the number of moves in a case depends on
+        the time."""
         one, = json.loads(file.read_text(encoding="utf-8"))
         every = json.loads((self.room / "whole.json").read_text(encoding="utf-8"))
         own, = (case for case in every if case["daemon"] == one["daemon"])

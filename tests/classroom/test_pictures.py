@@ -1,4 +1,4 @@
-"""Pictures outside a browser: drawings and charts as `rsvg-convert` renders them, compared by how many of their points have a
+"""Pictures outside a browser: `rsvg-convert` renders drawings and charts, and the tests count the pixels of each
 colour."""
 from __future__ import annotations
 
@@ -22,7 +22,8 @@ BYTES = {2: 3, 6: 4}  # of a point by the kind of PNG: red, green, blue, and per
 
 
 def unfiltered(kind: int, row: bytes, above: bytes, step: int) -> bytes:
-    """Returns a row's bytes, as a PNG has them: from what stands to the left, `step` bytes before, and above."""
+    """Returns the bytes of a row of a PNG after undoing its filter. It needs the pixel to the left, `step` bytes
+    before, and the row above."""
     if kind == 0:
         return row
     if kind == 2:
@@ -43,7 +44,7 @@ def unfiltered(kind: int, row: bytes, above: bytes, step: int) -> bytes:
 
 
 def colours_of(png: bytes) -> Counter[str]:
-    """Returns how many points of a picture have each colour."""
+    """Returns the number of pixels of each colour in a PNG."""
     wide, high, depth, kind, _, _, interlaced = struct.unpack(">IIBBBBB", png[16:29])
     assert depth == 8 and kind in BYTES and not interlaced, "another kind of PNG"
     data, at = b"", 8
@@ -61,23 +62,23 @@ def colours_of(png: bytes) -> Counter[str]:
 
 
 def rendered(picture: Path) -> Counter[str]:
-    """Returns how many points of a drawing have each colour, in a program that is no browser."""
+    """Returns the number of pixels of each colour in a rendered drawing."""
     done = subprocess.run([RENDERER, "--width", "1000", "--keep-aspect-ratio", picture], capture_output=True, check=False, timeout=LIMIT)
     assert done.returncode == 0, done.stderr
     return colours_of(done.stdout)
 
 
 def alike(found: Counter[str], colour: str) -> int:
-    """Returns how many points have a colour, or nearly so: what is thin is mixed with what is beside it."""
+    """Returns the number of pixels with nearly this colour, since thin lines are mixed with their surroundings."""
     wanted = bytes.fromhex(colour[1:])
     return sum(count for other, count in found.items() if math.dist(wanted, bytes.fromhex(other[1:])) < NEAR)
 
 
 class Pictures(InRoom):
-    """What `--svg` and `--plot` write."""
+    """The files that `--svg` and `--plot` write."""
 
     def has(self, picture: Path, *names: str, theme: str = colours.LIGHT) -> None:
-        """Checks for these colours in a picture, whose ground is that of a page in this theme."""
+        """Checks that a picture has these colours, and the background of a page in this theme."""
         self.assertNotIn("var(", picture.read_text(encoding="utf-8"))
         found = rendered(picture)
         self.assertEqual(found.most_common(1)[0][0], colours.value("--ground", theme), picture)
@@ -86,7 +87,7 @@ class Pictures(InRoom):
         self.assertLess(found["#000000"], found.total() / 100, picture)
 
     def drawn(self, lab: Path, journal: Path, places: str, *more: str) -> Path:
-        """Returns a picture of these places."""
+        """Writes a picture of these places, and returns its path."""
         output = self.room / f"{lab.stem}-{places.replace(',', '-')}.svg"
         done = words("play", lab, journal, "--svg", places, "-o", output, *more)
         self.assertEqual(done.returncode, 0, done.stderr)
@@ -115,7 +116,7 @@ class Pictures(InRoom):
             self.has(plot, "--can", "--wed", "--point", "--hit", "--quiet", theme=theme)
 
     def test_colours_are_those_of_a_page(self) -> None:
-        """What a style sets and a picture has is the same, whichever rule is looked at."""
+        """Each colour that the style sets and a picture uses is the same in both."""
         page = colours.STYLE.read_text(encoding="utf-8")
         used = set(re.findall(r"var\((--[a-z]+)\)", page))
         for theme in colours.THEMES:

@@ -22,14 +22,14 @@ HEADER = "return arguments[0].map((name) => document.getElementById(name).textCo
 
 
 def header(state: State) -> list[str]:
-    """What a page's header has to say of a state, which is as the program's report has it."""
+    """Returns the expected header of the page for a state, by the program's report."""
     can, pairs = len(state.privileged), len(state.pairs)
     told_state = "At rest" if state.stable else f"{can} node{'' if can == 1 else 's'} can move"
     return [told_state, f"{pairs} pair{'' if pairs == 1 else 's'}", str(state.number), str(state.since)]
 
 
 class Play(Played):
-    """Runs that are short enough to be gone through step by step."""
+    """Runs that are short enough to be checked step by step."""
 
     def test_each_configuration_by_keys(self) -> None:
         for lab, journal in (edited_run(self.room), *examples(self.room)):
@@ -145,12 +145,12 @@ class Play(Played):
 
 
 def attributes(picture: Path) -> tuple[dict[str, str], list[dict[str, str]]]:
-    """Returns what stands in an SVG file as data."""
+    """Returns the data attributes in an SVG file."""
     return attributes_of(ElementTree.parse(picture).getroot())
 
 
 def attributes_of(root: ElementTree.Element) -> tuple[dict[str, str], list[dict[str, str]]]:
-    """Returns what stands in a drawing as data."""
+    """Returns the data attributes in a drawing."""
     groups: list[Any] = [group for group in root.iter() if (group.get("class") or "").split(" ")[0] == "node"]
     nodes = [{name[5:]: value for name, value in group.items() if name.startswith("data-")} for group in groups]
     data = {name[5:]: value for name, value in root.items() if name.startswith("data-")}

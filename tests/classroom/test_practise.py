@@ -20,15 +20,15 @@ FAULTY = TOP / "tests/classroom/bots/faulty.py"
 
 
 class Practise(InRoom):
-    """The word."""
+    """The subcommand."""
 
     def practises(self, *given: str | Path) -> subprocess.CompletedProcess[str]:
-        """Calls it to its end."""
+        """Runs `practise` to its end."""
         return words("practise", *given, "--into", self.room / "runs")
 
     def folder(self, output: str) -> Path:
-        """Returns the folder of a run that is over."""
-        found = re.search(r"(?m)^page: (\S+)/run.html; what was said: (\S+)$", output)
+        """Returns the folder of an ended run, from its output."""
+        found = re.search(r"(?m)^page: (\S+)/run.html; all lines and replies: (\S+)$", output)
         assert found is not None, output
         return Path(found[1])
 
@@ -64,7 +64,8 @@ class Practise(InRoom):
         self.assertRegex(done.stdout, r"\nyou: \d+ moves \(update, marriage, seduction, abandonment\), \d+ denials?( \(.*\))?\n$")
 
     def test_a_page_to_play_by(self) -> None:
-        """The page's server asks what a program would, and gets the same answers. The class ends when the page played it to its end."""
+        """The page's server sends the same requests as a program and gets the same replies. The class ends when
+        the page has played it to its end."""
         self.assertIn("--page is for playing by hand", self.practises(EXAMPLES / "bot.py", "--page").stderr)
         going = subprocess.Popen(
             [sys.executable, TOP / "class", "practise", "--page", "--family", "path", "--nodes", "2", "--node", "1,2", "--start", "clean",
@@ -87,7 +88,7 @@ class Practise(InRoom):
         self.assertEqual(going.wait(LIMIT), 0)
 
     def move(self, address: str, asked: dict[str, object]) -> str:
-        """Asks the page's server for a move. Returns what is replied."""
+        """Asks the page's server for a move. Returns the reply."""
         parts = urlsplit(address)
         connection = http.client.HTTPConnection("127.0.0.1", parts.port or 0, timeout=LIMIT)
         with contextlib.closing(connection):
@@ -98,13 +99,13 @@ class Practise(InRoom):
     def test_what_a_program_did_is_told_last(self) -> None:
         done = self.practises(f"python3 {FAULTY} floods", "--family", "path", "--nodes", "2", "--node", "1", "--start", "clean")
         self.assertEqual(done.returncode, 0, done.stdout + done.stderr)
-        self.assertRegex(done.stdout, r"\nyou: 2 moves \(update, seduction\), \d+ denials?.*; never asked: marriage, abandonment"
-                                      r"(; it floods: line after line .*)?\n$")
+        self.assertRegex(done.stdout, r"\nyou: 2 moves \(update, seduction\), \d+ denials?.*; it never asked for: marriage, abandonment"
+                                      r"(; it floods the server: it sends line after line .*)?\n$")
 
     def test_floods_are_told(self) -> None:
         done = self.practises(f"python3 {FAULTY} floods", "--family", "path", "--nodes", "3", "--node", "1", "--daemon", "by-hand", "--timeout", "10")
         self.assertEqual(done.returncode, 5, done.stdout + done.stderr)
-        self.assertIn("; it floods: line after line without a pause; a bot waits when it has looked at its nodes\n", done.stdout)
+        self.assertIn("; it floods the server: it sends line after line without a pause; a bot waits when it has looked at its nodes\n", done.stdout)
 
     def test_what_is_malformed_is_told_once_and_counted(self) -> None:
         done = self.practises(f"python3 {FAULTY} quotes-numbers", "--nodes", "3")
@@ -112,7 +113,7 @@ class Practise(InRoom):
         lines = [line for line in done.stdout.splitlines() if "malformed" in line]
         self.assertEqual(len(lines), 3, lines)
         self.assertRegex(lines[0], r'^you: malformed: node is a string, not a number \(write \d, without quotes\): {"do": "look", "node": "\d"}$')
-        self.assertEqual(lines[1], "you: 10 times by now: malformed: node is a string, not a number")
+        self.assertEqual(lines[1], "you: 10 times so far: malformed: node is a string, not a number")
         self.assertIn(", 30 malformed lines", lines[2])
 
     def test_denials_of_a_kind_are_told_once_and_counted(self) -> None:
@@ -121,26 +122,26 @@ class Practise(InRoom):
         lines = [line for line in done.stdout.splitlines() if "stale" in line]
         self.assertGreater(len(re.findall("(?m)^configuration ", done.stdout)), 2, "the number was the same for all of them")
         self.assertRegex(lines[0], r"^you: move \d \w+.* is denied as stale, clause 2: this is not the current configuration; "
-                                   r"it was asked under \d+, and the number is \d+$")
+                                   r"it was asked with `at` \d+, and the current number is \d+$")
         told = re.fullmatch(r"you: .*, \d+ denials? \(.*?(\d+) stale.*", lines[-1])
         assert told is not None, lines
         self.assertGreater(int(told[1]), 2)
         counts = [10 ** power for power in range(1, len(told[1]))]
-        self.assertEqual(lines[1:-1], [f"you: {count} times by now: move is denied as stale, clause 2" for count in counts])
+        self.assertEqual(lines[1:-1], [f"you: {count} times so far: move is denied as stale, clause 2" for count in counts])
 
     def test_a_program_that_never_connects_is_told_from_one_that_is_silent(self) -> None:
         done = self.practises(f"python3 {FAULTY} pretends", "--timeout", "1")
         self.assertEqual(done.returncode, 5, done.stdout + done.stderr)
         self.assertRegex(done.stdout, r"(?m)^it hangs: the class waits for \d \(you\): .*; you: it never connected to port \d+; "
                                       r'the plain model, which decides nothing, adds: a right bot would send {"at":1?\d,"do":"move",.*}$')
-        self.assertTrue(done.stdout.endswith("\nyou: 0 moves, 0 denials; never asked: update, marriage, seduction, abandonment\n"), done.stdout)
+        self.assertTrue(done.stdout.endswith("\nyou: 0 moves, 0 denials; it never asked for: update, marriage, seduction, abandonment\n"), done.stdout)
 
     def test_no_program_goes_on_while_record_and_page_are_made(self) -> None:
-        """These may take long, and nobody would answer it."""
+        """These may take long, and nobody would answer a program meanwhile."""
         given = ["practise", f"python3 {FAULTY} right", "--nodes", "3", "--into", str(self.room / "runs")]
         code = ("import sys; from classroom import words; from classroom.bots import bots, practise; kept = []; began = bots.Kept.__init__\n"
                 "bots.Kept.__init__ = lambda self, *given: (kept.append(self), began(self, *given))[1]\n"
-                "practise.leave = lambda *_: print('ended', [each.process.poll() is not None for each in kept])\n"
+                "practise.write_run = lambda *_: print('ended', [each.process.poll() is not None for each in kept])\n"
                 "sys.exit(words.main(sys.argv[1:]))")
         done = subprocess.run([sys.executable, "-c", code, *given], cwd=TOP, capture_output=True, text=True, check=False, timeout=LIMIT)
         self.assertEqual(done.returncode, 0, done.stdout + done.stderr)
@@ -198,7 +199,7 @@ class Practise(InRoom):
             (("no-such-program",), "no-such-program: there is no such program"),
             ((EXAMPLES / "bot.py", "--node", "9"), "--node 9: the nodes are 1 to 7"),
             ((EXAMPLES / "bot.py", "--family", "ring"), "no family ring"),
-            ((EXAMPLES / "bot.py", "--daemon", "fair"), "fair is none of central, "),
+            ((EXAMPLES / "bot.py", "--daemon", "fair"), "fair isn't one of central, "),
         )
         for given, why in rows:
             done = self.practises(*given)

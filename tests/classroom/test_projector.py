@@ -1,4 +1,5 @@
-"""What serves pages, without a browser: errors are printed, and news cost no more the longer a run goes on."""
+"""The server of live pages without a browser: errors are printed, and the cost of events doesn't grow during a
+run."""
 from __future__ import annotations
 
 import contextlib
@@ -22,12 +23,12 @@ LAB = TOP / "examples/cycle.toml"
 
 
 def beginning(lab: labs.Lab) -> State:
-    """Returns a state in which nothing was done."""
+    """Returns the state before any event."""
     return State(0, 0, frozenset(map(labs.ordered, lab.links)), {node.id: None for node in lab.nodes}, {node.id: False for node in lab.nodes})
 
 
 class Served(unittest.TestCase):
-    """Pages of a run that is none."""
+    """Pages without a run."""
 
     def setUp(self) -> None:
         self.lab = labs.read(LAB)
@@ -35,14 +36,14 @@ class Served(unittest.TestCase):
         self.told: list[str] = []
 
     def opened(self, port: int = 20000) -> projector.Pages:
-        """Pages that are served."""
+        """Starts the server of the pages."""
         pages = projector.open_pages(port, "cycle, today", self.lab, queue.SimpleQueue())
         self.addCleanup(pages.stop)
         pages.show(self.present, self.told.append)
         return pages
 
     def ask(self, pages: projector.Pages) -> int:
-        """Returns the status of the page, or 0 if no answer comes."""
+        """Returns the status of the page, or 0 if there is no answer."""
         connection = http.client.HTTPConnection("127.0.0.1", pages.server_port, timeout=60)
         with contextlib.closing(connection):
             try:

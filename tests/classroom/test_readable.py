@@ -1,4 +1,4 @@
-"""That the player can be read: the contrast of its texts in both themes, what colours mean, and what it prints."""
+"""The player is readable: the contrast of its texts in both themes, the meaning of colours, and its print."""
 from __future__ import annotations
 
 import base64
@@ -7,7 +7,7 @@ import unittest
 import zlib
 
 from classroom.core.lab import read
-from tests.classroom.browser import Played, pale, show_as
+from tests.classroom.browser import Played, pale, settle, show_as
 from tests.classroom.runs import edited_run, examples, many_owners
 
 # The name that is seen beside each node, if any.
@@ -62,7 +62,8 @@ class Readable(Played):
             self.assertEqual(len(set(grounds)), 2)
 
     def test_owners_are_told_as_text(self) -> None:
-        """By a name beside the node, which may be cut; and whole in the node's own story, however many nodes there are."""
+        """The name beside a node may be cut, but the description of the node has it in full, however many nodes
+        there are."""
         for nodes in (8, 60):
             lab_file = many_owners(self.room, nodes)
             journal = self.room / "none.journal"
@@ -97,18 +98,20 @@ class Readable(Played):
         printed = []
         for theme in ("light", "dark"):
             show_as(self.driver, theme, "print")
+            settle(self.driver)
             count, faint = pale(self.driver, on_paper=True)
             self.assertGreater(count, 40)
             self.assertEqual(faint, [], theme)
             self.assertFalse(self.driver.find_element("id", "play").is_displayed())
             self.assertTrue(self.driver.find_element("class name", "legend").is_displayed())
             show_as(self.driver, theme)
+            settle(self.driver)
             printed.append(self.drawn(self.driver.execute_cdp_cmd("Page.printToPDF", {"printBackground": False})["data"]))
         self.assertEqual(printed[0], printed[1])
         self.assertGreater(len(b"".join(printed[0])), 5000)
 
     def drawn(self, document: str) -> list[bytes]:
-        """Returns what a PDF draws: its streams of graphics."""
+        """Returns the graphics streams of a PDF."""
         found = []
         for stream in re.findall(rb"stream\r?\n(.*?)\r?\nendstream", base64.b64decode(document), re.DOTALL):
             try:

@@ -1,4 +1,4 @@
-"""A class goes on from its journal after a kill: `./class run --resume`."""
+"""A class continues from its journal after a kill: `./class run --resume`."""
 from __future__ import annotations
 
 import json
@@ -24,7 +24,7 @@ KILLS = 10  # of each kind at random points; hosts alone are killed more often b
 
 
 class Players:
-    """The students of the cycle, and a teacher beside the desk who disturbs them, as one thread plays them."""
+    """The students of the cycle and a second teacher who disturbs them, played by one thread."""
 
     def __init__(self, port: int, disturbs: bool = True) -> None:
         self.port, self.disturbs = port, disturbs
@@ -33,7 +33,7 @@ class Players:
         self.thread.start()
 
     def play(self) -> None:
-        """Plays until the server is gone, or it is over."""
+        """Plays until the server is gone, or the class is over."""
         lab = read(CYCLE)
         clients: dict[str, Client] = {}
         try:
@@ -47,7 +47,7 @@ class Players:
             client.hang_up()
 
     def turn(self, nodes: list[Node], students: dict[str, Client], teacher: Client) -> None:
-        """Each node's enabled move is asked for, and where there is none a fault."""
+        """Asks for the enabled move of each node. The teacher causes a fault at a node without one."""
         is_idle = True
         for node in nodes:
             student = students[node.owners[0]]
@@ -62,7 +62,7 @@ class Players:
             self.told = teacher.fault(1, None, True).place
 
     def ended(self) -> int:
-        """Ends it, and returns the greatest place that was reported."""
+        """Ends the thread. Returns the greatest place in a reply."""
         self.over.set()
         self.thread.join()
         return self.told
@@ -73,7 +73,7 @@ class Resume(Cycle):
     """Runs over the cycle of `examples/`."""
 
     def killed(self, going: Going, what: str, number: int = 0) -> None:
-        """Kills the server, or `run` before it."""
+        """Kills the server, or `run` first."""
         server = Process.of(number or going.server())
         if what != "host":
             going.process.kill()
@@ -86,7 +86,8 @@ class Resume(Cycle):
             pass
 
     def counted(self, folder: Path) -> dict[str, int]:
-        """Returns how many moves of each student the journal's closes applied, counted by hand."""
+        """Returns the number of moves of each student that the journal's closes applied, counted by the test
+        itself."""
         chosen: dict[str, str] = {}
         applied: Counter[str] = Counter()
         for line in (folder / "journal").read_text(encoding="ascii").splitlines():
@@ -101,7 +102,7 @@ class Resume(Cycle):
         return dict(applied)
 
     def marks(self, folder: Path) -> dict[str, int]:
-        """Returns how many moves of each student were applied, by the folder's marks."""
+        """Returns the number of applied moves of each student, from the marks in the folder."""
         students = json.loads((folder / "marks.json").read_text(encoding="utf-8"))["runs"][0]["students"]
         return {name: total for name, it in students.items() if (total := sum(it["applied"].values()))}
 
@@ -133,8 +134,8 @@ class Resume(Cycle):
                 self.assertEqual(len({line.partition(":")[0] for line in told}), len(told), told)
 
     def test_kills_at_random_points(self) -> None:
-        """`run` is killed, or both, ten times each: the desk is taken, or the journal gone on from, and nothing reported is
-        lost."""
+        """`run` or both processes are killed, ten times each. The desk is taken over, or the journal is resumed.
+        No event in a reply is lost."""
         lab = self.file("cycle.toml", re.sub(r"(?m)^events = \d+", "events = 100000", CYCLE.read_text(encoding="utf-8")))
         chance = random.Random(47)
         kinds = ["run", "run and host"] * KILLS
@@ -169,7 +170,8 @@ class Resume(Cycle):
         self.assertEqual(len(set(numbers)), len(numbers))
 
     def limited(self, kilobytes: int) -> Path:
-        """Returns a host whose files take so many kilobytes, its copy of the lab too: to it, the disk is full then."""
+        """Returns a host whose files are limited to this many kilobytes, including its copy of the lab. For the
+        host this is a full disk."""
         limited = self.file("host", f'#!/bin/bash\ntrap "" XFSZ\nulimit -f {kilobytes}\nexec "{host()}" "$@"\n')
         limited.chmod(0o755)
         return limited
@@ -258,7 +260,7 @@ class Resume(Cycle):
         before = {file.name: file.read_bytes() for file in folder.iterdir() if file.is_file()}
         done = words("run", "--resume", folder)
         self.assertEqual((done.returncode, done.stdout, done.stderr),
-                         (1, "", f"class: {folder}: this run was ended; --again opens it again, and makes its audit, page and marks anew\n"))
+                         (1, "", f"class: {folder}: this run was ended; with --again it is continued, and its audit, page and marks are made again\n"))
         self.assertEqual({file.name: file.read_bytes() for file in folder.iterdir() if file.is_file()}, before)
         again = Going(self, None, "run", "--resume", folder, "--again")
         self.assertIn("the class goes on at configuration 1, events 1 of 1000", again.lines)
@@ -266,7 +268,7 @@ class Resume(Cycle):
         self.assertEqual(again.ends(), 4, again.lines)
         again = Going(self, None, "run", "--resume", folder)  # It is open, and its server died.
         self.assertEqual(again.ended(), 0, again.lines)
-        self.assertEqual(words("run", CYCLE, "--again").stderr, "class: run: --again is for --resume FOLDER\n")
+        self.assertEqual(words("run", CYCLE, "--again").stderr, "class: run: --again needs --resume FOLDER\n")
 
     def test_a_torn_line_and_another_lab(self) -> None:
         going = Going(self, CYCLE, "--close", "by-hand")
@@ -284,7 +286,7 @@ class Resume(Cycle):
         kept.write_text(text, encoding="utf-8")
         again = Going(self, None, "run", "--resume", going.folder)
         self.assertIn("the class goes on at configuration 1, events 1 of 1000", again.lines)
-        self.assertRegex(words("run", "--resume", going.folder).stderr, f"its run goes on: {CLASS} attach ")
+        self.assertRegex(words("run", "--resume", going.folder).stderr, f"its run is still going on: {CLASS} attach ")
         self.assertEqual(again.ended(), 0, again.lines)
         self.assertEqual(call("audit", kept, going.folder / "journal").status, 0)
 
@@ -292,7 +294,7 @@ class Resume(Cycle):
         both: list[str | Path] = [CYCLE, "--resume", self.room]
         for asked in (both[:0], both):
             done = words("run", *asked)
-            self.assertEqual((done.returncode, done.stderr), (1, "class: run: a LAB or several, or --resume FOLDER\n"))
+            self.assertEqual((done.returncode, done.stderr), (1, "class: run: name a LAB or several, or --resume FOLDER\n"))
         self.assertEqual(words("run", "--resume", self.room).returncode, 1)
 
 

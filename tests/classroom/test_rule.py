@@ -1,4 +1,4 @@
-"""Rules by which marks become a grade: what they give, their errors, and their columns in each form of the marks."""
+"""Rules that turn marks into grades: their results, their errors, and their columns in all forms of the marks."""
 from __future__ import annotations
 
 import csv
@@ -18,12 +18,12 @@ ROW: dict[str, Value] = {"applied": Fraction(7), "nodes": Fraction(2), "student"
 
 
 def value(expression: str) -> str:
-    """Returns what an expression gives for the row above."""
+    """Returns the value of an expression for the row above."""
     return parsed(Path("rule"), [f"x = {expression}"], list(ROW)).values(ROW)[0]
 
 
 class Expressions(unittest.TestCase):
-    """What expressions give."""
+    """The values of expressions."""
 
     def test_values(self) -> None:
         for expression, wanted in (
@@ -53,17 +53,17 @@ class Expressions(unittest.TestCase):
     def test_each_error_is_a_line(self) -> None:
         deep = "(" * (MOST_DEPTH + 1) + "1" + ")" * (MOST_DEPTH + 1)
         for text, error in (
-            ("pass", "it isn't NAME = EXPRESSION"), ("= 1", "it isn't NAME = EXPRESSION"), ("pass =", "it isn't NAME = EXPRESSION"),
-            ("1 = 2", "it isn't NAME = EXPRESSION"), ("pass == 1", "it isn't NAME = EXPRESSION"), ("x = 1 +", "it ends too early"),
+            ("pass", "write NAME = EXPRESSION"), ("= 1", "write NAME = EXPRESSION"), ("pass =", "write NAME = EXPRESSION"),
+            ("1 = 2", "write NAME = EXPRESSION"), ("pass == 1", "write NAME = EXPRESSION"), ("x = 1 +", "it ends too early"),
             ("x = (1", ") is expected at the end"), ("x = (1 2", ") is expected before 2"), ("x = 1 2", "2 isn't expected here"),
             ("x = and", "and isn't expected here"), ("x = )", ") isn't expected here"), ("x = 1 if true", "else is expected at the end"),
             ("x = aplied", "no column aplied; mark --columns prints them"), ("applied = 1", "applied is a column, an earlier line or a word of rules already"),
             ("min = 1", "min is a column, an earlier line or a word of rules already"), ("x = 1 < 2 < 3", "one comparison at a time: a < b and b < c"),
-            ("x = __import__('os')", "no column __import__; mark --columns prints them"), ("x = applied.real", ". is no part of a rule"),
-            ("x = 1 ** 2", "* isn't expected here"), ("x = [1]", "[ is no part of a rule"), ("x = 'a", "' is no part of a rule"),
+            ("x = __import__('os')", "no column __import__; mark --columns prints them"), ("x = applied.real", ". can't be used in a rule"),
+            ("x = 1 ** 2", "* isn't expected here"), ("x = [1]", "[ can't be used in a rule"), ("x = 'a", "' can't be used in a rule"),
             ("x = 1234567890123", "1234567890123 has more than 12 digits"), ("x = round(1, 2)", "round takes one number"),
             ("x = min()", ") isn't expected here"), (f"x = {deep}", f"it is nested more than {MOST_DEPTH} deep"),
-            ("x = e\u0301", "e\u0301"[1] + " is no part of a rule"),
+            ("x = e\u0301", "e\u0301"[1] + " can't be used in a rule"),
         ):
             with self.assertRaises(Fault) as fault:
                 parsed(Path("rule"), ["", text], list(ROW))
@@ -127,7 +127,7 @@ class InMarks(InRoom):
         totals = csv.reader(io.StringIO(words("mark", "--total", self.lab, self.journal).stdout)).__next__()
         self.assertLessEqual({*heads, *totals} - {"id"}, {*names})
         self.assertLessEqual({*columns.for_rules(True), *columns.for_rules(False)}, {*names})
-        self.assertEqual(words("mark").stderr, "class: mark: the folders of runs or of classes, or a lab and its journals\n")
+        self.assertEqual(words("mark").stderr, "class: mark: name folders of runs or of classes, or a lab and its journals\n")
 
 
 if __name__ == "__main__":

@@ -1,4 +1,4 @@
-"""`./class run` and `demo`, and the programs that take part, over the built program."""
+"""`./class run` and `demo` with the built program, and the programs that take part."""
 from __future__ import annotations
 
 import shutil
@@ -51,7 +51,7 @@ class Run(Cycle):
         going.type("dance")
         going.until("^not understood; words: close, fault NODE")
         going.type("fault 1 7 yes")
-        going.until(r"^not understood; it is fault NODE NEIGHBOUR\|null true\|false$")
+        going.until(r"^not understood; write fault NODE NEIGHBOUR\|null true\|false$")
         going.type("report")
         going.until(r"^configuration \d+, not stable: .*privileged .*\((seduction|abandonment|marriage|update)\)")
         going.type("link 1 1")
@@ -92,7 +92,7 @@ class Run(Cycle):
         self.assertFalse((self.room / "runs").exists())
 
     def test_no_host_built(self) -> None:
-        """A run wants a host, and says how to get one; who wants a server for a number of connections says so."""
+        """Without a host, a run fails with a message about how to build one. With `--serve` it needs none."""
         none = str(self.room / "none")
         asked: tuple[list[str | Path], ...] = (["run", CYCLE], ["demo"])
         for given in asked:

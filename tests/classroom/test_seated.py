@@ -1,4 +1,4 @@
-"""Somebody else is at the desk before the class is begun, gone on with or taken over."""
+"""Another program is at the desk before a class is begun, resumed or taken over."""
 from __future__ import annotations
 
 import json
@@ -37,7 +37,8 @@ PATIENT = 30.0  # seconds in which somebody comes to a desk that listens, on a s
 
 
 def relay(lines: int, what: str, told: str) -> None:
-    """Hands on what a host prints, and keeps in a file what became of the desk before its first line was handed on."""
+    """Passes on the output of a host, and writes into a file what happened at the desk before its first line was
+    passed on."""
     with open(lines, "rb") as host_lines:
         first = host_lines.readline()
         words = first.decode().split()
@@ -51,7 +52,7 @@ def relay(lines: int, what: str, told: str) -> None:
 
 
 def seated(desk: int) -> str:
-    """Greets at a desk as a student, and stays. Returns what the student was answered."""
+    """Greets at a desk as a student, and stays. Returns the reply."""
     it = socket.create_connection(("127.0.0.1", desk), LIMIT)
     it.sendall(json.dumps({"do": "hello", "name": "gus", "key": KEYS["gus"]}).encode() + b"\n")
     reply = it.makefile("rb").readline().decode()
@@ -60,7 +61,7 @@ def seated(desk: int) -> str:
 
 
 def knocked(desk: int) -> str:
-    """Waits until somebody has come to a desk. Returns whether somebody has."""
+    """Waits until another connection has come to a desk. Returns whether one has."""
     end = time.monotonic() + PATIENT
     while time.monotonic() < end:
         if any(own == desk and state == ESTABLISHED for own, _, state, _ in rows()):
@@ -74,18 +75,18 @@ class Seated(Cycle):
     """Runs over the cycle of `examples/`."""
 
     def relayed(self, what: str) -> str:
-        """Returns a host whose first line is printed after that was done."""
+        """Returns a host whose first line is delayed until `what` was done at its desk."""
         text = RELAY.format(top=str(TOP), host=str(host()), what=what, told=str(self.room / "told"))
         it = self.file("relayed", text)
         it.chmod(0o755)
         return str(it)
 
     def told(self) -> str:
-        """Returns what became of the desk before the first line was printed."""
+        """Returns what happened at the desk before the first line was printed."""
         return (self.room / "told").read_text(encoding="utf-8")
 
     def killed(self) -> tuple[Going, Record]:
-        """Returns a run that was killed after a fault, and its record; its server lives."""
+        """Returns a run that was killed after a fault, and its record. Its server is still running."""
         going = Going(self, CYCLE, "--close", "by-hand")
         going.type("fault 1 2 true")
         going.until("^configuration 1: fault at node 1: p 2, m true")
@@ -98,12 +99,12 @@ class Seated(Cycle):
         return going, record
 
     def end(self, server: Process) -> None:
-        """Ends a server that a test has left."""
+        """Ends a server that a test has left running."""
         if server.lives():
             os.kill(server.number, signal.SIGKILL)
 
     def goes_on(self, going: Going, events: int) -> None:
-        """Checks for a class that works, and ends well."""
+        """Checks that a class works, and ends well."""
         with Client(going.port, "hana", KEYS["hana"]) as hana:
             hana.look(read(CYCLE).nodes_of("hana")[0])
         going.type("link 1 3")
@@ -138,19 +139,20 @@ class Seated(Cycle):
         self.goes_on(again, 1)
 
     def attached(self, going: Going, record: Record) -> tuple[Going, Client]:
-        """Returns an `attach` that waits for the desk, which another program of the teacher's has."""
+        """Starts an `attach` that has to wait, because another connection of the teacher has the desk. Returns
+        both."""
         tess = Client(record.desk, *TESS)
         self.addCleanup(tess.hang_up)
-        again = Going(self, None, "attach", going.folder, ready="^somebody else has the desk; it is tried again for a minute$")
+        again = Going(self, None, "attach", going.folder, ready="^another process is connected to the desk; trying again for a minute$")
         return again, tess
 
     def test_the_teacher_at_the_desk_is_waited_for(self) -> None:
         going, record = self.killed()
         again, tess = self.attached(going, record)
         tess.hang_up()
-        again.until("^the desk is held$")
+        again.until("^the desk is connected$")
         again.until("^words: ")
-        self.assertEqual(sum("is tried again" in line for line in again.lines), 1, again.lines)
+        self.assertEqual(sum("trying again" in line for line in again.lines), 1, again.lines)
         self.goes_on(again, 1)
 
     def test_a_server_that_was_found_is_not_ended(self) -> None:
@@ -160,8 +162,8 @@ class Seated(Cycle):
         self.assertEqual(again.ends(), 4, again.lines)
         self.assertEqual(again.lines[-2:], [
             "the server: busy: all seats are taken; come again later",
-            f"the server is left to itself, process {record.server.number}: while it goes on, {CLASS} attach {going.folder} takes its desk; "
-            f"then {CLASS} mark prints the marks",
+            f"the server keeps running without a desk, process {record.server.number}: while it runs, {CLASS} attach {going.folder} connects to its "
+            f"desk; after that, {CLASS} mark prints the marks",
         ])
         self.assertTrue(record.server.lives())
         self.assertTrue(tess.fault(2, None, True).place)
@@ -187,7 +189,7 @@ class Seated(Cycle):
         self.goes_on(again, 1)
 
     def test_the_desk_listens_first(self) -> None:
-        """A host's students' port listens once somebody has come to the desk, or after a second."""
+        """The students' port of a host listens only after a connection at the desk, or after a second."""
         port, desk = a_port(), a_port()
         words: list[str | Path | None] = [host(), "host", CYCLE, str(port), str(desk)]
         it = subprocess.Popen([word for word in words if word], stdout=subprocess.DEVNULL)

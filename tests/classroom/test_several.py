@@ -1,4 +1,4 @@
-"""A class of several networks: one desk, one folder, a killed host that others don't notice, and its words."""
+"""A class of several networks: one desk, one folder, a killed host that the others don't notice, and its commands."""
 from __future__ import annotations
 
 import json
@@ -22,7 +22,7 @@ NAMES = ["maths-1", "maths-2", "close"]
 
 
 class Lines(unittest.TestCase):
-    """Lines that are typed at the desk of a class, and tables that it prints."""
+    """Typed lines at the desk of a class, and its tables."""
 
     def test_which_networks_a_line_is_for(self) -> None:
         every = [0, 1, 2]
@@ -94,14 +94,14 @@ class OneDesk(Classes):
         self.taken_as_a_whole(desk)
 
     def table(self, desk: GoingClass) -> None:
-        """Checks for the table at the start, and no line of a network before it."""
+        """Checks the table at the start, and that no line of a network comes before it."""
         rows = [line.split() for line in desk.lines if re.match(r"\d  ", line)]
         self.assertEqual(rows, [["1", "maths-1", "A", "104", str(desk.record("maths-1").port), "4", "15"],
                                 ["2", "maths-2", "B", "7", str(desk.record("maths-2").port), "4", "15"]])
         self.assertLess(len(desk.lines), 10, desk.lines)
 
     def taken_as_a_whole(self, desk: GoingClass) -> None:
-        """Checks that the words which take a run's folder take that of the class."""
+        """Checks that the subcommands that take the folder of a run also take that of a class."""
         done = words("mark", "--csv", *(self.room / "runs").glob("*-maths"))
         self.assertEqual(done.returncode, 0, done.stderr)
         self.assertEqual(done.stdout.count(str(desk.folder / "maths-1/journal")), 4)
@@ -120,7 +120,7 @@ class OneDesk(Classes):
         desk = self.begin("--close", "by-hand")
         students = [list(labs.read(lab).students) for lab in self.labs]
         desk.type(f"key {students[1][0]}")
-        desk.until(f"^maths-2: {students[1][0]} has another key, slip: ")
+        desk.until(f"^maths-2: {students[1][0]} has a new key, slip: ")
         desk.until("^maths-2: the class goes on at port ")
         before = len(desk.lines)
         desk.type("key zoe\nnetworks")
@@ -137,7 +137,7 @@ class OneDesk(Classes):
         desk.kill("maths-1")
         desk.until("^ALARM maths-1 is down: ")
         desk.type("end 1")
-        desk.until(f"^maths-1: given up; what it left is in {desk.folder / 'maths-1'}$")
+        desk.until(f"^maths-1: given up; its files are in {desk.folder / 'maths-1'}$")
         desk.type("end 2\nend 2")
         self.assertEqual(desk.ends(), 4, desk.lines)
         said = [words("mark", desk.folder / name).stdout for name in ("maths-1", "maths-2")]
@@ -159,7 +159,7 @@ class OneDesk(Classes):
                          ["ALARM maths-2 is down: its server has ended; resume 2 goes on with it, end 2 gives it up"])
         self.assertEqual(again.record("maths-1").server, servers[0])
         held = words("attach", desk.folder)
-        self.assertEqual((held.returncode, held.stderr), (1, f"class: {desk.folder}: process {again.process.pid} holds its desks\n"))
+        self.assertEqual((held.returncode, held.stderr), (1, f"class: {desk.folder}: process {again.process.pid} controls this class already\n"))
         again.type("resume 2\n1 fault 1 null true")
         again.until_each("^maths-2: the class goes on at ", "^maths-1: configuration 1: ")
         again.process.send_signal(signal.SIGTERM)
@@ -187,7 +187,7 @@ class OneDesk(Classes):
         (other / "maths-1.toml").write_bytes(self.labs[0].read_bytes())
         cases: tuple[tuple[list[str | Path], str], ...] = (
             ([*self.labs, "--rooms", "A"], "--rooms names 1 room for 2 networks"),
-            ([self.labs[0], "--rooms", "A"], "run: --rooms is for several labs"),
+            ([self.labs[0], "--rooms", "A"], "run: --rooms needs several labs"),
             ([self.labs[0], other / "maths-1.toml"], "two labs are called maths-1: rename one"),
             ([self.labs[0], self.room / "none.toml"], f"{self.room / 'none.toml'}: No such file or directory"),
         )

@@ -1,4 +1,4 @@
-"""Faults by the page of a run, in a browser, and how the class comes back from them, counted from the journal too."""
+"""Faults by the page of a run in a browser, and the counts of recoveries, also from the journal."""
 from __future__ import annotations
 
 import os
@@ -11,13 +11,13 @@ from classroom.core.journal import events
 from classroom.core.lab import read
 from classroom.core.program import host
 from classroom.marks.comeback import Comeback, recoveries
-from classroom.setup.shaking import broken
+from classroom.setup.shaking import longest_start
 from tests.classroom.browser import browser, is_ready, shown, until
 from tests.classroom.help import CYCLE, KEYS, Cycle, Going, a_port, words
 
 
 class Counted(unittest.TestCase):
-    """Counts along a journal."""
+    """Counts of recoveries along a journal."""
 
     def test_the_network_as_it_is_then_bounds_it(self) -> None:
         lab = labs.Lab(100, 2, ("teacher", "key"), {"ana": "key"}, [labs.Node(1, ["ana"], 2), labs.Node(2, ["ana"], 1)], [(1, 2)])
@@ -39,14 +39,14 @@ class Counted(unittest.TestCase):
         it = Comeback(read(CYCLE))
         self.assertEqual(it.close([1], [1, 2], [2]), "")
         it.miss()
-        self.assertEqual(it.close([2], [2], []), "stable after closes of which some came at once: the marks say how many "
+        self.assertEqual(it.close([2], [2], []), "stable after several closes in quick succession: the marks say how many "
                                                  "moves and rounds it took")
         self.assertEqual(it.close([1], [1], []), "stable after 1 move, 1 close, 1 round; proved: at most 35 moves, 13 rounds")
 
 
 @unittest.skipUnless(host(), "not tried: no host is built")
 class AfterACrash(Cycle):
-    """What is printed after the server died counts from before."""
+    """After a crash of the server the counts include the events before it."""
 
     def test_live_and_in_the_marks_it_is_the_same(self) -> None:
         going = Going(self, CYCLE, "--daemon", "by-hand")
@@ -74,7 +74,7 @@ class AfterACrash(Cycle):
 
 
 class ByThePage(Cycle):
-    """The page's buttons."""
+    """The buttons of the page."""
 
     def test_shake_and_break(self) -> None:
         driver: Any = browser()
@@ -94,7 +94,7 @@ class ByThePage(Cycle):
         going.until("^the registers of 7 nodes were set$")
         until(driver, lambda driver: shown(driver)[0]["number"] == "16")
         lab = read(CYCLE)
-        wanted = [(str(node), str(p or ""), str(m).lower()) for node, p, m in broken([node.id for node in lab.nodes], lab.links)]
+        wanted = [(str(node), str(p or ""), str(m).lower()) for node, p, m in longest_start([node.id for node in lab.nodes], lab.links)]
         self.assertEqual([(node["node"], node["p"], node["m"]) for node in shown(driver)[1]], wanted)
         for name in KEYS:
             self.bot(going, name)

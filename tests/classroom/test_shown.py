@@ -1,4 +1,5 @@
-"""What pages show and where: each text as the program replies, on a phone and on a projector, and nothing upon another."""
+"""The contents of pages and their positions: all texts match the program's replies, on a phone and on a projector,
+and nothing overlaps."""
 from __future__ import annotations
 
 import unittest
@@ -74,7 +75,7 @@ return {
 
 
 def resize(driver: Any, size: tuple[int, int] | None) -> None:
-    """Shows pages in a window of that size, or of its own."""
+    """Sets the size of the browser's window, or restores it."""
     if size is None:
         driver.execute_cdp_cmd("Emulation.clearDeviceMetricsOverride", {})
     else:
@@ -83,17 +84,18 @@ def resize(driver: Any, size: tuple[int, int] | None) -> None:
 
 
 def counted(count: int, word: str) -> str:
-    """Returns a count with its word."""
+    """Returns a count with its noun."""
     return f"{count} {word}{'' if count == 1 else 's'}"
 
 
 def meet(a: list[float], b: list[float]) -> bool:
-    """Returns whether two boxes run into each other by more than a hair."""
+    """Returns whether two boxes overlap by more than a hair."""
     return min(a[2], b[2]) - max(a[0], b[0]) > 1 and min(a[3], b[3]) - max(a[1], b[1]) > 1
 
 
 def can_be_read(test: unittest.TestCase, driver: Any, size: tuple[int, int], count: int = 25) -> None:
-    """Wants more than so many texts in a window of that size, none too small or too faint, and a page that is no wider."""
+    """Checks that a window of this size shows more than `count` texts, that none is too small or too faint, and
+    that the page isn't wider than the window."""
     least = SMALLEST_ON_PHONE if size == PHONE else SMALLEST
     texts = driver.execute_script(LETTERS)
     test.assertGreater(len(texts), count)
@@ -103,7 +105,7 @@ def can_be_read(test: unittest.TestCase, driver: Any, size: tuple[int, int], cou
 
 
 class Told(InRoom):
-    """A run over the cycle of `examples/`, looked at."""
+    """A run over the cycle of `examples/` that is only watched."""
 
     def setUp(self) -> None:
         super().setUp()
@@ -127,7 +129,7 @@ class Told(InRoom):
         return [line.split(" ") for line in (self.going.folder / "journal").read_text(encoding="ascii").splitlines()]
 
     def wanted(self) -> dict[str, str]:
-        """Returns what the page has to show, by the program's report and the journal, counted here."""
+        """Returns the expected contents of the page, computed from the program's report and the journal."""
         report, lines = self.teacher.report(), self.journal()
         moves = since = chosen = 0
         links = len(self.lab.links)
@@ -148,7 +150,7 @@ class Told(InRoom):
         }
 
     def said(self) -> dict[int, str]:
-        """Returns what is to be said of each node, by looks at it."""
+        """Returns the expected description of each node, from looks at it."""
         report = self.teacher.report()
         partners = {a: b for pair in report.pairs for a, b in (pair, pair[::-1])}
         found = {}
@@ -162,7 +164,7 @@ class Told(InRoom):
         return found
 
     def compare(self) -> None:
-        """Compares all that the page shows with all that it has to."""
+        """Compares the whole contents of the page with the expected ones."""
         wanted = self.wanted()
         until(self.driver, lambda driver: driver.find_element("id", "event").text == wanted["event"])
         seen = {name: self.driver.find_element("id", name).text for name in TEXTS}
@@ -178,7 +180,7 @@ class Told(InRoom):
         self.assertEqual(sum(self.driver.execute_script(DRAWN_OPEN)), len(report.open))
 
     def ask_all(self) -> None:
-        """Each student asks for the moves that are enabled."""
+        """Lets each student ask for the enabled moves."""
         for node in self.lab.nodes:
             student = self.students[node.owners[0]]
             look = student.look(node.id)
@@ -228,7 +230,7 @@ class Sizes(Played):
         self.addCleanup(resize, self.driver, None)
 
     def lab(self, seed: int, *family: str) -> Path:
-        """Returns a lab of 14 students after a drawn start."""
+        """Writes a lab of 14 students with a random start, and returns its path."""
         lab, students = self.room / f"{seed}.toml", self.room / "names.txt"
         students.write_text("\n".join(NAMES) + "\n", encoding="utf-8")
         done = words("new", lab, "--students", students, "--start", "random", "--seed", str(seed), *family)
@@ -252,8 +254,8 @@ class Sizes(Played):
                     self.assertEqual(upon, [])
 
     def test_every_text_can_be_read_and_the_step_is_on_the_screen(self) -> None:
-        """In four windows, light and dark: no small or faint text, nothing to scroll to the side. The run has more events than
-        the list shows."""
+        """In four windows and both themes no text is small or faint, and nothing has to be scrolled to the side.
+        The run has more events than the list shows."""
         lab = EXAMPLES / "grid.toml"
         journal = journal_of(lab, EXAMPLES / "grid-run.script", self.room / "grid.journal")
         self.addCleanup(show_as, self.driver)
@@ -292,7 +294,7 @@ class Sizes(Played):
         self.whole_screen()
 
     def fits(self, has_controls: bool) -> None:
-        """Whether the page that is open fits in each window."""
+        """Checks that the open page fits into each window."""
         found = self.sized(PHONE)
         self.assertLessEqual((found["wide"], found["high"]), PHONE)
         self.assertGreater(found["scale"], 0.8)
@@ -314,14 +316,14 @@ class Sizes(Played):
         show_as(self.driver)
 
     def sized(self, size: tuple[int, int]) -> dict[str, Any]:
-        """Returns what is where in a window of that size, once the picture that is meant for it is shown."""
+        """Returns the positions of all elements in a window of this size, after the right picture has appeared."""
         resize(self.driver, size)
         until(self.driver, lambda driver: driver.execute_script(FOR_WINDOW))
         found: dict[str, Any] = self.driver.execute_script(SIZES)
         return found
 
     def whole_screen(self) -> None:
-        """The key f, and the same again."""
+        """Presses the key f twice, and checks the full screen."""
         before = self.driver.execute_script(SIZES)["scale"]
         press(self.driver, "f")
         until(self.driver, lambda driver: driver.execute_script("return document.fullscreenElement !== null"))

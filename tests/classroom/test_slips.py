@@ -1,4 +1,4 @@
-"""Slips, and the programs that take them: what each says where something is wrong, and its status."""
+"""Slips, and the programs that read them: their error messages and statuses."""
 from __future__ import annotations
 
 import json
@@ -40,7 +40,7 @@ WHOLE = (
 
 
 def call(*command: str | Path, typed: str = "", key: str | None = None, slip: str | None = None) -> subprocess.CompletedProcess[str]:
-    """Calls a program to its end, with or without a key or a slip in its environment."""
+    """Runs a program to its end, with or without a key or a slip in its environment."""
     given = {"CENDUWA_KEY": key, "CENDUWA_SLIP": slip}
     environment = {name: value for name, value in os.environ.items() if name not in given}
     environment |= {name: value for name, value in given.items() if value is not None}
@@ -81,8 +81,8 @@ class Files(InRoom):
         key = self.file("key", "k-1\n")
         self.assertEqual(Slip.of(["80", "ben", str(key), "7,8", "5"]), (Slip(80, "ben", "k-1", (7, 8)), ["5"]))
         self.assertEqual(Slip.of(["80", "tess", str(slip)]), (Slip(80, "tess", "a b", ()), []))
-        for content, error in (("port 4711\nname ana\n", "no line `key ..`"), ("port x\nname a\nkey b\n", "x is no port"),
-                               ("port 1\nname a\nkey b\nnodes one\n", "nodes one: no numbers")):
+        for content, error in (("port 4711\nname ana\n", "no line `key ..`"), ("port x\nname a\nkey b\n", "x isn't a port"),
+                               ("port 1\nname a\nkey b\nnodes one\n", "nodes one: write numbers")):
             with self.assertRaisesRegex(NoSlip, error):
                 Slip.read(self.file("bad.slip", content))
         with self.assertRaisesRegex(NoSlip, "No such file"):
@@ -98,9 +98,10 @@ class Files(InRoom):
             ("hello", 'not JSON at byte 1 (a request is an object: {"do":"bye"})'),
             ('{"é":1,}', "not JSON at byte 9 (there is a comma too many)"), ('{"do":"lok"}', "unknown do: lok (did you mean look?)"),
             ("\ufeff" + move, "a byte order mark at its beginning"), ('{"do":\n"close"}', "several lines: a request is one"),
-            ('{"do":"close"', "not JSON: it isn't closed at its end, and a request is one line"),
+            ('{"do":"close"', "not JSON: the object isn't closed at its end, and a request is one line"),
             ("", 'not JSON at byte 1 (a request is an object: {"do":"bye"})'),
-            ('{"node":1}', 'missing "do"'), ("[1]", "a list, not an object"), ('{"do":"see","do":"see","node":1}', "do stands twice, and the last counts"),
+            ('{"node":1}', 'missing "do"'), ("[1]", "a list, not an object"),
+            ('{"do":"see","do":"see","node":1}', "do is there twice, and the last one counts"),
             ('{"do":"see","node":true}', "node is true or false, not a number"),
             ('{"do":"see","node":1.0}', "node is no whole number, not a number (write 1, without a point)"),
             ('{"do":"see","node":-1}', "node is out of range, not a number"),
@@ -134,10 +135,10 @@ class Files(InRoom):
 
 
 class Fake(InRoom):
-    """Servers that are none, or that have no seat."""
+    """Listeners that aren't servers of a class, or that have no seat."""
 
     def answers(self, line: bytes, times: int = 1) -> int:
-        """Answers so many connections by a line, and returns the port."""
+        """Answers this number of connections with a line. Returns the port."""
         listener = socket.create_server(("127.0.0.1", 0))
         self.addCleanup(listener.close)
 
@@ -155,12 +156,12 @@ class Fake(InRoom):
         return port
 
     def slip(self, port: int) -> Path:
-        """Returns a slip for that port."""
+        """Writes a slip with that port, and returns its path."""
         return self.file(f"{port}.slip", f"port {port}\nname gus\nkey heron\nnodes 1\n")
 
     def talks(self, *replies: bytes, then: tuple[bytes, ...] = ()) -> int:
-        """Answers each line of one connection by the next of these, hangs up, and returns the port; `then` are those of a second
-        one."""
+        """Answers each line of one connection with the next reply, and hangs up. Returns the port. `then` are the
+        replies of a second connection."""
         listener = socket.create_server(("127.0.0.1", 0))
         self.addCleanup(listener.close)
 
@@ -268,7 +269,7 @@ class Fake(InRoom):
             self.is_told(*BY_HAND, slip, *rest)
 
     def is_told(self, *command: str | Path) -> None:
-        """Checks for a line about wrong words, and their status."""
+        """Checks for the error line and the status of wrong arguments."""
         said = call(*command)
         self.assertEqual((said.returncode, said.stdout), (1, ""), (command, said.stderr))
         self.assertEqual(said.stderr.count("\n"), 1, said.stderr)
@@ -276,10 +277,10 @@ class Fake(InRoom):
 
 
 class Talking(Cycle):
-    """Programs at a run."""
+    """Programs in a run."""
 
     def edited(self, slip: Path, name: str, old: str, new: str) -> Path:
-        """Returns a slip with another line."""
+        """Writes a slip with a changed line, and returns its path."""
         return self.file(name, slip.read_text(encoding="utf-8").replace(old, new))
 
     def test_a_wrong_key_and_a_wrong_node(self) -> None:
@@ -351,7 +352,7 @@ class Talking(Cycle):
         self.assertIn("the server has closed the connection: a line has at most 4096 bytes", said.stdout)
         said = call(*BY_HAND, self.slip(going.port, "gus"), "--log", "/dev/full", typed='{"do":"bye"}\n')
         self.assertEqual((said.returncode, said.stdout.splitlines()[-1]), (0, '{"ok":"bye"}'))
-        self.assertEqual(said.stderr, "client: /dev/full: No space left on device: nothing more is written to it\n")
+        self.assertEqual(said.stderr, "client: /dev/full: No space left on device: the log ends here\n")
         done = subprocess.run([*BY_HAND, self.slip(going.port, "gus")], input=b'{"do":"bye\xff"}\n{"do":"bye"}\n', capture_output=True,
                               check=False, timeout=LIMIT)
         self.assertEqual(done.stdout.splitlines()[1:], [b'{"refuse":"malformed"}', b'{"ok":"bye"}'])

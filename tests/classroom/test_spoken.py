@@ -1,4 +1,4 @@
-"""What a screen reader is given to say of a run, and that nothing moves if the reader asks for that."""
+"""The texts of a run for screen readers, and reduced motion."""
 from __future__ import annotations
 
 import unittest
@@ -39,24 +39,24 @@ class Spoken(Played):
         self.addCleanup(self.ask_for)
 
     def ask_for(self, motion: str = "no-preference") -> None:
-        """Shows pages as for a reader who has asked for less motion, or hasn't."""
+        """Emulates a reader with or without reduced motion."""
         self.driver.execute_cdp_cmd("Emulation.setEmulatedMedia", {"features": [{"name": "prefers-reduced-motion", "value": motion}]})
 
     def heard(self, count: int) -> list[str]:
-        """The texts that were said, once they are so many."""
+        """Returns the announced texts after there are this many."""
         until(self.driver, lambda driver: len(driver.execute_script("return window.heard")) >= count)
         found: list[str] = self.driver.execute_script("return window.heard")
         return found
 
     def told(self) -> str:
-        """What is to be said of the step that is shown."""
+        """Returns the expected text for the step that is shown."""
         root = shown(self.driver)[0]
         state = self.driver.find_element("id", "told").text
         pairs = int(root["pairs"])
         return f"step {root['number']}: {state}, {pairs} pair{'' if pairs == 1 else 's'}"
 
     def test_a_new_state_is_said_once(self) -> None:
-        """A run that is played is said when it pauses, and what doesn't change isn't said again."""
+        """A playing run is announced when it pauses, and an unchanged state isn't announced again."""
         lab, journal = next(each for each in examples(self.room) if each[0].stem == "grid")
         self.open(self.page(lab, journal))
         first = self.told()

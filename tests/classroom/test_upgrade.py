@@ -24,17 +24,17 @@ COUNTED = {
 
 @unittest.skipUnless(host(), "not tried: no host is built")
 class Upgrade(Cycle):
-    """Copies of what is kept."""
+    """Copies of these folders."""
 
     def copied(self, name: str) -> Path:
-        """Returns a folder of its own, which nobody else reads, as a run has it."""
+        """Returns a private copy of a folder."""
         folder = self.room / "runs" / f"2026-11-26T2144-{name}"
         shutil.copytree(KEPT / name, folder)
         folder.chmod(0o700)
         return folder
 
     def marks(self, folder: Path) -> tuple[dict[str, int], int]:
-        """Returns what `mark` counts: applied moves by student, and events."""
+        """Returns the applied moves of each student, and the number of events, as `mark` counts them."""
         done = words("mark", "--json", folder)
         self.assertEqual(done.returncode, 0, done.stderr)
         run = json.loads(done.stdout)["runs"][0]

@@ -1,4 +1,4 @@
-"""What a live page shows of a move whose line is in the journal before it is chosen."""
+"""The data of a live page for a move whose line is in the journal before it takes effect."""
 import unittest
 from typing import cast
 
@@ -13,7 +13,7 @@ REPORT = Report(0, False, (), (), ((4, "update"),), ())
 
 
 class Late:
-    """A desk where node 4 is chosen, as views see it from the next act on."""
+    """A stand-in for a desk at which node 4 is chosen, but only visible after the next request."""
 
     def __init__(self) -> None:
         self.acts = 0
@@ -25,21 +25,21 @@ class Late:
         return Look(node, None, False, 0, "update" if node == 4 else None, chosen, ())
 
     def link(self, a: int, b: int) -> Edit:
-        """Returns a link that is denied."""
+        """Denies the link."""
         self.acts += 1
         raise Denied(2, "loop", "a node cannot be linked to itself")
 
 
 class Lines(unittest.TestCase):
-    """A journal's lines come before what they say is seen."""
+    """The lines of a journal come before their effect is visible."""
 
     def test_a_line_before_its_move(self) -> None:
         desk = Late()
         watch = Watch(labs.read(TOP / "examples/cycle.toml"), cast(Client, desk), REPORT, "by-hand")
         self.assertEqual((watch.present.now.state.chosen, desk.acts), ({}, 0))
         desk.is_granted = True
-        watch.note(Event(1, 0, ("grant", "gus", "4", "update")))
-        watch.turn(REPORT, Book([]))
+        watch.note_event(Event(1, 0, ("grant", "gus", "4", "update")))
+        watch.publish(REPORT, Book([]))
         self.assertEqual(watch.present.now.state.chosen, {4: "update"})
 
 

@@ -1,4 +1,4 @@
-"""The words of `./class`: each with its help and an example, completed by bash, and those that need no run."""
+"""The subcommands of `./class`: help and examples, completion by bash, and those that need no run."""
 from __future__ import annotations
 
 import os
@@ -26,7 +26,7 @@ printf '%s\\n' "${COMPREPLY[@]}"
 
 
 def all_words() -> list[str]:
-    """Returns the words, as the parser has them."""
+    """Returns all subcommands of the parser."""
     found: dict[str, object] = next(action for action in parser()._actions if action.dest == "work" or action.choices).choices  # type: ignore[assignment]
     return list(found)
 
@@ -35,7 +35,7 @@ class Helped(InRoom):
     """Help and completion."""
 
     def completed(self, *typed: str) -> set[str]:
-        """Returns what bash offers after these words."""
+        """Returns the completions of bash after these words."""
         done = subprocess.run(["bash", "-c", COMPLETE, "bash", *typed], cwd=TOP, capture_output=True, text=True, check=True, timeout=LIMIT)
         self.assertEqual(done.stderr, "")
         return set(done.stdout.split())
@@ -64,7 +64,7 @@ class Helped(InRoom):
 
 
 class Version(InRoom):
-    """What it is."""
+    """The version."""
 
     def test_it_is_what_mml_tells(self) -> None:
         told = subprocess.run([TOP / "mml", "--version"], capture_output=True, text=True, check=True, timeout=LIMIT).stdout
@@ -75,10 +75,10 @@ class Version(InRoom):
 
 
 class Release(InRoom):
-    """Its words, if its programs can't be started."""
+    """The subcommands of a release whose programs can't be started."""
 
     def test_a_c_library_that_is_too_old(self) -> None:
-        """Each word that starts a program says so in a line, as `mml` does; the others do their work."""
+        """Each subcommand that starts a program prints a line about it, like `mml`. The others work."""
         for name in ("class", "mml", "VERSION"):
             shutil.copy(TOP / name, self.room)
         shutil.copytree(TOP / "classroom", self.room / "classroom", ignore=shutil.ignore_patterns("__pycache__"))
@@ -91,7 +91,7 @@ class Release(InRoom):
         own = {name: value for name, value in os.environ.items() if name not in ("MML_PROGRAM", "MML_HOST")}
         for wanted, here in (("2.999", r"2\.\d+"), ("3.0", r"2\.\d+")):
             self.file("PROVED", f"# Cenduwa 1.0.0\n# wants glibc {wanted}\n# The files:\n")
-            line = f"this release wants the GNU C library {re.escape(wanted)} or later, and here is {here}: Debian 12 has 2.36\n"
+            line = f"this release needs the GNU C library {re.escape(wanted)} or later, and this machine has {here}: Debian 12 has 2.36\n"
             said = subprocess.run([self.room / "mml", "check", lab], capture_output=True, text=True, check=False, timeout=LIMIT)
             self.assertEqual(said.returncode, 127)
             self.assertRegex(said.stderr, f"^mml: {line}$")
@@ -107,7 +107,7 @@ class Release(InRoom):
 
 
 class Rekeyed(InRoom):
-    """Another key in mid-course."""
+    """`./class key` during a course."""
 
     def setUp(self) -> None:
         super().setUp()
@@ -150,7 +150,7 @@ class Rekeyed(InRoom):
 
 
 class KeyInText(InRoom):
-    """Another key in a lab's text, of several shapes."""
+    """Changing a key in the text of a lab, in several forms."""
 
     def test_a_table_in_braces_before_it(self) -> None:
         for text in (

@@ -1,4 +1,4 @@
-"""The worst starts that are known: from them runs take as long as any may, move by move as the program answers."""
+"""The worst known starts: runs from them take as many moves or rounds as any run can, by the program's replies."""
 from __future__ import annotations
 
 import contextlib
@@ -11,22 +11,22 @@ from classroom.core import bounds, networks
 from classroom.core.bench import STUDENT, TEACHER, Bench, network
 from classroom.core.rounds import Recovery
 from classroom.setup.new import start
-from classroom.setup.shaking import broken
+from classroom.setup.shaking import longest_start
 from tests.classroom.help import EXAMPLES, InRoom, words
 
 Asked = tuple[int, str, int | None]  # a node, its rule, and with whom
 
 
 def made(family: str, nodes: int) -> labs.Lab:
-    """Returns a network of that family, at its worst start."""
+    """Returns a network of a family, at its worst start."""
     it = network([labs.Node(node, []) for node in range(1, nodes + 1)], networks.plain(family, nodes))
     start(it, "worst", random.Random(1))
     return it
 
 
 def phases(nodes: int, links: set[tuple[int, int]], last: int) -> list[Asked]:
-    """Returns the couples one after the other: all that may seduce the highest free node, it marries the lowest, both update,
-    and the others abandon. Who may seduce is at most `last`."""
+    """Returns the moves of one couple after another: all nodes up to `last` seduce the highest free node, it
+    marries the lowest, both update, and the others abandon it."""
     asked: list[Asked] = []
     for couple in range(nodes // 2):
         high = nodes - couple
@@ -38,7 +38,8 @@ def phases(nodes: int, links: set[tuple[int, int]], last: int) -> list[Asked]:
 
 
 def counted(lab: labs.Lab, asked: list[Asked]) -> Recovery:
-    """Plays these moves, each in a step of its own, to the end of the run, which comes with the last of them."""
+    """Plays these moves, one in each step, and checks that the run is stable exactly after the last. Returns its
+    counts."""
     with contextlib.closing(Bench(lab)) as bench:
         report = bench.begin(lab)
         found = Recovery(node for node, _ in report["privileged"])
@@ -79,16 +80,16 @@ class Worst(unittest.TestCase):
 
     def test_whatever_its_nodes_are_called(self) -> None:
         links = [{10 * a, 10 * b} for a, b in networks.plain("crowd", 6)]
-        registers = {node: (p, m) for node, p, m in broken([60, 10, 20, 30, 40, 50], links)}
+        registers = {node: (p, m) for node, p, m in longest_start([60, 10, 20, 30, 40, 50], links)}
         self.assertEqual({node: p for node, (p, _) in registers.items()}, {10: 60, 20: 50, 30: 40, 40: 50, 50: 60, 60: 20})
         self.assertTrue(all(m for _, m in registers.values()))
         # With a link less it is no crowd: each points at a neighbour still.
-        for node, p, m in broken([10, 20, 30, 40, 50, 60], links[1:]):
+        for node, p, m in longest_start([10, 20, 30, 40, 50, 60], links[1:]):
             self.assertTrue(m and (p is None or {node, p} in links[1:]))
 
 
 class Words(InRoom):
-    """The start as a word."""
+    """The start `worst` as an argument."""
 
     def test_new_and_experiment_take_it(self) -> None:
         done = words("new", self.room / "crowd.toml", "--students", self.file("names.txt", "ana\nben\n"), "--family", "crowd",
@@ -99,7 +100,7 @@ class Words(InRoom):
         done = words("experiment", "--family", "crowd,halves", "--nodes", "6", "--start", "worst", "--runs", "1", "--daemon", "synchronous",
                      "--csv", self.room / "runs.csv")
         self.assertEqual(done.returncode, 0, done.stderr)
-        self.assertIn("2 of 2 runs, all within what is proved", done.stdout)
+        self.assertIn("2 of 2 runs, all within the proved bounds", done.stdout)
 
     def test_practise_begins_with_it(self) -> None:
         done = words("practise", EXAMPLES / "bot.py", "--family", "crowd", "--nodes", "4", "--start", "worst", "--daemon", "synchronous",

@@ -1,5 +1,5 @@
-"""`./class grade` among bots with one mistake each: each fails the case that finds it, and a line says what to change; right ones
-in several styles pass."""
+"""`./class grade` with bots that have one mistake each. Each fails the case that finds its mistake, with a line
+about what to change. Correct bots in several styles pass."""
 from __future__ import annotations
 
 import concurrent.futures
@@ -13,7 +13,7 @@ from pathlib import Path
 from classroom.bots import suites
 from classroom.bots.attempt import Limits
 from classroom.bots.bots import Bot
-from classroom.bots.trial import Result, tried
+from classroom.bots.trial import Result, try_bot
 from classroom.core.processes import reap_orphans
 from classroom.core.program import TOP
 from tests.classroom.help import InRoom, words
@@ -47,69 +47,107 @@ FOUND = {
     "leaves-out-its-own": ("complete-4", HANGS.format(rule="seduction")),
     "remembers-the-neighbours": ("complete-4", "."),
     "asks-whatever-is-shown": ("complete-4", GUARD.format(part=r"m of \d+ is (true|false) and it is (not )?married, so there is nothing to update")),
-    "asks-again-while-chosen": ("complete-4", r"asks again and again for nodes that have a chosen move, as for \d+ under \d+"),
+    "asks-again-while-chosen": ("complete-4", r"asks again and again for nodes that have a chosen move, .*, for instance for node \d+ with `at` \d+"),
     "stops-at-stale": ("cycle-5", "it ended by itself, status 1, after a step was closed between its look and its move (.*): the move was denied"),
-    "stops-at-chosen": ("pairs-cycle-6", "it ended by itself, status 1(, after somebody else moved a node that it shares|; a bot goes on)"),
-    "repeats-the-line": ("cycle-5", r"it asks again and again for \d under \d+, which is stale: after `stale` look again"),
-    "takes-the-number-of-a-denial": ("cycle-5", r"it asks for a move of \d under \d+, and never looked at \d under that number"),
+    "stops-at-chosen": ("pairs-cycle-6", "it ended by itself, status 1(, after somebody else moved a node that it shares|; a bot keeps running)"),
+    "repeats-the-line": ("cycle-5", r"it asks again and again for node \d with `at` \d+, which is stale: after `stale` look again"),
+    "takes-the-number-of-a-denial": ("cycle-5", r"it asks for a move of node \d with `at` \d+, and no look at node \d had that number"),
     "takes-the-newest-number": ("complete-4", "."),
-    "waits-for-the-next-number": ("path-4", r"the teacher took its move of \d back under \d+, and it didn't ask again"),
+    "waits-for-the-next-number": ("path-4", r"the teacher took its move of \d back in configuration \d+, and it didn't ask again"),
     "waits-for-the-step": ("complete-4", "isn't stable after"),
     "takes-a-grant-for-a-step": ("complete-4", "."),
     "plays-one-node": ("complete-4", r"isn't stable after .*; it never looked at \d+"),
     "leaves-the-married-alone": ("complete-4", r"it didn't (ask for|look at)"),
-    "takes-the-eldest-number": ("complete-4", r"it asks for a move of \d+ under 0, and never looked at \d+ under that number"),
-    "looks-at-the-neighbours": ("complete-4", r"look \d+ is denied as not-owner, .*; its nodes stand on the slip"),
-    "never-pauses": ("complete-4", "it floods: "),
+    "takes-the-eldest-number": ("complete-4", r"it asks for a move of node \d+ with `at` 0, and no look at node \d+ had that number"),
+    "looks-at-the-neighbours": ("complete-4", r"look \d+ is denied as not-owner, .*; its nodes are on the slip"),
+    "never-pauses": ("complete-4", "it floods the server: "),
     "sends-numbers-as-texts": ("complete-4", r"malformed: node is a string, not a number \(write \d+, without quotes\)"),
     "marries-without-a-name": ("complete-4", 'it ended by itself.*: malformed, and not sent: missing "with"'),
-    "ends-when-stable": ("complete-4", "it ended by itself, status 1; a bot goes on until the class is over"),
+    "ends-when-stable": ("complete-4", "it ended by itself, status 1; a bot keeps running until the class is over"),
     "ends-after-three-seconds": ("grid-6", "it ended by itself, status 1, after the class was at rest for some seconds"),
     "ends-while-a-step-is-open": ("grid-6", "it ended by itself, status 1, while the step stayed open after a grant"),
     "gives-up-when-busy": ("pairs-path-5", "it ended by itself, status 1, after the reply `busy`"),
     "hammers-when-busy": ("pairs-path-5", r"it connected more than \d+ times in a minute"),
-    "never-greets-again": ("random-6", "its connection was closed, and in .* seconds it neither came again nor ended"),
+    "never-greets-again": ("random-6", "its connection was closed, and in .* seconds it didn't connect again"),
     "forgets-the-hello": ("random-6", "look \\d is denied as not-greeted, .*; each connection begins with a hello"),
-    "goes-on-for-ever": ("path-4", "it got the line that the class is over, and still runs after"),
-    "connects-for-each-look": ("complete-4", r"it connected more than \d+ times in a minute: a bot keeps its connection"),
-    "takes-all-seats": ("complete-4", r"it took all \d+ seats"),
+    "goes-on-for-ever": ("path-4", "it got the line that says that the class is over, and still runs after"),
+    "connects-for-each-look": ("complete-4", r"it ended \d+ connections by itself, and connected again: a bot keeps its connection"),
+    "takes-all-seats": ("complete-4", r"it has \d+ connections open at once, and others need the seats: a bot needs only one"),
     "greets-twice": ("complete-4", "hello .*is denied as greeted, .*; one hello on each connection is enough"),
-    "reads-once": ("hub-70", "isn't stable after .*; replies are long here and come in pieces"),
-    "reads-a-kilobyte": ("hub-70", "isn't stable after .*; replies are long here and come in pieces"),
-    "forgets-the-newline": ("complete-4", "a line came that has no newline at its end"),
+    "reads-once": ("hub-70", "(isn't stable after|it ended .* connections by itself).*; replies are long here and arrive in pieces"),
+    "reads-a-kilobyte": ("hub-70", "(isn't stable after|it ended .* connections by itself).*; replies are long here and arrive in pieces"),
+    "takes-the-rule-of-a-stale-look": ("cycle-5", GUARD.format(part=".*")),
+    "repeats-the-lost-line": ("random-6", r"on a new connection it asks for a move of node \d by a look from the lost connection"),
+    "mixes-its-connections": ("random-6", r"on a new connection it asks for a move of node \d by a look from the lost connection"),
+    "keeps-old-neighbours": ("tree-7", r"guard|neighbours change in a run"),
+    "sees-no-new-neighbours": ("tree-7", r"the teacher linked \d and \d, .*neighbours change in a run: take them from your last look"),
+    "keeps-its-own-registers": ("complete-4", "."),
+    "waits-for-its-move": ("alone-cycle-4", r"a fault at \d dropped its granted move of \d, and it didn't ask again"),
+    "takes-the-look-before": ("complete-4", r"asks again and again with a number that isn't that of its last look"),
+    "waits-for-news": ("complete-4", r"it didn't (ask for|look at)"),
+    "ends-when-married": ("complete-4", "it ended by itself, status 1.*; a bot keeps running until the class is over"),
+    "ends-after-ten-seconds": ("grid-6", "it ended by itself, status 1, after the class was at rest for some seconds"),
+    "ends-when-closed": ("random-6", r"it ended by itself, status 7, after its connection was closed \(a bot connects again"),
+    "ends-when-nobody-listens": ("random-6", r"it ended by itself, status 4, after its server was gone for 8 seconds.*if no server listens, it tries again"),
+    "gives-up-after-three-seconds": ("random-6", r"it ended by itself, status 1, after its server was gone for 8 seconds.*for a minute"),
+    "ends-at-memory": ("path-4", "it ended by itself, status 1, after the refusal `memory`, which means: ask again a little later"),
+    "keeps-half-a-reply": ("hub-70", r"it ended by itself, status 1, after its connection was closed in the middle of a reply"),
+    "comes-again-twice": ("two-faults-5", r"it ended by itself, status 7, after its connection was closed"),
+    "gives-up-at-three-denials": ("cycle-5", r"it ended by itself, status 1, after a step was closed between its look and its move"),
+    "polls-almost-busily": ("complete-4", r"it sent \d+ lines a second while nothing changed|it floods"),
+    "watches-one-node": ("grid-6", r"the class was at rest for 12 seconds, and it didn't look at \d: look at all nodes again and again"),
+    "polls-busily": ("complete-4", r"it sent \d+ lines a second while nothing changed|it floods"),
+    "leaves-connections-open": ("grid-6", r"it has \d+ connections open at once, .*: a bot needs only one, and closes those that it doesn't use"),
+    "hangs-up-now-and-then": ("grid-6", r"it ended \d+ connections by itself, and connected again: a bot keeps its connection"),
+    "comes-too-often-when-busy": ("pairs-path-5", r"it connected \d+ times in 3 seconds in which the reply was `busy`: connect again a second later"),
+    "moves-one-node": ("alone-path-4", HANGS.format(rule="")),
+    "takes-null-for-zero": ("complete-4", GUARD.format(part=".*")),
+    "takes-chosen-for-the-rule": ("complete-4", "asks again and again for nodes that have a chosen move"),
+    "waits-until-chosen": ("complete-4", HANGS.format(rule="")),
+    "abandons-by-texts": ("complete-4", r"it didn't ask for abandonment at \d+, which is privileged"),
+    "sorts-texts": ("complete-4", HANGS.format(rule="seduction")),
+    "forgets-the-newline": ("complete-4", "it sent a line without a newline at the end"),
 }
-PLANS = {plan.name: plan for plan in suites.SMALL}
+# The same of `full`.
+IN_FULL = {
+    "ends-after-half-a-minute": ("rest-path-5", "it ended by itself, status 1, after the class was at rest for some seconds"),
+    "ends-when-its-seat-goes": ("path-hurt-gone", "it ended by itself, status 1, after its seat went to a newcomer"),
+}
+PLANS = {plan.name: plan for plan in suites.FULL}
 
 
 class Wrong(InRoom):
-    """Bots with one mistake."""
+    """Bots with one mistake each."""
 
     def tries(self, name: str, plan: str) -> Result:
-        """Returns how a bot does in a case."""
+        """Returns the result of a bot in a case."""
         it = PLANS[plan]
         bot = Bot.of(f"{sys.executable} {WRONG} {name}")
         with tempfile.TemporaryDirectory() as own:
-            found = tried(bot, suites.planned(it, 1, it.daemon), Limits(SECONDS), Path(own), self.room / name / plan, threading.Event())
+            found = try_bot(bot, suites.planned(it, 1, it.daemon), Limits(SECONDS), Path(own), self.room / name / plan, threading.Event())
         assert found is not None
         return found
 
-    def test_each_fails_a_case_of_small_and_is_told_why(self) -> None:
-        self.assertEqual(FOUND.keys(), BOTS.keys())
+    def test_each_fails_a_case_and_is_told_why(self) -> None:
+        self.assertEqual({**FOUND, **IN_FULL}.keys(), BOTS.keys())
+        self.assertLessEqual({plan for plan, _ in FOUND.values()}, {plan.name for plan in suites.SMALL})
         self.assertGreaterEqual(len(BOTS), 30)
         reap_orphans()
         with concurrent.futures.ThreadPoolExecutor(AT_ONCE) as pool:
-            going = {name: pool.submit(self.tries, name, plan) for name, (plan, _) in FOUND.items()}
-        for name, (_, why) in FOUND.items():
+            going = {name: pool.submit(self.tries, name, plan) for name, (plan, _) in {**IN_FULL, **FOUND}.items()}
+        for name, (_, why) in {**FOUND, **IN_FULL}.items():
             with self.subTest(name):
                 result = going[name].result()
                 self.assertFalse(result.passed, name)
                 self.assertRegex(result.why, why)
 
     def test_the_bot_that_they_change_passes_the_same_cases(self) -> None:
-        for plan in sorted({plan for plan, _ in FOUND.values()}):
-            result = self.tries("right", plan)
+        plans = sorted({plan for plan, _ in (*FOUND.values(), *IN_FULL.values())})
+        with concurrent.futures.ThreadPoolExecutor(AT_ONCE) as pool:
+            results = list(pool.map(lambda plan: self.tries("right", plan), plans))
+        for result in results:
             self.assertTrue(result.passed, result)
-            self.assertLessEqual(result.denied.keys(), {"stale", "chosen"})
+            self.assertLessEqual(result.denied.keys(), {"stale", "chosen", "memory"})
 
 
 class Right(InRoom):
@@ -129,9 +167,9 @@ class Right(InRoom):
         (labs / "path.toml").write_bytes((TOP / "examples/path.toml").read_bytes())
         done = words("grade", own, asks, "--labs", labs, "--daemon", "synchronous", "--timeout", "15", "--own-rule", "--into", self.room / "grades")
         self.assertEqual(done.returncode, 5, done.stdout + done.stderr)
-        self.assertIn("class: no look shows a program the enabled rule (--own-rule)", done.stdout)
+        self.assertIn("class: with --own-rule no look shows the enabled rule: ", done.stdout)
         self.assertIn("own_rule.py: 1 of 1 cases passed\nsnapshot.py: 0 of 1 cases passed\n", done.stdout)
-        self.assertRegex(done.stdout, "isn't stable after 15 seconds: .*; no look shows it the rule ")
+        self.assertRegex(done.stdout, "isn't stable after 15 seconds: .*; with --own-rule no look shows the rule: ")
         said = next((self.room / "grades").rglob("snapshot.py/*/conversation.txt")).read_text(encoding="utf-8")
         self.assertIn('"rule":null}', said)
         self.assertNotRegex(said, r'"ok":"look".*"rule":"')

@@ -1,6 +1,6 @@
-"""A host as its user runs it, connections to it, and what the rules answer to the same lines.
+"""A host as its user runs it, connections to it, and the replies of the rules to the same lines.
 
-Another host than the one that is built here is taken where the environment's MML_HOST names it.
+MML_HOST can name another host than the one that is built here.
 """
 import os
 import re
@@ -33,7 +33,7 @@ with socket.create_connection(("127.0.0.1", int(sys.argv[1]))) as it, it.makefil
 
 
 def lab_of(room: Path, sessions: int, events: int = 1000) -> Path:
-    """Returns the lab that is built into the program, with other limits."""
+    """Writes the built-in lab with other limits, and returns its path."""
     lab = room / f"{sessions}-{events}.toml"
     text = built_in(room).read_text(encoding="utf-8")
     text = text.replace("sessions = 4\n", f"sessions = {sessions}\n").replace("events = 100\n", f"events = {events}\n")
@@ -42,14 +42,14 @@ def lab_of(room: Path, sessions: int, events: int = 1000) -> Path:
 
 
 class Host:
-    """A host that listens, or has ended before. It doesn't outlive the block in which it is used."""
+    """A host that listens or has already ended. It is killed at the end of its `with` block."""
 
     def __init__(
         self, *words: object, word: str = "host", before: Sequence[str] = (),
         variables: Optional[Mapping[str, str]] = None,
     ) -> None:
-        """`word` is whether a class begins or goes on, `before` what calls the program, and `variables` what else
-        its environment has."""
+        """`word` is `host` or `resume`, `before` are words before the call, and `variables` are added to its
+        environment."""
         self.process = subprocess.Popen(
             [*before, HOST, word, *map(str, words)], stdin=subprocess.DEVNULL, stdout=subprocess.PIPE,
             stderr=subprocess.PIPE, env={"PATH": "/usr/bin:/bin", **(variables or {})},
@@ -69,17 +69,18 @@ class Host:
         self.process.communicate()
 
     def killed(self) -> Ended:
-        """Kills the host; answers what it wrote after its first line."""
+        """Kills the host. Returns its output after the first line."""
         self.process.kill()
         out, error = self.process.communicate()
         return Ended(self.process.returncode, out, error)
 
     def runs(self) -> bool:
-        """Returns whether the host hasn't ended."""
+        """Returns whether the host is running."""
         return self.process.poll() is None
 
     def end(self, seconds: float = LIMIT) -> Ended:
-        """Returns how it ends by itself within so many seconds, and what it writes after its first line."""
+        """Waits at most so many seconds until the host ends by itself. Returns its status and its output after the
+        first line."""
         try:
             out, error = self.process.communicate(timeout=seconds)
         except subprocess.TimeoutExpired:
@@ -87,27 +88,27 @@ class Host:
         return Ended(self.process.returncode, out, error)
 
     def dismissed(self, teacher: "Caller", seconds: float = LIMIT) -> Ended:
-        """Returns how the host ends after the bye of the teacher, who has greeted at the desk, and what it writes after its first
-        line."""
+        """Says bye on the teacher's connection at the desk. Returns the status of the host, and its output after
+        the first line."""
         if (teacher.ask(BYE), teacher.line()) != (BID, b""):
             fail("host: another reply to the teacher's bye at the desk, or none")
         return self.end(seconds)
 
     def kilobytes(self) -> int:
-        """Returns what it holds of memory."""
+        """Returns the resident memory in kilobytes."""
         status = Path(f"/proc/{self.process.pid}/status").read_text(encoding="ascii")
         return int(status.split("VmRSS:", 1)[1].split()[0])
 
     def threads(self) -> int:
-        """Returns how many threads it has."""
+        """Returns the number of threads."""
         return len(list(Path(f"/proc/{self.process.pid}/task").iterdir()))
 
     def files(self) -> int:
-        """Returns how many files it has open."""
+        """Returns the number of open files."""
         return len(list(Path(f"/proc/{self.process.pid}/fd").iterdir()))
 
     def settles(self, threads: int, files: int, when: str) -> None:
-        """Checks for so many threads and files, as soon as what ends has ended."""
+        """Waits until the host has this number of threads and files. Fails if it doesn't get there."""
         for _ in range(int(LIMIT / 0.05)):
             if (self.threads(), self.files()) == (threads, files):
                 return
@@ -116,14 +117,14 @@ class Host:
 
 
 class Caller:
-    """A connection that sends a line and reads the line that answers it."""
+    """A connection that sends lines and reads replies."""
 
     def __init__(self, port: int, source: str = "127.0.0.1") -> None:
         self.socket = socket.create_connection(("127.0.0.1", port), LIMIT, (source, 0))
         self.replies = self.socket.makefile("rb")
 
     def send(self, content: bytes) -> None:
-        """Sends bytes. If the host has hung up, what it wrote before is still to be read."""
+        """Sends bytes. Ignores an error, since the lines that the host sent before it hung up can still be read."""
         try:
             self.socket.sendall(content)
         except ConnectionError:
@@ -145,19 +146,18 @@ class Caller:
         return self.line()
 
     def close(self) -> None:
-        """Ends the connection."""
+        """Closes the connection."""
         self.replies.close()
         self.socket.close()
 
     def reset(self) -> None:
-        """Ends the connection so that the host's next read or write fails."""
+        """Closes the connection with a reset, so that the host's next read or write fails."""
         self.socket.setsockopt(socket.SOL_SOCKET, socket.SO_LINGER, struct.pack("ii", 1, 0))
         self.close()
 
 
 def called(port: int, source: str = "127.0.0.1") -> Caller:
-    """Returns a connection, as soon as the host takes it: one that is tried while the host has no room is tried
-    again."""
+    """Returns a connection. Tries again while the host doesn't accept any."""
     end = time.monotonic() + LIMIT
     while True:
         try:
@@ -171,8 +171,7 @@ def called(port: int, source: str = "127.0.0.1") -> Caller:
 
 
 def let_in(port: int, line: bytes) -> tuple[Caller, bytes]:
-    """Returns a connection that has a seat, and the reply to its first line; one that is answered `busy` comes
-    again."""
+    """Returns a connection with a seat, and the reply to its first line. Connects again after `busy`."""
     end = time.monotonic() + LIMIT
     while time.monotonic() < end:
         caller = called(port)
@@ -185,10 +184,8 @@ def let_in(port: int, line: bytes) -> tuple[Caller, bytes]:
 
 
 class Talk:
-    """Lines that are asked one after another, over connections that come and go, and what they were answered.
-
-    A script of the same lines tells what the rules answer, and which journal they leave.
-    """
+    """A sequence of lines on connections that come and go, with their replies. A script of the same lines gives
+    the expected replies and the expected journal."""
 
     def __init__(self, lab: Path, sessions: int, room: Path) -> None:
         self.lab, self.room = lab, room
@@ -198,7 +195,7 @@ class Talk:
         self.found: list[Optional[bytes]] = []
 
     def heard(self, who: object, line: bytes, reply: Optional[bytes]) -> None:
-        """Notes a line of a connection and its reply; None is one that nobody read."""
+        """Notes a line of a connection and its reply, or None if nobody read the reply."""
         if who not in self.numbers:
             self.numbers[who] = self.free.pop(0)
         number = b"%d " % self.numbers[who]
@@ -206,35 +203,36 @@ class Talk:
         self.found.append(None if reply is None else number + reply)
 
     def ask(self, caller: Caller, line: bytes) -> bytes:
-        """Asks a line."""
+        """Sends a line, and notes its reply."""
         reply = caller.ask(line)
         self.heard(caller, line, reply)
         return reply
 
     def comes(self, port: int, line: bytes) -> Caller:
-        """Returns a connection that is let in with its first line."""
+        """Returns a connection that has a seat after its first line."""
         caller, reply = let_in(port, line)
         self.heard(caller, line, reply)
         return caller
 
     def gone(self, who: object) -> None:
-        """A connection has ended without a bye: its name is known no more."""
+        """Notes that a connection has ended without a bye."""
         self.heard(who, BYE, None)
         self.free.append(self.numbers.pop(who))
 
     def leaves(self, caller: Caller) -> None:
-        """A connection that says bye, and waits for its end."""
+        """Says bye on a connection, and waits for its end."""
         if self.ask(caller, BYE) != BID or caller.line():
             fail("host: a connection goes on after its bye")
         caller.close()
         self.free.append(self.numbers.pop(caller))
 
     def events(self) -> int:
-        """Returns how many events were granted."""
+        """Returns the number of granted events."""
         return sum(b'"place":' in reply for reply in self.found if reply)
 
     def check(self, journal: Path) -> None:
-        """Checks for the rules' replies and their journal, which passes the audit."""
+        """Checks that the replies are those of the rules, and that the journal is the expected one and passes the
+        audit."""
         script, plain = self.room / "plain.script", self.room / "plain.journal"
         script.write_bytes(b"".join(self.script))
         plain.unlink(missing_ok=True)
@@ -248,7 +246,7 @@ class Talk:
 
 
 def audit(lab: Path, journal: Path, events: int) -> bytes:
-    """Checks that a journal of so many events passes the audit; answers what it says."""
+    """Checks that a journal with this number of events passes the audit. Returns the audit's output."""
     said = good(["audit", str(lab), str(journal)])
     if not said.startswith(b"ok: %d events, " % events):
         fail(f"host: the audit of a journal of {events} events says {said!r}")
@@ -256,7 +254,7 @@ def audit(lab: Path, journal: Path, events: int) -> bytes:
 
 
 class Bot:
-    """A program of its own that asks lines, and then waits in the middle of one to be killed."""
+    """A separate process that sends lines, and waits in the middle of one to be killed."""
 
     def __init__(self, talk: Talk, port: int, lines: Sequence[bytes]) -> None:
         words = [line.decode().rstrip("\n") for line in lines]
@@ -271,7 +269,7 @@ class Bot:
             fail("host: a bot doesn't come to its half line")
 
     def killed(self) -> None:
-        """Kills the program, and notes that its connection has ended."""
+        """Kills the process, and notes that its connection has ended."""
         self.process.kill()
         self.process.communicate()
         self.talk.gone(self)

@@ -1,4 +1,4 @@
-"""Lines between a client and the server, written by hand: what is asked, and what is replied."""
+"""Lines of the protocol, written by hand: requests and replies."""
 import json
 
 # The keys of those who take part in the lab that is built into the program, and the nodes of its students.
@@ -16,12 +16,12 @@ DENIALS = {
 
 
 def line_of(**members: object) -> bytes:
-    """Returns a line with members in the order of their keys."""
+    """Returns a line whose keys are sorted."""
     return json.dumps(members, separators=(",", ":"), sort_keys=True).encode() + b"\n"
 
 
 def hello(name: str) -> bytes:
-    """Returns a greeting of one who takes part in the lab that is built into the program."""
+    """Returns the hello of a person in the built-in lab."""
     return line_of(do="hello", key=KEYS[name], name=name)
 
 
@@ -31,12 +31,12 @@ def look(name: str) -> bytes:
 
 
 def seduction(at: int, node: int = 1) -> bytes:
-    """Returns a move by which a node points at its greatest candidate, asked for at a configuration."""
+    """Returns a request for a seduction in a configuration."""
     return line_of(at=at, do="move", node=node, rule="seduction")
 
 
 def fault_at(node: int, m: bool = False) -> bytes:
-    """Returns a fault by which a node points at none."""
+    """Returns a fault that sets p of a node to null."""
     return line_of(do="fault", m=m, node=node, p=None)
 
 
@@ -56,7 +56,7 @@ def closed(at: int, place: int, *moved: int) -> bytes:
 
 
 def denial_of(word: str, **more: object) -> bytes:
-    """Returns a denial, with what it has beside its text."""
+    """Returns a denial with its clause and its text."""
     clause, text = DENIALS[word]
     return line_of(clause=clause, deny=word, text=text, **more)
 

@@ -1,16 +1,16 @@
-"""Plays a script on a server: each connection number of the script is a connection of its own.
+"""Plays a script on a server, with one connection for each number in the script.
 
     python3 -m tests.common.play SCRIPT PORT
 
-Each line is sent when the reply to the one before is there, and each reply is printed as in a script's
-output. A connection whose last line was answered is closed at the end, with all others.
+Each line is sent after the reply to the one before, and each reply is printed in the form of a script's output.
+All connections are closed at the end.
 """
 import socket
 import sys
 
 
 def main() -> None:
-    """Plays it."""
+    """Plays the script, and prints the replies."""
     script, port = sys.argv[1], int(sys.argv[2])
     with open(script, encoding="utf-8") as it:
         lines = [(int(number), request) for number, request in (line.rstrip("\n").split(" ", 1) for line in it)]

@@ -1,8 +1,8 @@
-"""Runs the program under a preloaded library, and the same plainly.
+"""Runs the program with and without a preloaded library.
 
-The libraries are built from C sources of the tests by the toolchain's own clang. What a run should
-answer comes from a plain run, without a library, over the lines that the other one answered.
-Another program than the one that is built here is taken where the environment's MML_PROGRAM names it.
+The libraries are built from the tests' C sources by the toolchain's clang. The expected replies of a run come from
+a run without a library over the lines that were answered. MML_PROGRAM can name another program than the one that
+is built here.
 """
 import os
 import shutil
@@ -27,13 +27,14 @@ REFUSED = (refusal_of("memory"), refusal_of("journal"))
 
 
 def fail(why: str) -> NoReturn:
-    """Ends the whole with a line of its own."""
+    """Prints a line and exits."""
     print(f"FAILED: {why}")
     sys.exit(1)
 
 
 def built(source: str, room: Path) -> Path:
-    """Returns the library of a C source, named by its path below the tests' folder."""
+    """Builds the library of a C source, and returns its path. The source is named by its path below the tests'
+    folder."""
     rt = shutil.which("rt")
     if rt is None:
         fail("no rt on the path, so no clang")
@@ -47,7 +48,7 @@ def built(source: str, room: Path) -> Path:
 
 
 class Preloaded:
-    """A library, with the variables that it reads and the numbers that it keeps in a file."""
+    """A library, with its environment variables and the counts that it writes into a file."""
 
     def __init__(self, source: str, room: Path, counts: str) -> None:
         self.library = built(source, room)
@@ -55,24 +56,24 @@ class Preloaded:
         self.file = room / f"{self.library.stem}.counts"
 
     def variables(self, told: Mapping[str, str]) -> dict[str, str]:
-        """Returns the variables of a run under the library. Its numbers begin at 0."""
+        """Returns the environment of a run with the library, and resets its counts."""
         self.file.write_bytes(bytes(16))
         return {"LD_PRELOAD": str(self.library), self.variable: str(self.file), **told}
 
     def counts(self) -> tuple[int, int]:
-        """Returns how many calls the last run made, and how many were failed."""
+        """Returns the number of calls in the last run, and the number of failed ones."""
         made, failed = struct.unpack("=QQ", self.file.read_bytes())
         return made, failed
 
 
 def run(words: list[str], given: bytes, variables: Mapping[str, str], program: Path = PROGRAM) -> Ended:
-    """Returns a run of the program with these words and this standard input."""
+    """Runs the program with these arguments and this standard input."""
     done = subprocess.run([program, *words], input=given, capture_output=True, env=variables, timeout=LIMIT, check=False)
     return Ended(done.returncode, done.stdout, done.stderr)
 
 
 def good(words: list[str], given: bytes = b"", program: Path = PROGRAM) -> bytes:
-    """Returns what a plain run writes, which has to end well."""
+    """Returns the output of a run without a library. Fails if the run doesn't end well."""
     ended = run(words, given, {}, program)
     if ended.status != 0 or ended.error:
         fail(f"a plain run ended with {ended.status}: {words}")
@@ -80,7 +81,7 @@ def good(words: list[str], given: bytes = b"", program: Path = PROGRAM) -> bytes
 
 
 class Story:
-    """A script over a lab, whose plain replies and journal are asked for if some lines are left out."""
+    """A script over a lab, with the expected replies and journal, also for the case that some lines are left out."""
 
     def __init__(self, lab: Path, script: bytes, room: Path) -> None:
         self.lab = lab
@@ -94,7 +95,7 @@ class Story:
         return b"".join(line for index, line in enumerate(self.lines) if index not in without)
 
     def plain(self, without: frozenset[int]) -> tuple[list[bytes], bytes]:
-        """Returns the replies of a plain run without these lines, an empty one instead of each; and its journal."""
+        """Returns the replies of a run without these lines, with an empty reply for each of them, and its journal."""
         if without not in self.known:
             script, journal = self.room / "plain.script", self.room / "plain.journal"
             script.write_bytes(self.script(without))
@@ -104,14 +105,13 @@ class Story:
         return self.known[without]
 
     def refused(self, replies: list[bytes]) -> frozenset[int]:
-        """Returns which lines were refused."""
+        """Returns the numbers of the refused lines."""
         return frozenset(at for at, reply in enumerate(replies) if reply.endswith(REFUSED))
 
     def expects(self, replies: list[bytes], unasked: frozenset[int], lost: frozenset[int] = frozenset()) -> str:
-        """Returns what is wrong with the replies, if anything, if some lines weren't asked, and some replies are lost.
-
-        A refusal changes nothing, so the others are those of a plain run without its line.
-        """
+        """Returns what is wrong with the replies, or an empty text. A refused line changes nothing, so the other
+        replies must be those of a run without it. `unasked` lines have no reply, and the replies in `lost` aren't
+        checked."""
         refused = self.refused(replies)
         wanted, _ = self.plain(refused | unasked)
         for at, reply in enumerate(replies):
@@ -122,11 +122,11 @@ class Story:
         return ""
 
     def journal_of(self, replies: list[bytes], unasked: frozenset[int]) -> bytes:
-        """Returns the journal of the plain run in these replies."""
+        """Returns the expected journal of a run with these replies."""
         return self.plain(self.refused(replies) | unasked)[1]
 
     def audit(self, journal: bytes) -> bytes:
-        """Returns what an audit says of a journal, which has to pass."""
+        """Returns the audit's output for a journal. Fails if the journal doesn't pass."""
         if journal not in self.audited:
             file = self.room / "audited.journal"
             file.write_bytes(journal)
@@ -135,7 +135,7 @@ class Story:
 
 
 def built_in(room: Path) -> Path:
-    """Returns the lab that is built into the program, in a file."""
+    """Writes the built-in lab, and returns its path."""
     text = (TOP / "examples/built-in.toml").read_text(encoding="utf-8")
     lab = room / "built-in.toml"
     lab.write_text(text.partition("\n\n")[2], encoding="utf-8")
@@ -143,11 +143,9 @@ def built_in(room: Path) -> Path:
 
 
 def held_port() -> socket.socket:
-    """Returns a socket that is bound to a port that nobody had, and doesn't listen.
-
-    While it is open, the system gives that port to no one who leaves the choice to it. Who asks for it by
-    number may still listen there, since the program and this socket both allow it (SO_REUSEADDR).
-    """
+    """Returns a socket that is bound to a free port and doesn't listen. While it is open, the system gives the
+    port to no other program that asks for any port. A program that asks for it by number can still listen there,
+    since both set SO_REUSEADDR."""
     held = socket.socket()
     held.setsockopt(socket.SOL_SOCKET, socket.SO_REUSEADDR, 1)
     held.bind(("127.0.0.1", 0))
@@ -155,7 +153,7 @@ def held_port() -> socket.socket:
 
 
 class Server:
-    """The program as it serves a lab, under a library or not. `before` is what calls it."""
+    """The program as it serves a lab, with or without a library. `before` are words before the call."""
 
     def __init__(self, words: Callable[[int], list[str]], variables: Mapping[str, str], before: Sequence[str] = ()) -> None:
         # A port that somebody took in between would want a second try, whose calls a library counts on from the first's.
@@ -184,7 +182,7 @@ class Server:
         return Ended(self.process.returncode, out, error)
 
     def end(self) -> Ended:
-        """Returns how it ends by itself, and what it writes after its first line."""
+        """Waits until the server ends. Returns its status, and its output after the first line."""
         if self.listens:
             self.ended = self._end()
         return self.ended
@@ -224,11 +222,9 @@ class Client:
 
 
 def play(story: Story, port: int, in_turn: bool = False) -> tuple[list[bytes], frozenset[int]]:
-    """Plays a script over connections, each line once the one before was answered or its connection is closed.
-
-    In turn, each connection is closed before the next has its lines sent. Answers the replies as a
-    script's output has them, and which lines have none.
-    """
+    """Plays a script over connections. Sends each line after the reply to the one before, or after that
+    connection's end. With `in_turn`, closes each connection before the next one sends. Returns the replies in the
+    form of a script's output, and the lines without a reply."""
     asked = [line.split(b" ", 1) for line in story.lines]
     numbers = sorted({number for number, _ in asked})
     clients = {number: Client(port) for number in numbers}
@@ -246,6 +242,6 @@ def play(story: Story, port: int, in_turn: bool = False) -> tuple[list[bytes], f
 
 
 def in_room(work: Callable[[Path], str]) -> None:
-    """Does the work in a folder that is removed after it, and prints the result."""
+    """Calls a function with a temporary folder, and prints its result."""
     with tempfile.TemporaryDirectory() as name:
         print(work(Path(name)))

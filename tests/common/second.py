@@ -1,4 +1,4 @@
-"""What the programs print, beside what the plain model prints for the same words."""
+"""Compares the output of the programs with that of the plain model for the same arguments."""
 from __future__ import annotations
 
 import subprocess
@@ -12,7 +12,7 @@ OF_HOST = ("verify", "tally")
 
 
 def called(*words: str | Path) -> Ended:
-    """Returns how a call of the program that has this word ends."""
+    """Returns the result of a call of the program that has this command."""
     call: list[str | Path] = [HOST if words[0] in OF_HOST else PROGRAM, *words]
     done = subprocess.run(call, stdin=subprocess.DEVNULL, capture_output=True, env=dict[str, str](), timeout=LIMIT, check=False)
     return Ended(done.returncode, done.stdout, done.stderr)
@@ -25,7 +25,7 @@ def first_other(found: bytes, wanted: bytes) -> str:
 
 
 def compare(what: str, found: Ended, wanted: Ended) -> None:
-    """Fails if the program ended a call otherwise than the model."""
+    """Fails if the program's result differs from the model's."""
     if found.out != wanted.out:
         fail(f"{what}: another output than the model's: {first_other(found.out, wanted.out)}")
     if found != wanted:
@@ -33,14 +33,14 @@ def compare(what: str, found: Ended, wanted: Ended) -> None:
 
 
 def agreed(what: str, *words: str | Path) -> Ended:
-    """Returns how a call of the program ends, which is how the model ends it too."""
+    """Returns the result of a call of the program. Fails if the model's result differs."""
     found = called(*words)
     compare(what, found, ended([str(word) for word in words]))
     return found
 
 
 def agreed_script(what: str, lab: Path, script: Path, journal: Path) -> Ended:
-    """Returns how a script ends by the program, which is how it ends by the model too, with the same journal."""
+    """Returns the result of a script. Fails if the model's result or journal differs."""
     found = called("script", lab, script, journal)
     second = journal.with_suffix(".second")
     second.unlink(missing_ok=True)
@@ -51,7 +51,8 @@ def agreed_script(what: str, lab: Path, script: Path, journal: Path) -> Ended:
 
 
 def said(line: str) -> Ended:
-    """Returns how a call ends that prints this line: one of a lab, a journal or a record that passes, or an error."""
+    """Returns the result of a call that prints this line: either about a lab, journal or record that passes, or an
+    error."""
     text = f"{line}\n".encode()
     if line.startswith("ok: "):
         return Ended(0, text, b"")

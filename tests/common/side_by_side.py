@@ -1,4 +1,4 @@
-"""Tests of a host that go side by side, since most of them wait, each in a folder of its own."""
+"""Runs tests of a host side by side, since most of them wait. Each has its own folder."""
 import sys
 import tempfile
 import time
@@ -13,7 +13,7 @@ Test = Callable[[Path], None]
 
 
 def tried(test: Test) -> float:
-    """Tries a test in a folder of its own; answers what time it took."""
+    """Runs a test in its own folder. Returns the seconds that it took."""
     begun = time.monotonic()
     with tempfile.TemporaryDirectory() as room:
         test(Path(room))
@@ -21,7 +21,7 @@ def tried(test: Test) -> float:
 
 
 def try_all(of: str, tests: Sequence[Test]) -> None:
-    """All tests, or those with one of the words of the command line; prints how many there were."""
+    """Runs all tests, or those whose names contain an argument. Prints their number."""
     if not HOST.is_file():
         fail("no host's program is built")
     chosen = [test for test in tests if not sys.argv[1:] or any(word in test.__name__ for word in sys.argv[1:])]

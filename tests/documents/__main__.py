@@ -45,18 +45,18 @@ MARKS = ("sh not run", "text")
 
 
 def tracked() -> list[str]:
-    """The files of the repository, those that aren't committed yet too."""
+    """Returns the files of the repository: those that are committed, and new ones that git doesn't ignore."""
     listed = subprocess.run(["git", "ls-files", "-co", "--exclude-standard"], cwd=TOP, capture_output=True, text=True, check=True)
     return [path for path in listed.stdout.splitlines() if (TOP / path).exists()]
 
 
 def is_page(path: str) -> bool:
-    """Whether a file is one of the documents."""
+    """Returns whether a file is one of the documents."""
     return path.endswith(".md")
 
 
 def words_of(files: list[str]) -> set[str]:
-    """Each word that stands in a source, and the parts of the sources' own paths."""
+    """Returns all words in the sources, and the parts of their paths."""
     found = set()
     for path in files:
         found |= set(re.findall(r"\w+", path))
@@ -66,20 +66,21 @@ def words_of(files: list[str]) -> set[str]:
 
 
 def laws_of(files: list[str]) -> set[str]:
-    """The names of all laws."""
+    """Returns the names of all laws."""
     texts = [(TOP / path).read_text(encoding="utf-8") for path in files if re.fullmatch(r"crates/\w+/src/laws(/\w+)?\.rt", path)]
     return {name for text in texts for name in re.findall(r"pub fn (\w+)", text)}
 
 
 def declared_in(text: str) -> set[str]:
-    """What a source declares: functions, types, the names of clauses, definitions, and whom an `impl From` takes."""
+    """Returns the names that a source declares: functions, types, clauses, definitions, and the arguments of `impl
+    From`."""
     names = set(re.findall(r"\b(?:fn|struct|enum|trait|type|const|ensures|requires) (\w+)", text))
     names |= set(re.findall(r"^(?:[a-z]+ )*([A-Za-z_]\w*)(?: |$)", text, re.MULTILINE))
     return names | {f"From<{name}>" for name in re.findall(r"impl.* From<(\w+)", text)}
 
 
 def sources_of(files: list[str]) -> dict[str, str]:
-    """The text of each crate's `src/` and `specs/`."""
+    """Returns the text of the `src/` and `specs/` of each crate."""
     texts: dict[str, str] = {}
     for path in files:
         found = re.match(r"crates/(\w+)/(src|specs)/", path)
@@ -89,7 +90,7 @@ def sources_of(files: list[str]) -> dict[str, str]:
 
 
 def contracts_of(page: str) -> Iterator[str]:
-    """What stands between backquotes in the last column of each table whose last column is `Contract`."""
+    """Yields each name in backquotes in the last column of tables whose last head is `Contract`."""
     inside = False
     for line in (TOP / page).read_text(encoding="utf-8").splitlines():
         cells = [cell.strip() for cell in line.strip().strip("|").split("|")] if line.startswith("|") else []
@@ -99,7 +100,8 @@ def contracts_of(page: str) -> Iterator[str]:
 
 
 def missing_contracts(page: str, texts: dict[str, str], declared: set[str], laws: set[str]) -> Iterator[str]:
-    """The contracts that a page names and that aren't declared, or on a crate's page not cited there."""
+    """Yields the contracts on a page that aren't declared, or that the page of a crate names but the crate doesn't
+    cite."""
     crate = re.fullmatch(r"crates/(\w+)/README\.md", page)
     for name in contracts_of(page):
         parts = [name] if name.startswith("From<") else name.split("::")
@@ -110,12 +112,14 @@ def missing_contracts(page: str, texts: dict[str, str], declared: set[str], laws
 
 
 def stands_for_another(text: str) -> bool:
-    """Whether a path has a part that the reader replaces, as `NAME.script`, or is a page of the top in capitals."""
+    """Returns whether a path has a part that the reader replaces, as `NAME.script`, or is a page in capitals at
+    the top."""
     return bool(re.search(r"(?<![A-Z])[A-Z]{3,}(?![A-Z]*\.md)", text))
 
 
 def missing_path(page: str, text: str, files: list[str], folders: set[str]) -> bool:
-    """Whether no file and no folder has a path that ends so; of the crate's own, where a crate's page names its folders."""
+    """Returns whether no file and no folder has a path that ends like this. On the page of a crate, its own
+    folders count too."""
     path = text.rstrip("/").removeprefix("./")
     if path.startswith("/") or stands_for_another(path) or path in ELSEWHERE:
         return False
@@ -126,7 +130,7 @@ def missing_path(page: str, text: str, files: list[str], folders: set[str]) -> b
 
 
 def missing_name(text: str, words: set[str], laws: set[str]) -> bool:
-    """Whether a name of a program has a word that stands in no source."""
+    """Returns whether a name has a word that is in no source."""
     if text in ELSEWHERE:
         return False
     parts = re.findall(r"\w+", text)
@@ -135,8 +139,8 @@ def missing_name(text: str, words: set[str], laws: set[str]) -> bool:
     return any(part not in words and part not in ELSEWHERE for part in parts)
 
 
-def told(page: str, files: list[str], folders: set[str], words: set[str], laws: set[str]) -> Iterator[str]:
-    """What a page names that isn't there."""
+def missing_on(page: str, files: list[str], folders: set[str], words: set[str], laws: set[str]) -> Iterator[str]:
+    """Yields all that a page names and that doesn't exist."""
     text = FENCE.sub("", (TOP / page).read_text(encoding="utf-8"))
     for target in re.findall(r"\]\(([^)\s]+)\)", text):
         if not re.match(r"[a-z]+:|#", target) and not (TOP / Path(page).parent / target.split("#")[0]).exists():
@@ -151,12 +155,12 @@ def told(page: str, files: list[str], folders: set[str], words: set[str], laws: 
 
 
 def is_command(line: str) -> bool:
-    """Whether a line of a block is a command."""
+    """Returns whether a line of a code block is a command."""
     return bool(re.match(r"(\./|\.ci/|python3 |tar |ssh |java |mkdir |sha256sum |sed |cmp |cat )", line.strip().removeprefix("$ ")))
 
 
 def commands_of(page: str) -> Iterator[str]:
-    """The commands of a page's blocks."""
+    """Yields the commands in a page's code blocks."""
     lines = (TOP / page).read_text(encoding="utf-8").splitlines()
     for line in lines:
         if (line.startswith("    ") or line.startswith("./")) and is_command(line):
@@ -164,7 +168,7 @@ def commands_of(page: str) -> Iterator[str]:
 
 
 def blocks_of(page: str) -> Iterator[tuple[str | None, list[str]]]:
-    """A page's code blocks: how each is marked, or None where it is indented, and its lines."""
+    """Yields the code blocks of a page, each with its mark (None if it is indented) and its lines."""
     text = (TOP / page).read_text(encoding="utf-8")
     for mark, block in re.findall(r"^```(.*)\n((?:.*\n)*?)```$", text, re.MULTILINE):
         yield mark, block.splitlines()
@@ -173,7 +177,7 @@ def blocks_of(page: str) -> Iterator[tuple[str | None, list[str]]]:
 
 
 def is_run(page: str, mark: str | None, lines: list[str], texts: dict[str, str], data: set[str]) -> bool:
-    """Whether a test runs a block, or it is marked, or is only what stands in `examples/`."""
+    """Returns whether a test runs a code block, or it is marked, or its text is in `examples/`."""
     if mark is not None:
         return mark in MARKS or (page, mark) in RUN_BY and page in texts[RUN_BY[page, mark]]
     commands = [line.removeprefix("$ ") for line in lines if is_command(line)]
@@ -187,7 +191,7 @@ def is_run(page: str, mark: str | None, lines: list[str], texts: dict[str, str],
 
 
 def unrun_blocks(page: str, files: list[str]) -> list[str]:
-    """The first lines of a page's blocks that no test runs and that aren't marked."""
+    """Returns the first lines of a page's code blocks that no test runs and that aren't marked."""
     run = {*RUN_BY.values(), *(path for path, _ in RUN_BEFORE.values()), "tests/pages/pages"}
     texts = {path: (TOP / path).read_text(encoding="utf-8") for path in run}
     examples = [path for path in files if path.startswith("examples/")]
@@ -196,13 +200,13 @@ def unrun_blocks(page: str, files: list[str]) -> list[str]:
 
 
 def counted(pages: Iterable[str]) -> dict[str, int]:
-    """How many words each page has outside its code blocks: what has a letter or a digit."""
+    """Returns the number of words on each page, without code blocks."""
     texts = {page: re.sub(r"^    .*$", "", FENCE.sub("", (TOP / page).read_text(encoding="utf-8")), flags=re.MULTILINE) for page in pages}
     return {page: sum(bool(re.search(r"\w", word)) for word in text.split()) for page, text in texts.items()}
 
 
 def main() -> None:
-    """Checks, counts, or prints the commands of pages."""
+    """Checks the documents, counts words, or prints the commands of pages."""
     counts = counted(path for path in tracked() if is_page(path) and path != "CHANGELOG.md")
     total = sum(counts.values())
     if sys.argv[1:] == ["--words"]:
@@ -217,7 +221,7 @@ def main() -> None:
     words, laws, texts = words_of(files), laws_of(files), sources_of(files)
     declared: set[str] = set().union(*map(declared_in, texts.values()))
     pages = [path for path in files if is_page(path)]
-    missing = [f"not there: {page}: {name}" for page in pages for name in dict.fromkeys(told(page, files, folders, words, laws))]
+    missing = [f"not there: {page}: {name}" for page in pages for name in dict.fromkeys(missing_on(page, files, folders, words, laws))]
     missing += [f"no contract: {page}: {name}" for page in pages for name in missing_contracts(page, texts, declared, laws)]
     missing += [f"no test runs it: {page}: {line}" for page in USED for line in unrun_blocks(page, files)]
     missing += crates.faults() + numbers.faults() + style.faults(files)

@@ -48,7 +48,7 @@ text { fill: var(--text); } .small { font-size: 11px; } .title { font-weight: bo
 
 @dataclass
 class Group:
-    """Crates that stand together, in the order of reading, and the contract that they hand up."""
+    """A group of crates in the order of reading, and the contract that it provides."""
 
     title: str
     hands_up: str = ""
@@ -57,7 +57,7 @@ class Group:
 
 
 def groups(text: str) -> list[Group]:
-    """The groups of `crates.txt`."""
+    """Returns the groups in `crates.txt`."""
     found: list[Group] = []
     for line in text.splitlines():
         handed = re.fullmatch(r"# Hands up (\w+) of (\w+)\.", line)
@@ -72,7 +72,7 @@ def groups(text: str) -> list[Group]:
 
 
 def tested_in(crate: str, all_groups: list[Group]) -> str:
-    """The crates and folders of tests that try a crate."""
+    """Returns the crates and test folders that test a crate, as a text."""
     if crate.startswith(TESTS):
         return ""
     uses = {name: used for group in all_groups for name, used in group.crates.items()}
@@ -82,12 +82,12 @@ def tested_in(crate: str, all_groups: list[Group]) -> str:
 
 
 def text_at(x: int, y: int, text: str, kind: str = "") -> str:
-    """A line of text."""
+    """Returns a line of text as SVG."""
     return f'<text x="{x}" y="{y}"{f""" class="{kind}" """.rstrip() if kind else ""}>{escape(text)}</text>'
 
 
 def band(group: Group, top: int, all_groups: list[Group]) -> tuple[list[str], int]:
-    """A group's drawing, and where it ends."""
+    """Returns the drawing of a group, and the vertical position of its end."""
     rows = -(-len(group.crates) // COLUMNS)
     height = 30 + rows * (HEIGHT + GAP) + GAP
     width = COLUMNS * (WIDTH + GAP) + GAP
@@ -103,7 +103,8 @@ def band(group: Group, top: int, all_groups: list[Group]) -> tuple[list[str], in
 
 
 def way(above: int, below: int, is_next: bool) -> str:
-    """An arrow from the foot of a band to the head of the next, or past those between by the margin."""
+    """Returns an arrow from the foot of a band to the head of the next, or along the margin past the bands between
+    them."""
     middle, head = MARGIN + GAP + WIDTH // 2, below + 20
     if is_next:
         return f'<path class="way" d="M{middle} {above} V{below - 2} m-5 -6 l5 6 l5 -6"/>'
@@ -111,7 +112,7 @@ def way(above: int, below: int, is_next: bool) -> str:
 
 
 def drawing(text: str) -> str:
-    """The picture of a `crates.txt`."""
+    """Returns the picture for the text of `crates.txt`."""
     all_groups, feet = groups(text), list[int]()
     top, drawn = MARGIN, list[str]()
     for at, group in enumerate(all_groups):
@@ -129,7 +130,7 @@ def drawing(text: str) -> str:
 
 
 def faults() -> list[str]:
-    """What the picture tells that isn't so."""
+    """Returns what the picture says and isn't true."""
     text = (TOP / "crates.txt").read_text(encoding="utf-8")
     is_so = PICTURE.exists() and PICTURE.read_text(encoding="utf-8") == drawing(text)
     found = [] if is_so else ["docs/crates.svg isn't that of crates.txt: python3 -B -m tests.documents.crates"]

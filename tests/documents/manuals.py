@@ -67,13 +67,13 @@ def mml() -> str:
 
 
 def choices(every: argparse.ArgumentParser) -> dict[str, argparse.ArgumentParser]:
-    """Returns the parser of each word."""
+    """Returns the parser of each command, by its name, from the parser of the whole command line."""
     found = (action.choices for action in every._actions if isinstance(action, argparse._SubParsersAction))
     return dict(next(found))
 
 
 def term(action: argparse.Action) -> str:
-    """Returns how an option is written, or a word that stands by its place."""
+    """Returns the form of an option or a positional argument."""
     value = str(action.metavar or (",".join(map(str, action.choices)) if action.choices else action.dest.upper()))
     if not action.option_strings:
         return form(value if action.metavar else action.dest.upper())

@@ -1,7 +1,7 @@
-"""The numbers, statuses and limits that the pages promise, each beside what it is counted or taken from.
+"""The numbers, statuses and limits that the pages promise, each compared with its source.
 
-What `promises` gives has to stand on its page in these words, and so a page says nothing else of it. Times are those of
-`tools.check.parts`, by which `./check` tells its own: a page may round them.
+Each text that `promises` yields has to be on its page. Times are those of `tools.check.parts`, by which `./check`
+prints its own; a page may round them.
 """
 from __future__ import annotations
 
@@ -10,17 +10,21 @@ from collections.abc import Iterator
 from pathlib import Path
 
 from classroom.bots import suites
-from classroom.client import LOST, MOST, STOPS
-from classroom.core import lab, statuses
+from classroom.client import LOST, STOPS
+from classroom.core import statuses
 from classroom.run.run import CLOSING
+from classroom.setup import keys
 from classroom.setup.slips import FIRST_PORT
+from classroom.setup.word_list import WORDS as KEY_WORDS
 from classroom.words import parser
+from tests.common import limits
 from tools.build.__main__ import progress_of
 from tools.build.crates import needed
 from tools.check.parts import PROOFS, QUICK, minutes_of, wrong_beside
 
 TOP = Path(__file__).resolve().parents[2]
 README, TEACHER, STUDENT, COURSE, OPERATE = "README.md", "docs/TEACHER.md", "docs/STUDENT.md", "docs/COURSE.md", "docs/OPERATE.md"
+SECURITY, LAB, JOURNAL, PROTOCOL = "SECURITY.md", "docs/LAB.md", "docs/JOURNAL.md", "docs/PROTOCOL.md"
 WORDS = "none one two three four five six seven eight nine ten eleven twelve".split()
 # How a page says a number of minutes, and for how many it may say so.
 ROUNDED = {"five minutes": (4, 7), "ten minutes": (7, 13), "half an hour or more": (25, 60), "an hour": (45, 75)}
@@ -28,12 +32,12 @@ PROCESSORS = 4
 
 
 def text(path: str) -> str:
-    """What a file of the repository has."""
+    """Returns the content of a file of the repository."""
     return (TOP / path).read_text(encoding="utf-8")
 
 
 def only(pattern: str, path: str) -> str:
-    """What the pattern's brackets find in a file, once."""
+    """Returns the single match of a pattern in a file."""
     found = re.findall(pattern, text(path), re.MULTILINE)
     if len(found) != 1:
         raise ValueError(f"{path} has {len(found)} times {pattern}")
@@ -41,13 +45,14 @@ def only(pattern: str, path: str) -> str:
 
 
 def default(word: str, option: str) -> str:
-    """The value of an option of `./class` that isn't given."""
+    """Returns the default value of an option of `./class`."""
     needed = {"run": ["run", "lab"], "new": ["new", "lab", "--students", "names"]}
     return str(getattr(parser(word).parse_args(needed[word]), option))
 
 
 def releases() -> Iterator[tuple[str, str]]:
-    """The archive's name, what it needs, and what the service file allows."""
+    """Yields the promises about releases: the archive's name, its requirements, and the limits in the service
+    file."""
     name = f"cenduwa-{text('VERSION').strip()}-x86_64-linux"
     yield README, f"tar -xzf {name}.tar.gz && cd {name}\n"
     yield OPERATE, f"\nrelease={name}\n"
@@ -55,48 +60,86 @@ def releases() -> Iterator[tuple[str, str]]:
     yield README, f"Python {python} for `class`)"
     yield OPERATE, f"Python {python} for `class`"
     examples = only(r'^EXAMPLES_PYTHON = "([\d.]+)"', "tools/check/python.py")
-    yield STUDENT, f"`client.py` and `bot.py` want Python {examples} or later (`class`: {python})."
+    yield STUDENT, f"`client.py` and `bot.py` need Python {examples} or later (`class`: {python})."
     unit = "operate/cenduwa@.service"
     memory, tasks = only(r"^MemoryMax=(\d+)M$", unit), only(r"^TasksMax=(\d+)$", unit)
     yield OPERATE, f"with at most {memory} MB and {tasks} threads and processes."
     if only("^Restart=(.*)$", unit) == "no":
-        yield OPERATE, "It is never restarted by itself"
+        yield OPERATE, "systemd never restarts it"
 
 
 def classes() -> Iterator[tuple[str, str]]:
-    """Labs, suites, defaults, and statuses."""
+    """Yields the promises about labs, suites, defaults and statuses."""
     yield README, f"`examples/` has {WORDS[len(list((TOP / 'examples').glob('*.toml')))]} labs, "
     small, families = WORDS[len(suites.SMALL)], WORDS[len(suites.FAMILIES)]
     yield STUDENT, f"`grade` tries {small} cases, each in an empty folder"
     yield COURSE, f"`small` has {small} cases, `full` {len(suites.FULL)}, over {families} families of networks"
-    yield TEACHER, f"A lab has {lab.MOST_SESSIONS} seats, one of them yours"
     yield TEACHER, f"starts the server at the port of the slips ({FIRST_PORT} for the first network) or the next free one"
     yield TEACHER, f"when nothing came for {WORDS[int(CLOSING.value)]} seconds, or as `--daemon` says"
-    yield TEACHER, (f"A word's status is 0 for done, {statuses.USAGE} wrong words, {statuses.LAB} the lab or {statuses.JOURNAL} "
-                    f"the journal is refused, {statuses.FAILED} failed, {statuses.WARNED} done with warnings.")
+    yield TEACHER, (f"\n| 0 | done |\n| {statuses.USAGE} | the command line is wrong |\n| {statuses.LAB} | the lab is refused |\n"
+                    f"| {statuses.JOURNAL} | the journal is refused |\n| {statuses.FAILED} | failed |\n| {statuses.WARNED} | done, with warnings |\n")
     status = {word: number for word, (number, _) in STOPS.items()}
     for number, what in ((0, "the run has ended"), (1, "the words of the command line are wrong"), (status["unknown"], "the name or the key is wrong"),
                          (status["not-owner"], "a node isn't yours, or a line is no request"), (4, "there is no server at the port"),
                          (status["busy"], "no seat became free for a minute"), (status["full"], "nothing is granted any longer"),
                          (LOST, "the connection was lost, and for a minute the bot couldn't greet again: start it again")):
         yield STUDENT, f"\n| {number} | {what} |\n"
-    yield STUDENT, f"a line of more than {MOST} bytes"
     yield README, f"of {only(r'>([0-9]+) runs<', 'docs/experiment.svg')} runs]"
 
 
+def greatest() -> Iterator[tuple[str, str]]:
+    """The limits of labs, files, lines and connections."""
+    most = limits.MOST
+    yield TEACHER, f"A lab has {most['sessions']} seats, one of them yours"
+    yield LAB, f"for example `sessions {most['sessions']} count`"
+    yield LAB, f"A lab or a script may have at most {most['lab']:,} bytes."
+    for key, kind, what in (("events", "integer", f"1 to {most['events']} |"), ("sessions", "integer", f"1 to {most['sessions']} |"),
+                            ("student", "array of tables, each with `name` and `key`", f"at most {most['students']} |"),
+                            ("name", "string", f"1 to {most['name']} bytes "), ("key", "string", f"1 to {most['key']} bytes "),
+                            ("node", "array of tables, each with `id`, `owner` or `owners`, and `p` and `m` if wanted", f"1 to {most['nodes']} |"),
+                            ("id", "integer", f"1 to {most['identifier']}, "), ("owners", f"array of one or {WORDS[most['owners']]} strings", "")):
+        yield LAB, f"\n| `{key}` | {kind} | {what}"
+    yield LAB, f"| `id` isn't from 1 to {most['identifier']} |"
+    yield LAB, f"| there are more than {most['nodes']} nodes |"
+    yield JOURNAL, f"`audit` reads at most {most['journal']:,} bytes."
+    yield PROTOCOL, f"has an identifier of its own, from 1 to {most['identifier']}."
+    yield PROTOCOL, f"a request line of at most {most['line']} bytes"
+    yield PROTOCOL, f"a script line has at most {len(str(most['sessions'])) + len(' ') + most['line']} bytes"
+    yield PROTOCOL, f"On a socket, request lines have at most {most['line']} bytes"
+    for what, seconds in (("at the students' port, its `hello` isn't granted within", "greeting"),
+                          ("at the desk, the teacher's `hello` isn't granted within", "desk-greeting"),
+                          ("the client accepts no byte of a reply for", "write")):
+        yield PROTOCOL, f"\n| {what} {WORDS[most[seconds]]} seconds |"
+    yield PROTOCOL, f"\n| at the students' port, it sends no line for {WORDS[most['next-line'] // 60]} minutes |"
+    yield PROTOCOL, f"\n| it sends a line of more than {most['line']} bytes |"
+    yield STUDENT, f"no correct hello within {WORDS[most['greeting']]} seconds, or no line for {WORDS[most['next-line'] // 60]} minutes"
+    yield STUDENT, f"a line of more than {most['line']} bytes"
+
+
+def guesses() -> Iterator[tuple[str, str]]:
+    """Yields the promises about the number of keys, and of guesses in a day."""
+    count = len(set(KEY_WORDS)) ** keys.WORDS_EACH * 10 ** keys.DIGITS
+    wait = only(r"^const DENIAL: u64 = (\d+);", "crates/mml_ports/src/state.rt")
+    a_day = 86400 * 1000 / int(wait)
+    yield SECURITY, f"{WORDS[keys.WORDS_EACH]} words, each one of {len(set(KEY_WORDS))}, and {WORDS[keys.DIGITS]} digits"
+    yield SECURITY, f"which are {keys.bits_of(keys.WORDS_EACH, keys.DIGITS):.1f} bits"
+    yield SECURITY, f"at most one wrong key in {wait} milliseconds over all connections. That makes {a_day / 1e6:.1f} million wrong keys in a day"
+    yield SECURITY, f"a probability of about 1 in {round(count / a_day, -4):,.0f}"
+
+
 def times() -> Iterator[tuple[str, tuple[str, ...]]]:
-    """The ways in which README.md may say how long checks and builds take."""
+    """Yields the texts with which README.md may state the times of checks and builds."""
     proofs, quick = minutes_of([[PROOFS, wrong_beside()], QUICK], PROCESSORS)
     both = needed(["mml_server", "mml_host"])
     build = progress_of(both, PROCESSORS).left(0.0) / 60
     for command, minutes in (("| `./check` | sets up, and tests everything, in a clone with the toolchain | {} |", proofs + quick),
                              ("| `./class demo` | sets up, and runs a class with four bots | ten seconds\\*; in a clone, the first time, {} |", build),
-                             ("| `./check quick` | all that needs no proof, over the programs that are built | {} |", quick),
+                             ("| `./check quick` | tests all that needs no proof, with the programs that are built | {} |", quick),
                              ("| `./mml build` | proves and builds both programs, as `./class demo` does first | {} |", build)):
         yield README, tuple(command.format(said) for said, (least, most) in ROUNDED.items() if least <= minutes <= most)
 
 
 def faults() -> list[str]:
-    """What the pages say otherwise."""
-    wanted = [(page, (promise,)) for page, promise in (*releases(), *classes())] + [*times()]
+    """Returns the promises that aren't on their pages."""
+    wanted = [(page, (promise,)) for page, promise in (*releases(), *classes(), *greatest(), *guesses())] + [*times()]
     return [f"promised otherwise: {page}: {' or '.join(it.strip() for it in each)}" for page, each in wanted if not any(it in text(page) for it in each)]

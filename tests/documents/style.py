@@ -84,8 +84,8 @@ def comments(path: str) -> Iterator[str]:
         yield from re.findall(r"(?:///?!?|--|^#) (.*)", text, re.MULTILINE)
 
 
-def counted(files: list[str]) -> Counter[str]:
-    """Returns how many phrases the sources of each folder have: of each crate, and of each folder of Python."""
+def phrases_by_folder(files: list[str]) -> Counter[str]:
+    """Returns how often the comments and messages of each crate, and of each folder of Python, have one of `PHRASES`."""
     counts: Counter[str] = Counter()
     for path in files:
         folder = re.match(r"crates/\w+|(?:classroom|examples|model|bench|tools|tests)(?=/)", path)
@@ -121,7 +121,7 @@ def idle(pages: list[str]) -> list[str]:
 def counts(files: list[str]) -> dict[str, int]:
     """Returns how many each page and each folder has."""
     pages = {page: len(wrong_in(page)) for page in files if is_read(page)}
-    return {where: count for where, count in sorted({**pages, **counted(files)}.items()) if count}
+    return {where: count for where, count in sorted({**pages, **phrases_by_folder(files)}.items()) if count}
 
 
 def faults(files: list[str]) -> list[str]:

@@ -1,4 +1,5 @@
-"""What the lessons claim is so: rules, steps and potentials of the worksheets, by the plain model, and what a fault may move."""
+"""The claims in the lessons are true: rules, steps and potentials in the worksheets, checked with the plain model,
+and the effect of a fault."""
 from __future__ import annotations
 
 import random
@@ -17,6 +18,7 @@ TOP = Path(__file__).resolve().parents[2]
 COURSE = TOP / "course"
 RING = [(1, 2), (2, 3), (3, 4), (4, 1)]
 PATH = [(1, 2), (2, 3), (3, 4)]
+PARTS = ["Aim", "Board", "Commands", "Worksheet", "Questions", "Handed in"]  # beside the minutes and the rubric, which are tables
 
 
 def tables(path: str) -> list[list[list[str]]]:
@@ -36,7 +38,8 @@ def world(links: list[tuple[int, int]], rows: list[list[str]] | None = None) -> 
 
 
 def step(it: World, nodes: list[int] | None = None, partner: int | None = None) -> int:
-    """Lets these nodes move, or all that are privileged; a marriage takes the partner, if it may. Returns how many moved."""
+    """Moves these nodes, or all privileged ones. A marriage takes `partner` if that is possible. Returns the
+    number of moves."""
     for node in nodes or [node for node in it.nodes() if it.enabled(node)]:
         moves = it.moves(node)
         it.chosen[node] = next((move for move in moves if move.partner == partner), moves[-1])
@@ -116,14 +119,14 @@ class Lessons(unittest.TestCase):
 
 
 class Shown:
-    """A look, as far as the function of the solution reads it."""
+    """A look, as the function in the solution reads it."""
 
     def __init__(self, node: int, p: int | None, m: bool, near: list[Shown] | None = None) -> None:
         self.node, self.p, self.m, self.near = node, p, m, near or []
 
 
 def drawn(chance: random.Random) -> World:
-    """Returns a connected network with any registers."""
+    """Returns a connected network with random registers."""
     count = chance.randint(2, 9)
     links = {(chance.randint(1, node - 1), node) for node in range(2, count + 1)}
     links |= {(a, b) for a in range(1, count) for b in range(a + 1, count + 1) if chance.random() < 0.25}
@@ -153,7 +156,7 @@ class Containment(unittest.TestCase):
         self.assertGreater(far, 0, "no node moved that is two links away")
 
     def play(self, it: World, chance: random.Random) -> set[int]:
-        """Lets drawn nodes move until the world is stable. Returns who moved."""
+        """Moves random nodes until the world is stable. Returns the nodes that moved."""
         moved: set[int] = set()
         while not it.stable():
             may = [node for node in it.nodes() if it.enabled(node)]
@@ -164,7 +167,7 @@ class Containment(unittest.TestCase):
 
 
 class Reader(HTMLParser):
-    """Reads the slides: which elements are open, and the slides' and pictures' names."""
+    """A parser of the slides: the open elements, and the names of slides and pictures."""
 
     def __init__(self) -> None:
         super().__init__()
@@ -184,12 +187,32 @@ class Reader(HTMLParser):
             self.open.append(tag)
 
     def handle_startendtag(self, tag: str, attrs: list[tuple[str, str | None]]) -> None:
-        """Passes over an element that is closed at once."""
+        """Ignores an element that is closed at once."""
 
     def handle_endtag(self, tag: str) -> None:
         """Closes the element that was opened last."""
         if self.open.pop() != tag:
             self.crossed.append(tag)
+
+
+class Parts(unittest.TestCase):
+    """The parts of each lesson on the course's page."""
+
+    def test_each_lesson_has_them(self) -> None:
+        text = (TOP / "docs/COURSE.md").read_text(encoding="utf-8")
+        lessons = re.findall(r"(?ms)^## (\d)\. .*?(?=^## )", text)
+        self.assertEqual(lessons, [str(number) for number in range(1, 9)])
+        for number, lesson in enumerate(re.split(r"(?m)^## ", text)[1:9], start=1):
+            with self.subTest(lesson=number):
+                self.assertEqual(re.findall(r"(?m)^\*\*([A-Z][a-z ]*)\.\*\*", lesson), PARTS)
+                times = [(int(begin), int(end)) for begin, end in re.findall(r"(?m)^\| (\d+)–(\d+) \|", lesson)]
+                self.assertEqual([0, *(end for _, end in times)], [*(begin for begin, _ in times), 45])
+                rubric = lesson.partition("| Points | Rubric |")[2]
+                self.assertEqual(sum(int(points) for points in re.findall(r"(?m)^\| (\d+) \|", rubric)), 10)
+                for folder in ("worksheets", "solutions"):
+                    self.assertIn(f"(../course/{folder}/{number}.md)", lesson)
+        points = re.findall(r"(?m)^\d+\. \((\d+)\)", (COURSE / "exam.md").read_text(encoding="utf-8"))
+        self.assertEqual((len(points), sum(map(int, points))), (12, 60))
 
 
 class Slides(unittest.TestCase):

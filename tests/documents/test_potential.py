@@ -23,7 +23,7 @@ def rows(first: str) -> list[list[str]]:
 
 
 def own_part(world: World, i: int) -> int:
-    """Returns a node's own part, by the page's first table."""
+    """Returns the part of a node itself in the potential, from the page's first table."""
     married, _, down = (row[1:] for row in rows("Own part of i"))
     unmarried = rows("Own part of i")[1][1:]
     column = 0 if world.m[i] else 1
@@ -34,7 +34,7 @@ def own_part(world: World, i: int) -> int:
 
 
 def link_part(world: World, i: int, j: int) -> int:
-    """Returns a node's part for a higher neighbour, by the page's second table."""
+    """Returns the part of a node's link to a higher neighbour, from the page's second table."""
     both, deceived, waits, settled, rest = (int(row[1]) for row in rows("Part of i for a higher neighbour j"))
     if world.p[i] == j:
         return both if world.p[j] == i else deceived if world.m[j] and not world.married(j) else waits
@@ -78,7 +78,7 @@ class ByHand(unittest.TestCase):
         closes = [len(json.loads(line[2:])["moved"]) for line in SHOWN.read_text(encoding="ascii").splitlines() if '"ok":"close"' in line]
         self.assertEqual(moves, closes)
         self.assertTrue(all(before - after >= moved for before, after, moved in zip(sums, sums[1:], moves)))
-        self.assertIn(f"The sum falls by {', '.join(str(a - b) for a, b in zip(sums, sums[1:-1]))} and {sums[-2] - sums[-1]}", PAGE)
+        self.assertIn(f"the sum falls by {', '.join(str(a - b) for a, b in zip(sums, sums[1:-1]))} and {sums[-2] - sums[-1]}", PAGE)
         self.assertIn(f"There are {sum(moves)} moves in all", PAGE)
 
 

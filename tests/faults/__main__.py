@@ -22,25 +22,25 @@ EINTR, EIO, EAGAIN, ENOMEM, EACCES, EMFILE, ENOSPC = 4, 5, 11, 12, 13, 24, 28
 
 @dataclass(frozen=True)
 class Kind:
-    """What becomes of one call: it fails with an error, takes nothing (error 0), or does one byte."""
+    """An effect on one call: it fails with an error, does nothing (error 0), or transfers one byte."""
 
     of: str
     error: int = 0
     is_short: bool = False
 
     def variables(self, nth: int) -> dict[str, str]:
-        """Returns what the library gets for the nth call."""
-        told = {"FAIL": self.of, "FAIL_AT": str(nth), "FAIL_WITH": str(self.error)}
-        return {**told, "FAIL_SHORT": "1"} if self.is_short else told
+        """Returns the environment with which the library fails the nth call."""
+        end_with = {"FAIL": self.of, "FAIL_AT": str(nth), "FAIL_WITH": str(self.error)}
+        return {**end_with, "FAIL_SHORT": "1"} if self.is_short else end_with
 
     @property
     def is_harmless(self) -> bool:
-        """Returns whether a run goes on as a plain one."""
+        """Returns whether the run must go on as without the failure."""
         return self.is_short or self.error == EINTR
 
     def fault(self, line: str, out: bytes = b"") -> Ended:
-        """Returns an end at this error, which has that line if it isn't out of memory."""
-        return told("out of memory", 5, out) if self.error == ENOMEM else told(line, 4, out)
+        """Returns the expected end after this error: out of memory, or the end with this error line."""
+        return end_with("out of memory", 5, out) if self.error == ENOMEM else end_with(line, 4, out)
 
     def __str__(self) -> str:
         how = "cut short" if self.is_short else f"failed with {self.error}" if self.error else "took nothing"
@@ -57,37 +57,37 @@ THREADS = [Kind("thread", EAGAIN)]
 Use = Callable[[Kind, int, dict[str, str]], str]
 
 
-def told(line: str, status: int = 4, out: bytes = b"") -> Ended:
+def end_with(line: str, status: int = 4, out: bytes = b"") -> Ended:
     """Returns an end with an error line."""
     return Ended(status, out, line.encode() + b"\n")
 
 
 def wrong(ended: Ended, wanted: Ended) -> str:
-    """Returns what is wrong with an end, if anything."""
+    """Returns what is wrong with an end, or an empty text."""
     return "" if ended == wanted else f"{ended}, not {wanted}"
 
 
 def unwritten(kind: Kind, ended: Ended, out: bytes) -> str:
-    """Returns what is wrong with an end at which not all of this output could be written, if anything."""
+    """Returns what is wrong with an end after a write of this output failed, or an empty text."""
     if ended.out == out or not out.startswith(ended.out):
         return f"no front of what is written plainly: {ended.out!r}"
     return wrong(ended, kind.fault("write fault", ended.out))
 
 
 class Reads:
-    """Which file the nth read of a use is of: each is read until it gives nothing."""
+    """The reads of a use in their order: each file is read until it has no more bytes."""
 
     def __init__(self, library: Preloaded, lab: Path) -> None:
         run(["check", str(lab)], b"", library.variables({"FAIL": "read"}))
         self.of_lab = library.counts()[0]
 
     def fault(self, nth: int, then: str) -> str:
-        """Returns the error line of the nth read, if a file of that name is read after the lab."""
+        """Returns the error line for a failure of the nth read. `then` is the file that is read after the lab."""
         return "read fault: lab" if nth <= self.of_lab else f"read fault: {then}"
 
 
 def shown(words: list[str], then: str, reads: Reads) -> Use:
-    """Returns a use that writes one line: `check`, and `audit`, which reads a journal too."""
+    """Returns a use that prints one line: `check`, or `audit`, which also reads a journal."""
     out = good(words)
 
     def use(kind: Kind, nth: int, variables: dict[str, str]) -> str:
@@ -104,7 +104,7 @@ def shown(words: list[str], then: str, reads: Reads) -> Use:
 
 
 def journal_fault(story: Story, ended: Ended, journal: bytes, nth: int) -> str:
-    """Returns what is wrong with a script whose nth put failed, if anything."""
+    """Returns what is wrong with a script after its nth write to the journal failed, or an empty text."""
     replies = ended.out.splitlines(keepends=True)
     granted = [b'"place":' in reply for reply in replies]
     return (
@@ -117,14 +117,15 @@ def journal_fault(story: Story, ended: Ended, journal: bytes, nth: int) -> str:
 
 
 def answered(story: Story, ended: Ended) -> tuple[list[bytes], frozenset[int]]:
-    """Returns the replies to the first lines of a script, an empty one to each other line, and which these are."""
+    """Returns the replies to a script of which only the first lines were answered, with an empty reply for each
+    other line, and the numbers of these lines."""
     replies = ended.out.splitlines(keepends=True)
     unread = frozenset(range(len(replies), len(story.lines)))
     return replies + [b""] * len(unread), unread
 
 
 def cut_off(story: Story, ended: Ended, journal: bytes, wanted: Ended) -> str:
-    """Returns what is wrong with a script of which only the first lines were read, if anything."""
+    """Returns what is wrong with a script of which only the first lines were read, or an empty text."""
     replies, unread = answered(story, ended)
     return (
         wrong(Ended(ended.status, b"", ended.error), wanted)
@@ -134,7 +135,7 @@ def cut_off(story: Story, ended: Ended, journal: bytes, wanted: Ended) -> str:
 
 
 def scripted(story: Story, room: Path, reads: Reads) -> Use:
-    """Returns a script with its journal."""
+    """Returns the use of a script with a journal."""
     script, journal = room / "faulty.script", room / "faulty.journal"
     script.write_bytes(story.script())
     words = ["script", str(story.lab), str(script), str(journal)]
@@ -163,7 +164,7 @@ def scripted(story: Story, room: Path, reads: Reads) -> Use:
 
 
 def given(story: Story) -> Use:
-    """Returns the script on standard input, which is read as it comes."""
+    """Returns the use of a script on standard input, which is read as it comes."""
     replies, _ = story.plain(frozenset())
     out = b"".join(replies)
 
@@ -180,7 +181,7 @@ def given(story: Story) -> Use:
 
 @dataclass(frozen=True)
 class Talk:
-    """What two clients met, and how their server ended."""
+    """The replies that two clients got, and the end of their server."""
 
     replies: list[bytes]
     unasked: frozenset[int]
@@ -189,7 +190,7 @@ class Talk:
 
 
 class Served:
-    """Two clients of a server that keeps a journal."""
+    """Two clients of a server with a journal."""
 
     def __init__(self, story: Story, room: Path, library: Preloaded) -> None:
         self.story = story
@@ -205,7 +206,7 @@ class Served:
         self.writes += ["last line"] * (library.counts()[0] - len(self.writes))
 
     def server(self, variables: dict[str, str]) -> Server:
-        """Begins to serve, with a new journal."""
+        """Starts a server with a new journal."""
         self.journal.unlink(missing_ok=True)
         words = ["serve", str(self.story.lab)]
         return Server(lambda port: [*words, str(port), "2", str(self.journal)], variables)
@@ -225,11 +226,11 @@ class Served:
             return self.hung_up(kind, talk, frozenset())
         if kind.of == "write":
             return self.unwritten(kind, talk, self.writes[nth - 1])
-        wanted = told("out of memory", 5) if kind.of == "thread" else kind.fault("serve: cannot accept")
+        wanted = end_with("out of memory", 5) if kind.of == "thread" else kind.fault("serve: cannot accept")
         return self.untaken(talk, nth, wanted)
 
     def unserved(self, kind: Kind, nth: int, ended: Ended) -> str:
-        """Of a server that ended before it served."""
+        """Returns what is wrong with a server that ended before it listened."""
         if kind.of in ("open", "read"):
             return wrong(ended, kind.fault("read fault: lab"))
         if kind.of == "write" and self.writes[nth - 1] == "first line":
@@ -237,11 +238,11 @@ class Served:
         return f"it doesn't serve: {ended}"
 
     def done(self, journal: bytes) -> bytes:
-        """Returns the last line of a run with that journal."""
+        """Returns the expected last line of a run with that journal."""
         return b"done:" + self.story.audit(journal).split(b":", 1)[1].rsplit(b",", 1)[0] + b"\n"
 
     def plain(self, talk: Talk) -> str:
-        """Of a run in which nothing is lost."""
+        """Returns what is wrong with a run in which nothing is lost."""
         return (
             ("a connection was closed" if talk.unasked else "")
             or self.story.expects(talk.replies, frozenset())
@@ -250,7 +251,8 @@ class Served:
         )
 
     def hung_up(self, kind: Kind, talk: Talk, lost: frozenset[int]) -> str:
-        """Of a run in which a connection ended at an error; lines were granted whose replies are lost."""
+        """Returns what is wrong with a run in which a connection ended with an error. The replies of some granted
+        lines are lost."""
         closed = {self.story.lines[at].split(b" ", 1)[0] for at in talk.unasked}
         unasked = talk.unasked - lost
         done = self.done(talk.journal)
@@ -264,7 +266,7 @@ class Served:
         )
 
     def unwritten(self, kind: Kind, talk: Talk, write: str) -> str:
-        """Of a run whose write of that name failed."""
+        """Returns what is wrong with a run in which the named write failed."""
         if write == "last line":
             return unwritten(kind, talk.ended, self.done(self.kept))
         what, at = write.split()
@@ -274,13 +276,14 @@ class Served:
         return (
             ("a connection was closed" if talk.unasked else "")
             or self.story.expects(talk.replies, frozenset())
-            or wrong(talk.ended, told("journal fault"))
+            or wrong(talk.ended, end_with("journal fault"))
             or ("" if b'{"refuse":"journal"}' in talk.replies[int(at)] else "another line than the one that wasn't kept")
             or ("" if talk.journal == self.story.journal_of(talk.replies, frozenset()) else "another journal")
         )
 
     def untaken(self, talk: Talk, nth: int, wanted: Ended) -> str:
-        """Of a run whose nth connection couldn't be taken: those before it were served to their ends."""
+        """Returns what is wrong with a run in which the nth connection couldn't be accepted. Those before it must
+        be served to their ends."""
         first = {line.split(b" ", 1)[0] for at, line in enumerate(self.story.lines) if at not in talk.unasked}
         return (
             wrong(talk.ended, wanted)
@@ -291,7 +294,7 @@ class Served:
 
 
 def fail_all(name: str, use: Use, kinds: list[Kind], library: Preloaded) -> str:
-    """Makes all runs of a use, and returns how many errors they met."""
+    """Runs a use with a failure of each call in turn. Returns a line with the number of errors."""
     met = 0
     for kind in kinds:
         for nth in range(1, MOST):
@@ -308,7 +311,8 @@ def fail_all(name: str, use: Use, kinds: list[Kind], library: Preloaded) -> str:
 
 
 def stopped(story: Story, room: Path) -> str:
-    """Returns a server that a signal ends while a client is connected: no last line, and a whole journal."""
+    """Checks a server that a signal ends while a client is connected: it prints no last line, and its journal is
+    complete."""
     # A job in a shell's background ignores SIGINT, and so would what it starts.
     signal.signal(signal.SIGINT, signal.default_int_handler)
     journal = room / "stopped.journal"
@@ -330,7 +334,7 @@ def stopped(story: Story, room: Path) -> str:
 
 
 def work(room: Path) -> str:
-    """Returns all uses."""
+    """Runs all uses. Returns the lines about them."""
     library = Preloaded("faults/fail.c", room, "FAIL_COUNTS")
     lab = built_in(room)
     journal = TOP / "examples/whole-run.journal"

@@ -1,4 +1,4 @@
-"""Journals that fail in the middle of a run, with what is answered then, by hand."""
+"""Journals that fail during a run, with the expected replies written by hand."""
 from pathlib import Path
 
 from tests.common.preload import Client, Ended, Preloaded, Server, Story, fail, play, run
@@ -32,12 +32,12 @@ EIO, EMFILE = "5", "24"
 
 
 def failing(library: Preloaded, kind: str, nth: int, error: str) -> dict[str, str]:
-    """Returns the variables of a run whose nth call of that kind fails."""
+    """Returns the environment in which the nth call of a kind fails."""
     return library.variables({"FAIL": kind, "FAIL_AT": str(nth), "FAIL_WITH": error})
 
 
 def scripted(lab: Path, room: Path, library: Preloaded) -> None:
-    """The put of a script's second event fails: its second write."""
+    """Checks a script whose second event can't be written."""
     script, journal = room / "halted.script", room / "halted.journal"
     script.write_bytes(SCRIPT)
     journal.unlink(missing_ok=True)
@@ -47,7 +47,8 @@ def scripted(lab: Path, room: Path, library: Preloaded) -> None:
 
 
 def served(lab: Path, room: Path, library: Preloaded) -> None:
-    """The put of a server's second event fails: the seventh write, after the first line, four replies and the first put."""
+    """Checks a server whose second event can't be written: the seventh write, after the first line, four replies
+    and the first event."""
     journal = room / "halted.journal"
     journal.unlink(missing_ok=True)
     words = ["serve", str(lab)]
@@ -59,7 +60,8 @@ def served(lab: Path, room: Path, library: Preloaded) -> None:
 
 
 def unaccepted(lab: Path, library: Preloaded) -> None:
-    """A journal that takes nothing, and a connection that can't be taken: the one before is served to its end."""
+    """Checks a server whose journal takes nothing, and a connection that can't be accepted: the one before is
+    served to its end."""
     words = ["serve", str(lab)]
     server = Server(lambda port: [*words, str(port), "2", "/dev/full"], failing(library, "accept", 2, EMFILE))
     client = Client(server.port)
@@ -72,7 +74,7 @@ def unaccepted(lab: Path, library: Preloaded) -> None:
 
 
 def halted(lab: Path, room: Path, library: Preloaded) -> str:
-    """Returns all three."""
+    """Runs all three checks. Returns a line about them."""
     scripted(lab, room, library)
     served(lab, room, library)
     unaccepted(lab, library)

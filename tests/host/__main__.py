@@ -1,8 +1,9 @@
-"""Plays classes over a host, whose connections come and go, as a user runs it.
+"""Plays classes over a host, as a user runs it. Their connections come and go.
 
     python3 -m tests.host [WORD..]
 
-With words, only the tests whose names have one of them. The tests go side by side: most of them wait.
+With arguments, only the tests whose names contain one of them are run. The tests run side by side, because most of
+them wait.
 """
 import re
 import socket
@@ -20,12 +21,12 @@ NONE = Ended(0, b"done: 0 events, configuration 0\n", b"")
 
 
 def move(at: int, node: int, rule: str) -> bytes:
-    """Returns a move by that number."""
+    """Returns the line of a move in a configuration."""
     return line_of(at=at, do="move", node=node, rule=rule)
 
 
 def acts(talk: Talk, student: Caller, teacher: Caller, turn: int) -> None:
-    """A move of ana's, its close, and a fault by which it may be made again: three events, two numbers."""
+    """Sends a move of ana's, its close, and a fault that makes the move possible again: three events."""
     talk.ask(student, move(2 * turn, 1, "seduction"))
     talk.ask(teacher, CLOSE)
     talk.ask(student, look("ana"))
@@ -33,7 +34,7 @@ def acts(talk: Talk, student: Caller, teacher: Caller, turn: int) -> None:
 
 
 def goes_on(talk: Talk, student: Caller, teacher: Caller, turn: int) -> None:
-    """A hundred lines that only ask, and the same."""
+    """Sends a hundred requests that only look, and then `acts`."""
     for _ in range(50):
         talk.ask(student, look("ana"))
         talk.ask(teacher, REPORT)
@@ -42,7 +43,8 @@ def goes_on(talk: Talk, student: Caller, teacher: Caller, turn: int) -> None:
 
 
 def one_after_another(room: Path) -> None:
-    """200 connections through three seats, which end in each way: by bye, by their end, in a line, by a reset."""
+    """200 connections go through three seats. They end in every way: by a bye, by closing, within a line, by a
+    reset."""
     lab, journal = lab_of(room, 4), room / "journal"
     with Host(lab, 0, 0, journal) as host:
         talk = Talk(lab, 4, room)
@@ -70,8 +72,8 @@ def one_after_another(room: Path) -> None:
 
 
 def through_one_seat(room: Path) -> None:
-    """A client that sees the end of a connection and comes again isn't answered `busy`, if there is one seat, or hardly
-    ever on a slow machine: the seat is free within half a second."""
+    """With one seat, a client that sees the end of its connection and connects again isn't answered `busy`, except
+    rarely on a slow machine. The seat is free within half a second."""
     lab, told = lab_of(room, 2), 0
     with Host(lab, 0, 0) as host:
         for _ in range(200):
@@ -86,7 +88,7 @@ def through_one_seat(room: Path) -> None:
 
 
 def killed_in_a_line(room: Path) -> None:
-    """A bot and the teacher's program are killed in the middle of a line, and go on when they come again."""
+    """A bot and the teacher's program are killed in the middle of a line. New ones continue."""
     lab, journal = lab_of(room, 2), room / "journal"
     with Host(lab, 0, 0, journal) as host:
         talk = Talk(lab, 2, room)
@@ -110,7 +112,7 @@ def killed_in_a_line(room: Path) -> None:
 
 
 def knocks(port: int, count: int) -> None:
-    """Connects and closes so many times."""
+    """Opens and closes connections."""
     made = 0
     while made < count:
         try:
@@ -121,8 +123,8 @@ def knocks(port: int, count: int) -> None:
 
 
 def connect_and_close(room: Path) -> None:
-    """A loop that connects and closes leaves the class running, and what the host holds as it was: the first rounds
-    are for what threads keep for the next ones."""
+    """A loop of connections that are closed at once leaves the class running, and uses no more memory, threads or
+    files. The first rounds don't count, because threads keep some memory."""
     lab, journal = lab_of(room, 4, 100_000), room / "journal"
     with Host(lab, 0, 0, journal) as host:
         talk = Talk(lab, 4, room)
@@ -150,8 +152,8 @@ def connect_and_close(room: Path) -> None:
 
 
 def ends_after(caller: Caller, begun: float, piece: bytes, every: float, left: list[bytes]) -> float:
-    """Sends a piece every so many seconds, ten at most, until the connection has ended; answers when it did, and keeps
-    the lines that it was answered."""
+    """Sends a piece every so many seconds, at most ten, until the connection ends. Returns the seconds until then,
+    and appends the received lines to `left`."""
     sent, found = 0, b""
     while True:
         caller.socket.settimeout(every)
@@ -173,7 +175,8 @@ def ends_after(caller: Caller, begun: float, piece: bytes, every: float, left: l
 
 
 def deadlines(room: Path) -> None:
-    """Who doesn't greet stays for ten seconds, at the desk for five, whatever is said, and reads why it is ended."""
+    """A connection without a hello is closed after ten seconds, and after five at the desk, whatever it sends. It
+    gets a line with the reason."""
     lab = lab_of(room, 16)
     with Host(lab, 0, 0) as host:
         early = let_in(host.port, hello("cyd"))[0]
@@ -204,7 +207,7 @@ def deadlines(room: Path) -> None:
 
 
 def told_busy(port: int) -> None:
-    """Checks that a newcomer, and one that asks, is answered `busy` and hung up on."""
+    """Checks that a new connection, and one that sends a request, is answered `busy` and closed."""
     for line in (b"", hello("ana"), BYE):
         caller = Caller(port)
         if line:
@@ -216,7 +219,8 @@ def told_busy(port: int) -> None:
 
 
 def says_busy(room: Path) -> None:
-    """If all seats are taken a host says so, at each port for itself, and lets one in when one leaves."""
+    """If all seats are taken, the host answers `busy`, at each port separately. When a connection leaves, a new
+    one gets its seat."""
     lab = lab_of(room, 3)
     with Host(lab, 0, 0) as host:
         ana, _ = let_in(host.port, hello("ana"))
@@ -241,7 +245,7 @@ def says_busy(room: Path) -> None:
 
 
 def two_of_one_name(room: Path) -> None:
-    """Two who greet as one name are served both, and one of them is granted a node's move."""
+    """Two connections with the same name are both served, and only one of them is granted a node's move."""
     lab, journal = lab_of(room, 3), room / "journal"
     with Host(lab, 0, 0, journal) as host:
         talk = Talk(lab, 3, room)
@@ -260,8 +264,8 @@ def two_of_one_name(room: Path) -> None:
 
 
 def raced(room: Path) -> None:
-    """Two moves and a close at once, over and over: each event is reported once, and the journal is that of a legal
-    run."""
+    """Two moves and a close are sent at the same time, over and over. Each event is reported once, and the journal
+    is legal."""
     lab, journal = lab_of(room, 3, 10_000), room / "journal"
     told: list[bytes] = []
     with Host(lab, 0, 0, journal) as host:
@@ -290,7 +294,7 @@ def raced(room: Path) -> None:
 
 
 def byes_that_end_nothing(room: Path) -> None:
-    """A bye that isn't the teacher's, or isn't said at the desk, ends its own connection alone."""
+    """A bye of a student, or one that isn't said at the desk, ends only its own connection."""
     lab, journal = lab_of(room, 4), room / "journal"
     with Host(lab, 0, 0, journal) as host:
         talk = Talk(lab, 4, room)
@@ -329,7 +333,7 @@ def byes_that_end_nothing(room: Path) -> None:
 
 
 def asks_on(port: int, name: str, asked: threading.Semaphore, wrong: list[str]) -> None:
-    """Asks looks and moves without end, until the host hangs up."""
+    """Sends looks and moves without end, until the host hangs up."""
     caller, _ = let_in(port, hello(name))
     at = 0
     while True:
@@ -346,7 +350,7 @@ def asks_on(port: int, name: str, asked: threading.Semaphore, wrong: list[str]) 
 
 
 def ended_while_asked(room: Path) -> None:
-    """The teacher's bye ends a host at once while students ask, are silent, in a line, and don't read."""
+    """The teacher's bye ends the host at once, while students ask, are silent, are within a line, or don't read."""
     lab, journal = lab_of(room, 16), room / "journal"
     with Host(lab, 0, 0, journal) as host:
         teacher, _ = let_in(host.desk, hello("tess"))
@@ -395,7 +399,7 @@ def ended_while_asked(room: Path) -> None:
 
 
 def ports(room: Path) -> None:
-    """If a port can't be had, or is both, nothing is served, and the journal is as it was."""
+    """If a port is taken, or both ports are the same, nothing is served, and the journal is unchanged."""
     lab, journal, kept = lab_of(room, 4), room / "journal", b"1 0 close\n"
     with socket.create_server(("127.0.0.1", 0)) as taken, socket.create_server(("127.0.0.1", 0)) as free:
         used, port = taken.getsockname()[1], free.getsockname()[1]
@@ -427,13 +431,13 @@ def ports(room: Path) -> None:
 
 
 def listeners(port: int) -> set[str]:
-    """Returns the addresses at which somebody listens on a port, as the system spells them."""
+    """Returns the addresses of the listeners on a port, as the system spells them."""
     rows = [line.split() for name in ("tcp", "tcp6") for line in Path(f"/proc/net/{name}").read_text(encoding="ascii").splitlines()[1:]]
     return {address for row in rows for address, _, number in [row[1].partition(":")] if row[3] == "0A" and int(number, 16) == port}
 
 
 def own_address() -> str:
-    """Returns the address by which this machine would reach others; one of its own, if it would reach none."""
+    """Returns an address of this machine by which it would reach others."""
     with socket.socket(socket.AF_INET, socket.SOCK_DGRAM) as it:
         try:
             it.connect(("192.0.2.1", 9))  # Nothing is sent.
@@ -444,7 +448,7 @@ def own_address() -> str:
 
 
 def on_this_machine(room: Path) -> None:
-    """A host listens at the loopback address alone, as the system says, and is reached by no other one."""
+    """A host listens only on the loopback address, and can't be reached by another one."""
     with Host(lab_of(room, 4), 0, 0) as host:
         for port in (host.port, host.desk):
             if (found := listeners(port)) != {"0100007F"}:
@@ -460,7 +464,7 @@ def on_this_machine(room: Path) -> None:
 
 
 def one_device(room: Path) -> None:
-    """A device may be journal and output at once."""
+    """A device may be the journal and the output at the same time."""
     lab = lab_of(room, 4)
     with Host(lab, 0, 0, "/dev/null", before=["bash", "-c", 'exec "$@" 2> /dev/null', "bash"]) as host:
         if not host.listens:
@@ -470,7 +474,7 @@ def one_device(room: Path) -> None:
 
 
 def few_descriptors(room: Path) -> None:
-    """If a host may have 24 files open, or twelve, thirty clients at once are all served in the end."""
+    """With a limit of 24 or 12 open files, thirty clients at once are all served in the end."""
     for descriptors in (24, 12):
         lab, journal = lab_of(room, 16), room / f"{descriptors}.journal"
         limited = ["bash", "-c", f'ulimit -n {descriptors} && exec "$@"', "bash"]
@@ -508,7 +512,7 @@ def few_descriptors(room: Path) -> None:
 
 
 def words(room: Path) -> None:
-    """Words, labs and files that a host can't take."""
+    """Arguments, labs and files that a host refuses."""
     lab = lab_of(room, 4)
     bad = room / "bad.toml"
     bad.write_text(lab.read_text(encoding="utf-8").replace('owner = "ana"', 'owner = "ann"'), encoding="utf-8")

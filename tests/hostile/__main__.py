@@ -40,14 +40,15 @@ Hostile = Callable[[int, float, random.Random], str]
 
 
 def opened(port: int) -> socket.socket:
-    """Returns a connection that sends each piece at once; over a host one that has greeted."""
+    """Returns a connection that sends each piece at once. For a host, it has greeted."""
     it = let_in(port, hello("cyd"))[0].socket if OVER_HOST else socket.create_connection(("127.0.0.1", port), LIMIT)
     it.setsockopt(socket.IPPROTO_TCP, socket.TCP_NODELAY, 1)
     return it
 
 
 def begin(it: socket.socket, until: float, draw: random.Random) -> None:
-    """Is answered once, so that the thread of its session holds what it holds, and waits for a part of the time."""
+    """Sends a line and waits for its reply, so that the session's thread has all its memory. Then waits for a
+    random part of the time."""
     it.sendall(SEE)
     with it.makefile("rb") as replies:
         replies.readline()
@@ -55,7 +56,8 @@ def begin(it: socket.socket, until: float, draw: random.Random) -> None:
 
 
 def noise(port: int, until: float, draw: random.Random) -> str:
-    """Lines of any bytes, 255 in a string among them: each is answered as no request, and the next one plainly."""
+    """Sends lines of random bytes, with the byte 255 in a string. Each is answered as malformed, and the next one
+    correctly."""
     with opened(port) as it, it.makefile("rb") as replies:
         while time.monotonic() < until:
             lines = [draw.randbytes(draw.randrange(1, 300)).replace(b"\n", b" ") for _ in range(20)]
@@ -70,8 +72,8 @@ def noise(port: int, until: float, draw: random.Random) -> str:
 
 
 def long_line(port: int, until: float, draw: random.Random) -> str:
-    """Returns one byte more than a line may have: the connection is ended without a reply, over a host by a word of its
-    own."""
+    """Sends a line that is one byte too long. The connection is ended without a reply, or by a host with the line
+    `long`."""
     with opened(port) as it:
         begin(it, until, draw)
         it.sendall(b" " * (4097 - len(SEE) + 1) + SEE)
@@ -83,7 +85,8 @@ def long_line(port: int, until: float, draw: random.Random) -> str:
 
 
 def half_line(port: int, until: float, draw: random.Random) -> str:
-    """Returns a line in two halves, the second at the end or after minutes, since a host bears ten without a line."""
+    """Sends a line in two halves, the second one at the end. A host needs it within minutes, because its limit is
+    ten."""
     middle = draw.randrange(1, len(SEE) - 1)
     with opened(port) as it, it.makefile("rb") as replies:
         it.sendall(SEE)
@@ -99,7 +102,7 @@ def half_line(port: int, until: float, draw: random.Random) -> str:
 
 
 def byte_by_byte(port: int, until: float, draw: random.Random) -> str:
-    """Requests, one byte at a time."""
+    """Sends requests one byte at a time."""
     with opened(port) as it, it.makefile("rb") as replies:
         while time.monotonic() < until:
             for at in range(len(SEE)):
@@ -111,7 +114,7 @@ def byte_by_byte(port: int, until: float, draw: random.Random) -> str:
 
 
 def reset(port: int, until: float, draw: random.Random) -> str:
-    """Requests whose replies nobody reads, and a reset."""
+    """Sends requests without reading their replies, and resets the connection."""
     with opened(port) as it:
         begin(it, until, draw)
         it.sendall(SEE * draw.randrange(1, 200))
@@ -120,8 +123,8 @@ def reset(port: int, until: float, draw: random.Random) -> str:
 
 
 def pour(port: int, until: float, draw: random.Random) -> int:
-    """Requests until that time or until the connection is ended, whose replies nobody reads. Tells how many bytes
-    were taken."""
+    """Sends requests without reading their replies, until that time or until the connection ends. Returns the
+    number of bytes that were taken."""
     caller, _ = let_in(port, hello("cyd") if OVER_HOST else SEE)
     caller.socket.setblocking(False)
     sent = 0
@@ -139,7 +142,8 @@ def pour(port: int, until: float, draw: random.Random) -> int:
 
 
 def flood(port: int, until: float, draw: random.Random) -> str:
-    """Requests without end, whose replies nobody reads. A host ends that after ten seconds, and it comes again."""
+    """Sends requests without end and without reading their replies. A host ends that after ten seconds, and then a
+    new connection continues."""
     sent = 0
     while (begun := time.monotonic()) < until:
         sent += pour(port, until, draw)
@@ -150,14 +154,14 @@ def flood(port: int, until: float, draw: random.Random) -> str:
 
 
 def gone(port: int, until: float, draw: random.Random) -> str:
-    """Returns no line at all."""
+    """Opens a connection, and sends no line at all."""
     with socket.create_connection(("127.0.0.1", port), LIMIT):
         time.sleep(max(0.0, until - time.monotonic()) * draw.uniform(0.3, 0.6))
     return ""
 
 
 def stands() -> str:
-    """Returns the process of a hostile client has begun; nothing is wrong."""
+    """Returns no fault. It is called when the process of a hostile client has begun."""
     time.sleep(0.5)
     return ""
 
@@ -166,7 +170,7 @@ ALL: list[Hostile] = [noise, long_line, half_line, byte_by_byte, reset, flood, g
 
 
 def honest_lines() -> bytes:
-    """Returns what two honest clients ask in turn: views and denials, and now and then a move and its close."""
+    """Returns the lines of two honest clients in turn: views and denials, and now and then a move and its close."""
     lines = ['1 {"do":"hello","key":"a-key","name":"ana"}', '2 {"do":"hello","key":"chalk","name":"tess"}']
     number = 0
     while len(lines) < MOST_LINES:
@@ -181,18 +185,18 @@ def honest_lines() -> bytes:
 
 
 def kilobytes(server: Program) -> int:
-    """Returns what the server holds of memory."""
+    """Returns the resident memory of the server in kilobytes."""
     status = Path(f"/proc/{server.process.pid}/status").read_text(encoding="ascii")
     return int(status.split("VmRSS:", 1)[1].split()[0])
 
 
 def threads(server: Program) -> int:
-    """Returns how many threads the server has."""
+    """Returns the number of threads of the server."""
     return len(list(Path(f"/proc/{server.process.pid}/task").iterdir()))
 
 
 class Honest:
-    """Two clients, who ask one line after the other: a student, and the teacher, who is at a host's desk."""
+    """Two clients that ask one line after another: a student and the teacher, who is at the desk of a host."""
 
     def __init__(self, story: Story, server: Program) -> None:
         self.lines = [line.split(b" ", 1) for line in story.lines]
@@ -202,7 +206,8 @@ class Honest:
         self.at = 0
 
     def ask(self) -> float:
-        """Asks one line, which has to be answered as in a quiet run, and returns what time that took."""
+        """Sends the next line, and checks that its reply is the same as in a quiet run. Returns the seconds that
+        it took."""
         number, line = self.lines[self.at]
         begun = time.monotonic()
         reply = self.clients[number].ask(line)
@@ -213,7 +218,8 @@ class Honest:
         return taken
 
     def play(self, most: int, pause: float, until: float = math.inf) -> list[float]:
-        """Asks so many lines, or as many as until that time, with a pause after each."""
+        """Sends so many lines, or as many as until that time, with a pause after each. Returns the seconds of
+        each."""
         times: list[float] = []
         while self.at < len(self.lines) and len(times) < most and time.monotonic() < until:
             times.append(self.ask())
@@ -221,7 +227,7 @@ class Honest:
         return times
 
     def end(self, server: Program) -> Ended:
-        """Closes both, a host by the teacher's bye, and waits for the server."""
+        """Closes both connections, for a host by the teacher's bye, and waits for the server. Returns its end."""
         if isinstance(server, Host):
             self.clients[b"2"].ask(BYE)
         for client in self.clients.values():
@@ -230,7 +236,7 @@ class Honest:
 
 
 def serving(lab: Path, connections: int) -> Program:
-    """Returns a server for so many connections, or a host."""
+    """Starts a server for this number of connections, or a host."""
     server: Program
     if OVER_HOST:
         server = Host(lab, 0, 0)
@@ -242,13 +248,13 @@ def serving(lab: Path, connections: int) -> Program:
 
 
 def served(story: Story, connections: int) -> tuple[Program, Honest]:
-    """Returns a server with its honest clients."""
+    """Starts a server, and its honest clients."""
     server = serving(story.lab, connections)
     return server, Honest(story, server)
 
 
 def ended(honest: Honest, server: Program) -> None:
-    """Checks that the server ends with the events of the honest ones alone."""
+    """Checks that the server ends with the events of the honest clients only."""
     events = sum(b'"place":' in reply for reply in honest.wanted[:honest.at])
     end = honest.end(server)
     if end.status != 0 or end.error or not end.out.startswith(b"done: %d events, " % events):
@@ -256,14 +262,14 @@ def ended(honest: Honest, server: Program) -> None:
 
 
 def answered(futures: list[Future[str]]) -> None:
-    """Checks that nothing is wrong with what the hostile ones met."""
+    """Checks that no hostile client has found a fault."""
     for future in futures:
         if future.result():
             fail(f"hostile: {future.result()}")
 
 
 def wait_for_threads(server: Program, wanted: int, when: str) -> None:
-    """Checks for so many threads: one for each connection that is open, beside those that there always are."""
+    """Waits until the server has one thread for each open connection, beside its constant ones."""
     for _ in range(int(LIMIT / 0.05)):
         if threads(server) == wanted:
             return
@@ -272,12 +278,12 @@ def wait_for_threads(server: Program, wanted: int, when: str) -> None:
 
 
 def handles(server: Program) -> int:
-    """Returns how many files the server has open."""
+    """Returns the number of open files of the server."""
     return len(list(Path(f"/proc/{server.process.pid}/fd").iterdir()))
 
 
 def wait_for_handles(server: Program, wanted: int, when: str) -> None:
-    """Checks for so many open files."""
+    """Waits until the server has this number of open files."""
     for _ in range(int(LIMIT / 0.05)):
         if handles(server) == wanted:
             return
@@ -286,7 +292,8 @@ def wait_for_handles(server: Program, wanted: int, when: str) -> None:
 
 
 def late(lab: Path) -> None:
-    """Clients that send more after a bye, or too much for a line, and read late: all replies arrive, and the end."""
+    """Clients send more after a bye, or a line that is too long, and read late. All replies arrive, and then the
+    end."""
     server = serving(lab, 16)
     for tail, said in [(BYE + b"x" * 5000, BID), (b"x" * 20_000, b"")] * 8:
         with opened(server.port) as it, it.makefile("rb") as replies:
@@ -304,7 +311,7 @@ def late(lab: Path) -> None:
 
 
 class Silent:
-    """A client that says nothing for a minute: its connection isn't ended for that."""
+    """A client that sends nothing for a minute, and whose connection stays open."""
 
     def __init__(self, lab: Path) -> None:
         self.server = Server(lambda port: ["serve", str(lab), str(port), "1"], {})
@@ -312,7 +319,7 @@ class Silent:
         self.until = time.monotonic() + SILENCE
 
     def end(self) -> None:
-        """Asks after the minute, and wants a reply."""
+        """Sends a line after the minute, and checks that it is answered."""
         time.sleep(max(0.0, self.until - time.monotonic()))
         with self.open as it, it.makefile("rb") as replies:
             it.sendall(SEE)
@@ -323,13 +330,14 @@ class Silent:
 
 
 def resting(server: Program) -> tuple[int, int]:
-    """Returns how many threads and open files a server has with its two honest clients alone, once it takes no others:
-    the main thread, two more, the standard streams, and two files for each. A host always takes others."""
+    """Returns the number of threads and open files of a server that has only its two honest clients: the main
+    thread and two more, the standard streams, and two files for each. A host also has those for accepting others."""
     return (threads(server), handles(server)) if isinstance(server, Host) else (3, 7)
 
 
 def work(room: Path) -> str:
-    """Late readers, a quiet run, and one beside the hostile clients; and over a server a silent client all along."""
+    """Runs the late readers, a quiet run, and a run beside the hostile clients. With a server, a silent client is
+    connected all the time."""
     numbers = [float(word) for word in sys.argv[1:] if word != "host"]
     seconds = numbers[0] if numbers else SECONDS
     if OVER_HOST and not HOST.is_file():

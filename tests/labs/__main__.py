@@ -1,4 +1,4 @@
-"""What the program reads in lab files: all rows of the tables of this folder, and labs at their limits.
+"""Labs and the program's verdicts on them: all rows of the tables in this folder, and labs at their limits.
 
     python3 -B -m tests.labs
 """
@@ -12,7 +12,7 @@ from tests.labs.sizes import computed_rows
 
 
 def says(row: Row, room: Path) -> None:
-    """Fails unless `check` says of the lab of a row what the row says, and the plain model says the same."""
+    """Checks that `check` prints the line of a row for its lab, and that the plain model prints the same."""
     lab = room / "checked.toml"
     lab.write_bytes(row.document)
     found = called("check", lab) if row.is_newer else agreed(row.name, "check", lab)
@@ -21,7 +21,7 @@ def says(row: Row, room: Path) -> None:
 
 
 def work(room: Path) -> str:
-    """Returns all rows."""
+    """Checks all rows. Returns a line with their number."""
     rows = all_rows() + computed_rows()
     for row in rows:
         says(row, room)

@@ -28,7 +28,8 @@ TEACHER = ("tess", "chalk")
 
 @dataclass(frozen=True)
 class Row:
-    """A document and what is said of it, or shown; its teacher and its students."""
+    """A document with the expected line about it, or its expected content, and the names and keys of its teacher
+    and students."""
 
     name: str
     document: bytes
@@ -40,19 +41,19 @@ class Row:
 
 
 def built_in() -> str:
-    """Returns the lab that is built into the program."""
+    """Returns the text of the built-in lab."""
     return (TOP / "examples/built-in.toml").read_text(encoding="utf-8").partition("\n\n")[2]
 
 
 def changed(name: str, base: str, row: dict[str, Any]) -> str:
-    """Returns a document with a new text instead of one that stands there once."""
+    """Returns a document in which a text that occurs once is replaced."""
     if base.count(row["old"]) != 1:
         fail(f"{name}: {row['old']!r} doesn't stand once in its document")
     return base.replace(row["old"], row["new"])
 
 
 def document_of(name: str, table: dict[str, Any], row: dict[str, Any], last: str) -> bytes:
-    """Returns the document of a row, if the document of the row before is the last one."""
+    """Returns the document of a row. It may refer to the last document."""
     if "old" in row:
         base = last if row.get("goes_on") else table.get("base", built_in())
         return changed(name, base, row).encode()

@@ -22,7 +22,7 @@ def hello(name: str, key: str) -> str:
 
 
 def looks(people: Sequence[tuple[str, str]], nodes: list[int]) -> list[str]:
-    """Returns each of these looks at each node."""
+    """Returns a look at each node by each of these people."""
     lines = []
     for name, key in people:
         lines += [hello(name, key), *(f'1 {{"do":"look","node":{i}}}\n' for i in nodes), '1 {"do":"bye"}\n']
@@ -30,7 +30,7 @@ def looks(people: Sequence[tuple[str, str]], nodes: list[int]) -> list[str]:
 
 
 class Shown:
-    """A lab in a file, of which the program is asked."""
+    """A lab in a file, with the program's replies about it."""
 
     def __init__(self, row: Row, room: Path) -> None:
         self.row = row
@@ -38,7 +38,7 @@ class Shown:
         self.lab.write_bytes(row.document)
 
     def fail(self, why: str) -> None:
-        """The row isn't shown so."""
+        """Fails with the name of the row."""
         fail(f"{self.row.name}: {why}")
 
     def size(self) -> list[str]:
@@ -50,10 +50,8 @@ class Shown:
         return words[1::2]
 
     def replies(self, people: Sequence[tuple[str, str]], nodes: list[int], sessions: int) -> list[dict[str, Any]]:
-        """Returns the replies to all looks of these.
-
-        At the end a line of the last connection is answered, and one of a connection more is no line of the script.
-        """
+        """Returns the replies to all looks of these people. Also checks that the last connection is answered, and
+        that one more is refused by the script."""
         lines = looks(people, nodes)
         last = f'{sessions} {{"do":"bye"}}\n{sessions + 1} {{"do":"bye"}}\n'
         self.script.write_text("".join(lines) + last, encoding="utf-8")
@@ -64,7 +62,7 @@ class Shown:
         return [json.loads(line.split(b" ", 1)[1]) for line in found.out.splitlines()[:-1]]
 
     def all_replies(self, students: int, nodes: list[int], sessions: int) -> list[dict[str, Any]]:
-        """Returns those to the looks of the teacher and of each student, over scripts that aren't too large."""
+        """Returns the replies to all looks of the teacher and the students, by scripts that aren't too large."""
         people = [self.row.teacher, *self.row.students[:students]]
         replies = []
         for start in range(0, len(people), PART):
@@ -72,13 +70,13 @@ class Shown:
         return replies
 
     def takes(self, node: int, events: int) -> Ended:
-        """Returns the audit of a journal of so many events."""
+        """Returns the result of the audit of a journal with this number of events."""
         lines = (f"{place} {place - 1} fault {node} - false\n" for place in range(1, events + 1))
         self.journal.write_text("".join(lines), encoding="ascii")
         return run(["audit", str(self.lab), str(self.journal)], b"", {})
 
     def limit(self, node: int, events: int) -> None:
-        """Checks that so many events may be, and not one more."""
+        """Checks that this number of events is allowed, and one more isn't."""
         found = self.takes(node, events)
         if not found.out.startswith(b"ok: %d events, configuration %d, " % (events, events)):
             self.fail(f"fewer events than {events}: {found.error!r}")
@@ -87,14 +85,14 @@ class Shown:
 
 
 def mark(look: Look, node: int) -> str:
-    """Returns how a node that is looked at stands to another."""
+    """Returns the mark of another node in a look: linked, pointed at, or neither."""
     if not any(other["node"] == node for other in look["near"]):
         return "."
     return ">" if look["p"] == node else "-"
 
 
 def text_of(nodes: list[int], students: list[str], replies: list[dict[str, Any]]) -> str:
-    """Returns what the replies to all looks show of the nodes."""
+    """Returns the text about all nodes that the replies show."""
     width = len(nodes) + 2
     seen = [replies[start + 1 : start + 1 + len(nodes)] for start in range(0, width * (len(students) + 1), width)]
     text = ""
@@ -106,7 +104,7 @@ def text_of(nodes: list[int], students: list[str], replies: list[dict[str, Any]]
 
 
 def compare(row: Row, room: Path) -> None:
-    """Checks that the lab of a row shows what the row says."""
+    """Checks that the program shows the lab of a row as expected."""
     shown = Shown(row, room)
     head, *parts = row.shows.split("; ")
     events, sessions = (int(word) for word in head.split()[:2])

@@ -1,31 +1,33 @@
-"""Labs at their limits and past them, which no one wants to write down."""
+"""Labs at their limits and beyond, which are too large to write by hand."""
 from collections.abc import Iterable
 
+from tests.common.limits import MOST as LIMIT
 from tests.labs.rows import Row
 
-HEAD = """sessions = 16
-teacher = { name = "tess", key = "chalk" }
+NAME, KEY, SESSIONS = LIMIT["name"], LIMIT["key"], LIMIT["sessions"]
+HEAD = f"""sessions = {SESSIONS}
+teacher = {{ name = "tess", key = "chalk" }}
 """
-MOST = "events = 100000\n"
+MOST = f"events = {LIMIT['events']}\n"
 
 
 def student(number: int) -> tuple[str, str]:
-    """Returns a student with a name and a key of the greatest lengths."""
+    """Returns a name and a key of the greatest lengths."""
     return f"s{number:031}", f"{number:064}"
 
 
 def students(count: int) -> str:
-    """Returns the lines of so many students with the longest names and keys."""
+    """Returns the lines of students with the longest names and keys."""
     return "".join('[[student]]\nname = "{}"\nkey = "{}"\n'.format(*student(number)) for number in range(count))
 
 
 def nodes(ids: Iterable[int]) -> str:
-    """Nodes of the first student."""
+    """Returns the lines of nodes that the first student owns."""
     return "".join(f'[[node]]\nid = {node}\nowner = "{student(0)[0]}"\n' for node in ids)
 
 
 def sizes() -> list[Row]:
-    """So many nodes and students, with the greatest limits of a run."""
+    """Returns rows with different numbers of nodes and students, with the greatest limits of a run."""
     ids = range(60000, 60257)
     wanted = {
         (1, 1): "ok: 1 nodes, 0 links, 1 students",
@@ -45,22 +47,22 @@ def sizes() -> list[Row]:
 
 
 def loose() -> Row:
-    """As many nodes, students and events as may be, and no links."""
+    """Returns the row with the greatest numbers of nodes, students and events, and no links."""
     people = tuple(student(number) for number in range(256))
     ids = range(60000, 60256)
     marks = "." * 256
-    shows = "100000 16 256 0 256" + "".join(f"; {node} false {people[0][0]} {marks}" for node in ids)
+    shows = f"{LIMIT['events']} {SESSIONS} 256 0 256" + "".join(f"; {node} false {people[0][0]} {marks}" for node in ids)
     document = MOST + HEAD + students(256) + nodes(ids)
     return Row("256 nodes without links", document.encode(), shows=shows, students=people)
 
 
 def lengths() -> list[Row]:
-    """Returns the lengths of the teacher's name and key, and the sessions, on both sides of each limit."""
+    """Returns rows with names, keys and sessions on both sides of their limits."""
     bad, sessions = "lab: principal 0: bad name or key", "lab: sessions is out of its limits"
     wanted = [
-        (1, 1, 1, ""), (32, 64, 16, ""), (33, 64, 16, bad), (32, 65, 16, bad), (0, 64, 16, bad),
-        (32, 0, 16, bad),
-        (32, 64, 17, sessions), (32, 64, 0, sessions),
+        (1, 1, 1, ""), (NAME, KEY, SESSIONS, ""), (NAME + 1, KEY, SESSIONS, bad), (NAME, KEY + 1, SESSIONS, bad), (0, KEY, SESSIONS, bad),
+        (NAME, 0, SESSIONS, bad),
+        (NAME, KEY, SESSIONS + 1, sessions), (NAME, KEY, 0, sessions),
     ]
     rows = []
     for name, key, count, line in wanted:
@@ -84,12 +86,13 @@ owner = "ana"
 
 
 def greatest() -> Row:
-    """256 nodes with the greatest identifiers, each linked to each other one and of two of 256 students."""
+    """Returns the row with 256 nodes in a complete graph, with the greatest identifiers, and two of 256 students
+    for each node."""
     ids = range(65280, 65536)
     people = tuple(student(number) for number in range(256))
     links = ",".join(f"[{a},{b}]" for a in ids for b in range(65280, a))
     owners = {node: sorted([node % 256, (node + 1) % 256]) for node in ids}
-    shows = "100 16 256 32640 256"
+    shows = f"100 {SESSIONS} 256 32640 256"
     document = f"events = 100\n{HEAD}links = [{links}]\n" + students(256)
     for at, (node, (a, b)) in enumerate(owners.items()):
         document += f'[[node]]\nid = {node}\nowners = ["{people[b][0]}", "{people[a][0]}"]\n'

@@ -2,7 +2,8 @@
 
     python3 -m tests.memory           all of it
     python3 -m tests.memory uses      the program alone
-    python3 -m tests.memory hosts     the host's program alone
+    python3 -m tests.memory hosts     the host's program alone, what serves no class
+    python3 -m tests.memory classes   its words `host` and `resume` alone
     python3 -m tests.memory tests     the tests inside the crates alone
 
 Of each use, runs are made with the first, the second, .. request refused, until a run meets no refusal.
@@ -17,12 +18,13 @@ from collections.abc import Callable
 from pathlib import Path
 
 from tests.common.preload import LIMIT, TOP, Ended, Preloaded, Server, Story, built_in, fail, in_room, play, run
+from tests.memory.classes import refused_classes
 from tests.memory.hosts import host_uses
-from tests.memory.refusing import OUT_OF_MEMORY, Tried, Use, memories, refuse_all, whole
+from tests.memory.refusing import OUT_OF_MEMORY, Tried, Use, done_line, memories, refuse_all, whole
 
 
-def told_of(story: Story, ended: Ended) -> tuple[str, list[bytes]]:
-    """Returns what is wrong with how a script ended, if anything, and its replies."""
+def fault_and_replies(story: Story, ended: Ended) -> tuple[str, list[bytes]]:
+    """Returns what is wrong with the end of a script, or an empty text, and its replies."""
     replies = ended.out.splitlines(keepends=True)
     if ended.status != 0 or ended.error:
         return "another end", replies
@@ -32,7 +34,7 @@ def told_of(story: Story, ended: Ended) -> tuple[str, list[bytes]]:
 
 
 def scripted(story: Story, room: Path, name: str) -> Use:
-    """Returns a script, by standard input if it has no name, or from a file and with a journal."""
+    """Returns the use of a script: by standard input if it has no name, or else from a file and with a journal."""
     script, journal, with_words = room / f"{name}.script", room / f"{name}.journal", bool(name)
     script.write_bytes(story.script())
     words = ["script", str(story.lab), str(script), str(journal)] if with_words else []
@@ -43,7 +45,7 @@ def scripted(story: Story, room: Path, name: str) -> Use:
         ended = run(words, given, variables)
         if ended == OUT_OF_MEMORY:
             return Tried(ended, "", 0)
-        fault, replies = told_of(story, ended)
+        fault, replies = fault_and_replies(story, ended)
         if not fault and with_words:
             story.audit(journal.read_bytes())
             if journal.read_bytes() != story.journal_of(replies, frozenset()):
@@ -54,8 +56,8 @@ def scripted(story: Story, room: Path, name: str) -> Use:
 
 
 def fault_of_end(ended: Ended, replies: list[bytes], audited: bytes) -> str:
-    """Returns what is wrong with how a server ended that answered so, if anything."""
-    done = b"done:" + audited.split(b":", 1)[1].rsplit(b",", 1)[0] + b"\n"
+    """Returns what is wrong with the end of a server that gave these replies, or an empty text."""
+    done = done_line(audited)
     # If a session got no memory to begin with, its connection is closed, and that is reported at the end.
     wanted = Ended(5, done, b"out of memory\n") if b"" in replies else Ended(0, done, b"")
     # If no thread can be made, those that were taken are served to their ends, and nothing more is printed.
@@ -63,7 +65,7 @@ def fault_of_end(ended: Ended, replies: list[bytes], audited: bytes) -> str:
 
 
 def first_unanswered_late(story: Story, unasked: frozenset[int]) -> str:
-    """Returns the connection that was closed after its first line was answered, if there is one."""
+    """Returns the connection that was closed after the reply to its first line, if there is one."""
     begun = set()
     for at, line in enumerate(story.lines):
         number = line.split(b" ", 1)[0]
@@ -75,7 +77,7 @@ def first_unanswered_late(story: Story, unasked: frozenset[int]) -> str:
 
 
 def served(story: Story, room: Path) -> Use:
-    """Returns two clients of a server that keeps a journal."""
+    """Returns the use of two clients of a server with a journal."""
     journal = room / "served.journal"
 
     def use(variables: dict[str, str]) -> Tried:
@@ -98,7 +100,7 @@ def served(story: Story, room: Path) -> Use:
 
 
 def refused_tests(library: Preloaded) -> str:
-    """Runs the tests of refusals once more, with the library: each asserts that it met refusals then."""
+    """Runs the tests of refusals again with the library. Each of them checks that it met refusals."""
     count = 0
     for program in sorted(TOP.glob("crates/*/out/*_tests")):
         listed = subprocess.run([program, "--list"], capture_output=True, env=dict[str, str](), timeout=LIMIT, check=True)
@@ -118,7 +120,7 @@ def refused_tests(library: Preloaded) -> str:
 
 
 def refused_uses(library: Preloaded, room: Path) -> str:
-    """Refuses memory to all uses of the program."""
+    """Refuses memory in all uses of the program. Returns the lines about them."""
     lab = built_in(room)
     lines = (TOP / "examples/whole-run.script").read_bytes().splitlines(keepends=True)
     story, once = Story(lab, b"".join(line + line for line in lines), room), Story(lab, b"".join(lines), room)
@@ -136,15 +138,15 @@ def refused_uses(library: Preloaded, room: Path) -> str:
 
 
 def refused_hosts(library: Preloaded, room: Path) -> str:
-    """Refuses memory to all uses of the host's program."""
+    """Refuses memory in all uses of the host's program. Returns the lines about them."""
     return "by a host: " + ", ".join(refuse_all(name, use, library) for name, use in host_uses(room).items())
 
 
 def work(room: Path) -> str:
-    """Returns what the words ask for."""
+    """Runs the parts that the arguments name."""
     library = Preloaded("memory/refuse.c", room, "REFUSE_COUNTS")
     parts: dict[str, Callable[[Preloaded, Path], str]] = {
-        "uses": refused_uses, "hosts": refused_hosts, "tests": lambda library, _: refused_tests(library),
+        "uses": refused_uses, "hosts": refused_hosts, "classes": refused_classes, "tests": lambda library, _: refused_tests(library),
     }
     return "; ".join(part(library, room) for name, part in parts.items() if sys.argv[1:] in ([], [name]))
 

@@ -1,4 +1,5 @@
-"""Uses of the host's program that are refused memory: what it says of a journal and a record, and a script that it answers."""
+"""Uses of the host's program without enough memory: its verdicts on a journal and a record, and a script that it
+answers."""
 from pathlib import Path
 
 from tests.common.hosting import HOST, Caller, Host, lab_of, let_in
@@ -14,7 +15,7 @@ SAID = [
 
 
 def play(story: Story, host: Host) -> None:
-    """Asks a story's lines, each number's over a connection, the first at the desk."""
+    """Sends the lines of a story, each on its connection, the first at the desk."""
     callers = dict[bytes, Caller]()
     for line in story.lines:
         number, asked = line.split(b" ", 1)
@@ -45,8 +46,7 @@ def host_uses(room: Path) -> dict[str, Use]:
 
 
 def answered(story: Story) -> Use:
-    """Returns a script that is answered as its lines come; they are all there, and each is answered before the next is
-    read."""
+    """Returns the use of a script that is answered line by line."""
     def use(variables: dict[str, str]) -> Tried:
         ended = run(["answer", str(story.lab)], story.script(), variables, HOST)
         replies = ended.out.splitlines(keepends=True)

@@ -11,7 +11,7 @@ MOST = 5000
 
 @dataclass(frozen=True)
 class Tried:
-    """How a run under refusals ended, and what is wrong with it, if anything."""
+    """The end of a run with refusals, and what is wrong with it."""
 
     ended: Ended
     fault: str
@@ -22,12 +22,17 @@ Use = Callable[[dict[str, str]], Tried]
 
 
 def memories(replies: list[bytes]) -> int:
-    """Returns how many of these replies say that memory is out."""
+    """Returns the number of replies that say that memory is out."""
     return sum(reply.endswith(b'{"refuse":"memory"}\n') for reply in replies)
 
 
+def done_line(audited: bytes) -> bytes:
+    """Returns the expected last line of a server or a class, by the audit's output for its journal."""
+    return b"done:" + audited.split(b":", 1)[1].rsplit(b",", 1)[0] + b"\n"
+
+
 def whole(words: list[str], given: bytes = b"", program: Path = PROGRAM) -> Use:
-    """Returns a use that writes what a plain run writes, or nothing."""
+    """Returns a use that prints the same as a run without refusals, or nothing."""
     wanted = good(words, given, program)
 
     def use(variables: dict[str, str]) -> Tried:
@@ -39,7 +44,7 @@ def whole(words: list[str], given: bytes = b"", program: Path = PROGRAM) -> Use:
 
 
 def refuse_all(name: str, use: Use, library: Preloaded) -> str:
-    """Makes all runs of a use, and returns how many refusals they met."""
+    """Runs a use with each refusal in turn. Returns a line with the number of refusals."""
     met, told = 0, 0
     for variable, at_most in (("REFUSE", 1), ("REFUSE_FROM", MOST)):
         for nth in range(1, MOST):

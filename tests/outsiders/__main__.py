@@ -30,14 +30,14 @@ FREE = ["setpriv", "--reuid", "65534", "--regid", "65534", "--clear-groups"] if 
 
 
 def ends(host: Host, teacher: Caller, wanted: Ended = NONE) -> None:
-    """Checks that the teacher's bye ends a host well."""
+    """Checks that the teacher's bye ends a host as expected."""
     ended = host.dismissed(teacher)
     if (ended.status, ended.out) != (wanted.status, wanted.out):
         fail(f"outsiders: a host ends with {ended}")
 
 
 def ended_soon(words: list[str | Path]) -> Ended:
-    """Returns how a call ends by itself, which has to be soon."""
+    """Returns the result of a call that ends by itself soon."""
     try:
         done = subprocess.run(words, stdin=subprocess.DEVNULL, capture_output=True, timeout=60, check=False)
     except subprocess.TimeoutExpired:
@@ -46,8 +46,8 @@ def ended_soon(words: list[str | Path]) -> Ended:
 
 
 def refused_threads(room: Path) -> None:
-    """A student for whom no thread can be made is answered `busy` at once; the teacher is served without one, and the
-    teacher's bye ends the class for all."""
+    """A student is answered `busy` at once if no thread can be made. The teacher is served without a thread, and
+    the teacher's bye ends the class."""
     library = Preloaded("faults/fail.c", room, "FAIL_COUNTS")
     lab = lab_of(room, 5)
     for at in range(LOOKS + 2, LOOKS + 5):
@@ -70,7 +70,7 @@ def refused_threads(room: Path) -> None:
 
 
 def asks_after_the_bye(room: Path) -> None:
-    """What is asked once the teacher has the reply to the bye isn't granted, though the teacher's program stays."""
+    """Nothing is granted after the teacher has the reply to the bye, even if the teacher's connection stays open."""
     lab, journal = lab_of(room, 5), room / "journal"
     with Host(lab, 0, 0, journal) as host:
         teacher = let_in(host.desk, hello("tess"))[0]
@@ -91,7 +91,7 @@ def asks_after_the_bye(room: Path) -> None:
 
 
 def few(room: Path) -> None:
-    """A host that may have too few threads or files says so, and makes nothing; so if a class goes on."""
+    """A host with too low limits on threads or files prints that, and makes nothing. The same holds for `resume`."""
     lab, folder, program = lab_of(room, 4), room / "made", room / "host"
     folder.mkdir()
     program.write_bytes(HOST.read_bytes())
@@ -111,8 +111,8 @@ def few(room: Path) -> None:
 
 
 def comes_again(room: Path) -> None:
-    """A client that closes and comes again at once isn't answered `busy`, at either port, or hardly ever on a slow
-    machine."""
+    """A client that closes and connects again at once isn't answered `busy`, at either port, except rarely on a
+    slow machine."""
     lab, told = lab_of(room, 2), 0
     with Host(lab, 0, 0) as host:
         for port, name in [(host.desk, "tess"), (host.port, "ana")] * 150:
@@ -127,7 +127,7 @@ def comes_again(room: Path) -> None:
 
 
 def a_web_form(room: Path) -> None:
-    """A browser's POST gets one reply, and the lines of its body none."""
+    """A browser's POST gets one reply, and none of its body's lines takes effect."""
     lab = lab_of(room, 4)
     with Host(lab, 0, 0) as host:
         for port in (host.port, host.desk):
@@ -145,7 +145,7 @@ def a_web_form(room: Path) -> None:
 
 
 def words_at_the_end(room: Path) -> None:
-    """A line that is too long, and the class's end, are reported."""
+    """The host sends the reason after a line that is too long, and at the class's end."""
     lab = lab_of(room, 4)
     with Host(lab, 0, 0) as host:
         for first in (b"", hello("ana")):
@@ -163,7 +163,7 @@ def words_at_the_end(room: Path) -> None:
 
 
 def three_hellos(room: Path) -> None:
-    """The third hello without success ends a connection."""
+    """The third failed hello ends a connection."""
     lab = lab_of(room, 4)
     with Host(lab, 0, 0) as host:
         for port in (host.port, host.desk):
@@ -181,7 +181,7 @@ def three_hellos(room: Path) -> None:
 
 
 def comes(port: int, line: bytes, taken: list[float]) -> Caller:
-    """Gets a seat by a key, coming again if there is none, and notes how many seconds that took."""
+    """Connects with a hello, and again if there is no seat. Appends the seconds that it took."""
     begun = time.monotonic()
     while True:
         caller = Caller(port)
@@ -198,7 +198,7 @@ def comes(port: int, line: bytes, taken: list[float]) -> Caller:
 
 
 def alone(host: Host) -> float:
-    """Returns what an honest hello takes if nobody disturbs it, at most of five."""
+    """Returns the longest time of five honest hellos without outsiders."""
     taken: list[float] = []
     for _ in range(5):
         comes(host.port, hello("ana"), taken).close()
@@ -206,13 +206,14 @@ def alone(host: Host) -> float:
 
 
 def waits_little(taken: list[float], quiet: float, most: float = 2.0) -> None:
-    """Checks that most honest clients wait for less than so many seconds, and what a slow machine makes of that."""
+    """Checks that most honest clients wait less than so many seconds, or a multiple of the time without outsiders
+    on a slow machine."""
     if sorted(taken)[len(taken) // 2] > most + 20 * quiet:
         fail(f"outsiders: honest clients wait for a seat: {taken} seconds, alone {quiet}")
 
 
 def until_set(stop: threading.Event, act: Callable[[], None]) -> list[threading.Thread]:
-    """Does an act over and over, in a thread of its own."""
+    """Repeats an action in a thread until `stop` is set."""
     def work() -> None:
         while not stop.is_set():
             try:
@@ -226,7 +227,7 @@ def until_set(stop: threading.Event, act: Callable[[], None]) -> list[threading.
 
 
 def silent_ones(room: Path) -> None:
-    """Fifteen connections that say `{}`, and forty silent ones a second at both ports, keep nobody out."""
+    """Fifteen connections that send `{}`, and forty silent ones a second at both ports, keep nobody out."""
     lab = lab_of(room, 16)
     with Host(lab, 0, 0) as host:
         quiet = alone(host)
@@ -261,7 +262,8 @@ def silent_ones(room: Path) -> None:
 
 
 def a_third(room: Path) -> None:
-    """Those who haven't greeted have a third of the seats, and one at the desk: the first of them leaves for the next."""
+    """Connections without a hello get a third of the seats, and one at the desk. The first of them leaves for the
+    next."""
     lab = lab_of(room, 16)
     with Host(lab, 0, 0) as host:
         for port, share in ((host.port, 5), (host.desk, 1)):
@@ -284,7 +286,7 @@ def a_third(room: Path) -> None:
 
 
 def told_busy(port: int, count: int) -> float:
-    """Returns how many seconds pass until so many who come at once to a full port are all answered `busy`."""
+    """Returns the seconds until all of so many simultaneous connections to a full port are answered `busy`."""
     begun = time.monotonic()
     callers = [Caller(port) for _ in range(count)]
     for caller in callers:
@@ -295,7 +297,7 @@ def told_busy(port: int, count: int) -> float:
 
 
 def nobody_behind(room: Path) -> None:
-    """Twelve who come at once to a full port wait for a seat together, and not one after the other."""
+    """Twelve simultaneous connections to a full port wait for a seat together, and not one after another."""
     lab = lab_of(room, 3)
     with Host(lab, 0, 0) as host:
         held = [let_in(host.port, hello(name))[0] for name in ("ana", "ben")]
@@ -308,9 +310,9 @@ def nobody_behind(room: Path) -> None:
 
 
 def guesses(host: Host, quiet: float) -> tuple[int, int, float]:
-    """Beside those who guess keys, fifteen at the students' port and then fourteen at the desk too, honest hellos at both
-    are answered within a tenth of a second. Answers how many guesses were denied, how many who guess got another answer,
-    and how many seconds it took."""
+    """While clients guess keys, fifteen at the students' port and then fourteen at the desk too, honest hellos at
+    both ports are answered within a tenth of a second. Returns the number of denied guesses, the number of clients
+    with another answer, and the seconds."""
     stop, denied, others = threading.Event(), [0] * 29, [0] * 29
 
     def guess(at: int) -> None:
@@ -342,8 +344,8 @@ def guesses(host: Host, quiet: float) -> tuple[int, int, float]:
 
 
 def guessed_keys(room: Path) -> None:
-    """Those who guess keys have less than a hundred denials a second in all, and get most of them; the teacher's
-    program hears of the guesses."""
+    """Clients that guess keys get less than a hundred denials a second in total, but nearly that. The teacher's
+    program gets lines about the guesses."""
     with Host(lab_of(room, 16), 0, 0) as host:
         denied, others, seconds = guesses(host, alone(host))
         if denied / seconds > 100 or denied < 100:
@@ -356,7 +358,7 @@ def guessed_keys(room: Path) -> None:
 
 
 def one_of_many(room: Path) -> None:
-    """If a name has more than four seats and none is free, its last one goes to a newcomer; four are its own."""
+    """If a name has more than four seats and none is free, its last one goes to a newcomer. Four are kept."""
     lab = lab_of(room, 7)
     with Host(lab, 0, 0) as host:
         many = [let_in(host.port, hello("ana"))[0] for _ in range(6)]
@@ -374,7 +376,7 @@ def one_of_many(room: Path) -> None:
 
 
 def queues(host: Host, caller: Caller) -> str:
-    """Returns how many bytes the system holds at the host's end of a connection, to be sent and to be read."""
+    """Returns the numbers of bytes that wait at the host's end of a connection, to be sent and to be read."""
     ends = f":{host.port:04X}", f":{caller.socket.getsockname()[1]:04X}"
     for line in Path("/proc/net/tcp").read_text(encoding="ascii").splitlines()[1:]:
         words = line.split()
@@ -384,7 +386,7 @@ def queues(host: Host, caller: Caller) -> str:
 
 
 def never_reads(room: Path) -> None:
-    """A client that takes nothing of its replies for ten seconds is cut off, and not much later."""
+    """A client that reads none of its replies for ten seconds is disconnected, and not much later."""
     lab = lab_of(room, 4)
     with Host(lab, 0, 0) as host:
         deaf = let_in(host.port, hello("ana"))[0]
@@ -411,8 +413,7 @@ def never_reads(room: Path) -> None:
 
 
 def next_wait(library: Preloaded, caller: Caller, piece: bytes) -> float:
-    """Returns how many seconds the host's next read may wait after these bytes, which are answered if they are a
-    line."""
+    """Returns the timeout of the host's next read after these bytes. If they are a line, waits for its reply."""
     before, end = library.counts()[0], time.monotonic() + LIMIT
     caller.send(piece)
     if piece.endswith(b"\n") and b'"ok"' not in (said := caller.line()):
@@ -428,7 +429,8 @@ def next_wait(library: Preloaded, caller: Caller, piece: bytes) -> float:
 
 
 def ten_minutes(room: Path) -> None:
-    """After a greeting each line of a student's has ten minutes, however its bytes come; at the desk a line has any time."""
+    """After a hello, each line of a student has to come within ten minutes, in whatever pieces. At the desk there
+    is no limit."""
     library, lab = Preloaded("outsiders/waits.c", room, "WAITS"), lab_of(room, 4)
     with Host(lab, 0, 0, variables=library.variables({})) as host:
         student, waits = Caller(host.port), list[float]()
@@ -445,8 +447,8 @@ def ten_minutes(room: Path) -> None:
 
 
 def journals(room: Path) -> None:
-    """A journal is nobody's output, nor a pipe without a reader, and is for its owner alone to read if nobody has said
-    otherwise; the one that replaces it has the mode of the one before."""
+    """A journal can't be the output or a pipe without a reader. Only its owner can read it, unless its mode says
+    otherwise, and a journal that replaces another has the same mode."""
     lab, journal = lab_of(room, 4), room / "journal"
     for stream in ("", "2"):
         journal.unlink(missing_ok=True)
@@ -472,7 +474,7 @@ def journals(room: Path) -> None:
 
 
 def limits_of_files(room: Path) -> None:
-    """If the journal may not grow further, events are refused, and the host goes on; started by `./mml` too."""
+    """If the journal can't grow, events are refused and the host goes on, also when `./mml` starts it."""
     lab = lab_of(room, 4)
     # If a soft limit and a hard one differ, the soft one is what counts.
     for name, limit, start in (("program", "-f", 'exec "$@"'), ("soft", "-S -f", 'exec "$@"'), ("mml", "-f", 'shift && exec "$0" "$@"')):
@@ -502,13 +504,13 @@ def limits_of_files(room: Path) -> None:
 
 
 def limited(kilobytes: int, limit: str = "-s") -> list[str]:
-    """Returns what calls a program so that each stack may have so many kilobytes, and all together 64 MB of
-    addresses."""
+    """Returns words that run a program with this stack size in kilobytes, and 64 MB of addresses in total."""
     return ["bash", "-c", f'ulimit {limit} {kilobytes} && ulimit -v 65536 && exec "$@"', "bash"]
 
 
 def deepest(port: int, count: int) -> None:
-    """So many connections at once are answered the lines that are nested as deep as may be, and deeper ones are refused."""
+    """Sends lines at the limit of nesting on so many connections at once, which are answered, and deeper ones,
+    which are refused."""
     arrays, objects = b"[" * 126 + b"]" * 126, b'{"a":' * 126 + b"0" + b"}" * 126
     deep = [look("ana").replace(b"}", b',"x":%s}' % nest) for nest in (arrays, objects, arrays.replace(b"[]", b"[[]]"), b"[" * 4000)]
     callers = [Caller(port) for _ in range(count)]
@@ -523,8 +525,8 @@ def deepest(port: int, count: int) -> None:
 
 
 def small_stacks(room: Path) -> None:
-    """Stacks of 256 kB are enough for the deepest line, and then little address space is; if they may be smaller no
-    program begins."""
+    """Stacks of 256 kB are enough for the deepest line, even with little address space. With smaller ones no
+    program starts."""
     lab = lab_of(room, 16)
     with Host(lab, 0, 0, before=limited(256)) as host:
         teacher = let_in(host.desk, hello("tess"))[0]

@@ -43,7 +43,7 @@ def lab_of_bots(room: Path) -> Path:
 
 
 def knocks(ports: tuple[int, int]) -> None:
-    """Silent connections, one after the other, which are kept as long as the host bears them."""
+    """Opens silent connections one after another, and keeps them as long as the host allows."""
     kept: list[socket.socket] = []
     for turn in range(10**9):
         kept.append(socket.create_connection(("127.0.0.1", ports[turn % 2]), LIMIT))
@@ -53,14 +53,14 @@ def knocks(ports: tuple[int, int]) -> None:
 
 
 def guesses(ports: tuple[int, int]) -> None:
-    """One guess of a key after the other, until that is ended."""
+    """Guesses one key after another until the connection is ended."""
     with socket.create_connection(("127.0.0.1", ports[0]), LIMIT) as it, it.makefile("rb") as replies:
         it.sendall(GUESS * 10)
         replies.read()
 
 
 def holds(ports: tuple[int, int]) -> None:
-    """Holds a seat, by lines that are no hello."""
+    """Holds a seat by sending lines other than a hello."""
     with socket.create_connection(("127.0.0.1", ports[0]), LIMIT) as it, it.makefile("rb") as replies:
         it.sendall(b"{}\n")
         while replies.readline() not in (b"", BUSY, LATE):
@@ -69,7 +69,7 @@ def holds(ports: tuple[int, int]) -> None:
 
 
 def stays(ports: tuple[int, int]) -> None:
-    """Connections that are ended at their first line, whose other side stays."""
+    """Opens connections that are ended at their first line, and doesn't close them."""
     kept: list[socket.socket] = []
     for turn in range(10**9):
         kept.append(socket.create_connection(("127.0.0.1", ports[turn % 2]), LIMIT))
@@ -80,7 +80,7 @@ def stays(ports: tuple[int, int]) -> None:
 
 
 def outsider(ports: tuple[int, int]) -> None:
-    """All of that at once, over and over."""
+    """Does all of that at the same time, over and over."""
     def without_end(act: Callable[[tuple[int, int]], None]) -> None:
         while True:
             try:
@@ -107,7 +107,7 @@ class Waits:
 
 
 class Honest:
-    """One who has a key, and comes and goes."""
+    """A client with a key that connects and leaves."""
 
     def __init__(self, port: int, line: bytes, waits: Waits) -> None:
         self.port, self.line, self.waits = port, line, waits
@@ -121,7 +121,7 @@ class Honest:
         found.append(time.monotonic() - begun)
 
     def greets(self) -> bytes:
-        """Returns what a hello over a new connection is answered."""
+        """Connects, and returns the reply to its hello."""
         self.caller = Caller(self.port)
         said = self.caller.ask(self.line)
         if b'"ok"' not in said:
@@ -141,14 +141,14 @@ class Honest:
 
 @dataclass
 class Class:
-    """The bots of a class, what they do until it ends, and how long they wait now."""
+    """A class with bots, and how long they wait at the moment."""
 
     host: Host
     waits: Waits = field(default_factory=Waits)
     is_over: threading.Event = field(default_factory=threading.Event)
 
     def bot(self, node: int) -> None:
-        """A student's bot: it looks and asks for the move that is enabled, and comes again after some looks."""
+        """Runs a student's bot: it asks for enabled moves, and connects again after some looks."""
         draw = random.Random(node)
         while not self.is_over.is_set():
             it = Honest(self.host.port, line_of(do="hello", key=f"key-{node}", name=f"s-{node}"), self.waits)
@@ -173,7 +173,7 @@ class Class:
             it.caller.close()
 
     def come_to_rest(self) -> Honest:
-        """Returns the teacher closes steps until no node is privileged; answers the teacher's connection."""
+        """Closes steps as the teacher until no node is privileged. Returns the teacher's connection."""
         it, end = Honest(self.host.desk, hello("tess"), self.waits), time.monotonic() + LIMIT
         while not it.ask(REPORT)["stable"]:
             it.ask(CLOSE)
@@ -184,7 +184,8 @@ class Class:
 
 
 def bounded(waits: Waits, quiet: Waits) -> None:
-    """Checks that hardly an honest client waits for longer than it may, on a slow machine for longer than it would."""
+    """Checks that almost no honest client waits longer than allowed, or than a multiple of the time without
+    outsiders on a slow machine."""
     for of, found in vars(waits).items():
         most = WAIT + SLOWER * max(vars(quiet)[of])
         late = sum(each > most for each in found)
@@ -193,7 +194,7 @@ def bounded(waits: Waits, quiet: Waits) -> None:
 
 
 def work(room: Path) -> str:
-    """Returns a class alone for a moment, then beside the outsiders, to its end."""
+    """Runs a class alone for a moment, and then beside the outsiders to its end. Returns a line about it."""
     seconds = float(sys.argv[1]) if sys.argv[1:] else SECONDS
     lab, journal = lab_of_bots(room), room / "journal"
     with Host(lab, 0, 0, journal) as host:

@@ -1,4 +1,5 @@
-"""The teacher's bye at the desk ends the class, whatever comes before it in one piece and however its reply goes out."""
+"""The teacher's bye at the desk ends the class, whatever comes before it in the same piece, and in whatever pieces
+its reply is sent."""
 import threading
 import time
 from collections.abc import Mapping
@@ -18,7 +19,7 @@ SHORT = 80  # bytes of replies that are cut at each byte
 
 @dataclass(frozen=True)
 class Piece:
-    """Lines of the teacher's, the last of which is a bye."""
+    """Lines of the teacher. The last one is a bye."""
 
     name: str
     before: bytes
@@ -26,7 +27,7 @@ class Piece:
 
     @property
     def whole(self) -> bytes:
-        """Returns all its bytes."""
+        """Returns all bytes of the lines."""
         return self.before + BYE
 
 
@@ -39,7 +40,7 @@ PIECES = [
 
 
 class Asker:
-    """A student who asks without pause until nothing is answered any more."""
+    """A student who sends requests without a pause until they aren't answered any more."""
 
     def __init__(self, port: int) -> None:
         self.caller, _ = let_in(port, hello("ben"))
@@ -48,7 +49,7 @@ class Asker:
         self.thread.start()
 
     def ask(self) -> None:
-        """Asks to the end."""
+        """Sends requests to the end."""
         while not self.said or self.said[-1][1] not in (OVER, b""):
             begun = time.monotonic()
             self.said.append((begun, self.caller.ask(look("ben"))))
@@ -63,9 +64,8 @@ class Asker:
 
 
 def ends_all(lab: Path, piece: Piece, parts: list[bytes], variables: Mapping[str, str], how: str, stays: bool = False) -> None:
-    """Checks that nothing is answered but `over` once the reply to the bye has come, and that the host ends by itself.
-    The client of the teacher keeps its side open until students are answered, or, if it stays, until the host has
-    ended."""
+    """Checks that after the reply to the bye only `over` is sent, and that the host ends by itself. The teacher's
+    connection stays open until the students are answered or, if `stays` is set, until the host has ended."""
     with Host(lab, 0, 0, variables=variables) as host:
         ana, _ = let_in(host.port, hello("ana"))
         if b'"place":1' not in ana.ask(seduction(0)):
@@ -92,12 +92,12 @@ def ends_all(lab: Path, piece: Piece, parts: list[bytes], variables: Mapping[str
 
 
 def cut_at(library: Preloaded, at: int, is_each: bool) -> dict[str, str]:
-    """Returns the variables of a host whose reply to a bye is cut there."""
+    """Returns the environment of a host whose reply to a bye is cut at a byte."""
     return library.variables({"CUT": str(at), **({"CUT_EACH": "1"} if is_each else {})})
 
 
 def byes_in_parts(room: Path) -> None:
-    """Each line before a bye, in one piece with it, and in two parts cut at each byte."""
+    """Each line before a bye is sent in one piece with it, and in two pieces cut at each byte."""
     lab = lab_of(room, 5)
     for piece in PIECES:
         ends_all(lab, piece, [piece.whole], {}, "in one piece", True)
@@ -108,7 +108,7 @@ def byes_in_parts(room: Path) -> None:
 
 
 def byes_written_in_parts(room: Path) -> None:
-    """The reply to a bye, and to the lines before it, go out by two writes, cut at each byte, or by one for each byte."""
+    """The reply to a bye and to the lines before it is written in two pieces, cut at each byte, or byte by byte."""
     lab, library = lab_of(room, 5), Preloaded("outsiders/cut.c", room, "CUT_COUNTS")
     for piece in PIECES:
         ends_all(lab, piece, [piece.whole], cut_at(library, 0, False), "in one piece")

@@ -33,7 +33,7 @@ FORM = b"POST / HTTP/1.1\r\nContent-Type: text/plain\r\n\r\n"
 
 @dataclass(frozen=True)
 class Held:
-    """What a process holds."""
+    """The threads, descriptors and memory of a process."""
 
     threads: int
     files: int
@@ -41,13 +41,13 @@ class Held:
 
     @classmethod
     def of(cls, number: int) -> "Held":
-        """Returns what the process with that number holds now."""
+        """Returns what a process has now."""
         root = Path(f"/proc/{number}")
         size = int((root / "status").read_text(encoding="ascii").split("VmRSS:", 1)[1].split()[0])
         return cls(len(list((root / "task").iterdir())), len(list((root / "fd").iterdir())), size)
 
     def is_as(self, first: "Held") -> bool:
-        """Returns whether that is what was held before, but for the memory of a few events."""
+        """Returns whether a process has the same as before, except for the memory of a few events."""
         return (self.threads, self.files) == (first.threads, first.files) and self.kilobytes <= first.kilobytes * 1.1 + MORE
 
     def __str__(self) -> str:
@@ -55,7 +55,7 @@ class Held:
 
 
 def waited(find: Callable[[], object]) -> None:
-    """Waits until there is something."""
+    """Waits until `find` returns something."""
     end = time.monotonic() + LIMIT
     while not find():
         if time.monotonic() > end:
@@ -64,7 +64,7 @@ def waited(find: Callable[[], object]) -> None:
 
 
 class Class:
-    """A class that runs, with its page."""
+    """A running class with its page."""
 
     def __init__(self, room: Path) -> None:
         lab, runs = lab_of(room, 16, 100_000), room / "runs"
@@ -81,7 +81,7 @@ class Class:
         self.host, self.port, self.desk = record.server.number, record.port, record.desk
 
     def address(self) -> tuple[str, ...]:
-        """Returns the page's port and path, once they are printed."""
+        """Returns the port and the path of the page after they are printed."""
         told = re.search(r"page http://127\.0\.0\.1:(\d+)(/[^/\s]+/)", "".join(self.printed))
         return told.groups() if told else ()
 
@@ -92,14 +92,14 @@ class Class:
         self.process.stdin.flush()
 
     def end(self) -> None:
-        """Ends the class, which has to end well."""
+        """Ends the class, and checks that it ends well."""
         self.type("end")
         if self.process.wait(LIMIT) not in (0, 5):
             fail(f"churn: the class ends with {self.process.returncode}: {self.printed[-5:]}")
 
 
 class Comings:
-    """What clients do, each time another thing."""
+    """The actions of clients."""
 
     def __init__(self, it: Class) -> None:
         (port, self.path), self.port, self.desk = it.address(), it.port, it.desk
@@ -108,7 +108,7 @@ class Comings:
                       self.is_slow_at_page, self.knocks_at_desk]
 
     def asks(self, draw: random.Random) -> None:
-        """Who greets, looks and says bye, or only goes."""
+        """Greets, looks and says bye, or closes without it."""
         name = draw.choice([*NODES])
         caller, _ = let_in(self.port, hello(name))
         for _ in range(draw.randrange(20)):
@@ -118,13 +118,13 @@ class Comings:
         caller.close()
 
     def resets(self, draw: random.Random) -> None:
-        """Who is killed with requests on the way, or within a line."""
+        """Resets a connection with unread replies or within a line."""
         caller, _ = let_in(self.port, hello("cyd"))
         caller.send(look("cyd") * draw.randrange(50) + look("cyd")[:draw.randrange(20)])
         caller.reset()
 
     def plays(self, draw: random.Random) -> None:
-        """Who asks for its node's move."""
+        """Asks for the move of its node."""
         name = draw.choice([*NODES])
         caller, _ = let_in(self.port, hello(name))
         seen = json.loads(caller.ask(look(name)) or b"{}")
@@ -136,53 +136,53 @@ class Comings:
         caller.close()
 
     def is_no_one(self, draw: random.Random) -> None:
-        """Comes without a key, as no client, or says too much."""
+        """Connects without a key, with bytes that no client sends, or with too many."""
         caller = Caller(self.port)
         caller.send(draw.choice([WRONG * 3, FORM + hello("tess"), b"{}\n" * 5, b" " * 5000, b'{"do":']))
         caller.line()
         caller.close()
 
     def knocks(self, draw: random.Random) -> None:
-        """Who says nothing."""
+        """Connects and sends nothing."""
         caller = Caller(self.port)
         time.sleep(draw.choice([0, 0.5]))
         caller.close()
 
     def knocks_at_desk(self, draw: random.Random) -> None:
-        """Who isn't the teacher, while the teacher is there."""
+        """Connects to the desk while the teacher is there."""
         caller = Caller(self.desk)
         caller.send(draw.choice([b"", hello("ana"), WRONG]))
         caller.line()
         caller.close()
 
     def asked(self, what: str) -> socket.socket:
-        """Returns a connection to the page that has asked for something."""
+        """Returns a connection to the page that has sent a request."""
         it = socket.create_connection(("127.0.0.1", self.page), LIMIT)
         it.sendall(f"GET {self.path}{what} HTTP/1.1\r\nHost: 127.0.0.1:{self.page}\r\nConnection: close\r\n\r\n".encode())
         return it
 
     def looks_at_page(self, draw: random.Random) -> None:
-        """Opens the page, or what isn't there."""
+        """Requests the page, or a missing one."""
         with self.asked(draw.choice(["", "", "none"])) as it:
             while it.recv(65536):
                 pass
 
     def hears_news(self, draw: random.Random) -> None:
-        """Gets the news for a moment, and reads them or not."""
+        """Requests the page's events for a moment, and reads them or not."""
         with self.asked("events") as it:
             if draw.random() < 0.7:
                 it.recv(65536)
             time.sleep(draw.random())
 
     def is_slow_at_page(self, draw: random.Random) -> None:
-        """Who begins to ask the page, and goes or says no more."""
+        """Begins a request to the page, and closes or sends nothing more."""
         with socket.create_connection(("127.0.0.1", self.page), LIMIT) as it:
             it.sendall(b"GET /"[:draw.randrange(6)])
             if draw.random() < 0.2:
                 it.recv(1)
 
     def until(self, end: float, seed: int) -> None:
-        """One client after the other, until that time."""
+        """Runs one action after another until that time."""
         draw = random.Random(seed)
         while time.monotonic() < end:
             try:
@@ -194,7 +194,7 @@ class Comings:
 
 
 def comes_to_rest(of: Callable[[], Held], first: Held | None) -> Held:
-    """Returns what a process holds once nobody is there: what it held first, as soon as it does."""
+    """Waits until a process has what it had first. Returns what it has."""
     end = time.monotonic() + 30
     while True:
         time.sleep(1)
@@ -206,7 +206,7 @@ def comes_to_rest(of: Callable[[], Held], first: Held | None) -> Held:
 
 
 def churn(room: Path, seconds: float) -> None:
-    """Comes and goes for so long, and prints what was held after each minute."""
+    """Runs clients for so long, and prints after each minute what the processes have."""
     it = Class(room)
     comings = Comings(it)
     first: tuple[Held, Held] | None = None

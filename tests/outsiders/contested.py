@@ -1,4 +1,4 @@
-"""Who gets the last seats of a port whose other seats have students who have greeted."""
+"""The last seats of a port whose other seats have students after their hello."""
 import select
 import time
 from pathlib import Path
@@ -17,12 +17,12 @@ SEATED = 0.5  # seconds in which a stranger has got that seat
 
 
 def students(host: Host) -> list[tuple[str, Caller]]:
-    """Students who have greeted, on all seats but one."""
+    """Returns students after their hello, on all seats but one."""
     return [(name, let_in(host.port, hello(name))[0]) for name in NODES for _ in range(OWN)]
 
 
 def want_all(host: Host, seated: list[tuple[str, Caller]]) -> None:
-    """Wants that students have their seats still, and that the teacher's bye ends the host."""
+    """Checks that the students still have their seats, and that the teacher's bye ends the host."""
     for name in NODES:
         if len(alive([caller for owner, caller in seated if owner == name], name)) != OWN:
             fail(f"outsiders: beside strangers on the last seat {name} loses one")
@@ -30,8 +30,8 @@ def want_all(host: Host, seated: list[tuple[str, Caller]]) -> None:
 
 
 def the_last_seat(room: Path) -> None:
-    """A stranger on the last free seat leaves for somebody who has a key, though strangers have less than a third of the
-    seats."""
+    """A stranger on the last free seat has to leave for a client with a key, although strangers have less than a
+    third of the seats."""
     with Host(lab_of(room, SEATS + 1), 0, 0) as host:
         seated = students(host)
         for line in (b"", b'{"do":"hel', b"{}\n", WRONG):
@@ -52,7 +52,7 @@ def the_last_seat(room: Path) -> None:
 
 
 def a_hello_first(room: Path) -> None:
-    """Of those who wait for a seat who has sent a hello gets it, though another line came before."""
+    """Among those who wait for a seat, one that has sent a hello gets it, even if another line came first."""
     with Host(lab_of(room, 3), 0, 0, variables=slowed(room)) as host:
         teacher = let_in(host.desk, hello("tess"))[0]
         ana, ben = (let_in(host.port, hello(name))[0] for name in ("ana", "ben"))
@@ -75,7 +75,7 @@ def a_hello_first(room: Path) -> None:
 
 
 def a_flooded_seat(room: Path) -> None:
-    """Beside outsiders who all want the last seat, who has a key gets it."""
+    """A client with a key gets the last seat, although many outsiders want it."""
     with Host(lab_of(room, SEATS + 1), 0, 0) as host:
         seated = students(host)
         quiet = max(greeted_within(host.port, "tess", SETTLED) for _ in range(HELLOS))

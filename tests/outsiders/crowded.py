@@ -1,4 +1,4 @@
-"""Who comes to a host beside crowds of outsiders, and how many seats a name keeps beside newcomers."""
+"""Hellos beside crowds of outsiders, and the number of seats that a name keeps."""
 import socket
 import time
 from pathlib import Path
@@ -18,8 +18,9 @@ OWN = 4  # seats that a name keeps
 NAMED = 150  # others a second, of whom more than sixteen come in a quarter of one
 
 
-def told(port: int, line: bytes, seconds: float) -> bytes:
-    """Comes with a line, and goes once it is answered. Returns the reply, or nothing if there is none in that time."""
+def reply_to(port: int, line: bytes, seconds: float) -> bytes:
+    """Connects, sends a line, and closes after the reply. Returns the reply, or nothing if there is none in that
+    time."""
     try:
         with socket.create_connection(("127.0.0.1", port), seconds) as it, it.makefile("rb") as replies:
             it.sendall(line)
@@ -29,11 +30,11 @@ def told(port: int, line: bytes, seconds: float) -> bytes:
 
 
 def greeted_within(port: int, name: str, most: float) -> float:
-    """Comes with a hello, again and again if it is turned away; returns how many seconds that took, or infinitely many
-    if it took longer than it may."""
+    """Connects with a hello, again and again if it is turned away. Returns the seconds that it took, or infinity
+    if it took more than `most`."""
     begun = time.monotonic()
     while (left := begun + most - time.monotonic()) > 0:
-        said = told(port, hello(name), left)
+        said = reply_to(port, hello(name), left)
         if b'"ok":"hello"' in said:
             return time.monotonic() - begun
         if said not in (b"", BUSY):
@@ -42,7 +43,7 @@ def greeted_within(port: int, name: str, most: float) -> float:
 
 
 def nine_in_ten(port: int, name: str, most: float, beside: str) -> None:
-    """Checks that of some hellos nine in ten are granted in so many seconds."""
+    """Checks that nine of ten hellos are granted within so many seconds."""
     late: list[float] = []
     for _ in range(HELLOS):
         taken = greeted_within(port, name, most)
@@ -53,7 +54,8 @@ def nine_in_ten(port: int, name: str, most: float, beside: str) -> None:
 
 
 def flooded(kind: str, room: Path) -> None:
-    """Outsiders of a kind come to the students' port, and then to the desk."""
+    """Sends outsiders of a kind to the students' port, and then to the desk, and checks that honest hellos are
+    granted."""
     with Host(lab_of(room, 16), 0, 0) as host:
         for port, name in ((host.port, "ana"), (host.desk, "tess")):
             quiet = max(greeted_within(port, name, SETTLED) for _ in range(HELLOS))
@@ -85,12 +87,12 @@ def crowds_of_braces(room: Path) -> None:
 
 
 def alive(callers: list[Caller], name: str) -> list[Caller]:
-    """Returns those of some connections of a name that still have their seat."""
+    """Returns the connections of a name that still have their seat."""
     return [caller for caller in callers if b'"ok":"look"' in caller.ask(look(name))]
 
 
 def four_of_a_name(room: Path) -> None:
-    """A name that has all seats keeps four of them beside others of whom each is turned away by those who come later."""
+    """A name that has all seats keeps four of them when others come."""
     with Host(lab_of(room, 16), 0, 0) as host:
         callers = [let_in(host.port, hello("ana"))[0] for _ in range(15)]
         with Outsiders("names", NAMED, [host.port]):

@@ -1,4 +1,4 @@
-"""Numbers at which a host does something else: the bytes of a line, guessed keys, and how often it tries what fails."""
+"""Limits at which a host changes its behaviour: the length of a line, guessed keys, and the pause after failures."""
 import resource
 import select
 import time
@@ -18,13 +18,13 @@ SHORT, PAUSE = 0.005, 0.1  # seconds from one accept that fails to the next, whi
 
 
 def padded(line: bytes, size: int) -> bytes:
-    """Returns a request with so many bytes before its newline, of which those that were added are spaces."""
+    """Returns a request that is filled with spaces to this number of bytes before its newline."""
     return line[:-2] + b" " * (size + 1 - len(line)) + line[-2:]
 
 
 def longest_lines(room: Path) -> None:
-    """A line of 4,096 bytes is answered, first or later, in one piece or two, and isn't called too long when the
-    connection ends later; one of a byte more is too long."""
+    """A line of 4,096 bytes is answered, as first or later line, in one or two pieces, and isn't called too long
+    when the connection ends later. A line of one byte more is too long."""
     with Host(lab_of(room, 4), 0, 0) as host:
         longest, longer = padded(look("ana"), MOST), padded(look("ana"), MOST + 1)
         ana, reply = let_in(host.port, padded(hello("ana"), MOST))
@@ -48,7 +48,7 @@ def longest_lines(room: Path) -> None:
 
 
 def guess(host: Host, count: int) -> None:
-    """Guesses a key so many times, three times over a connection."""
+    """Guesses a key so many times, three times per connection."""
     while count > 0:
         caller, reply = let_in(host.port, WRONG)
         said = [reply] + [caller.ask(WRONG) for _ in range(min(count, 3) - 1)]
@@ -59,7 +59,7 @@ def guess(host: Host, count: int) -> None:
 
 
 def told_guesses(room: Path) -> None:
-    """A host reports guesses when there are thirty, and then at ten times as many."""
+    """A host reports guesses when there are thirty, and then at each tenfold number."""
     with Host(lab_of(room, 4), 0, 0) as host:
         assert host.process.stderr is not None
         made = 0
@@ -77,7 +77,7 @@ def told_guesses(room: Path) -> None:
 
 
 def waits_between(host: Host, library: Preloaded, pause: float, when: str) -> None:
-    """Checks that a host's accepts that fail are few: it waits between two of them."""
+    """Checks that a host's failing accepts are few, because it waits between two of them."""
     begun, before = time.monotonic(), library.counts()[0]
     time.sleep(SECONDS)
     tries, seconds = library.counts()[0] - before, time.monotonic() - begun
@@ -86,7 +86,8 @@ def waits_between(host: Host, library: Preloaded, pause: float, when: str) -> No
 
 
 def no_busy_loop(room: Path) -> None:
-    """If no connection can be accepted a host tries again only after a while; so while somebody waits for a seat."""
+    """If no connection can be accepted, the host waits before it tries again, also while a client waits for a
+    seat."""
     library = Preloaded("faults/fail.c", room, "FAIL_COUNTS")
     with Host(lab_of(room, 2), 0, 0, variables=library.variables({"FAIL": "accept"})) as host:
         teacher, ana = let_in(host.desk, hello("tess"))[0], let_in(host.port, hello("ana"))[0]

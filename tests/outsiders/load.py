@@ -44,7 +44,7 @@ class Outsider:
 
 
 class Load:
-    """All who come."""
+    """All connections of the outsiders."""
 
     def __init__(self, kind: str, ports: list[int]) -> None:
         self.kinds = [(each, piece) for each in (ALL if kind == "all" else (kind,)) for piece in PIECES[each]]
@@ -54,7 +54,7 @@ class Load:
         self.counts: Counter[str] = Counter()
 
     def run(self, rate: float, seconds: float) -> None:
-        """Has so many come a second, for so long; fewer if the machine is too slow."""
+        """Opens so many connections a second, for so long, or fewer if the machine is too slow."""
         begun = time.monotonic()
         due = begun
         while (now := time.monotonic()) < begun + seconds:
@@ -70,7 +70,7 @@ class Load:
             self.close(each)
 
     def come(self, now: float) -> None:
-        """One more comes."""
+        """Opens one more connection."""
         number = self.counts["come"]
         self.counts["come"] += 1
         kind, piece = self.kinds[number // len(self.ports) % len(self.kinds)]
@@ -90,7 +90,7 @@ class Load:
         self.selector.register(it, selectors.EVENT_WRITE, outsider)
 
     def turn(self, outsider: Outsider) -> None:
-        """Sends the piece of one who has got a connection, or closes it."""
+        """Sends the piece of an outsider that is connected, or closes its connection."""
         self.selector.unregister(outsider.socket)
         self.counts["let in"] += 1
         if outsider.closes:
@@ -101,7 +101,7 @@ class Load:
             self.counts["cut off"] += 1
 
     def close(self, outsider: Outsider) -> None:
-        """Closes, if that wasn't done."""
+        """Closes a connection unless it is closed."""
         if outsider.socket.fileno() >= 0:
             if outsider.socket in self.selector.get_map():
                 self.selector.unregister(outsider.socket)
@@ -109,7 +109,7 @@ class Load:
 
 
 class Outsiders:
-    """A load in a process of its own, which comes until the block ends."""
+    """A load in its own process, which runs until the `with` block ends."""
 
     def __init__(self, kind: str, rate: int, ports: list[int], seconds: float = 3600.0) -> None:
         words = [kind, str(rate), str(seconds), *map(str, ports)]
@@ -128,7 +128,7 @@ class Outsiders:
 
 
 def main() -> None:
-    """Comes as the words say."""
+    """Runs the load of the arguments."""
     kind, rate, seconds, *ports = sys.argv[1:]
     most = resource.getrlimit(resource.RLIMIT_NOFILE)[1]
     resource.setrlimit(resource.RLIMIT_NOFILE, (most, most))

@@ -1,5 +1,5 @@
-"""What those read who wait for a seat, or have left one, and who of them comes first. The hosts' clock goes slower, so
-that what lasts for some milliseconds is seen on a slow machine too."""
+"""The lines for clients that wait for a seat or have left one, and their order. The hosts' clock is slowed down,
+so that some milliseconds are visible on a slow machine too."""
 import select
 import time
 from pathlib import Path
@@ -15,12 +15,12 @@ GUESSES = 8  # by as many connections, of whom each sends the one before it away
 
 
 def slowed(room: Path) -> dict[str, str]:
-    """Returns the variables of a host whose clock goes slower."""
+    """Returns the environment of a host with a slower clock."""
     return {"LD_PRELOAD": str(built("outsiders/slow.c", room)), "SLOW": str(SLOW)}
 
 
 def taken(host: Host, files: int, more: int) -> None:
-    """Waits until a host has taken so many connections more than when it had so many files open."""
+    """Waits until a host has accepted so many more connections than when it had `files` open files."""
     end = time.monotonic() + LIMIT
     while host.files() < files + more:
         if time.monotonic() > end:
@@ -35,8 +35,8 @@ def ended(host: Host, teacher: Caller) -> None:
 
 
 def guessing(host: Host) -> list[Caller]:
-    """Connections that guess a key at once, all of which the host has taken: but for the first and the last each was sent
-    away before the turn of its denial."""
+    """Returns connections that all guess a key at once. The host has accepted them, and sent all but the first and
+    the last away before their denial was due."""
     files = host.files()
     callers = [Caller(host.port) for _ in range(GUESSES)]
     for caller in callers:
@@ -46,7 +46,8 @@ def guessing(host: Host) -> list[Caller]:
 
 
 def denied_in_turn(room: Path) -> None:
-    """A connection that leaves before the turn of its denial reads the denial later, and then that there is no seat."""
+    """A connection that loses its seat before its denial is due gets the denial later, and then the line that
+    there is no seat."""
     with Host(lab_of(room, 3), 0, 0, variables=slowed(room)) as host:
         teacher = let_in(host.desk, hello("tess"))[0]
         callers = guessing(host)
@@ -57,7 +58,7 @@ def denied_in_turn(room: Path) -> None:
 
 
 def over_for_all(room: Path) -> None:
-    """At the class's end whoever is still owed a denial reads that it is over, and so does whoever waits for a seat."""
+    """At the class's end, every client that waits for a denial or for a seat gets the line that the class is over."""
     variables = slowed(room)
     with Host(lab_of(room, 3), 0, 0, variables=variables) as host:
         teacher = let_in(host.desk, hello("tess"))[0]
@@ -82,7 +83,7 @@ def over_for_all(room: Path) -> None:
 
 
 def first_to_speak(room: Path) -> None:
-    """The first of those who wait that has sent a line has the seat that becomes free; who is silent waits on."""
+    """The first waiting client that has sent a line gets the seat that becomes free. A silent one waits on."""
     with Host(lab_of(room, 3), 0, 0, variables=slowed(room)) as host:
         teacher = let_in(host.desk, hello("tess"))[0]
         ana, ben = (let_in(host.port, hello(name))[0] for name in ("ana", "ben"))

@@ -1,4 +1,4 @@
-"""However the bytes of lines come in, at the port and at the desk, their replies are those of whole lines one by one."""
+"""The replies to lines are the same in whatever segments the bytes come, at the students' port and at the desk."""
 import time
 from collections.abc import Callable
 from concurrent.futures import ThreadPoolExecutor
@@ -21,24 +21,24 @@ Split = Callable[[list[bytes]], list[bytes]]
 
 @dataclass(frozen=True)
 class Way:
-    """A name, and how the bytes of lines are sent: the parts, in order."""
+    """A name, and a way to split the bytes of lines into parts."""
 
     name: str
     split: Split
 
 
 def in_groups(size: int) -> Split:
-    """So many lines in a part."""
+    """Returns the split into parts of so many lines."""
     return lambda lines: [b"".join(lines[at:at + size]) for at in range(0, len(lines), size)]
 
 
 def in_bytes(lines: list[bytes]) -> list[bytes]:
-    """Returns a part for each byte."""
+    """Returns the bytes one by one."""
     return [bytes([byte]) for byte in b"".join(lines)]
 
 
 def cut_near(line: int, off: int) -> Split:
-    """Returns two parts, cut so many bytes after the end of a line."""
+    """Returns the split into two parts at so many bytes after the end of a line."""
     def split(lines: list[bytes]) -> list[bytes]:
         whole, end = b"".join(lines), len(b"".join(lines[:line])) + off
         return [part for part in (whole[:end], whole[end:]) if part]
@@ -46,16 +46,16 @@ def cut_near(line: int, off: int) -> Split:
 
 
 def ways() -> list[Way]:
-    """Returns all ways in which lines are sent."""
+    """Returns all ways to split lines."""
     longest = max(len(STUDENTS), len(TEACHERS))
     groups = [Way(f"in parts of {size} lines", in_groups(size)) for size in (2, 3, longest)]
     cuts = [Way(f"cut {off} bytes after line {line}", cut_near(line, off)) for line in range(1, longest) for off in (-1, 0, 1)]
     return [Way("byte by byte", in_bytes), *groups, *cuts]
 
 
-def told(port: int, lines: list[bytes], parts: list[bytes] | None) -> list[bytes]:
-    """Returns the replies on a connection, up to its end: to these parts, or to whole lines, each after the reply
-    before it."""
+def replies_on(port: int, lines: list[bytes], parts: list[bytes] | None) -> list[bytes]:
+    """Returns all replies on a connection to these parts. Without parts, sends whole lines, each after the last
+    reply."""
     caller = Caller(port)
     replies: list[bytes] = []
     if parts is None:
@@ -70,10 +70,10 @@ def told(port: int, lines: list[bytes], parts: list[bytes] | None) -> list[bytes
 
 
 def replies_by(lab: Path, split: Split | None) -> tuple[list[bytes], list[bytes], bytes]:
-    """Returns what a student and then the teacher read, and what the host writes at its end."""
+    """Returns the replies to a student and then to the teacher, and the output of the host at its end."""
     with Host(lab, 0, 0) as host:
-        student = told(host.port, STUDENTS, split(STUDENTS) if split else None)
-        teacher = told(host.desk, TEACHERS, split(TEACHERS) if split else None)
+        student = replies_on(host.port, STUDENTS, split(STUDENTS) if split else None)
+        teacher = replies_on(host.desk, TEACHERS, split(TEACHERS) if split else None)
         ended = host.end(SOON)
         if ended.status != 0:
             fail(f"outsiders: a host ends with {ended}")
@@ -81,7 +81,7 @@ def replies_by(lab: Path, split: Split | None) -> tuple[list[bytes], list[bytes]
 
 
 def lines_in_segments(room: Path) -> None:
-    """Lines in parts of one byte, of several lines, and cut at and beside the end of each line."""
+    """Sends lines byte by byte, several at once, and cut at and beside the end of each line."""
     lab = lab_of(room, 5)
     wanted = replies_by(lab, None)
     for lines, replies in ((STUDENTS, wanted[0]), (TEACHERS, wanted[1])):

@@ -42,17 +42,17 @@ REST = 15.0  # seconds in which the load's last connections end
 
 @dataclass
 class Waits:
-    """How many seconds those that come waited."""
+    """The waiting times of clients, in seconds."""
 
     seats: list[float] = field(default_factory=list)
     replies: list[float] = field(default_factory=list)
 
     def __str__(self) -> str:
-        return "; ".join(told(name, found) for name, found in vars(self).items())
+        return "; ".join(waits_line(name, found) for name, found in vars(self).items())
 
 
-def told(name: str, found: list[float]) -> str:
-    """Waits as a line."""
+def waits_line(name: str, found: list[float]) -> str:
+    """Returns the line about waiting times."""
     each = sorted(found)
     if not each:
         return f"no waits for {name}"
@@ -73,7 +73,7 @@ def lab_of_bots(room: Path) -> Path:
 
 
 class Class:
-    """A class under a daemon, with its bots."""
+    """A class with a daemon, and its bots."""
 
     def __init__(self, lab: Path, daemon: str, waits: Waits) -> None:
         self.room, self.waits = lab.parent, waits
@@ -130,7 +130,7 @@ class Class:
                 me.hang_up()
 
     def greeted(self, node: int) -> Client:
-        """Comes until a seat is free."""
+        """Connects again and again until a seat is free."""
         begun = time.monotonic()
         while True:
             try:
@@ -144,7 +144,7 @@ class Class:
                     raise Over("the class has ended") from None
 
     def plays(self, me: Client, node: int) -> None:
-        """Looks once, and asks for the move that is enabled."""
+        """Looks once, and asks for the enabled move."""
         begun = time.monotonic()
         seen = me.look(node)
         self.waits.replies.append(time.monotonic() - begun)
@@ -153,7 +153,7 @@ class Class:
                 me.move(seen)
 
     def plays_on(self, seconds: float, rate: int) -> str:
-        """Plays for so long beside two outsiders, and to a stable end; returns what there is to tell."""
+        """Plays for so long beside two outsiders, and then to a stable end. Returns a line about it."""
         bots = [self.bot(node) for node in range(COMING + 1, STUDENTS + 1)]
         coming = [threading.Thread(target=self.comes_and_goes, args=[node]) for node in range(1, COMING + 1)]
         for each in coming:
@@ -182,7 +182,7 @@ class Class:
 
 
 def beside_a_class(room: Path, seconds: float, rate: int) -> None:
-    """A class under each daemon in turn."""
+    """Runs a class with each daemon in turn beside outsiders."""
     for daemon in DAEMONS:
         waits = Waits()
         it = Class(lab_of_bots(room), daemon, waits)
@@ -190,11 +190,11 @@ def beside_a_class(room: Path, seconds: float, rate: int) -> None:
 
 
 def beside_a_host(room: Path, seconds: float, rate: int) -> None:
-    """A host alone; who has a key comes each second."""
+    """Runs a host beside outsiders. A client with a key connects each second."""
     lab, journal, waits = lab_of(room, 16, 100_000), room / "journal", Waits()
     with Host(lab, 0, 0, journal, room / "record") as host:
         def load(for_so_long: float) -> None:
-            """Two outsiders for so long, and who comes beside them."""
+            """Runs two outsiders and a client with a key for so long."""
             with Outsiders("all", rate, [host.port, host.desk]), Outsiders("all", rate, [host.port, host.desk]):
                 end = time.monotonic() + for_so_long
                 while time.monotonic() < end:
@@ -225,7 +225,7 @@ def beside_a_host(room: Path, seconds: float, rate: int) -> None:
 
 
 def main() -> None:
-    """Does what the words say."""
+    """Runs the part that the arguments name."""
     what, *numbers = sys.argv[1:] or ["class"]
     seconds = float(numbers[0]) if numbers else SECONDS[what]
     rate = int(numbers[1]) if numbers[1:] else RATE

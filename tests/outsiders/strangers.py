@@ -1,4 +1,4 @@
-"""At the desk everybody but the teacher is a stranger."""
+"""At the desk everybody except the teacher is a stranger."""
 import time
 from pathlib import Path
 
@@ -13,7 +13,8 @@ LOOK = b'"ok":"look"'
 
 
 def a_student_at_the_desk(room: Path) -> None:
-    """A student who has greeted at the desk, or sends something else, leaves at once for who comes later."""
+    """A student after a hello at the desk, or a client that sends something else, has to leave at once when
+    another one comes."""
     with Host(lab_of(room, 4), 0, 0) as host:
         for line in (hello("ana"), b"{}\n", WRONG):
             student, _ = let_in(host.desk, line)
@@ -33,7 +34,7 @@ def a_student_at_the_desk(room: Path) -> None:
 
 
 def five_seconds_at_the_desk(room: Path) -> None:
-    """Nobody comes later: who isn't the teacher gets the line after five seconds that it is late."""
+    """If nobody else comes, a client other than the teacher gets the line `late` after five seconds."""
     with Host(lab_of(room, 4), 0, 0) as host:
         for line in (hello("ana"), b"", b'{"do":"hel'):
             begun = time.monotonic()
@@ -52,7 +53,7 @@ def five_seconds_at_the_desk(room: Path) -> None:
 
 
 def a_busy_student_at_the_desk(room: Path) -> None:
-    """A student who asks at the desk without pause has no more than the five seconds either."""
+    """A student who sends requests at the desk without a pause has only the same five seconds."""
     with Host(lab_of(room, 4), 0, 0) as host:
         student, _ = let_in(host.desk, hello("ana"))
         begun = time.monotonic()
@@ -65,8 +66,7 @@ def a_busy_student_at_the_desk(room: Path) -> None:
 
 
 def the_teacher_stays(room: Path) -> None:
-    """The teacher keeps the desk, however long nothing is asked, and whoever comes later is answered that it is
-    busy."""
+    """The teacher keeps the desk however long it is silent, and newcomers are answered `busy`."""
     with Host(lab_of(room, 4), 0, 0) as host:
         teacher, _ = let_in(host.desk, hello("tess"))
         for line in (hello("tess"), hello("ana"), b"{}\n"):

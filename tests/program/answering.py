@@ -16,8 +16,8 @@ FAULTS = 5000
 
 
 def scripts(room: Path) -> list[tuple[Path, Path]]:
-    """Returns each script beside an output of its own, with its lab: that of its name without `-run`, or the built-in
-    one."""
+    """Returns each script beside which its expected output is kept, with its lab: the lab file with the script's
+    name, without `-run`, or the built-in lab if there is no such file."""
     plain = built_in(room)
     found = []
     for script in sorted([*(TOP / "examples").glob("*.script"), *(TOP / "tests/scripts").glob("*.script")]):
@@ -27,8 +27,8 @@ def scripts(room: Path) -> list[tuple[Path, Path]]:
 
 
 def line_by_line(room: Path) -> int:
-    """Returns each reply is there before the next line is written; all are those of the script's own output. Answers how
-    many."""
+    """Checks that each reply comes before the next line is sent, and that all replies are those in the script's
+    output. Returns the number of lines."""
     lines = 0
     for script, lab in scripts(room):
         wanted = script.with_suffix(".out").read_bytes().splitlines(keepends=True)
@@ -56,13 +56,14 @@ def line_by_line(room: Path) -> int:
 
 
 def answered(words: list[str], given: bytes) -> Ended:
-    """Returns how a call with a script on its standard input ends."""
+    """Returns the result of a call with a script on its standard input."""
     done = subprocess.run([HOST, *words], input=given, capture_output=True, timeout=LIMIT, check=False)
     return Ended(done.returncode, done.stdout, done.stderr)
 
 
 def ends(room: Path) -> int:
-    """Rows with lines that are none, labs that can't be read, a full disk, and the last event. Answers how many."""
+    """Checks scripts with wrong lines, labs that can't be read, a full disk, and the last event. Returns the
+    number of calls."""
     lab = str(built_in(room))
     for script, out, line in ROWS:
         wanted = Ended(2 if line else 0, out.encode(), f"script: line {line}: bad line\n".encode() if line else b"")
@@ -94,7 +95,7 @@ def ends(room: Path) -> int:
 
 
 def work(room: Path) -> str:
-    """Lines as they come, and each end."""
+    """Runs both parts. Returns a line about them."""
     return f"answering: {line_by_line(room)} lines as they came, {ends(room)} ends as wanted"
 
 

@@ -1,9 +1,9 @@
-"""Audits of journals that are right, and of those that aren't in each way.
+"""Audits of correct journals, and of journals with each kind of error.
 
     python3 -B -m tests.program.audits
 
-The rows are written by hand. Then each front of a whole journal is audited, and that journal with each byte
-replaced by others. Of each audit the plain model prints the same.
+Some rows are written by hand. Then each prefix of a journal is audited, and the journal with each byte replaced by
+others. For each audit the plain model prints the same.
 """
 from pathlib import Path
 
@@ -66,14 +66,14 @@ GONE_ON = [(ANA + "2 0 close\n", "ok: 2 events, configuration 1, not stable")]
 
 
 class Auditor:
-    """The audits over a lab, counted."""
+    """The audits over a lab, with their number."""
 
     def __init__(self, room: Path, lab: Path) -> None:
         self.lab, self.journal = lab, room / "audited.journal"
         self.calls = self.passed = 0
 
     def audited(self, journal: bytes) -> Ended:
-        """Returns how the audit of a journal ends, about which the program and the model agree."""
+        """Returns the result of the audit of a journal. Fails if the model's result differs."""
         self.journal.write_bytes(journal)
         found = agreed(f"an audit of {journal!r}", "audit", self.lab, self.journal)
         self.calls += 1
@@ -87,13 +87,14 @@ class Auditor:
             fail(f"an audit of {journal!r} says {found}, not {line!r}")
 
     def all_of(self, rows: list[tuple[str, str]]) -> None:
-        """Checks for what the rows say."""
+        """Checks all rows."""
         for text, line in rows:
             self.wants(text.encode(), line)
 
 
 def fronts(auditor: Auditor) -> None:
-    """Each byte of the journal is the last: whole lines pass, and a torn one is named; the tenth makes the run stable."""
+    """Audits each prefix of the journal: complete lines pass, and an incomplete line is named. The tenth line
+    makes the run stable."""
     for end in range(len(JOURNAL) + 1):
         front = JOURNAL[:end]
         *lines, torn = front.split(b"\n")
@@ -106,7 +107,7 @@ def fronts(auditor: Auditor) -> None:
 
 
 def replaced(auditor: Auditor) -> None:
-    """Each byte of the journal is replaced by others; it passes only if the byte is the one that stood there."""
+    """Audits the journal with each byte replaced by others. It passes only with the original byte."""
     before = auditor.passed
     for at in range(len(JOURNAL)):
         for other in OTHERS:
@@ -117,7 +118,7 @@ def replaced(auditor: Auditor) -> None:
 
 
 def shared_lab(room: Path, lab: Path) -> Path:
-    """Returns the built-in lab where node 2 is of ana too, and two events are allowed."""
+    """Writes the built-in lab with a second owner of node 2 and a limit of two events, and returns its path."""
     text = lab.read_text(encoding="ascii")
     for old, new in (("events = 100", "events = 2"), ('owner = "ben"', 'owners = ["ana", "ben"]')):
         if text.count(old) != 1:
@@ -129,7 +130,7 @@ def shared_lab(room: Path, lab: Path) -> Path:
 
 
 def work(room: Path) -> str:
-    """Returns all audits."""
+    """Runs all audits. Returns a line with their number."""
     lab, cycle = built_in(room), room / "cycle.toml"
     cycle.write_text(CYCLE, encoding="ascii")
     auditor, shared, gone_on = Auditor(room, lab), Auditor(room, shared_lab(room, lab)), Auditor(room, cycle)

@@ -30,12 +30,12 @@ ABANDONMENT: dict[str, object] = {"rule": "abandonment"}
 
 
 def marriage(partner: int) -> dict[str, object]:
-    """Returns the words of a marriage."""
+    """Returns the words of a request for a marriage."""
     return {"rule": "marriage", "with": partner}
 
 
 def lab(room: Path, links: list[tuple[int, int]], nodes: list[tuple[int, int | None]]) -> Path:
-    """Returns a lab in which one student owns all nodes, and m is true at each."""
+    """Writes a lab in which one student owns all nodes and m is true at each, and returns its path."""
     file = room / "bound.toml"
     listed = ", ".join(f"[{low}, {high}]" for low, high in links)
     rows = (f'{{ id = {node}, owner = "ana", m = true{"" if p is None else f", p = {p}"} }}' for node, p in nodes)
@@ -48,7 +48,8 @@ def lab(room: Path, links: list[tuple[int, int]], nodes: list[tuple[int, int | N
 
 
 def phases(size: int, are_low: range) -> Iterator[Step]:
-    """Couple after couple, the lowest free node with the highest: courted by the low nodes, which then leave."""
+    """Yields the steps of one couple after another: the lowest and the highest free node, after the low nodes have
+    seduced it, which then leave."""
     for first in range(1, size // 2 + 1):
         last = size + 1 - first
         suitors = [node for node in are_low if first <= node < last]
@@ -59,8 +60,8 @@ def phases(size: int, are_low: range) -> Iterator[Step]:
             yield [(node, ABANDONMENT) for node in suitors[1:]]
 
 
-def told(words: list[str | Path], given: bytes = b"") -> str:
-    """Returns what the host's program prints, which has to end well."""
+def output_of(words: list[str | Path], given: bytes = b"") -> str:
+    """Returns the output of the host's program. Fails if it doesn't end well."""
     done = subprocess.run([HOST, *words], input=given, capture_output=True, timeout=LIMIT, check=False)
     if done.returncode != 0 or done.stderr:
         fail(f"{words[0]} ended with {done.returncode}: {done.stderr!r}")
@@ -68,7 +69,7 @@ def told(words: list[str | Path], given: bytes = b"") -> str:
 
 
 def played(file: Path, steps: list[Step]) -> list[dict[str, Any]]:
-    """Returns the reports before the first step and after each; every move is granted, and moves alone at each
+    """Returns the reports before the first step and after each. Every move is granted, and is the only one of its
     close."""
     ask: dict[str, object] = {"do": "report"}
     lines: list[tuple[int, dict[str, object]]] = [
@@ -78,7 +79,7 @@ def played(file: Path, steps: list[Step]) -> list[dict[str, Any]]:
         lines += [(1, {"at": at, "do": "move", "node": node, **words}) for node, words in step]
         lines += [(2, {"do": "close"}), (2, ask)]
     script = "".join(f"{number} {json.dumps(line)}\n" for number, line in lines)
-    replies = [json.loads(line.split(" ", 1)[1]) for line in told(["answer", file], script.encode()).splitlines()]
+    replies = [json.loads(line.split(" ", 1)[1]) for line in output_of(["answer", file], script.encode()).splitlines()]
     if len(replies) != len(lines) or not all("ok" in reply for reply in replies):
         fail(f"a step of {file.name} wasn't granted")
     closed = [reply["moved"] for reply in replies if reply["ok"] == "close"]
@@ -99,7 +100,7 @@ def journal_of(steps: list[Step]) -> str:
 
 @dataclass(frozen=True)
 class Counted:
-    """What a run has, about which all who count agree, and what the tally says that one may have at most."""
+    """The counts of a run, on which all programs agree, and the bounds in its tally."""
 
     moves: int
     rounds: int
@@ -109,7 +110,7 @@ class Counted:
 
 
 def counted(file: Path, steps: list[Step]) -> Counted:
-    """Returns a run that comes to rest with its last step, and not before."""
+    """Plays a run, and checks that it is stable exactly after its last step. Returns its counts."""
     reports = played(file, steps)
     if [report["stable"] for report in reports] != [False] * len(steps) + [True]:
         fail(f"{file.name}: not stable where the run ends, or before")
@@ -122,15 +123,17 @@ def counted(file: Path, steps: list[Step]) -> Counted:
     if agreed(file.name, "audit", file, journal).out.decode() != f"ok: {events} events, configuration {len(steps)}, stable\n":
         fail(f"{file.name}: the audit says another thing of its journal")
     tally = agreed(file.name, "tally", file, journal).out.decode()
-    *_, bounds, run = (line.split() for line in tally.splitlines())
+    *_, bounds, run, rounds = (line.split() for line in tally.splitlines())
     if [int(run[column]) for column in (1, 4, 8)] != [events, len(steps), found.moves]:
         fail(f"{file.name}: the tally has other numbers: {run}")
+    if rounds != ["rounds", str(found.rounds)]:
+        fail(f"{file.name}: the tally has {rounds}, and the reports have {found.rounds} rounds")
     return Counted(found.moves, found.rounds, int(bounds[1]), int(bounds[2]), reports)
 
 
 def moves(room: Path, size: int) -> int:
-    """Returns two nodes are linked where their sum is more than the size; the run has as many moves as any may have, or one
-    less."""
+    """Checks a run on the network in which two nodes are linked if their sum is more than the size. It has the
+    greatest possible number of moves, or one less. Returns the number of moves."""
     half = size // 2
     pointers = {node: size + 1 - node for node in range(1, half + 1)}
     pointers |= {node: node + 1 for node in range(half + 1, size)} | {size: 2}
@@ -144,8 +147,8 @@ def moves(room: Path, size: int) -> int:
 
 
 def rounds(room: Path, size: int) -> int:
-    """Runs over two halves, linked if the sum is more than the size; each step is of all privileged
-    nodes."""
+    """Checks a run over two halves, which are linked if the sum is more than the size. In each step all privileged
+    nodes move. Returns the number of rounds."""
     low = range(1, (size + 1) // 2 + 1)
     links = [(node, high) for node in low for high in range(low.stop, size + 1) if node + high > size]
     nodes: list[tuple[int, int | None]] = [(node, None) for node in range(1, size + 1)]
@@ -160,6 +163,6 @@ def rounds(room: Path, size: int) -> int:
 
 
 def work(room: Path) -> str:
-    """Returns all of it, and what it counted."""
+    """Runs all sizes. Returns a line with the counts."""
     counts = sum(moves(room, size) for size in MOVES), sum(rounds(room, size) for size in ROUNDS)
     return f"bounds: {counts[0]} moves and {counts[1]} rounds, as many as the laws say"

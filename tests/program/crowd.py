@@ -1,9 +1,10 @@
-"""Plays three clients of one server at once: two ask for moves and views, the teacher closes and disturbs.
+"""Plays three clients of one server at the same time: two ask for moves and views, and the teacher closes steps
+and causes faults.
 
     python3 -B -m tests.program.crowd [SEED]
 
-Each answer has to be the plain model's at a beginning of the journal's list, and the beginnings of one client never
-fall back; each event stands in the list where the reply to it says.
+Each reply has to be the plain model's after some prefix of the journal, and the prefixes of one client never
+become shorter. Each event is at the place in the journal that its reply names.
 """
 import json
 import sys
@@ -25,7 +26,7 @@ Heard = list[tuple[bytes, bytes]]
 
 
 def lab_text() -> str:
-    """Returns a cycle, half of it ana's and half ben's."""
+    """Returns a lab with a cycle, one half ana's and the other ben's."""
     links = ", ".join(f"[{node}, {node % NODES + 1}]" for node in range(1, NODES + 1))
     owned = [f'{{ id = {node}, owner = "{"ana" if 2 * node <= NODES else "ben"}" }}' for node in range(1, NODES + 1)]
     return (
@@ -36,12 +37,12 @@ def lab_text() -> str:
 
 
 def line_of(**keys: object) -> bytes:
-    """Returns a request."""
+    """Returns the line of a request."""
     return json.dumps(keys, sort_keys=True, separators=(",", ":")).encode() + b"\n"
 
 
 class Player:
-    """A client that keeps what it asked and was answered."""
+    """A client that keeps its lines and their replies."""
 
     def __init__(self, port: int, name: str) -> None:
         self.client, self.heard = Client(port), Heard()
@@ -50,7 +51,7 @@ class Player:
         self.ask([line_of(do="hello", key=key, name=who)])
 
     def ask(self, lines: list[bytes]) -> bytes:
-        """Sends lines together, and waits for all replies; answers the last."""
+        """Sends several lines at once, and waits for all replies. Returns the last."""
         assert self.client.open is not None
         self.client.open.sendall(b"".join(lines))
         replies = [self.client.replies.readline() for _ in lines]
@@ -58,7 +59,7 @@ class Player:
         return replies[-1]
 
     def moves(self, rng: Random, first: int) -> None:
-        """Asks for moves of its nodes by what the last look told, after views of them."""
+        """Asks for moves of its nodes by the last looks, after views of them."""
         half = NODES // 2
         move = line_of(do="see", node=0)
         for _ in range(TURNS):
@@ -69,7 +70,8 @@ class Player:
             move = line_of(**asked, **({"with": suitors[0] if suitors else 0} if asked["rule"] == "marriage" else {}))
 
     def closes(self, rng: Random, others: list[threading.Thread]) -> None:
-        """Closes until the others have ended, with a fault and a report now and then, and at the end views of all."""
+        """Closes steps until the others have ended, with a fault and a report now and then, and looks at all nodes
+        at the end."""
         while any(other.is_alive() for other in others):
             lines = [line_of(do="close")] * rng.randrange(1, 4)
             if rng.randrange(8) == 0:
@@ -82,7 +84,7 @@ class Player:
 
 
 class Replay:
-    """The plain model after a beginning of a list of events."""
+    """The plain model after a prefix of a journal."""
 
     def __init__(self, lab: Lab, journal: bytes) -> None:
         self.lab = lab
@@ -91,14 +93,15 @@ class Replay:
         self.known: str | None = None
 
     def step(self) -> bool:
-        """Lets the next event happen. Returns whether there is one."""
+        """Applies the next event. Returns whether there is one."""
         if self.world.place == len(self.events):
             return False
         apply(self.world, self.events[self.world.place].asked)
         return True
 
     def tells(self, line: bytes, reply: bytes) -> bool:
-        """Returns whether the model answers a line so at this point, if a grant has to be the list's next event."""
+        """Returns whether the model gives this reply to a line now. A granted event must be the next one of the
+        journal."""
         found = answer(self.lab, self.world, self.known, line[:-1])
         if found.reply.encode() + b"\n" != reply:
             return False
@@ -111,12 +114,12 @@ class Replay:
         return True
 
     def line(self) -> str:
-        """Returns the list's next event, as the journal has it."""
+        """Returns the next event as a line of the journal."""
         event = self.events[self.world.place]
         return event_line(self.world, event.who, event.asked)
 
     def meets(self, heard: Heard) -> str:
-        """Returns the first answer that isn't met, if there is one."""
+        """Returns the first reply that the model never gives, or an empty text."""
         for line, reply in heard:
             while not self.tells(line, reply):
                 if not self.step():
@@ -125,7 +128,7 @@ class Replay:
 
 
 def played(server: Server, seed: int) -> list[Player]:
-    """Three who have played at once."""
+    """Returns three clients after they have played at the same time."""
     players = [Player(server.port, name) for name in HELLOS]
     ana, ben, tess = players
     students = [
@@ -142,8 +145,8 @@ def played(server: Server, seed: int) -> list[Player]:
     return players
 
 
-def crowd(room: Path, seed: int) -> int:
-    """Returns one run; answers how many events it had."""
+def run_crowd(room: Path, seed: int) -> int:
+    """Runs the clients once, and checks all replies. Returns the number of events."""
     file, kept = room / "crowd.toml", room / "crowd.journal"
     file.write_text(lab_text(), encoding="ascii")
     lab = read_lab(file.read_bytes())
@@ -164,9 +167,9 @@ def crowd(room: Path, seed: int) -> int:
 
 
 def work(room: Path) -> str:
-    """Returns all runs."""
+    """Runs the clients with each seed. Returns a line about it."""
     seeds = [int(word) for word in sys.argv[1:] if word.isdigit()] or SEEDS
-    return f"three at once, {len(seeds)} times: {sum(crowd(room, seed) for seed in seeds)} events"
+    return f"three at once, {len(seeds)} times: {sum(run_crowd(room, seed) for seed in seeds)} events"
 
 
 if __name__ == "__main__":

@@ -1,17 +1,18 @@
-"""The largest lab: 256 nodes with the greatest identifiers, all linked, and 256 students with the longest names.
+"""The largest lab: a complete graph of 256 nodes with the greatest identifiers, and 256 students with the longest
+names.
 
-What it answers is written down here, by the form of a reply and the numbers of the request. In the story each student
-but the last has a move, and all happen at once.
+The expected replies are computed here, from the form of a reply and the numbers of the request. Each student but
+the last asks for a move, and one close applies them all.
 """
 from dataclasses import dataclass, field
 from pathlib import Path
 
+from tests.common.limits import MOST
 from tests.common.preload import Client, Ended, Server, fail, good, run
 
 NODES = range(65280, 65536)
 LAST = NODES[-1]
-SESSIONS = 16
-EVENTS = 100_000
+SESSIONS, EVENTS = MOST["sessions"], MOST["events"]
 TESS, WELCOME = '{"do":"hello","key":"chalk","name":"tess"}', '{"ok":"hello","who":"tess"}'
 
 
@@ -21,7 +22,7 @@ def name(number: int) -> str:
 
 
 def document() -> str:
-    """Returns the lab: each node is of the student of its number and of the next."""
+    """Returns the lab's text. Each node belongs to the student with its number and to the next."""
     links = ",\n".join(f"[{a},{b}]" for a in NODES for b in NODES if b < a)
     people = "".join(f'[[student]]\nname = "{name(number)}"\nkey = "{number:064}"\n' for number in range(256))
     nodes = "".join(
@@ -32,8 +33,8 @@ def document() -> str:
 
 
 def report(has_suitors: bool) -> str:
-    """Returns the report before the moves, or after them: each link is open, and its witness is its lower end, or the last
-    node."""
+    """Returns the expected report before or after the moves. Each link is open, and its witness is its lower end,
+    or the last node."""
     links = [(a, b) for a in NODES for b in NODES if a < b]
     if has_suitors:
         opened = ",".join(f'[{a},{b},{LAST},"marriage"]' for a, b in links)
@@ -48,48 +49,48 @@ def report(has_suitors: bool) -> str:
 
 @dataclass
 class Tale:
-    """A script, the replies to it, and its journal."""
+    """A script, its expected replies, and its expected journal."""
 
     script: list[str] = field(default_factory=list)
     replies: list[str] = field(default_factory=list)
     journal: list[str] = field(default_factory=list)
 
     def say(self, connection: int, line: str, reply: str) -> None:
-        """A line and its reply."""
+        """Adds a line and its reply."""
         self.script.append(f"{connection} {line}\n")
         self.replies.append(f"{connection} {reply}\n")
 
     def leave(self, connection: int) -> None:
-        """A bye."""
+        """Adds a bye."""
         self.say(connection, '{"do":"bye"}', '{"ok":"bye"}')
 
     def greet(self, connection: int, number: int) -> None:
-        """The student of a number greets."""
+        """Adds the hello of the student with a number."""
         hello = f'{{"do":"hello","key":"{number:064}","name":"{name(number)}"}}'
         self.say(connection, hello, f'{{"ok":"hello","who":"{name(number)}"}}')
 
     def seduce(self, connection: int, number: int) -> None:
-        """The student asks for a move at the node of that number."""
+        """Adds the student's move at the node with a number."""
         node, place = NODES[number], number + 1
         line = f'{{"at":0,"do":"move","node":{node},"rule":"seduction"}}'
         self.say(connection, line, f'{{"at":0,"node":{node},"ok":"move","place":{place},"rule":"seduction"}}')
         self.journal.append(f"{place} 0 grant {name(number)} {node} seduction\n")
 
     def see(self, connection: int, node: int, p: str) -> None:
-        """A node is seen after the close."""
+        """Adds a request to see a node after the close."""
         line = f'{{"do":"see","node":{node}}}'
         self.say(connection, line, f'{{"at":1,"m":false,"node":{node},"ok":"see","p":{p}}}')
 
     def close(self, connection: int) -> None:
-        """All moves happen."""
+        """Adds the close of all moves."""
         moved = ",".join(map(str, NODES[:-1]))
         self.say(connection, '{"do":"close"}', f'{{"at":1,"moved":[{moved}],"ok":"close","place":256}}')
         self.journal.append("256 0 close\n")
 
 
-def told() -> Tale:
-    """Returns the teacher has a report, all but the last student move, in turn on all connections, and it is looked
-    round."""
+def whole_tale() -> Tale:
+    """Returns the whole tale: the teacher's report, the moves of all students but the last on all connections in
+    turn, the close, and looks at the nodes."""
     tale = Tale()
     for has_moved in (False, True):
         tale.say(SESSIONS, TESS, WELCOME)
@@ -114,8 +115,8 @@ def told() -> Tale:
 
 
 def scripted(room: Path, lab: Path) -> None:
-    """The story as a script, with its journal, which passes; and a line on a connection too many."""
-    tale = told()
+    """Plays the tale as a script, and audits its journal. Then checks a line on a connection that is too many."""
+    tale = whole_tale()
     script, journal = room / "greatest.script", room / "greatest.journal"
     script.write_text("".join(tale.script), encoding="ascii")
     if good(["script", str(lab), str(script), str(journal)]).decode() != "".join(tale.replies):
@@ -130,7 +131,7 @@ def scripted(room: Path, lab: Path) -> None:
 
 
 def served(lab: Path) -> None:
-    """The largest lab over a connection: both copies that are published begin as the script's, and change alike."""
+    """Plays a part of the tale over a server's connection."""
     server = Server(lambda port: ["serve", str(lab), str(port), "1"], {})
     teacher = Client(server.port)
     node, form = NODES[0], '{{"at":{0},"dropped":0,"node":{1},"ok":"fault","place":{0}}}'
@@ -148,7 +149,7 @@ def served(lab: Path) -> None:
 
 
 def greatest(room: Path) -> None:
-    """All that is done with the largest lab."""
+    """Runs all checks with the largest lab."""
     lab = room / "greatest.toml"
     lab.write_text(document(), encoding="ascii")
     if good(["check", str(lab)]) != b"ok: 256 nodes, 32640 links, 256 students\n":

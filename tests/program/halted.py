@@ -1,9 +1,9 @@
-"""A journal whose file takes so many bytes and no more: each byte may be the last.
+"""A journal whose file is limited to each number of bytes in turn.
 
     python3 -B -m tests.program.halted
 
-The limit is that of the system on a file's size, so a write that passes it does a part, and the next one fails. What
-is answered is written by hand where the second line doesn't fit, and else follows from the whole run's replies.
+The limit is the system's limit on file sizes, so a write beyond it does a part, and the next one fails. The
+expected replies are written by hand for the second line, and else follow from the replies of the whole run.
 """
 import resource
 import signal
@@ -56,18 +56,18 @@ ANSWERED = b"""1 {"at":0,"node":1,"ok":"move","place":1,"rule":"seduction"}
 
 
 class Limited:
-    """Scripts over the built-in lab, whose journal's file has a limit."""
+    """Scripts over the built-in lab, with a limit on the journal's file."""
 
     def __init__(self, room: Path) -> None:
         self.lab, self.script, self.journal = built_in(room), room / "limited.script", room / "limited.journal"
 
     def run(self, script: bytes, most: int) -> tuple[Ended, bytes]:
-        """Returns how a script ends if the journal takes so many bytes, and the journal."""
+        """Returns the end of a script whose journal takes so many bytes, and the journal."""
         self.script.write_bytes(script)
         self.journal.unlink(missing_ok=True)
 
         def limit() -> None:
-            """A write beyond the limit is an error then, and no signal."""
+            """Limits the size of files, and ignores the signal of that, so that a write fails instead."""
             signal.signal(signal.SIGXFSZ, signal.SIG_IGN)
             resource.setrlimit(resource.RLIMIT_FSIZE, (most, most))
 
@@ -77,19 +77,19 @@ class Limited:
 
 
 def first_part(script: bytes, replies: bytes) -> tuple[list[bytes], list[bytes]]:
-    """Returns the lines of a script that make its events and those that only look, left out; with their replies."""
+    """Returns the lines of a script with its first events and looks, and their replies."""
     pairs = list(zip(script.splitlines(keepends=True), replies.splitlines(keepends=True)))
     acts = [(line, reply) for line, reply in pairs if b'"place":' in reply or b'"hello"' in reply]
     return [line for line, _ in acts], [reply for _, reply in acts]
 
 
 def is_refused(reply: bytes) -> bool:
-    """Returns whether a reply denies, or tells that the journal takes no line."""
+    """Returns whether a reply is a denial, or the refusal `journal`."""
     return reply.endswith(HALT) or b'"deny":' in reply
 
 
 def fault_of(ended: Ended, most: int, replies: list[bytes]) -> str:
-    """Returns what is wrong with a run of the whole acts where so many bytes of the journal are taken, if anything."""
+    """Returns what is wrong with a run whose journal took so many bytes, or an empty text."""
     if most >= len(JOURNAL):
         return "" if ended == Ended(0, b"".join(replies), b"") else "it doesn't end well"
     granted = 4 + JOURNAL[:most].count(b"\n")
@@ -104,7 +104,7 @@ def fault_of(ended: Ended, most: int, replies: list[bytes]) -> str:
 
 
 def work(room: Path) -> str:
-    """Checks that each byte may be the last, and what is refused after a halt."""
+    """Checks each limit, and the lines that are refused after a halt. Returns a line about it."""
     limited = Limited(room)
     ended, journal = limited.run(GREETINGS + ASKED, JOURNAL.index(b"\n") + 1)
     if ended != Ended(4, WELCOMES + ANSWERED, b"journal fault\n") or journal != b"1 0 grant ana 1 seduction\n":

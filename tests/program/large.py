@@ -1,8 +1,9 @@
-"""Plays runs that are larger than a byte or two count: the largest lab, reports of all nodes, and 100,000 events.
+"""Plays runs whose numbers need more than one or two bytes: the largest lab, reports of all nodes, and 100,000
+events.
 
     python3 -m tests.program.large
 
-What the replies should be is written down here, by the form of a reply and the numbers of the request.
+The expected replies are computed here, from the form of a reply and the numbers of the request.
 """
 import socket
 import subprocess
@@ -24,7 +25,7 @@ student = [{ name = "ana", key = "a-key" }]
 
 
 def lab(room: Path, nodes: Iterable[str], links: str, events: int) -> Path:
-    """Returns a lab of these nodes, and one session."""
+    """Writes a lab with these nodes and links and one session, and returns its path."""
     file = room / "large.toml"
     file.write_text(
         f"events = {events}\nsessions = 1\n{PEOPLE}links = [{links}]\nnode = [{', '.join(nodes)}]\n", encoding="ascii"
@@ -33,7 +34,7 @@ def lab(room: Path, nodes: Iterable[str], links: str, events: int) -> Path:
 
 
 def report(room: Path, file: Path, wanted: str) -> None:
-    """Checks for this report of a lab, to the teacher, and a denial to a student, who may then go on."""
+    """Checks that the teacher gets this report of a lab, and that a student gets a denial and can go on."""
     script = room / "large.script"
     lines = [HELLO, '{"do":"report"}\n', '{"do":"bye"}\n', '{"do":"hello","key":"a-key","name":"ana"}\n',
              '{"do":"report"}\n', '{"do":"bye"}\n']
@@ -45,7 +46,7 @@ def report(room: Path, file: Path, wanted: str) -> None:
 
 
 def reports(room: Path) -> None:
-    """The reports of 256 nodes without a link, and of 128 pairs."""
+    """Checks the reports of 256 nodes without a link, and of 128 pairs."""
     ids = range(1, NODES + 1)
     free = ",".join(str(node) for node in ids)
     alone = [f'{{ id = {node}, owner = "ana" }}' for node in ids]
@@ -59,7 +60,7 @@ def reports(room: Path) -> None:
 
 
 def exchange(it: socket.socket, lines: list[str], replies: list[str]) -> None:
-    """Sends lines together, and wants these replies."""
+    """Sends lines at once, and checks their replies."""
     it.sendall("".join(lines).encode())
     wanted = "".join(replies).encode()
     found = b""
@@ -73,19 +74,19 @@ def exchange(it: socket.socket, lines: list[str], replies: list[str]) -> None:
 
 
 def changes(places: Iterable[int]) -> tuple[list[str], list[str]]:
-    """Requests that cut a link and make it again in turn, and their replies."""
+    """Returns requests that cut a link and add it again in turn, and their replies."""
     words = [(place, "cut" if place % 2 else "link") for place in places]
     form = '{{"a":1,"at":{0},"b":2,"dropped":0,"ok":"{1}","place":{0}}}\n'
     return [f'{{"a":1,"b":2,"do":"{word}"}}\n' for _, word in words], [form.format(*it) for it in words]
 
 
 def pair(room: Path) -> Path:
-    """Returns a lab of two nodes with a link, and as many events as a lab may allow."""
+    """Writes a lab of two linked nodes with the greatest limit of events, and returns its path."""
     return lab(room, [f'{{ id = {node}, owner = "ana" }}' for node in (1, 2)], "[1, 2]", EVENTS)
 
 
 def scripted(room: Path) -> None:
-    """A link that is cut and made again by a script, as often as a lab may allow and once more."""
+    """Cuts and adds a link by a script, as often as a lab allows, and once more."""
     lines, replies = changes(range(1, EVENTS + 1))
     script = "".join(f"1 {line}" for line in [HELLO, *lines, CUT]).encode("ascii")
     done = subprocess.run([HOST, "answer", pair(room)], input=script, capture_output=True, timeout=LIMIT, check=False)
@@ -94,7 +95,7 @@ def scripted(room: Path) -> None:
 
 
 def events(room: Path) -> None:
-    """A link that is cut and made again through a server, as often as a lab may allow and once more."""
+    """Cuts and adds a link through a server, as often as a lab allows, and once more."""
     file, journal = pair(room), room / "large.journal"
     server = Server(lambda port: ["serve", str(file), str(port), "1", str(journal)], {})
     with socket.create_connection(("127.0.0.1", server.port), timeout=LIMIT) as it:
@@ -110,7 +111,7 @@ def events(room: Path) -> None:
 
 
 def work(room: Path) -> str:
-    """Returns all runs."""
+    """Runs all checks. Returns a line about them."""
     greatest(room)
     reports(room)
     scripted(room)

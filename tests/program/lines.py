@@ -10,6 +10,7 @@ import math
 from pathlib import Path
 from random import Random
 
+from tests.common.limits import MOST
 from tests.common.preload import Ended, built_in, fail, in_room, run
 
 BYE, LEFT = '4 {"do":"bye"}\n', '4 {"ok":"bye"}\n'
@@ -52,20 +53,21 @@ ROWS = [
 
 
 def on_each(connections: int, text: str) -> str:
-    """Returns the text on each connection up to a number."""
+    """Returns a line with this text for each connection."""
     return "".join(f"{connection} {text}\n" for connection in range(1, connections + 1))
 
 
 HELLO, WELCOME = '{"do":"hello","key":"chalk","name":"tess"}', '{"ok":"hello","who":"tess"}'
-# The same over the built-in lab with 16 connections.
-SIXTEEN = [
-    (on_each(16, HELLO), on_each(16, WELCOME), None),
-    (on_each(17, HELLO), on_each(16, WELCOME), 17),
+# The same over the built-in lab with as many sessions as a lab may have.
+MANY = MOST["sessions"]
+ON_MANY = [
+    (on_each(MANY, HELLO), on_each(MANY, WELCOME), None),
+    (on_each(MANY + 1, HELLO), on_each(MANY, WELCOME), MANY + 1),
 ]
 
 
 def wants(room: Path, lab: Path, rows: list[tuple[str, str, int | None]]) -> None:
-    """Checks for these answers and ends."""
+    """Checks the replies and the end of each row's script."""
     script = room / "lines.script"
     for text, answers, bad in rows:
         script.write_text(text, encoding="ascii")
@@ -109,12 +111,12 @@ PART = 40
 
 
 def others(rng: Random) -> str:
-    """None, one or two members."""
+    """Returns zero, one or two random members of an object."""
     return "".join(rng.choice(KEYS) + rng.choice(VALUES) + "," for _ in range(rng.randrange(3)))
 
 
 def drawn_line(rng: Random) -> bytes:
-    """Returns a request's members with others before or after them; one line of three has a byte replaced."""
+    """Returns a request with other members before or after its own. In one of three lines a byte is replaced."""
     after = f',{others(rng)}"x":0' if rng.random() < 0.5 else ""
     line = bytearray(f"{{{others(rng)}{rng.choice(REQUESTS)}{after}}}".encode())
     offset = rng.randrange(3 * len(line))
@@ -129,31 +131,32 @@ def with_array(line: bytes) -> bytes:
 
 
 def number(text: str) -> float:
-    """Returns a number that isn't of 64 bits, unless it is too great for a float."""
+    """Returns a number outside 64 bits as a float. Raises an error if it is too large for one."""
     if math.isinf(float(text)):
         raise ValueError(text)
     return float(text)
 
 
 def integer(text: str) -> float:
-    """Returns an integer, if it is of 64 bits and without a sign."""
+    """Returns an integer of 64 bits without a sign, or else the number as a float."""
     return int(text) if text.isdigit() and int(text) < 2**64 else number(text)
 
 
 def refused(text: str) -> float:
-    """Returns what JSON hasn't, and Python reads."""
+    """Raises an error for constants that Python reads and JSON doesn't have."""
     raise ValueError(text)
 
 
 def levels(value: object) -> int:
-    """Returns how deep arrays and objects nest; a string with half a pair is refused."""
+    """Returns how deep a value is nested, as `Members` reads it: objects are lists too. Raises an error for a string
+    with half a surrogate pair."""
     if isinstance(value, str):
-        value.encode()
+        value.encode()  # raises `UnicodeEncodeError` for half a surrogate pair
     return 1 + max(map(levels, value), default=0) if isinstance(value, list) else 0
 
 
 class Members(list[object]):
-    """The keys and values of an object, one after another, of which none is lost if a key comes twice."""
+    """The keys and values of an object in a list, so that no value is lost if a key occurs twice."""
 
     def __init__(self, pairs: list[tuple[str, object]]) -> None:
         super().__init__(part for pair in pairs for part in pair)
@@ -161,7 +164,8 @@ class Members(list[object]):
 
 
 def as_python_reads(line: bytes) -> bytes:
-    """Returns the plain members that Python's own reader finds in a line, as a compact object; or no object."""
+    """Returns a compact object with the plain members of a line, as Python's reader finds them. Returns a text
+    that isn't an object if the line isn't one."""
     try:
         value = json.loads(
             line.decode(), object_pairs_hook=Members, parse_float=number, parse_int=integer, parse_constant=refused
@@ -185,8 +189,8 @@ def answered(room: Path, lab: Path, lines: list[bytes]) -> tuple[bytes, bytes]:
 
 
 def each_way(room: Path, lab: Path) -> tuple[int, int]:
-    """Returns how many drawn lines are requests, and how many events they make; each is answered the same in each
-    way."""
+    """Checks that random lines get the same replies in each spelling. Returns the number of requests and of
+    events."""
     rng = Random(5)
     requests = events = 0
     greetings = [b'1 {"do":"hello","key":"chalk","name":"tess"}', b'2 {"do":"hello","key":"a-key","name":"ana"}']
@@ -205,17 +209,17 @@ def each_way(room: Path, lab: Path) -> tuple[int, int]:
 
 
 def work(room: Path) -> str:
-    """Returns all rows, and all drawn lines."""
+    """Checks all rows and all random lines. Returns a line about them."""
     lab = built_in(room)
     wants(room, lab, ROWS)
-    sixteen = room / "sixteen.toml"
-    sixteen.write_text(lab.read_text(encoding="ascii").replace("sessions = 4", "sessions = 16"), encoding="ascii")
-    wants(room, sixteen, SIXTEEN)
+    large = room / "many.toml"
+    large.write_text(lab.read_text(encoding="ascii").replace("sessions = 4", f"sessions = {MANY}"), encoding="ascii")
+    wants(room, large, ON_MANY)
     requests, events = each_way(room, lab)
     # So that neither way is tried on malformed lines alone, nor on lines without an effect.
     if not (500 < requests < 3500 and 50 < events):
         fail(f"{requests} of {LINES} drawn lines are requests, with {events} events")
-    ended = len(ROWS) + len(SIXTEEN)
+    ended = len(ROWS) + len(ON_MANY)
     return f"{ended} scripts end where they should, and {LINES} drawn lines are read alike in three ways"
 
 

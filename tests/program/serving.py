@@ -1,4 +1,5 @@
-"""Serves clients that meet, race, go away or end in a line; what each is answered was written by hand.
+"""Serves clients that come at the same time, race, disappear or end within a line. The expected replies are
+written by hand.
 
     python3 -B -m tests.program.serving
 """
@@ -7,13 +8,14 @@ import time
 from pathlib import Path
 
 from tests.common.lines import BID, BYE, CLOSE, closed, denial_of, fault_at, greeted, hello, line_of, seduced, seduction
+from tests.common.limits import MOST
 from tests.common.preload import LIMIT, TOP, Client, Ended, Server, built_in, fail, in_room
 
 ROUNDS = 300
 
 
 def lab_of(room: Path, old: str, new: str) -> Path:
-    """Returns the built-in lab with one text instead of another."""
+    """Writes the built-in lab with a text replaced, and returns its path."""
     lab = room / "changed.toml"
     lab.write_text(built_in(room).read_text(encoding="utf-8").replace(old, new, 1), encoding="utf-8")
     return lab
@@ -28,7 +30,7 @@ def serving(lab: Path, connections: int, *journal: str) -> Server:
 
 
 def ends(server: Server, done: bytes) -> None:
-    """Checks that a server ends well, with that last line."""
+    """Checks that a server ends well, with this last line."""
     ended = server.end()
     if ended != Ended(0, done, b""):
         fail(f"serving: another end: {ended}, not {done!r}")
@@ -40,13 +42,13 @@ def opened(server: Server) -> socket.socket:
 
 
 def whole(it: socket.socket) -> bytes:
-    """Returns all that a connection is sent until its end."""
+    """Returns all bytes that a connection receives until its end."""
     with it.makefile("rb") as replies:
         return replies.read()
 
 
 def in_a_line(room: Path) -> None:
-    """A line that isn't ended is not answered, and ends its own connection alone."""
+    """An incomplete line isn't answered, and ends only its own connection."""
     server = serving(built_in(room), 4)
     texts = [b'{"do":"hel', hello("ana") + seduction(0), b"", BYE + BYE[:-1]]
     wanted = [b"", greeted("ana") + seduced(0, 1), b"", BID]
@@ -63,7 +65,7 @@ def in_a_line(room: Path) -> None:
 
 
 def gone(room: Path) -> None:
-    """A client that is gone before it is answered leaves its event, and another to be served to its end."""
+    """A client that disappears before its reply leaves its event, and another client is served to its end."""
     server = serving(built_in(room), 2)
     with opened(server) as client:
         client.sendall(hello("ana") + seduction(0))
@@ -78,34 +80,35 @@ def gone(room: Path) -> None:
     ends(server, b"done: 2 events, configuration 1\n")
 
 
-def sixteen(room: Path) -> None:
-    """Sixteen of one name are in a line all at once, and each is answered as if it were alone."""
-    server = serving(lab_of(room, "sessions = 4", "sessions = 16"), 16)
+def many(room: Path) -> None:
+    """The greatest number of connections with one name are within a line at the same time, and each is answered correctly."""
+    server = serving(lab_of(room, "sessions = 4", f"sessions = {MOST['sessions']}"), MOST["sessions"])
     lines, replies = (
         b"".join(line[2:] for line in (TOP / f"examples/first-look.{end}").read_bytes().splitlines(keepends=True))
         for end in ("script", "out")
     )
-    clients = [opened(server) for _ in range(16)]
+    clients = [opened(server) for _ in range(MOST["sessions"])]
     for client in clients:
         client.sendall(lines[:10])
     threads = Path(f"/proc/{server.process.pid}/task")
     begun = time.monotonic()
-    while len(list(threads.iterdir())) != 17:
+    while len(list(threads.iterdir())) != MOST["sessions"] + 1:
         if time.monotonic() - begun > LIMIT:
-            fail("serving: sixteen clients haven't a thread each")
+            fail("serving: not each client has a thread")
         time.sleep(0.01)
     for client in clients:
         client.sendall(lines[10:])
         client.shutdown(socket.SHUT_WR)
     for client in clients:
         if whole(client) != replies:
-            fail("serving: one of sixteen is answered otherwise")
+            fail("serving: one of many is answered otherwise")
         client.close()
     ends(server, b"done: 0 events, configuration 0\n")
 
 
 def won(one: Client, two: Client, line: bytes, granted: bytes, denied: bytes) -> int:
-    """Sends a line on two connections at once, and wants that one of them is granted; answers which."""
+    """Sends a line on two connections at the same time. Checks that one is granted and the other denied. Returns
+    the index of the granted one."""
     for client in (one, two):
         assert client.open is not None
         client.open.sendall(line)
@@ -116,7 +119,7 @@ def won(one: Client, two: Client, line: bytes, granted: bytes, denied: bytes) ->
 
 
 def races(room: Path) -> None:
-    """Of two owners one is granted a node's move, and the journal names that one; of two closes one applies it."""
+    """Of two owners, one is granted a node's move, and the journal names that one. Of two closes, one applies it."""
     journal = room / "raced.journal"
     lab = lab_of(room, 'owner = "ana"', 'owners = ["ana", "ben"]')
     server = serving(lab_of_more(lab), 4, str(journal))
@@ -143,14 +146,14 @@ def races(room: Path) -> None:
 
 
 def lab_of_more(lab: Path) -> Path:
-    """Returns a lab with more events, in its own file."""
+    """Writes a lab with a higher limit of events, and returns its path."""
     lab.write_text(lab.read_text(encoding="utf-8").replace("events = 100\n", "events = 10000\n"), encoding="utf-8")
     return lab
 
 
 def work(room: Path) -> str:
-    """Returns all servers."""
-    for case in (in_a_line, gone, sixteen, races):
+    """Runs all servers. Returns a line about them."""
+    for case in (in_a_line, gone, many, races):
         case(room)
     return f"servers of clients that meet, race and go away: 4, {2 * ROUNDS} races"
 

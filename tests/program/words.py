@@ -1,4 +1,4 @@
-"""Calls the program with words that it hasn't, and with files that can't be read, and counts its writes.
+"""Calls the program with unknown arguments and unreadable files, and counts its writes.
 
     python3 -B -m tests.program.words
 """
@@ -7,10 +7,11 @@ import socket
 import subprocess
 from pathlib import Path
 
+from tests.common.limits import MOST
 from tests.common.preload import LIMIT, PROGRAM, TOP, Ended, built_in, fail, in_room
 
 # Command lines after the program's name; two spaces, or one at an end, have an empty word beside them.
-NOT_UNDERSTOOD = """\
+NOT_UNDERSTOOD = f"""\
 a
 help
 help check
@@ -86,7 +87,7 @@ serve a 1. 1
 serve a x 1
 serve a  1 1
 serve a 1 0
-serve a 1 17
+serve a 1 {MOST['sessions'] + 1}
 serve a 1 256
 serve a 1 257
 serve a 1 01
@@ -130,14 +131,14 @@ TAKEN = [
     ("audit a ", UNREAD_JOURNAL),
     ("serve  1 1", UNREAD_LAB),
     ("serve a 65535 5", Ended(2, b"", b"serve: more connections than sessions\n")),
-    ("serve a 65535 16 b", Ended(2, b"", b"serve: more connections than sessions\n")),
+    (f"serve a 65535 {MOST['sessions']} b", Ended(2, b"", b"serve: more connections than sessions\n")),
     ("serve 7000 7000 4 ", BROKEN_JOURNAL),
     ("serve a 1 1 .", BROKEN_JOURNAL),
 ]
 
 
 def called(line: str, folder: Path) -> Ended:
-    """Returns how a call with the words of a line ends in a folder."""
+    """Runs the command line in a text in a folder. Returns its result."""
     words: list[str | Path] = [PROGRAM.resolve(), *line.split(" ")]
     done = subprocess.run(
         words, stdin=subprocess.DEVNULL, capture_output=True, cwd=folder, timeout=LIMIT, check=False
@@ -146,14 +147,14 @@ def called(line: str, folder: Path) -> Ended:
 
 
 def wants(line: str, folder: Path, wanted: Ended) -> None:
-    """Checks for a call to end so."""
+    """Checks the result of a command line."""
     ended = called(line, folder)
     if ended != wanted:
         fail(f"{ended}, not {wanted}: {line!r}")
 
 
 def words_of(folder: Path) -> int:
-    """Words that aren't understood, and forms that are; answers how many there were."""
+    """Checks command lines that aren't understood, and some that are. Returns their number."""
     for name in ("a", "check", "help", "version", "7000"):
         shutil.copy(built_in(folder), folder / name)
     (folder / "b").write_text('1 {"do":"bye"}\n', encoding="ascii")
@@ -169,7 +170,7 @@ def words_of(folder: Path) -> int:
 
 
 def writes(words: list[str], given: bytes) -> list[bytes]:
-    """Returns what each write of a call to its standard output has, which is a socket that keeps them apart."""
+    """Returns the bytes of each write of a call to its standard output. That is a socket that keeps them apart."""
     ours, theirs = socket.socketpair(socket.AF_UNIX, socket.SOCK_SEQPACKET)
     with ours, theirs:
         ours.settimeout(LIMIT)
@@ -187,8 +188,8 @@ def writes(words: list[str], given: bytes) -> list[bytes]:
 
 
 def in_one_write(folder: Path) -> int:
-    """Returns the replies to lines that come in one read go out in one write, those before a bad line too. A read has
-    at most 4096 bytes, so 273 of these byes. Answers how many calls there were."""
+    """Checks that the replies to lines of one read are sent by one write, also before a bad line. A read has at
+    most 4096 bytes, which is 273 byes. Returns the number of calls."""
     bye, left = b'1 {"do":"bye"}\n', b'1 {"ok":"bye"}\n'
     look, told = ((TOP / f"examples/first-look.{end}").read_bytes() for end in ("script", "out"))
     bad = bye + b'5 {"do":"bye"}\n'
@@ -209,7 +210,7 @@ def in_one_write(folder: Path) -> int:
 
 
 def work(room: Path) -> str:
-    """Returns all calls."""
+    """Runs all calls. Returns a line about them."""
     return f"words: {words_of(room)} as wanted; outputs by write: {in_one_write(room)}"
 
 

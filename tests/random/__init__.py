@@ -1,1 +1,1 @@
-"""Drawn runs of the program beside the plain model."""
+"""Random runs of the program, compared with the plain model."""

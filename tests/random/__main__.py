@@ -39,7 +39,7 @@ LISTED = re.compile(rb'"(open|pairs)":\[\[')
 
 
 def hurt(rng: Random, journal: bytes) -> bytes:
-    """Returns a journal with a byte changed, left out or put twice."""
+    """Returns a journal with one byte changed, left out or doubled."""
     at = rng.randrange(len(journal))
     digits = b"0123456789"
     byte = bytes([rng.choice(digits if journal[at] in digits else b" \n-0aestz\r\xff")])
@@ -47,14 +47,14 @@ def hurt(rng: Random, journal: bytes) -> bytes:
 
 
 def audit_hurt(rng: Random, files: Files) -> None:
-    """Audits the journal of a run as it is, and with a byte hurt."""
+    """Audits the journal of a run as it is, and with one byte changed."""
     journal = files.journal.read_bytes()
     for text in [journal] + [hurt(rng, journal) for _ in range(HURTS if journal else 0)]:
         files.audited(text)
 
 
 def compare(room: Path, seed: int) -> Counter[bytes]:
-    """Plays and audits the run of a seed. Returns the contents of its replies."""
+    """Plays and audits the run of a seed by both programs. Returns a count of the words in its replies."""
     rng = Random(seed)
     document = drawn_lab(rng)
     script = drawn_script(rng, read_lab(document.encode()), LINES)
@@ -65,7 +65,7 @@ def compare(room: Path, seed: int) -> Counter[bytes]:
 
 
 def scripts(room: Path) -> None:
-    """All drawn scripts, in which each word of a reply stands."""
+    """Runs all random scripts, and checks that each word of a reply occurs."""
     told: Counter[bytes] = Counter()
     for seed in SEEDS:
         told += compare(room, seed)
@@ -77,7 +77,7 @@ def scripts(room: Path) -> None:
 
 
 def runs_to_an_end(room: Path, worlds: range) -> str:
-    """Returns all drawn runs to an end, nine of ten with a move."""
+    """Runs random worlds to a stable end. Nine of ten runs must have a move. Returns a line about them."""
     moving, dense = 0, 0
     for seed in worlds:
         for daemon in ends.DAEMONS:
@@ -98,7 +98,8 @@ def runs_to_an_end(room: Path, worlds: range) -> str:
 
 
 def meshes(room: Path) -> None:
-    """A thousand events of all kinds over a mesh: what each did, a report and looks after it, and that each was legal."""
+    """Checks a thousand events of all kinds over a mesh: the reply to each, a report and looks after it, and the
+    audit."""
     for count in MESHES:
         document, rng = mesh(count), Random(count)
         files = Files(f"a mesh of {count} nodes", room, document, mesh_script(rng, read_lab(document.encode()), EVENTS))
@@ -111,8 +112,7 @@ def meshes(room: Path) -> None:
 
 
 def replaced(room: Path) -> int:
-    """Returns the journal of docs/JOURNAL.md with each byte replaced by each of some others; how many audits that
-    were."""
+    """Audits the journal in docs/JOURNAL.md with each byte replaced by others. Returns the number of audits."""
     files = Files("docs/JOURNAL.md", room, (TOP / "examples/built-in.toml").read_text(encoding="ascii"), b"")
     journal = (TOP / "examples/whole-run.journal").read_bytes()
     for at in range(len(journal)):
@@ -122,7 +122,7 @@ def replaced(room: Path) -> int:
 
 
 def work(room: Path) -> str:
-    """Returns all comparisons."""
+    """Runs all comparisons. Returns a line about them."""
     tables.compare()
     scripts(room)
     meshes(room)

@@ -1,4 +1,4 @@
-"""Runs to if no node is privileged, under four daemons, from worlds that are drawn."""
+"""Runs with four daemons, from random worlds until no node is privileged."""
 import json
 from collections.abc import Callable
 from dataclasses import dataclass
@@ -19,23 +19,23 @@ sessions = 2
 
 
 def single(rng: Random, nodes: list[int]) -> list[int]:
-    """Returns one privileged node moves."""
+    """Returns one random privileged node."""
     return [rng.choice(nodes)]
 
 
 def full(rng: Random, nodes: list[int]) -> list[int]:
-    """Returns all privileged nodes move."""
+    """Returns all privileged nodes."""
     return nodes
 
 
 def drawn(rng: Random, nodes: list[int]) -> list[int]:
-    """Returns a set of privileged nodes moves, which is drawn and not empty."""
+    """Returns a random set of privileged nodes that isn't empty."""
     some = [i for i in nodes if rng.random() < 0.5]
     return some or single(rng, nodes)
 
 
 def unfair(rng: Random, nodes: list[int]) -> list[int]:
-    """Returns the highest privileged node moves: who is lower waits for as long as there is one."""
+    """Returns the highest privileged node. Lower ones wait as long as there is one."""
     return [max(nodes)]
 
 
@@ -43,7 +43,7 @@ DAEMONS: list[Daemon] = [single, full, drawn, unfair]
 
 
 def lab_of(links: list[Link], found: Registers) -> str:
-    """Returns the file of a lab with these links and registers, all nodes of one student."""
+    """Returns a lab with these links and registers. One student owns all nodes."""
     text = f"{PEOPLE}links = {json.dumps(links)}\nnode = [\n"
     for i, p in found.p.items():
         pointer = "" if p is None else f", p = {p}"
@@ -52,8 +52,8 @@ def lab_of(links: list[Link], found: Registers) -> str:
 
 
 def drawn_lab(rng: Random, count: int) -> str:
-    """Returns a lab of so many nodes, with links and registers that are drawn; some nodes point at none and hold
-    themselves married. Of five networks one may have all links, the others two a node at most."""
+    """Returns a random lab with this number of nodes. Some nodes have a null pointer and m true. One network in
+    five has all links, and the others at most two per node."""
     nodes = list(range(1, count + 1))
     every = complete(rng, nodes)
     most = len(every) if rng.random() < 0.2 else min(len(every), 2 * count)
@@ -67,7 +67,7 @@ def drawn_lab(rng: Random, count: int) -> str:
 
 @dataclass
 class Course:
-    """A run's script, the links and nodes of its network, and the rounds that its steps took."""
+    """The script of a run, the links and nodes of its network, and the number of its rounds."""
 
     script: str
     nodes: int
@@ -79,11 +79,11 @@ class Course:
         return self.links > self.nodes * self.nodes // 4
 
     def moves(self, replies: list[dict[str, Any]]) -> int:
-        """Returns how many moves the closes applied, by these replies."""
+        """Returns the number of moves that the closes applied, according to these replies."""
         return sum(len(reply["moved"]) for reply in replies if reply.get("ok") == "close")
 
     def fault(self, text: str) -> str:
-        """Returns what is wrong with the end of a run with these replies, if anything."""
+        """Returns what is wrong with the end of a run with these replies, or an empty text."""
         replies = [json.loads(line.split(" ", 1)[1]) for line in text.splitlines()]
         last = replies[-1]
         if not last["stable"] or last["privileged"] or last["open"]:
@@ -98,7 +98,7 @@ class Course:
 
 
 class Runner:
-    """A run in the making: moves are asked for and steps closed until no node is privileged."""
+    """Builds the script of a run: asks for moves and closes steps until no node is privileged."""
 
     def __init__(self, rng: Random, lab: Lab, daemon: Daemon) -> None:
         self.rng, self.daemon = rng, daemon
@@ -107,22 +107,20 @@ class Runner:
         self.rounds = 0
 
     def ask(self, connection: int, line: str) -> None:
-        """A line, which the model answers."""
+        """Appends a line to the script, and applies it to the model."""
         self.script.append(f"{connection} {line}\n")
         self.model.answer(connection, line.encode())
 
     def move(self, i: int, move: Move) -> None:
-        """Asks for a move."""
+        """Appends the request for a move."""
         asked = {"do": "move", "node": i, "rule": move.rule, "at": self.model.world.number}
         if move.rule == "marriage":
             asked["with"] = move.partner
         self.ask(1, json.dumps(asked))
 
     def run(self, steps: int) -> None:
-        """Lets the daemon choose until no node is privileged, or so many steps were taken.
-
-        A round ends when each node that was privileged at its beginning has moved, or wasn't privileged in between.
-        """
+        """Lets the daemon choose until no node is privileged, or for at most `steps` steps. Counts rounds: each
+        ends when every node that was privileged at its beginning has moved or stopped being privileged."""
         moves = moves_of(self.model.world)
         waiting = set(moves)
         while moves and steps > 0:
@@ -139,13 +137,13 @@ class Runner:
 
 
 def moves_of(world: World) -> dict[int, list[Move]]:
-    """Returns the privileged nodes, each with the moves whose guard holds there."""
+    """Returns the privileged nodes, each with its possible moves."""
     found = {i: world.moves(i) for i in world.nodes()}
     return {i: moves for i, moves in found.items() if moves}
 
 
 def course(rng: Random, document: str, daemon: Daemon) -> Course:
-    """Returns a run over a lab under a daemon."""
+    """Returns a run over a lab with a daemon."""
     lab = read_lab(document.encode())
     runner = Runner(rng, lab, daemon)
     links = sum(len(near) for near in lab.world.links.values()) // 2

@@ -1,4 +1,4 @@
-"""A lab and a script in a folder, and what the program and the model make of them."""
+"""A lab and a script in a folder, and the results of the program and the model for them."""
 from pathlib import Path
 
 from tests.common.preload import Ended
@@ -6,7 +6,7 @@ from tests.common.second import agreed, agreed_script
 
 
 class Files:
-    """A lab and a script in a folder, and the runs over them, about which the program and the model agree."""
+    """A lab and a script in a folder. All results are checked to be the same for the program and the model."""
 
     def __init__(self, what: str, room: Path, lab: str, script: bytes) -> None:
         self.what = what
@@ -16,10 +16,10 @@ class Files:
         self.journal.write_bytes(b"")
 
     def played(self) -> Ended:
-        """Returns how the script ends, which writes its journal."""
+        """Returns the result of the script, which writes its journal."""
         return agreed_script(self.what, self.lab, self.script, self.journal)
 
     def audited(self, journal: bytes) -> Ended:
-        """Returns how the audit of a journal ends."""
+        """Returns the result of the audit of a journal."""
         self.journal.write_bytes(journal)
         return agreed(f"{self.what}, the journal {journal!r}", "audit", self.lab, self.journal)

@@ -1,47 +1,49 @@
-"""Labs that are drawn: families of networks, owners, registers and limits."""
+"""Random labs: families of networks, owners, registers and limits."""
 import json
 from collections.abc import Callable
 from dataclasses import dataclass
 from random import Random
 from typing import Optional
 
+from tests.common.limits import MOST
+
 Link = tuple[int, int]
-GREATEST = 65535
+GREATEST = MOST["identifier"]
 
 
 def path(rng: Random, nodes: list[int]) -> list[Link]:
-    """Returns each node is linked to the next."""
+    """Returns the links of a path."""
     return list(zip(nodes, nodes[1:]))
 
 
 def cycle(rng: Random, nodes: list[int]) -> list[Link]:
-    """Returns a path whose ends are linked, if it has three nodes."""
+    """Returns the links of a cycle, or of a path if there are fewer than three nodes."""
     return path(rng, nodes) + ([(nodes[-1], nodes[0])] if len(nodes) > 2 else [])
 
 
 def star(rng: Random, nodes: list[int]) -> list[Link]:
-    """Returns all nodes are linked to one."""
+    """Returns the links of a star."""
     return [(nodes[0], other) for other in nodes[1:]]
 
 
 def complete(rng: Random, nodes: list[int]) -> list[Link]:
-    """Returns each two nodes are linked."""
+    """Returns the links between each two nodes."""
     return [(a, b) for at, a in enumerate(nodes) for b in nodes[at + 1 :]]
 
 
 def bipartite(rng: Random, nodes: list[int]) -> list[Link]:
-    """Returns each node of the first part is linked to each of the second."""
+    """Returns the links between each node of one part and each node of the other."""
     half = rng.randrange(len(nodes) + 1)
     return [(a, b) for a in nodes[:half] for b in nodes[half:]]
 
 
 def tree(rng: Random, nodes: list[int]) -> list[Link]:
-    """Returns each node is linked to one that comes before it."""
+    """Returns links that join each node to an earlier one."""
     return [(rng.choice(nodes[:at]), nodes[at]) for at in range(1, len(nodes))]
 
 
 def grid(rng: Random, nodes: list[int]) -> list[Link]:
-    """Rows below one another."""
+    """Returns the links of a grid."""
     width = rng.randint(1, len(nodes))
     right = [(at, at + 1) for at in range(len(nodes) - 1) if (at + 1) % width]
     below = [(at, at + width) for at in range(len(nodes) - width)]
@@ -49,15 +51,14 @@ def grid(rng: Random, nodes: list[int]) -> list[Link]:
 
 
 def drawn_links(rng: Random, nodes: list[int]) -> list[Link]:
-    """Returns each two nodes are linked or not, by a chance that is drawn; at most four links a node in large
-    networks."""
+    """Returns random links, with a random probability. Large networks have at most four links per node."""
     links = complete(rng, nodes)
     count = rng.randint(0, min(len(links), 4 * len(nodes)))
     return rng.sample(links, count)
 
 
 def empty(rng: Random, nodes: list[int]) -> list[Link]:
-    """Returns no node is linked."""
+    """Returns no links."""
     return []
 
 
@@ -67,7 +68,7 @@ FAMILIES: list[Callable[[Random, list[int]], list[Link]]] = [
 
 
 def identifiers(rng: Random, count: int) -> list[int]:
-    """So many identifiers, in the order of a file."""
+    """Returns this number of random identifiers, in the order of a file."""
     kind = rng.randrange(4)
     if kind == 0:
         return list(range(1, count + 1))
@@ -77,26 +78,26 @@ def identifiers(rng: Random, count: int) -> list[int]:
 
 
 def name(rng: Random) -> str:
-    """Returns a name: mostly short, now and then as long as may be."""
+    """Returns a random name: mostly a short one, and sometimes the longest possible."""
     length = rng.choice([1, 3, 3, 5, 32])
     return rng.choice("abc") + "".join(rng.choice("abcxyz0189-") for _ in range(length - 1))
 
 
 def key(rng: Random) -> str:
-    """Returns a key: any ASCII that isn't space or control, quotes and backslashes among them."""
+    """Returns a random key of printable ASCII characters, including quotes and backslashes."""
     return "".join(chr(rng.randint(33, 126)) for _ in range(rng.choice([1, 4, 8, 64])))
 
 
 @dataclass
 class Registers:
-    """What a lab's file says of its nodes' registers."""
+    """The registers of the nodes in a lab's file."""
 
     p: dict[int, Optional[int]]
     m: dict[int, bool]
 
 
 def registers(rng: Random, nodes: list[int], links: list[Link]) -> Registers:
-    """Registers as a fault may leave them: all null and false, or drawn pointers, some of them mutual."""
+    """Returns registers as a fault may leave them: all null and false, or random pointers, some of them mutual."""
     near: dict[int, list[int]] = {i: [] for i in nodes}
     for a, b in links:
         near[a].append(b)
@@ -115,19 +116,19 @@ def registers(rng: Random, nodes: list[int], links: list[Link]) -> Registers:
 
 
 def size(rng: Random) -> int:
-    """Returns a drawn number of nodes, mostly a small one."""
+    """Returns a random number of nodes, mostly a small one."""
     if rng.random() < 0.02:
         return rng.choice([64, 65, 255, 256])
     return rng.choice([1, 2, 2, 3, 3, 3, 4, 4, 5, 6, 8, 12, 20])
 
 
 def quoted(text: str) -> str:
-    """Returns a string of TOML: for ASCII it is written as in JSON."""
+    """Returns a TOML string. For ASCII it is the same as in JSON."""
     return json.dumps(text)
 
 
 def node_line(rng: Random, i: int, owners: list[str], found: Registers) -> str:
-    """Returns a node, with what isn't null or false, and now and then a plain false."""
+    """Returns the lines of a node. Registers that are null or false are left out, except sometimes a false."""
     is_short = len(owners) == 1 and rng.random() < 0.8
     owner = f"owner = {quoted(owners[0])}" if is_short else f"owners = {json.dumps(owners)}"
     p = "" if found.p[i] is None else f", p = {found.p[i]}"
@@ -136,7 +137,7 @@ def node_line(rng: Random, i: int, owners: list[str], found: Registers) -> str:
 
 
 def document(rng: Random, nodes: list[int], links: list[Link], found: Registers, events: int, sessions: int) -> str:
-    """Returns a lab's file over a network with its registers."""
+    """Returns the lab's text for a network with its registers."""
     people = list(dict.fromkeys(name(rng) for _ in range(rng.choice([2, 2, 3, 4, 6]))))
     students = people[1:] or [people[0] + "x" if len(people[0]) < 32 else "x"]
     ends = [[a, b] if rng.random() < 0.5 else [b, a] for a, b in links]
@@ -153,8 +154,8 @@ def document(rng: Random, nodes: list[int], links: list[Link], found: Registers,
 
 
 def drawn_lab(rng: Random) -> str:
-    """Returns the file of a lab of any family."""
+    """Returns the text of a random lab of any family."""
     nodes = identifiers(rng, size(rng))
     links = rng.choice(FAMILIES)(rng, nodes)
     events = rng.choice([1, 2, 5, 20, 100, 1000, 100000])
-    return document(rng, nodes, links, registers(rng, nodes, links), events, rng.randint(1, 16))
+    return document(rng, nodes, links, registers(rng, nodes, links), events, rng.randint(1, MOST["sessions"]))

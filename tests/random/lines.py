@@ -1,4 +1,4 @@
-"""Request lines that are drawn: as a client writes them, oddly but well, and malformed."""
+"""Random request lines: usual ones, correct ones in unusual spellings, and malformed ones."""
 import json
 from random import Random
 from typing import Any
@@ -22,18 +22,18 @@ ODD_LINES = [
 
 
 def escaped(rng: Random, text: str) -> str:
-    """Returns a string, in which any letter may stand as an escape."""
+    """Returns a JSON string in which each letter may be escaped."""
     letters = (f"\\u{ord(letter):04x}" if rng.random() < 0.3 else json.dumps(letter)[1:-1] for letter in text)
     return '"' + "".join(letters) + '"'
 
 
 def written(rng: Random, value: Any) -> str:
-    """Returns a value, in whose strings any letter may stand as an escape."""
+    """Returns a JSON value in whose strings each letter may be escaped."""
     return escaped(rng, value) if isinstance(value, str) else json.dumps(value)
 
 
 def spelled(rng: Random, request: dict[str, Any]) -> bytes:
-    """Returns a request as an object: keys in any order, spaces, escapes, keys that nothing names and doubled ones."""
+    """Returns a request as an object with keys in any order, spaces, escapes, unknown keys and doubled keys."""
     items = [[json.dumps(key), json.dumps(value)] for key, value in request.items()]
     kind = rng.randrange(6)
     if kind == 0:
@@ -50,7 +50,7 @@ def spelled(rng: Random, request: dict[str, Any]) -> bytes:
 
 
 def hurt(rng: Random, line: bytes) -> bytes:
-    """Returns a line with a byte changed, added or left out."""
+    """Returns a line with one byte changed, added or left out."""
     at = rng.randrange(len(line))
     byte = bytes([rng.choice(b'"{}[]:,0-9.eE\\ux /\x00\xff') if rng.random() < 0.7 else rng.randrange(256)])
     kind = rng.randrange(3)
@@ -58,7 +58,7 @@ def hurt(rng: Random, line: bytes) -> bytes:
 
 
 def odd(rng: Random, request: dict[str, Any]) -> bytes:
-    """Returns a line that is no request, or looks so."""
+    """Returns a line that isn't a request, or looks like one that isn't."""
     kind = rng.randrange(4)
     if kind == 0:
         return rng.choice(ODD_LINES)

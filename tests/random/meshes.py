@@ -1,4 +1,5 @@
-"""Runs over large meshes, whose events are drawn and always granted, with what the teacher is answered after each."""
+"""Runs over large meshes. Their events are random and always granted, and the teacher asks for a report and looks
+after each."""
 import json
 from random import Random
 from typing import Any, Optional
@@ -16,7 +17,8 @@ HELLOS = ['{"do":"hello","key":"s-key","name":"student"}', '{"do":"hello","key":
 
 
 def mesh(count: int) -> str:
-    """Returns a ring of so many nodes, each linked with one further on too, all of one student."""
+    """Returns a lab with a ring in which each node is also linked to another one further on. One student owns all
+    nodes."""
     ids = range(1, count + 1)
     links = [[i, i % count + 1] for i in ids] + [[i, (i + count // 3) % count + 1] for i in ids]
     nodes = "".join(f'  {{ id = {i}, owner = "student" }},\n' for i in ids)
@@ -24,7 +26,7 @@ def mesh(count: int) -> str:
 
 
 class Meshing:
-    """A script in the making."""
+    """Builds a script."""
 
     def __init__(self, rng: Random, lab: Lab) -> None:
         self.rng = rng
@@ -32,16 +34,16 @@ class Meshing:
         self.lines: list[str] = []
 
     def ask(self, connection: int, line: str) -> None:
-        """A line, which the model answers."""
+        """Appends a line, and applies it to the model."""
         self.lines.append(f"{connection} {line}\n")
         self.model.answer(connection, line.encode())
 
     def after(self, start: int, steps: int) -> int:
-        """Returns the node so many steps after another, round the end."""
+        """Returns the node that is so many steps after another in the ring."""
         return (start + steps - 1) % len(self.model.world.links) + 1
 
     def grant(self, start: int) -> Optional[Asked]:
-        """Returns a move of the first node from here on that may move and isn't chosen."""
+        """Returns a move of the first node from here on that can move and isn't chosen, or None."""
         world = self.model.world
         for steps in range(len(world.links)):
             i = self.after(start, steps)
@@ -52,18 +54,18 @@ class Meshing:
         return None
 
     def release(self, start: int) -> Optional[Asked]:
-        """Returns a release of the first chosen node from here on."""
+        """Returns a release of the first chosen node from here on, or None."""
         chosen = self.model.world.chosen
         nodes = [i for i in (self.after(start, steps) for steps in range(len(self.model.world.links))) if i in chosen]
         return {"do": "release", "node": nodes[0]} if nodes else None
 
     def fault(self, start: int) -> Asked:
-        """Returns a fault with a pointer to a neighbour, or none."""
+        """Returns a fault that sets a node's pointer to a neighbour or to null."""
         p = self.rng.choice([None, *self.model.world.near(start)])
         return {"do": "fault", "node": start, "p": p, "m": self.rng.random() < 0.5}
 
     def drawn(self) -> Asked:
-        """Returns what is asked next: mostly a move, now and then a close of all that are chosen."""
+        """Returns the next event: mostly a move, and sometimes a close of all chosen moves."""
         world, start = self.model.world, self.rng.choice(self.model.world.nodes())
         kind = self.rng.randrange(16)
         asked: Optional[Asked] = None
@@ -81,7 +83,7 @@ class Meshing:
         return asked or self.fault(start)
 
     def event(self) -> None:
-        """An event, then a report, and looks at what it named and at the neighbours."""
+        """Appends an event, a report, and looks at the nodes of the event and at their neighbours."""
         asked = self.drawn()
         self.ask(1 if asked["do"] == "move" else 2, json.dumps(asked))
         self.ask(2, '{"do":"report"}')
@@ -92,7 +94,7 @@ class Meshing:
 
 
 def mesh_script(rng: Random, lab: Lab, events: int) -> bytes:
-    """Returns a script with so many events."""
+    """Returns a script with this number of events."""
     meshing = Meshing(rng, lab)
     for connection, line in enumerate(HELLOS, 1):
         meshing.ask(connection, line)

@@ -1,4 +1,4 @@
-"""Scripts that are drawn over a lab: what connections ask mostly fits the world, by the model."""
+"""Random scripts over a lab. Most requests fit the present world, which the model computes."""
 from random import Random
 from typing import Any
 
@@ -17,7 +17,7 @@ NAMELESS = [{"do": "close"}, {"do": "report"}, {"do": "bye"}]
 
 
 class Drawing:
-    """A script in the making."""
+    """Builds a script."""
 
     def __init__(self, rng: Random, lab: Lab) -> None:
         self.rng, self.lab = rng, lab
@@ -25,13 +25,13 @@ class Drawing:
         self.nodes = self.model.world.nodes()
 
     def node(self) -> int:
-        """Returns a node, now and then one that isn't there."""
+        """Returns a random node, sometimes one that doesn't exist."""
         if self.rng.random() < 0.04:
             return self.rng.choice([0, 1, 65535, 65536, GREATEST])
         return self.rng.choice(self.nodes)
 
     def hello(self) -> Asked:
-        """Returns a greeting, mostly of one who isn't there, with a right key."""
+        """Returns a hello with a right key, mostly of a person who isn't connected."""
         names = list(self.lab.keys)
         absent = [name for name in names if name not in self.model.names.values()]
         name = self.rng.choice(absent if absent and self.rng.random() < 0.8 else names)
@@ -39,7 +39,7 @@ class Drawing:
         return {"do": "hello", "name": name if self.rng.random() < 0.97 else "nobody", "key": key}
 
     def move(self, who: str) -> Asked:
-        """Returns a move, mostly of a node of one's own, which is current and whose guard holds."""
+        """Returns a move, mostly an enabled one of an own node in the present configuration."""
         world, rng = self.model.world, self.rng
         own = [i for i in self.nodes if who in self.lab.owners[i]]
         some = rng.sample(own, min(len(own), 8))
@@ -53,14 +53,14 @@ class Drawing:
         return {**asked, "with": move.partner} if move.rule == "marriage" else asked
 
     def fault(self) -> Asked:
-        """Returns a fault, mostly with a pointer to a neighbour or none."""
+        """Returns a fault, mostly with a pointer that is null or a neighbour."""
         i = self.node()
         near = self.model.world.near(i) if i in self.model.world.links else []
         p = self.rng.choice([None, *near]) if self.rng.random() < 0.8 else self.node()
         return {"do": "fault", "node": i, "p": p, "m": self.rng.random() < 0.5}
 
     def change(self) -> Asked:
-        """Returns a link or a cut, mostly of two nodes that aren't, or are, linked."""
+        """Returns a link or a cut, mostly a possible one."""
         do = self.rng.choice(["link", "cut"])
         a, b = self.node(), self.node()
         near = self.model.world.near(a) if a in self.model.world.links else []
@@ -69,12 +69,12 @@ class Drawing:
         return {"do": do, "a": a, "b": b}
 
     def release(self) -> Asked:
-        """Returns a release, mostly of a node that is chosen."""
+        """Returns a release, mostly of a chosen node."""
         chosen = list(self.model.world.chosen)
         return {"do": "release", "node": self.rng.choice(chosen) if chosen and self.rng.random() < 0.8 else self.node()}
 
     def asked(self, connection: int) -> Asked:
-        """Returns what a connection asks next."""
+        """Returns the next request of a connection."""
         rng = self.rng
         who = self.model.names.get(connection)
         if who is None:
@@ -96,14 +96,14 @@ class Drawing:
         return odd(self.rng, asked) if self.rng.random() < 0.06 else spelled(self.rng, asked)
 
     def line(self, connection: int) -> bytes:
-        """Returns the next line of a connection, which the model answers."""
+        """Returns the next line of a connection, and applies it to the model."""
         line = self.drawn(connection)
         self.model.answer(connection, line)
         return line
 
 
 def drawn_script(rng: Random, lab: Lab, lines: int) -> bytes:
-    """Returns a script of so many lines; some end in a line that is none, or in one without its newline."""
+    """Returns a script with this number of lines. Some end with a wrong line, or without the last newline."""
     drawing = Drawing(rng, lab)
     connections = [rng.randint(1, lab.sessions) for _ in range(4)]
     text = b""

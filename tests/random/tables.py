@@ -1,9 +1,9 @@
-"""What the tables of `mml_tests_model` say, by the plain model.
+"""The contents of the tables of `mml_tests_model`, computed by the plain model.
 
-    python3 -B -m tests.random.tables      prints them, to be read before they are kept
+    python3 -B -m tests.random.tables      prints them, to be checked before they are stored
 
-Its tests compare drawn events, and a journal's lines with each byte replaced, with these tables; here the tables
-are compared with the model.
+The crate's tests compare random events, and a journal's lines with each byte replaced, with these tables. Here the
+tables are compared with the model.
 """
 from __future__ import annotations
 
@@ -32,26 +32,26 @@ student = [{ name = "ana", key = "a-key" }, { name = "ben", key = "b-key" }]
 
 
 def cycle(count: int) -> str:
-    """Returns the lab file of so many nodes in a cycle, the first half of ana, the others of ben."""
+    """Returns a lab with a cycle, the first half of ana and the second of ben."""
     links = [[1, count], *([i, i + 1] for i in range(1, count))]
     owners = ("ana" if 2 * i <= count else "ben" for i in range(1, count + 1))
     return PEOPLE + f"links = {links}\n" + "".join(f'[[node]]\nid = {i}\nowner = "{name}"\n' for i, name in enumerate(owners, 1))
 
 
 class Numbers:
-    """The numbers of `mml_fakes`, from a seed."""
+    """The pseudo-random numbers of `mml_fakes`, from a seed."""
 
     def __init__(self, seed: int) -> None:
         self.state = seed
 
     def below(self, limit: int) -> int:
-        """Returns the next one, below a limit."""
+        """Returns the next number, below a limit."""
         self.state = (self.state * 6364136223846793005 + 1442695040888963407) % 2**64
         return (self.state >> 33) % limit
 
 
 def drawn(numbers: Numbers, world: World, index: int) -> tuple[str, Request]:
-    """Returns what is asked for next, and who asks; most of it isn't legal."""
+    """Returns the next request and who sends it. Most requests aren't legal."""
     count = len(world.links)
     at = (index // 8 + numbers.below(8)) % count
     i, j = at + 1, (at + count - 2 + numbers.below(6)) % count + 1
@@ -69,8 +69,8 @@ def drawn(numbers: Numbers, world: World, index: int) -> tuple[str, Request]:
 
 
 def refused_before(count: int) -> str:
-    """Returns how many drawn events are illegal before each legal one, over a cycle: a letter, from `a` for none to
-    `z`."""
+    """Returns a letter for each legal event over a cycle: how many illegal ones came before it, from `a` for none
+    to `z`."""
     lab = read_lab(cycle(count).encode())
     world, numbers = lab.opening(), Numbers(count)
     text, refused, words = "", 0, set[str]()
@@ -89,13 +89,13 @@ def refused_before(count: int) -> str:
 
 
 def is_shaped(line: bytes) -> bool:
-    """Returns whether an event is spelled so, be it of the lab or not."""
+    """Returns whether a line has the form of an event, whatever its names are."""
     found = LINE.fullmatch(line.decode("latin-1"))
     return found is not None and max(int(found[1]), int(found[2])) <= GREATEST
 
 
 def event_of(lab: Lab, line: bytes) -> str:
-    """Returns the event of a line, as Rust shows it: a grant, a close, or a fault of the line."""
+    """Returns the event of a line in Rust's debug form: a grant, a close or a fault."""
     read = read_line(line, lab)
     if read is None:
         return "?" if is_shaped(line) else "."
@@ -109,13 +109,14 @@ def event_of(lab: Lab, line: bytes) -> str:
 
 
 def rank(node: int) -> str:
-    """Returns a node of the built-in lab, as Rust shows its rank."""
+    """Returns the rank of a node of the built-in lab in Rust's debug form."""
     return f"Rank {{ index: {node - 1} }}"
 
 
 def replaced() -> str:
-    """Under each line of the journal its event, and for each byte that replaces each of its bytes: `.` if no event is
-    spelled so, `?` where one is, but not of the lab, `=` if it is that one, `!` if it is another, which follows."""
+    """Returns each line of the journal, its event, and a sign for each replacement of each of its bytes: `.` if
+    the result isn't an event, `?` if it isn't one of this lab, `=` if it is the same event, and `!` with the event
+    if it is another."""
     lab = read_lab((TOP / "examples/built-in.toml").read_bytes())
     text = ""
     for line in (TOP / "examples/whole-run.journal").read_bytes().splitlines():
@@ -134,7 +135,7 @@ def rows(text: str) -> str:
 
 
 def kept(file: str, pattern: str) -> str:
-    """Returns what a table has."""
+    """Returns the content of a stored table."""
     found = re.search(pattern, (TESTS / file).read_text(encoding="utf-8"), re.DOTALL)
     if found is None:
         fail(f"no table in {file}")
@@ -142,7 +143,7 @@ def kept(file: str, pattern: str) -> str:
 
 
 def compare() -> None:
-    """Each table, beside the model's."""
+    """Checks each table against the model."""
     for count in CYCLES:
         pieces = re.findall(r'"(\w*)"', kept("drawn.rt", rf"const OF_{count}: &str = concat!\(([^)]*)\)"))
         if "".join(pieces) != refused_before(count):

@@ -48,7 +48,7 @@ TALK = [
 
 
 class Files:
-    """A lab, a journal and a record in a folder, and the verdict of the program and of the model."""
+    """A lab, a journal and a record in a folder, and the verdict of the program and the model on them."""
 
     def __init__(self, room: Path, lab: str) -> None:
         self.lab, self.journal, self.folder = room / "lab.toml", room / "run.journal", room / "record"
@@ -57,30 +57,30 @@ class Files:
         self.journal.write_bytes(b"")
 
     def write(self, journal: bytes, texts: dict[int, bytes], begun: int = 0) -> None:
-        """Puts a journal and a record into the folder."""
+        """Writes a journal and a record into the folder."""
         self.journal.write_bytes(journal)
         (self.folder / "begun").write_text(f"{begun}\n", encoding="ascii")
         for seat, text in texts.items():
             (self.folder / f"{seat}.record").write_bytes(text)
 
     def ended(self, what: str) -> Ended:
-        """Returns the verdict on what is in the folder, about which both agree."""
+        """Returns the verdict. Fails if the two verdicts differ."""
         return agreed(what, "verify", self.lab, self.journal, self.folder)
 
     def verified(self, what: str, journal: bytes, texts: dict[int, bytes], begun: int = 0) -> Ended:
-        """Returns the verdict on a journal and a record."""
+        """Writes a journal and a record, and returns the verdict on them."""
         self.write(journal, texts, begun)
         return self.ended(what)
 
     def wants(self, what: str, journal: bytes, texts: dict[int, bytes], line: str, begun: int = 0) -> None:
-        """Fails if another line is printed."""
+        """Fails if the verdict has another line."""
         found = self.verified(what, journal, texts, begun)
         if found != said(line):
             fail(f"{what}: {found}, not {line!r}")
 
 
 def short_run(lab: Lab) -> Recording:
-    """Returns a run of two seats, in which each kind of reply stands but few are grants."""
+    """Returns a run with two seats that has each kind of reply, and few grants."""
     run = Recording(lab)
     for seat, line in TALK:
         run.answer(seat, line)
@@ -89,24 +89,24 @@ def short_run(lab: Lab) -> Recording:
 
 
 def see_reply(lab: Lab) -> str:
-    """Returns what ana is shown of node 1 at the beginning."""
+    """Returns the reply to ana's `see` of node 1 at the beginning."""
     return answer(lab, lab.opening(), "ana", b'{"do":"see","node":1}').reply
 
 
 def replaced(text: bytes, old: bytes, new: bytes) -> bytes:
-    """Returns the text with that changed which stands there once."""
+    """Returns a text in which a part that occurs once is replaced."""
     if text.count(old) != 1:
         fail(f"{old!r} stands {text.count(old)} times in the short record")
     return text.replace(old, new)
 
 
 def in_seat(seat: int, other: int, text: bytes) -> bytes:
-    """Returns a seat's record as one of another seat."""
+    """Returns the record of a seat with the number of another one."""
     return re.sub(rb"(?m)^%d " % seat, b"%d " % other, text)
 
 
 def pauses(lab: Lab, run: Recording) -> list[tuple[str, dict[int, bytes], str]]:
-    """Pauses after the short record, in a seat of their own."""
+    """Returns rows with pauses in a third seat, after the short record."""
     ana = b'3 2 > {"do":"hello","name":"ana","key":"a-key"}\n3 2 < {"ok":"hello","who":"ana"}\n'
     again = ana.replace(b'{"ok":"hello","who":"ana"}', b'{"clause":1,"deny":"greeted","text":"this connection has a name already"}')
     noise = b'3 2 > x\n3 2 < {"refuse":"malformed"}\n'
@@ -140,7 +140,7 @@ def pauses(lab: Lab, run: Recording) -> list[tuple[str, dict[int, bytes], str]]:
 
 
 def risen(run: Recording) -> list[tuple[str, dict[int, bytes], str]]:
-    """Events that a seat has seen, after the short record, in a seat of their own."""
+    """Returns rows with events that a third seat has seen, after the short record."""
     ana = b'3 %d > {"do":"hello","name":"ana","key":"a-key"}\n3 %d < {"ok":"hello","who":"ana"}\n'
     noise, bye = b'3 %d > x\n3 %d < {"refuse":"malformed"}\n', b'3 %d > {"do":"bye"}\n3 %d < {"ok":"bye"}\n'
     first, later = (0, 0), (2, 2)
@@ -172,7 +172,7 @@ def risen(run: Recording) -> list[tuple[str, dict[int, bytes], str]]:
 
 
 def without_a_node(room: Path, lab: str) -> int:
-    """Records of a student who owns no node, to whom nothing can be shown: events are seen at a command alone."""
+    """Checks records of a student without a node, who can only see events by a command. Returns their number."""
     lab += '\n[[student]]\nname = "eve"\nkey = "e-key"\n'
     files, run = Files(room, lab), short_run(read_lab(lab.encode("ascii")))
     eve = b'3 0 > {"do":"hello","name":"eve","key":"e-key"}\n3 0 < {"ok":"hello","who":"eve"}\n'
@@ -189,7 +189,7 @@ def without_a_node(room: Path, lab: str) -> int:
 
 
 def by_hand(files: Files, lab: Lab) -> int:
-    """Returns the short record, whole, and with one thing changed each; how many records that were."""
+    """Checks the short record, complete and with one change each. Returns the number of records."""
     run = short_run(lab)
     journal, one, two = run.journal, run.texts[1], run.texts[2]
     rest = {seat: b"" for seat in run.texts}
@@ -244,7 +244,7 @@ def by_hand(files: Files, lab: Lab) -> int:
 
 
 def other_files(files: Files, lab: Lab) -> None:
-    """Files that are missing, or are none of a class, and words that are none."""
+    """Checks missing files, files of no class, and wrong arguments."""
     run = short_run(lab)
     fault = Ended(4, b"", b"read fault: record\n")
     files.wants("a torn journal", run.journal[:-1], run.texts, "audit: line 2: torn")
@@ -270,8 +270,7 @@ def other_files(files: Files, lab: Lab) -> None:
 
 
 def most_held(files: Files) -> int:
-    """Returns the most kB of memory that the program had when it came to its line, for which the pipe has no room
-    yet."""
+    """Returns the maximum memory of the program in kB, measured when it prints its line and the pipe is full."""
     call: list[str | Path] = [HOST, "verify", files.lab, files.journal, files.folder]
     reader, writer = os.pipe()
     os.set_blocking(writer, False)
@@ -295,15 +294,15 @@ def most_held(files: Files) -> int:
 
 
 def waits(process: int) -> bool:
-    """Returns whether a process waits for room in a pipe, as far as the system says it: it sleeps, with all of its record
-    read."""
+    """Returns whether a process waits for room in a pipe: it sleeps, and has read its whole record."""
     stat = Path(f"/proc/{process}/stat").read_text(encoding="ascii", errors="replace")
     files = {os.readlink(it) for it in Path(f"/proc/{process}/fd").iterdir() if it.is_symlink()}
     return stat.rpartition(") ")[2][:1] == "S" and not any(it.endswith(".record") for it in files)
 
 
 def by_pieces(files: Files, lab: Lab) -> None:
-    """A record of 5 MB, whole, torn at its end and changed in its middle; it needs less memory than its text has."""
+    """Checks a record of 5 MB, complete, torn at its end and changed in its middle. The program needs less memory
+    than its size."""
     run = short_run(lab)
     entries = [b'1 2 > %s\n1 2 < {"refuse":"malformed"}\n' % (b"x" * (at % 3000)) for at in range(4000)]
     last, middle = run.texts[1].count(b"\n"), 2500
@@ -321,7 +320,7 @@ def by_pieces(files: Files, lab: Lab) -> None:
 
 
 def at_each_byte(files: Files, lab: Lab) -> int:
-    """Returns one byte of the short record changed, at each position; how many records that were."""
+    """Checks the short record with each of its bytes changed in turn. Returns the number of records."""
     run = short_run(lab)
     texts = dict(run.texts)
     count = 0
@@ -338,7 +337,8 @@ def at_each_byte(files: Files, lab: Lab) -> int:
 
 
 def hurt(rng: Random, run: Recording) -> dict[int, bytes]:
-    """Records with a byte, a line or an entry changed, left out or put twice, or two of them exchanged or the same."""
+    """Returns the records of a run with a byte, a line or an entry changed, left out or doubled, or with two of
+    them exchanged or made equal."""
     texts = dict(run.texts)
     seat = rng.choice([seat for seat, text in texts.items() if text])
     text = texts[seat]
@@ -364,7 +364,7 @@ def hurt(rng: Random, run: Recording) -> dict[int, bytes]:
 
 
 def compare(room: Path, seed: int) -> Counter[str]:
-    """Returns the records of a seed's run; the verdicts."""
+    """Checks the records of a seed's run. Returns a count of the verdicts."""
     rng = Random(seed)
     document = drawn_lab(rng)
     lab = read_lab(document.encode("ascii"))
@@ -382,7 +382,7 @@ def compare(room: Path, seed: int) -> Counter[str]:
 
 
 def drawn(room: Path) -> Counter[str]:
-    """Returns all drawn runs; what mostly comes of a hurt has to be among the verdicts."""
+    """Checks all random runs. The usual verdicts on changed records have to occur."""
     told: Counter[str] = Counter()
     for seed in SEEDS:
         told += compare(room, seed)
@@ -394,7 +394,7 @@ def drawn(room: Path) -> Counter[str]:
 
 
 def slipped(room: Path) -> int:
-    """Drawn records in each of which one entry can't have been said; how many there were."""
+    """Checks random records with one impossible entry each. Returns their number."""
     count: Counter[str] = Counter()
     for seed in SLIPS:
         rng = Random(seed)
@@ -409,7 +409,7 @@ def slipped(room: Path) -> int:
 
 
 def work(room: Path) -> str:
-    """Returns all comparisons."""
+    """Runs all comparisons. Returns a line about them."""
     lab_file = lab_of(room, 4, 100)
     document = lab_file.read_text(encoding="ascii")
     lab = read_lab(document.encode("ascii"))

@@ -1,4 +1,5 @@
-"""Classes that a host records, as their user runs it: what their files hold, after a kill too, and where a put fails."""
+"""Classes that a host records, as their user runs it: the contents of their files, also after a kill or a failed
+write."""
 import resource
 import subprocess
 from collections.abc import Sequence
@@ -44,8 +45,8 @@ TESS = b"""\
 
 
 def verified(lab: Path, journal: Path, record: Path, line: bytes) -> None:
-    """Checks that line of the record's verifying, and after it that all is recorded of everybody, or of nobody if it
-    isn't whole, and how many events came before."""
+    """Checks the line of `verify` for a record, the line with everybody whose lines are all recorded (nobody if
+    the record isn't complete), and the number of earlier events."""
     begun = int((record / "begun").read_bytes())
     line += f"{whole_line(read_lab(lab.read_bytes()), b'not whole' in line, begun=begun)}\n".encode("ascii")
     call: list[str | Path] = [HOST, "verify", lab, journal, record]
@@ -55,7 +56,7 @@ def verified(lab: Path, journal: Path, record: Path, line: bytes) -> None:
 
 
 def texts(record: Path) -> dict[str, bytes]:
-    """Returns what each file of a record holds, which nobody else may read."""
+    """Returns the contents of a record's files. Checks that nobody else can read them."""
     found = {file.name: file.read_bytes() for file in record.iterdir()}
     modes = {file.stat().st_mode & 0o777 for file in record.iterdir()}
     if record.stat().st_mode & 0o777 != 0o700 or modes != {0o600}:
@@ -64,7 +65,7 @@ def texts(record: Path) -> dict[str, bytes]:
 
 
 def wants(record: Path, lab: Path, said: dict[int, bytes]) -> None:
-    """Checks that the files hold what was said in the seats, from the class's beginning."""
+    """Checks that the files have these lines of the seats, from the class's beginning."""
     wanted = {f"{seat}.record": said.get(seat, b"") for seat in range(1, SEATS + 1)}
     found = texts(record)
     if found != {**wanted, "begun": b"0\n", "lab": lab.read_bytes()}:
@@ -72,7 +73,7 @@ def wants(record: Path, lab: Path, said: dict[int, bytes]) -> None:
 
 
 def begin(host: Host) -> tuple[Caller, Caller]:
-    """Ana, who has moved, and tess, who has greeted."""
+    """Returns ana's connection after a move, and that of tess after a hello."""
     ana, reply = let_in(host.port, WRONG)
     said = [reply, ana.ask(hello("ana")), ana.ask(MOVE), ana.ask(MOVE)]
     tess, _ = let_in(host.desk, hello("tess"))
@@ -82,7 +83,7 @@ def begin(host: Host) -> tuple[Caller, Caller]:
 
 
 def whole_class(room: Path) -> tuple[Path, Path, Path]:
-    """Returns a class from its beginning to its end is recorded but for what was shown; answers its lab, journal and
+    """Checks that a class is recorded from beginning to end, except for views. Returns its lab, journal and
     record."""
     lab, journal, record = lab_of(room, SEATS), room / "whole.journal", room / "whole record"
     with Host(lab, 0, 0, journal, record) as host:
@@ -104,7 +105,7 @@ def whole_class(room: Path) -> tuple[Path, Path, Path]:
 
 
 def killed_and_resumed(room: Path) -> None:
-    """What was answered before a kill is in the record, which says of each seat that some may be lacking."""
+    """Replies before a kill are in the record. It marks each seat as possibly incomplete."""
     lab, journal, record = lab_of(room, SEATS), room / "killed.journal", room / "killed"
     with Host(lab, 0, 0, journal, record) as host:
         callers = begin(host)
@@ -127,8 +128,8 @@ def killed_and_resumed(room: Path) -> None:
 
 
 def torn_entries(room: Path) -> None:
-    """An entry at the end of a seat's file that isn't whole is taken off when the class goes on, and reported: a line
-    without its reply, a part of either, and no more than that."""
+    """When a class is resumed, an incomplete entry at the end of a seat's file is removed and reported: a line
+    without its reply, or a part of either. Nothing else is removed."""
     lab, journal, record = lab_of(room, SEATS), room / "torn.journal", room / "torn"
     with Host(lab, 0, 0, journal, record) as host:
         callers = begin(host)
@@ -152,8 +153,8 @@ def torn_entries(room: Path) -> None:
 
 
 def full_disk(room: Path) -> None:
-    """If a seat's file takes no more the class goes on, and the host says so at its end: if the limit was there before,
-    though nobody ignores the signal of it, and where it comes later, as a disk that is full in an entry."""
+    """If a seat's file can't grow, the class goes on, and the host reports it at its end. The limit is there from
+    the beginning, or comes within an entry, like a full disk."""
     lab = lab_of(room, SEATS)
     for name, start in (("before", "ulimit -f 1"), ("later", 'trap "" XFSZ')):
         journal, record = room / f"{name}.journal", room / f"full {name}"
@@ -164,7 +165,7 @@ def full_disk(room: Path) -> None:
 
 
 def fills(host: Host, name: str) -> None:
-    """A class whose record is cut, to its end."""
+    """Plays a class whose record is cut to its end."""
     ana, tess = begin(host)
     for _ in range(20):
         if b'"chosen"' not in ana.ask(MOVE):
@@ -179,7 +180,7 @@ def fills(host: Host, name: str) -> None:
 
 
 def cut(lab: Path, journal: Path, record: Path) -> None:
-    """Checks for a record that says where it is cut."""
+    """Checks that a record has a mark where it is cut."""
     text = texts(record)[f"{STUDENT}.record"]
     entries = text.splitlines(keepends=True)
     if len(text) > 1024 or b"".join(entries[:8]) != b"".join(ANA.splitlines(True)[:8]) or entries[-1] != b"%d 1 !\n" % STUDENT:
@@ -190,7 +191,8 @@ def cut(lab: Path, journal: Path, record: Path) -> None:
 
 
 def kept_and_held(room: Path) -> None:
-    """An older record is kept beside the next, which one host alone writes; one of another lab isn't gone on with."""
+    """An older record is kept beside the next one, which only one host can write. A record of another lab isn't
+    continued."""
     lab, journal, record = whole_class(room)
     before = texts(record)
     with Host(lab, 0, 0, room / "next.journal", record) as host:
@@ -213,7 +215,7 @@ def kept_and_held(room: Path) -> None:
 
 
 def hosted(room: Path, words: Sequence[str] = ()) -> int:
-    """Returns all tests of classes, or those whose names have one of these words; how many there were."""
+    """Runs all tests of classes, or those whose names contain an argument. Returns their number."""
     tests = [kept_and_held, killed_and_resumed, torn_entries, full_disk, flooded, outsiders_first, *PLACES]
     chosen = [test for test in tests if not words or any(word in test.__name__ for word in words)]
     for test in chosen:

@@ -1,4 +1,4 @@
-"""Drawn runs of several seats, each with its record."""
+"""Random runs with several seats, each with its record."""
 from random import Random
 
 from model import Lab
@@ -9,7 +9,7 @@ LINES = 60
 
 
 def drawn_run(rng: Random, lab: Lab) -> Recording:
-    """Returns a run of several seats, some of which are left and taken again."""
+    """Returns a random run with several seats. Some sessions end and others follow."""
     run = Recording(lab)
     drawing = Drawing(rng, lab)
     drawing.model = run.model

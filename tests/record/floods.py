@@ -1,4 +1,5 @@
-"""Floods that a host records as far as a budget goes: who floods, known or not, doesn't take the record from others."""
+"""Floods, which a host records up to a budget. A client that floods, with or without a hello, doesn't use up the
+record of others."""
 import subprocess
 from dataclasses import dataclass
 from pathlib import Path
@@ -26,24 +27,23 @@ MARKS = (b"!\n", b"-\n", b"+", b".\n")
 
 @dataclass
 class Session:
-    """What a record has of a session, in one of the seats: its lines and replies, its marks, and how many lines weren't
-    recorded."""
+    """A session in the record: its lines and replies, its marks, and the number of lines that weren't recorded."""
 
     said: list[bytes]
     marks: list[bytes]
     missed: int = 0
 
     def is_of(self, name: str) -> bool:
-        """Returns whether the session begins with this one's hello."""
+        """Returns whether the session begins with the hello of this name."""
         return bool(self.said) and b'"ok":"hello","who":"%s"' % name.encode() in self.said[1]
 
     def size(self) -> int:
-        """Returns how many bytes its lines and replies have."""
+        """Returns the number of bytes of its lines and replies."""
         return sum(map(len, self.said))
 
 
 def sessions_in(record: Path) -> list[Session]:
-    """Returns the sessions of all seats' files, each of which has an end."""
+    """Returns the sessions in all seats' files. Each has an end."""
     found = []
     for seat in range(1, SEATS + 1):
         session = Session([], [])
@@ -60,7 +60,7 @@ def sessions_in(record: Path) -> list[Session]:
 
 
 def flood(caller: Caller, count: int) -> int:
-    """Says so many long lines that are no requests; how many were answered before the connection ended."""
+    """Sends long malformed lines. Returns how many were answered before the connection ended."""
     done = 0
     while done < count:
         batch = min(BATCH, count - done)
@@ -79,7 +79,7 @@ def leave(caller: Caller) -> None:
 
 
 def whole_visit(host: Host, name: str) -> None:
-    """Somebody comes, asks without success, and says bye."""
+    """Connects, asks without success, and says bye."""
     caller, reply = let_in(host.port, hello(name))
     said = caller.ask(CLOSE)
     if b'"ok":"hello"' not in reply or b'"deny"' not in said:
@@ -88,8 +88,7 @@ def whole_visit(host: Host, name: str) -> None:
 
 
 def unknown_flood(host: Host, lines: int, at_once: int) -> int:
-    """Who doesn't greet floods, by as many connections as it takes, each of which says so many lines at most; how many
-    were answered."""
+    """Floods without a hello, over as many connections as that takes. Returns the number of answered lines."""
     done = 0
     while done < lines:
         caller, reply = let_in(host.port, LONG)
@@ -99,21 +98,21 @@ def unknown_flood(host: Host, lines: int, at_once: int) -> int:
 
 
 def wants_budget(who: str, sessions: list[Session]) -> None:
-    """Checks of somebody's sessions that they are recorded up to the budget, and not beyond."""
+    """Checks that somebody's sessions are recorded up to the budget, and not beyond."""
     size = sum(session.size() for session in sessions)
     if not BUDGET - 2 * ENTRY < size <= BUDGET:
         fail(f"record: {size} bytes are recorded of {who}, who may have {BUDGET}")
 
 
 def wants_whole(name: str, found: list[Session], count: int) -> None:
-    """Checks that each visit of somebody who doesn't flood is recorded whole."""
+    """Checks that each visit of a client that doesn't flood is recorded completely."""
     visits = [session for session in found if session.is_of(name)]
     if len(visits) != count or any((len(v.said), v.marks) != (6, [b".\n"]) for v in visits):
         fail(f"record: beside a flood {name}'s visits are recorded as {[(len(v.said), v.marks) for v in visits]}")
 
 
 def verified(lab: Path, journal: Path, record: Path, found: list[Session], lacking: tuple[str, ...] = ()) -> None:
-    """Checks that the record is verified as one that isn't whole, of whom all is recorded but of those."""
+    """Checks the verdict on the record: it isn't complete, and only the lines of `lacking` are missing."""
     lines = sum(len(session.said) // 2 for session in found)
     call: list[str | Path] = [HOST, "verify", lab, journal, record]
     done = subprocess.run(
@@ -126,8 +125,8 @@ def verified(lab: Path, journal: Path, record: Path, found: list[Session], lacki
 
 
 def flooded(room: Path) -> None:
-    """A student floods, then one who isn't known: each has a budget, in all seats together, and the record says where
-    that is used up; all that others say is recorded, in the same seats too."""
+    """A student floods, and then a client without a hello. Each has one budget for all seats together, and the
+    record marks where it is used up. The lines of others are all recorded, in the same seats too."""
     lab, journal, record = lab_of(room, SEATS), room / "flood.journal", room / "flood"
     with Host(lab, 0, 0, journal, record) as host:
         tess, _ = let_in(host.desk, hello("tess"))
@@ -163,16 +162,15 @@ def flooded(room: Path) -> None:
 
 
 def asks_in_vain(caller: Caller) -> None:
-    """A student asks so often without success, and then is granted a move."""
+    """Asks often without success, and then is granted a move."""
     said = [caller.ask(seduction(7)) for _ in range(DENIED)]
     if any(b'"deny":"stale"' not in reply for reply in said) or b'"place":1' not in caller.ask(MOVE):
         fail(f"record: after outsiders a student is answered {said[-1]!r}")
 
 
 def outsiders_first(room: Path) -> None:
-    """Who doesn't greet uses up what is recorded of all who aren't known, and then a student's session begins with a line
-    like that: from the hello on all is recorded, how many lines weren't is recorded, and so is that nobody lacks a
-    line."""
+    """Clients without a hello use up their common budget. Then a student's session begins with a malformed line.
+    From the hello on all lines are recorded, the number of missing lines is recorded, and no name lacks a line."""
     lab, journal, record = lab_of(room, SEATS), room / "outsiders.journal", room / "outsiders"
     with Host(lab, 0, 0, journal, record) as host:
         tess, _ = let_in(host.desk, hello("tess"))

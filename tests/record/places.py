@@ -1,4 +1,4 @@
-"""The folders in which a record may be begun: what else is there stays as it is, under its name."""
+"""The folders in which a record can be begun. Other files there stay as they are."""
 import os
 from pathlib import Path
 
@@ -13,14 +13,15 @@ Kept = dict[str, tuple[int, bytes]]
 
 
 def listed(room: Path) -> Kept:
-    """Returns what is in a folder: of each path its inode, and what the file or the link there has."""
+    """Returns the contents of a folder: for each path its inode, and the content of the file or the target of the
+    link."""
     found = [(path, path.lstat()) for path in sorted(room.rglob("*"))]
     return {str(path.relative_to(room)): (it.st_ino, os.readlink(path).encode() if path.is_symlink() else
                                           path.read_bytes() if path.is_file() else b"folder") for path, it in found}
 
 
 def refuses(room: Path, lab: Path, record: object, ended: Ended = REFUSED, journal: object = "", start: str = "") -> None:
-    """Checks for a host in a folder that doesn't listen, and leaves all in it as it was."""
+    """Checks that a host refuses a folder for its record, and changes nothing there."""
     before = listed(room)
     call = ["bash", "-c", f'cd "$0" && {start or "true"} && exec "$@"', str(room)]
     with Host(lab, 0, 0, journal or room / "run.journal", record, before=call) as host:
@@ -32,7 +33,7 @@ def refuses(room: Path, lab: Path, record: object, ended: Ended = REFUSED, journ
 
 
 def takes(room: Path, lab: Path, record: Path) -> None:
-    """Checks for a host that keeps its record there."""
+    """Checks that a host keeps its record in a folder."""
     with Host(lab, 0, 0, room / "run.journal", record) as host:
         if not host.listens:
             fail(f"record: with {record} the host ends with {host.end()}")
@@ -45,7 +46,7 @@ def takes(room: Path, lab: Path, record: Path) -> None:
 
 
 def filled(folder: Path, *names: str) -> Path:
-    """Returns a folder with files of these names."""
+    """Makes a folder with files of these names."""
     folder.mkdir(parents=True)
     for name in names:
         (folder / name).parent.mkdir(exist_ok=True)
@@ -54,7 +55,7 @@ def filled(folder: Path, *names: str) -> Path:
 
 
 def other_folders_stay(room: Path) -> None:
-    """A folder that has no record is refused, by each of its names, and so is what is no folder."""
+    """A folder without a record is refused, under each of its names, and so is anything that isn't a folder."""
     lab, here = lab_of(room, SEATS), room / "others"
     filled(here / "Documents", "thesis", "record/1.record", "lab")
     (here / "link").symlink_to("Documents")
@@ -69,8 +70,8 @@ def other_folders_stay(room: Path) -> None:
 
 
 def old_records_give_way(room: Path) -> None:
-    """A record gives way by its own name, whichever leads there, and one without its beginning too; what is empty or isn't
-    there is taken."""
+    """An older record is renamed, whichever name leads there, and so is one without its beginning. An empty or
+    missing folder is used."""
     lab, here = lab_of(room, SEATS), filled(room / "places")
     record, link = here / "record", here / "link"
     link.symlink_to("record")
@@ -90,7 +91,7 @@ def old_records_give_way(room: Path) -> None:
 
 
 def failures_rename_nothing(room: Path) -> None:
-    """If the files of a record can't be made, or the journal can't be begun, the older record keeps its name."""
+    """If the files of a record or the journal can't be made, the older record keeps its name."""
     lab, here = lab_of(room, SEATS), filled(room / "failing")
     takes(here, lab, here / "record")
     (here / "empty").mkdir()

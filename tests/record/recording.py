@@ -1,4 +1,4 @@
-"""Records that a run of many seats leaves: a text for each seat, written as the lines come."""
+"""The records of a run with many seats: a text for each seat, written as the lines come."""
 import json
 from collections.abc import Collection
 
@@ -10,19 +10,20 @@ BYE = '{"ok":"bye"}'
 
 
 def is_shown(reply: str) -> bool:
-    """Returns whether a view was shown, of which there is no entry."""
+    """Returns whether a reply shows a view, which has no entry."""
     return json.loads(reply).get("ok") in SHOWN
 
 
 def whole_line(lab: Lab, cut: bool = False, lacking: Collection[str] = (), begun: int = 0) -> str:
-    """Returns the line of those of whom all is recorded, the teacher first and students in the lab's order: nobody, if
-    anything may be missing, or all but those for whom recording paused; and the line of how many events came before."""
+    """Returns the lines with everybody whose lines are all recorded, and with the number of earlier events. The
+    teacher is first, and students are in the lab's order. After a cut there is nobody, and those for whom
+    recording paused are left out."""
     line = " ".join(["whole", *(name for name in lab.keys if not cut and name not in lacking)])
     return f"{line}\nbegun after {begun} events"
 
 
 class Recording:
-    """A run of many seats, each with its record."""
+    """A run with many seats, each with its record."""
 
     def __init__(self, lab: Lab) -> None:
         self.lab, self.model = lab, Run(lab)
@@ -31,7 +32,7 @@ class Recording:
         self.sessions = self.lines = 0
 
     def answer(self, seat: int, line: bytes) -> str:
-        """Returns the reply to a line. A bye ends the session."""
+        """Returns the reply to a line, and records both. A bye ends the session."""
         asks = seat in self.model.names and is_command(line)
         place = self.model.world.place if asks else self.seen[seat]
         reply = self.model.answer(seat, line)
@@ -50,15 +51,15 @@ class Recording:
         self.texts[seat] += b"%d %d .\n" % (seat, self.seen[seat])
 
     def cut(self, seat: int) -> None:
-        """Says that anything may be missing in a seat up to the session's end."""
+        """Marks that entries may be missing in a seat up to the session's end."""
         self.texts[seat] += b"%d %d !\n" % (seat, self.seen[seat])
 
     def pause(self, seat: int) -> None:
-        """Says that from here on lines in a seat aren't recorded."""
+        """Marks that lines in a seat aren't recorded from here on."""
         self.texts[seat] += b"%d %d -\n" % (seat, self.seen[seat])
 
     def resume(self, seat: int, missed: int) -> None:
-        """Says that so many lines weren't recorded in a seat, and that a hello or the session's end comes."""
+        """Marks that so many lines weren't recorded in a seat. A hello or the session's end follows."""
         self.texts[seat] += b"%d %d + %d\n" % (seat, self.seen[seat], missed)
 
     @property
@@ -67,7 +68,7 @@ class Recording:
         return self.model.written()
 
     def told(self, whole: bool = True) -> str:
-        """Returns what verifying must print of the record."""
+        """Returns the output that `verify` must print for the record."""
         end = "" if whole else ", not whole"
         first = f"ok: {self.sessions} sessions, {self.lines} lines, {self.model.world.place} events{end}"
         return f"{first}\n{whole_line(self.lab, not whole)}"

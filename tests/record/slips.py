@@ -1,4 +1,4 @@
-"""Records in which one entry can't have been said, in each of the ways that a lax verifier would let pass."""
+"""Records with one impossible entry, in each of the ways that a careless verifier would accept."""
 import json
 from collections.abc import Callable, Iterator
 from dataclasses import dataclass
@@ -19,7 +19,7 @@ OTHER_REPLY, OTHER_EVENT, BACK = "not the reply of the rules at place %d", "not 
 
 @dataclass(frozen=True)
 class Told:
-    """An entry of a seat's text: the byte at which it begins, who was known, and of a line what the rules answer."""
+    """An entry in a seat's text: its first byte, the name at that time, and for a line the reply of the rules."""
 
     seat: int
     start: int
@@ -30,20 +30,20 @@ class Told:
 
 @dataclass(frozen=True)
 class Drawn:
-    """A drawn run with the events of its journal and the entries of all seats."""
+    """A random run with the events of its journal and the entries of all seats."""
 
     run: Recording
     events: list[Event]
     told: list[Told]
 
     def before(self, it: Told) -> list[Told]:
-        """Returns the entries of the seat that come before an entry."""
+        """Returns the entries of the seat before an entry."""
         return [other for other in self.told if other.seat == it.seat and other.start < it.start]
 
 
 @dataclass(frozen=True)
 class Hurt:
-    """An entry that is another: the seat's text with it, and why it can't be."""
+    """An impossible entry: the seat's text with it, and the reason why it is refused."""
 
     seat: int
     text: bytes
@@ -51,12 +51,12 @@ class Hurt:
 
 
 def stamped(seat: int, seen: int, line: bytes, reply: bytes) -> bytes:
-    """Returns the text of a line's entry."""
+    """Returns the text of the entry of a line."""
     return b"%d %d > %s\n%d %d < %s\n" % (seat, seen, line, seat, seen, reply)
 
 
 def read(run: Recording) -> Drawn:
-    """Returns a run with its entries, each beside the rules."""
+    """Returns a run with its entries, each with the reply of the rules."""
     _, events = audit(run.lab, run.journal)
     told = []
     for number, text in run.texts.items():
@@ -75,7 +75,7 @@ def read(run: Recording) -> Drawn:
 
 
 def changed(drawn: Drawn, it: Told, text: bytes, why: str) -> Hurt:
-    """Returns a seat's text in which an entry is another, and the line that says why it can't be."""
+    """Returns a seat's text in which an entry is replaced, and the line with the reason."""
     whole = drawn.run.texts[it.seat]
     line = 1 + whole.count(b"\n", 0, it.start)
     return Hurt(it.seat, whole[: it.start] + text + whole[it.entry.end :], f"verify: seat {it.seat}, line {line}: {why}")
@@ -87,7 +87,7 @@ def is_denied(it: Told) -> bool:
 
 
 def replied(reply: bytes, is_granted: bool) -> Callable[[Drawn, Told], Iterator[Hurt]]:
-    """Returns how a grant, or a denial, is recorded as this refusal."""
+    """Returns a function that yields seats in which a grant, or a denial, is recorded as this refusal."""
     def hurts(drawn: Drawn, it: Told) -> Iterator[Hurt]:
         if it.found is not None and it.found.event is not None if is_granted else is_denied(it):
             yield changed(drawn, it, stamped(it.seat, it.entry.seen, it.entry.line, reply), OTHER_REPLY % it.entry.seen)
@@ -111,7 +111,8 @@ def of_other_owner(drawn: Drawn, it: Told) -> Iterator[Hurt]:
 
 
 def of_other_event(drawn: Drawn, it: Told) -> Iterator[Hurt]:
-    """Yields a seat in which the teacher's event is recorded as a close or a release that the rules grant there."""
+    """Yields a seat in which the teacher's event is recorded as a close or a release that the rules would grant
+    there."""
     lab = drawn.run.lab
     if it.found is None or it.found.event is None or it.known != lab.teacher:
         return
@@ -127,7 +128,7 @@ def of_other_event(drawn: Drawn, it: Told) -> Iterator[Hurt]:
 
 
 def earlier(drawn: Drawn, it: Told) -> Iterator[Hurt]:
-    """Yields a seat in which an entry after a denial or a session's end names one event fewer."""
+    """Yields a seat in which an entry after a denial or a session's end names one event less."""
     is_same = it.entry.mark == b"." or it.entry.reply == MALFORMED
     last = drawn.before(it)[-1:]
     if is_same and it.entry.seen and last and last[0].entry.seen == it.entry.seen and (last[0].entry.mark == b"." or is_denied(last[0])):
@@ -147,7 +148,7 @@ KINDS: dict[str, Callable[[Drawn, Told], Iterator[Hurt]]] = {
 
 
 def shared_lab(rng: Random) -> tuple[str, Lab]:
-    """Returns a drawn lab that has a shared node, and room for a run."""
+    """Returns a random lab with a shared node, and room for a run."""
     while True:
         document = drawn_lab(rng)
         lab = read_lab(document.encode("ascii"))
@@ -156,7 +157,7 @@ def shared_lab(rng: Random) -> tuple[str, Lab]:
 
 
 def drawn_hurts(rng: Random, lab: Lab) -> tuple[Recording, list[tuple[str, Hurt]]]:
-    """Returns a drawn run, and of each kind that it has one hurt."""
+    """Returns a random run, and one impossible entry of each kind that it allows."""
     drawn, found = read(drawn_run(rng, lab)), []
     for kind, hurts in KINDS.items():
         some = [hurt for it in drawn.told for hurt in hurts(drawn, it)]
@@ -165,7 +166,7 @@ def drawn_hurts(rng: Random, lab: Lab) -> tuple[Recording, list[tuple[str, Hurt]
 
 
 def check_kinds(count: dict[str, int], least: int) -> None:
-    """Fails if one of the kinds was drawn too seldom."""
+    """Fails if a kind of impossible entry occurs too seldom."""
     missing = [kind for kind in KINDS if count.get(kind, 0) < least]
     if missing:
         fail(f"too few records are drawn in which there is {missing}: {count}")

@@ -1,8 +1,9 @@
-"""Names, ended by zero bytes, the files of Debian packages that are installed here, with all that they depend on:
+"""Lists the files of installed Debian packages and of all packages that they depend on, separated by zero bytes:
 
     python3 tests/release/base.py [PACKAGE..] | tar --null --no-recursion -T - -cf - ..
 
-Without packages those of a base: what is essential or required. Documentation and translations are left out.
+Without arguments lists those of a base system: all essential or required packages. Documentation and translations
+are left out.
 """
 import re
 import sys
@@ -13,7 +14,7 @@ LEFT_OUT = re.compile(r"/usr/share/(doc|doc-base|man|info|locale|i18n|lintian|ba
 
 
 def installed() -> dict[str, dict[str, str]]:
-    """Returns the fields of each installed package by its name."""
+    """Returns the fields of each installed package, by its name."""
     packages: dict[str, dict[str, str]] = {}
     for text in (DPKG / "status").read_text(encoding="utf-8").split("\n\n"):
         fields = dict(line.split(": ", 1) for line in text.splitlines() if re.match(r"[A-Za-z-]+: ", line))
@@ -23,12 +24,12 @@ def installed() -> dict[str, dict[str, str]]:
 
 
 def names(field: str) -> list[str]:
-    """Returns the packages that a field names, each alternative too."""
+    """Returns the packages in a dependency field, with all alternatives."""
     return [name for name in re.findall(r"(?:^|[,|])\s*([a-z0-9][a-z0-9+.-]*)", field)]
 
 
 def closure(wanted: list[str], packages: dict[str, dict[str, str]]) -> set[str]:
-    """Returns the wanted packages, and all installed ones that they depend on."""
+    """Returns these packages and all installed packages that they depend on."""
     providers: dict[str, list[str]] = {}
     for name, fields in packages.items():
         for provided in [name, *names(fields.get("Provides", ""))]:

@@ -1,8 +1,9 @@
-"""Kills hosts and goes on from their journals, as a user does it.
+"""Kills hosts and resumes their journals, as a user does.
 
     python3 -m tests.resume [WORD..]
 
-With words, only the tests whose names have one of them. The tests go side by side: most of them wait.
+With arguments, only the tests whose names contain one of them are run. The tests run side by side, because most of
+them wait.
 """
 import os
 import shutil
@@ -32,12 +33,12 @@ KILLS = 80  # of hosts alone; tests/classroom/test_resume.py kills `run`, and bo
 
 
 def kept(journal: Path) -> dict[str, bytes]:
-    """Returns what stands beside a journal, and in it."""
+    """Returns the files beside a journal, and its own content."""
     return {file.name: file.read_bytes() for file in journal.parent.glob(f"{journal.name}*")}
 
 
 def resumed(host: Host) -> bytes:
-    """Returns the line that says where a class goes on."""
+    """Returns the line in which a host reports from which place it continues."""
     assert host.process.stdout is not None
     return host.process.stdout.readline()
 
@@ -50,7 +51,7 @@ def place_of(line: bytes) -> int:
 
 
 def refused(lab: Path, journal: Path, wanted: Ended, why: str, before: Sequence[str] = ()) -> None:
-    """Checks that a journal is refused with this end, and that nothing is changed."""
+    """Checks that a journal is refused with this result, and that no file is changed."""
     was = kept(journal) if journal.is_file() else {}
     with Host(lab, 0, 0, journal, word="resume", before=before) as host:
         ended = None if host.listens else host.end()
@@ -61,7 +62,7 @@ def refused(lab: Path, journal: Path, wanted: Ended, why: str, before: Sequence[
 
 
 def goes_on(lab: Path, journal: Path, line: bytes, error: bytes, why: str) -> None:
-    """Checks that a class goes on with this line, prints this on standard error, and ends as it began."""
+    """Checks that a class continues with this line and this standard error, and ends as it began."""
     with Host(lab, 0, 0, journal, word="resume") as host:
         said = resumed(host) if host.listens else b""
         ended = host.dismissed(let_in(host.desk, hello("tess"))[0]) if host.listens else host.end()
@@ -71,15 +72,15 @@ def goes_on(lab: Path, journal: Path, line: bytes, error: bytes, why: str) -> No
 
 
 def killed_at(host: Host, seconds: float) -> threading.Timer:
-    """Kills a host after that time."""
+    """Starts a timer that kills a host."""
     timer = threading.Timer(seconds, host.process.kill)
     timer.start()
     return timer
 
 
 def slowness(lab: Path, room: Path) -> float:
-    """Returns how much longer a class takes here to come and play three steps than where the times of kills were
-    chosen."""
+    """Returns how much longer a class with three steps takes here than on the machine for which the times of kills
+    were chosen."""
     begun = time.monotonic()
     with Host(lab, 0, 0, room / "pace.journal") as host:
         players = Players(1)
@@ -91,7 +92,7 @@ def slowness(lab: Path, room: Path) -> float:
 
 
 def kills(room: Path) -> None:
-    """A host that is killed at random points goes on each time with what was replied, to a stable end."""
+    """A host that is killed at random times continues each time with all events in replies, to a stable end."""
     lab, journal = lab_of(room, 4, 100_000), room / "journal"
     players, pace = Players(47), slowness(lab, room)
     for turn in range(KILLS):
@@ -115,7 +116,7 @@ def kills(room: Path) -> None:
 
 
 def power_cuts(room: Path) -> None:
-    """What was replied is in the journal after a power cut; without the sync it isn't."""
+    """Events in replies are in the journal after a power cut. Without the sync they aren't."""
     library = Preloaded("resume/power.c", room, "POWER_COUNTS")
     lab, lost = lab_of(room, 4, 100_000), 0
     pace = slowness(lab, room)
@@ -141,7 +142,8 @@ def power_cuts(room: Path) -> None:
 
 
 def failed_sync(room: Path) -> None:
-    """A line that can't be synced is taken back, its event refused, and the journal halted; it goes on later."""
+    """If a line can't be synced, it is removed, its event is refused, and the journal is halted. It can be resumed
+    later."""
     library = Preloaded("resume/power.c", room, "POWER_COUNTS")
     lab, journal = lab_of(room, 4), room / "journal"
     with Host(lab, 0, 0, journal, variables=library.variables({"POWER_FAIL_AT": "2"})) as host:
@@ -157,7 +159,7 @@ def failed_sync(room: Path) -> None:
 
 
 def failed_sync_after_a_resume(room: Path) -> None:
-    """So when a class goes on, whether or not a torn line was taken off: the file is cut to its whole lines."""
+    """The same holds after a resume, with or without an incomplete line: the file is cut to its complete lines."""
     library = Preloaded("resume/power.c", room, "POWER_COUNTS")
     lab, journal = lab_of(room, 4), room / "journal"
     for torn in (b"", b"3 1 gr"):
@@ -175,8 +177,7 @@ def failed_sync_after_a_resume(room: Path) -> None:
 
 
 def told_until_halted(ana: Caller, tess: Caller) -> int:
-    """Returns how many events are reported to them until the journal halts: a move, its step and a fault again and
-    again."""
+    """Repeats a move, its step and a fault until the journal halts. Returns the number of events in replies."""
     told = 0
     for turn in range(200):
         move = seduction(2 * turn)
@@ -188,7 +189,7 @@ def told_until_halted(ana: Caller, tess: Caller) -> int:
 
 
 def one_more(lab: Path, journal: Path) -> tuple[int, bytes, Ended]:
-    """Goes on with a class for one event: the place it goes on at, the reply, and how it ends."""
+    """Resumes a class for one event. Returns the place, the reply, and the end."""
     with Host(lab, 0, 0, journal, word="resume") as host:
         place = place_of(resumed(host))
         tess = let_in(host.desk, hello("tess"))[0]
@@ -196,7 +197,7 @@ def one_more(lab: Path, journal: Path) -> tuple[int, bytes, Ended]:
 
 
 def full_disk(room: Path) -> None:
-    """If a file may not take a whole line more the class halts, and goes on when there is room."""
+    """If a file can't take another complete line, the class halts, and can be resumed when there is room."""
     lab, journal = lab_of(room, 4), room / "journal"
     limited = ["bash", "-c", 'trap "" XFSZ && ulimit -f 1 && exec "$@"', "bash"]
     with Host(lab, 0, 0, journal, before=limited) as host:
@@ -216,8 +217,8 @@ def full_disk(room: Path) -> None:
 
 
 def in_mid_line(room: Path) -> None:
-    """A disk of two pages that is full leaves the beginning of a line; the class goes on from the whole ones on another.
-    It is mounted for the host alone, which only root can do."""
+    """A full disk of two pages has the beginning of a line. The class is resumed from the complete lines on
+    another disk. Only root can mount the disk, and it is mounted for the host alone."""
     if os.geteuid() != 0:
         return
     lab, disk, journal = lab_of(room, 4), room / "disk", room / "journal"
@@ -242,7 +243,7 @@ def in_mid_line(room: Path) -> None:
 
 
 def torn_tails(room: Path) -> None:
-    """A torn line of each length is taken off and kept; what is longer than a line is refused."""
+    """An incomplete line of each length is removed and saved. More than a line's length is refused."""
     lab, journal = lab_of(room, 4), room / "journal"
     tails = [THIRD[:length] for length in range(len(THIRD) + 1)] + [b"x" * LONGEST]
     for tail in tails:
@@ -273,7 +274,7 @@ def torn_tails(room: Path) -> None:
 
 
 def other_labs(room: Path) -> None:
-    """A journal of another lab is refused, and a mended key or another limit isn't another lab."""
+    """A journal of another lab is refused. A changed key or limit doesn't make it another lab."""
     lab, journal = lab_of(room, 4), room / "journal"
     with Host(lab, 0, 0, journal) as host:
         let_in(host.port, hello("ana"))[0].ask(SEDUCES)
@@ -306,7 +307,7 @@ def other_labs(room: Path) -> None:
 
 
 def copies_through_links(room: Path) -> None:
-    """The copy of a lab is looked for beside the journal's file, also if a link leads to that."""
+    """The copy of a lab is beside the journal's real file, also if a link leads there."""
     lab, folder = lab_of(room, 4), room / "class"
     folder.mkdir()
     with Host(lab, 0, 0, folder / "journal") as host:
@@ -321,7 +322,7 @@ def copies_through_links(room: Path) -> None:
 
 
 def numbers_of_both(room: Path) -> None:
-    """An older journal and its copy of the lab are kept under a number that neither name has."""
+    """An older journal and its copy of the lab are renamed with a number that is free for both."""
     lab, journal = lab_of(room, 4), room / "journal"
     with Host(lab, 0, 0, journal) as host:
         let_in(host.port, hello("ana"))[0].ask(SEDUCES)
@@ -339,7 +340,8 @@ def numbers_of_both(room: Path) -> None:
 
 
 def copies_are_kept(room: Path) -> None:
-    """A host keeps an older journal with the copy of its lab, and doesn't take the lab's own file for a copy."""
+    """A host keeps an older journal together with the copy of its lab, and doesn't take the lab's own file for a
+    copy."""
     lab, journal = lab_of(room, 4), room / "journal"
     contents = []
     for turn in range(3):
@@ -364,7 +366,7 @@ def copies_are_kept(room: Path) -> None:
 
 
 def asks_again(room: Path) -> None:
-    """A client that asks again for what was granted before is answered that it is chosen, or stale."""
+    """A client that asks again for an event that was granted before gets the denial `chosen` or `stale`."""
     lab, journal = lab_of(room, 4), room / "journal"
     journal.write_bytes(FIRST[:26])
     with Host(lab, 0, 0, journal, word="resume") as host:
@@ -383,7 +385,7 @@ def asks_again(room: Path) -> None:
 
 
 def held(room: Path) -> None:
-    """While a host holds a journal nobody goes on from it, and one alone goes on from it."""
+    """Nobody can resume a journal while a host uses it, and only one host can resume it."""
     lab, journal = lab_of(room, 4), room / "journal"
     with Host(lab, 0, 0, journal) as host:
         ana, tess = let_in(host.port, hello("ana"))[0], let_in(host.desk, hello("tess"))[0]
@@ -401,7 +403,7 @@ def held(room: Path) -> None:
 
 
 def files(room: Path) -> None:
-    """What isn't a plain file that may be read and written is refused, and a file isn't made."""
+    """A path that isn't a readable and writable plain file is refused, and no file is made."""
     lab, journal = lab_of(room, 4), room / "journal"
     refused(lab, journal, FAULT, "no journal")
     if journal.exists():

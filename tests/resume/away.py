@@ -1,4 +1,4 @@
-"""A journal's file is removed, moved, replaced or changed while its class goes on."""
+"""A journal's file is removed, moved, replaced or changed while its class is running."""
 import os
 import select
 import shutil
@@ -35,28 +35,28 @@ def replaced(journal: Path) -> None:
 
 
 def with_folder(journal: Path) -> None:
-    """Moves the folder."""
+    """Moves the folder of the file."""
     journal.parent.rename(journal.parent.with_name("elsewhere"))
 
 
 def cut(journal: Path) -> None:
-    """Cuts the last line off."""
+    """Cuts the last line off the file."""
     os.truncate(journal, journal.read_bytes()[:-1].rfind(b"\n") + 1)
 
 
 def emptied(journal: Path) -> None:
-    """Empties the file, as `>` of a shell does it."""
+    """Empties the file, like `>` in a shell."""
     journal.write_bytes(b"")
 
 
 def longer(journal: Path) -> None:
-    """Writes a line to the file."""
+    """Appends a line to the file."""
     with journal.open("ab") as it:
         it.write(b"3 1 close\n")
 
 
 def seen_elsewhere(journal: Path) -> None:
-    """Does what changes neither the file nor where it is."""
+    """Changes neither the file's content nor its path."""
     os.link(journal, journal.with_name("link"))
     journal.chmod(0o640)
     os.utime(journal)
@@ -69,12 +69,12 @@ WAYS: list[tuple[Callable[[Path], None], bytes]] = [
 
 
 def name_of(way: Callable[[Path], None]) -> str:
-    """Returns what a way is called."""
+    """Returns the name of a way to change the file."""
     return f"a journal that is {way.__name__}"
 
 
 def refused_soon(ana: Caller, tess: Caller, way: str) -> int:
-    """Disturbs the class until that is refused; returns how many events were granted before."""
+    """Causes faults until one is refused. Returns the number of granted events."""
     end, events = time.monotonic() + NOTICED, 0
     while (said := tess.ask(fault_at(2))) != REFUSED:
         if b'"place":' not in said or time.monotonic() > end:
@@ -89,7 +89,8 @@ def refused_soon(ana: Caller, tess: Caller, way: str) -> int:
 
 
 def taken_away(room: Path) -> None:
-    """Within a second or two nothing more is granted, standard error says why, and the status is that of a journal's fault."""
+    """Within a second or two nothing more is granted. Standard error has the reason, and the status is that of a
+    journal's fault."""
     lab = lab_of(room, 4)
     for way, line in WAYS:
         folder = room / "class"
@@ -111,7 +112,7 @@ def taken_away(room: Path) -> None:
 
 
 def taken_away_in_silence(room: Path) -> None:
-    """It is noticed though nobody asks for anything: what a host says and its status are the same."""
+    """The host notices it even if nobody sends a request. Its output and status are the same."""
     lab, journal = lab_of(room, 4), room / "journal"
     for way, line in ((removed, GONE), (emptied, CHANGED)):
         with Host(lab, 0, 0, journal) as host:
@@ -130,7 +131,7 @@ def taken_away_in_silence(room: Path) -> None:
 
 
 def left_alone(room: Path) -> None:
-    """A journal to which another link leads, or whose mode and times change, isn't gone."""
+    """A second link to a journal, or a change of its mode and times, has no effect."""
     lab, journal = lab_of(room, 4), room / "journal"
     with Host(lab, 0, 0, journal) as host:
         ana, tess = let_in(host.port, hello("ana"))[0], let_in(host.desk, hello("tess"))[0]
@@ -148,7 +149,7 @@ def left_alone(room: Path) -> None:
 
 
 def gone_after_a_resume(room: Path) -> None:
-    """The same if a class has gone on from its journal, of which a torn line was taken off."""
+    """The same holds for a resumed class with an incomplete line that was removed."""
     lab, journal = lab_of(room, 4), room / "journal"
     journal.write_bytes(b"1 0 grant ana 1 seduction\n2 0 cl")
     with Host(lab, 0, 0, journal, word="resume") as host:

@@ -1,4 +1,4 @@
-"""Three students and a teacher who play over a host, and come again after each of its ends."""
+"""Three students and a teacher who play over a host, and connect again after each of its ends."""
 import json
 import random
 from typing import Any, Optional
@@ -14,7 +14,7 @@ class Gone(Exception):
 
 
 class Players:
-    """A class, and the greatest place that one of its replies has reported."""
+    """A class, and the greatest place in a reply so far."""
 
     def __init__(self, seed: int) -> None:
         self.random = random.Random(seed)
@@ -22,7 +22,7 @@ class Players:
         self.callers: dict[str, Caller] = {}
 
     def ask(self, name: str, line: bytes) -> dict[str, Any]:
-        """Returns the reply to a line of this one."""
+        """Sends a line of a person. Returns the reply."""
         reply = self.callers[name].ask(line)
         if not reply:
             raise Gone
@@ -31,7 +31,7 @@ class Players:
         return found
 
     def come(self, host: Host) -> None:
-        """Everyone connects and greets."""
+        """Connects and greets for everybody."""
         self.callers = {}
         for name in [*NODES, TEACHER]:
             try:
@@ -41,7 +41,7 @@ class Players:
             self.ask(name, hello(name))
 
     def step(self) -> bool:
-        """Everyone looks and asks for the move that is enabled, and the step is closed; whether it's stable now."""
+        """Asks for all enabled moves, and closes the step. Returns whether the class is stable."""
         for name, node in NODES.items():
             seen = self.ask(name, look(name))
             if seen["rule"] is not None and seen["chosen"] is None:
@@ -50,7 +50,7 @@ class Players:
         return bool(self.ask(TEACHER, REPORT)["stable"])
 
     def disturb(self) -> None:
-        """The teacher sets the registers of a node."""
+        """Sets the registers of a node as the teacher."""
         node = self.random.choice([*NODES.values()])
         self.ask(TEACHER, fault_at(node, self.random.choice([True, False])))
 
@@ -66,20 +66,21 @@ class Players:
         self.leave()
 
     def play_out(self, host: Host) -> Caller:
-        """Plays until no node is privileged; answers the teacher's connection."""
+        """Plays until no node is privileged. Returns the teacher's connection."""
         self.come(host)
         while not self.step():
             pass
         return self.callers[TEACHER]
 
     def leave(self) -> None:
-        """Everyone hangs up."""
+        """Closes all connections."""
         for caller in self.callers.values():
             caller.close()
 
 
 def asked(seen: dict[str, Any], node: int) -> bytes:
-    """Returns the move that a look shows as enabled. Who marries says whom: the neighbour that points at the node."""
+    """Returns the request for the move that a look shows as enabled. A marriage names the neighbour that points at
+    the node."""
     line: dict[str, Any] = {"at": seen["at"], "do": "move", "node": node, "rule": seen["rule"]}
     if seen["rule"] == "marriage":
         line["with"] = partner_of(seen, node)
@@ -87,5 +88,5 @@ def asked(seen: dict[str, Any], node: int) -> bytes:
 
 
 def partner_of(seen: dict[str, Any], node: int) -> Optional[int]:
-    """Returns a neighbour that points at the node."""
+    """Returns a neighbour that points at the node, or None."""
     return next((near["node"] for near in seen["near"] if near["p"] == node), None)

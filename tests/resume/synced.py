@@ -1,4 +1,5 @@
-"""What a host has synced when it listens, when it has answered, and when it has ended: a power cut would take the rest."""
+"""The files that a host has synced when it listens, after its replies, and at its end. A power cut would lose the
+rest."""
 import time
 from pathlib import Path
 
@@ -14,18 +15,18 @@ DONE = Ended(0, b"done: 2 events, configuration 1\n", b"")
 
 
 class Changes:
-    """What a host has changed in files and folders, and synced."""
+    """The changes that a host makes to files and folders, and its syncs."""
 
     def __init__(self, room: Path) -> None:
         self.library, self.log = built("resume/changes.c", room), room / "changes"
 
     def variables(self) -> dict[str, str]:
-        """Returns the variables of a host, of which nothing is known yet."""
+        """Returns the environment of a host, and forgets earlier changes."""
         self.log.unlink(missing_ok=True)
         return {"LD_PRELOAD": str(self.library), "CHANGES": str(self.log)}
 
     def unsynced(self) -> set[str]:
-        """Returns the files and folders that were changed after they had been synced last."""
+        """Returns the files and folders with changes after their last sync."""
         found = set[str]()
         for line in self.log.read_text(encoding="utf-8").splitlines():
             what, _, path = line.partition(" ")
@@ -33,12 +34,12 @@ class Changes:
         return found
 
     def none_left(self, when: str) -> None:
-        """Checks that all is synced."""
+        """Checks that all changes are synced."""
         if left := self.unsynced():
             fail(f"resume: {when} a host hasn't synced {sorted(left)}")
 
     def none_left_soon(self, when: str) -> None:
-        """Checks that all is synced before long, though nothing happens."""
+        """Checks that all changes are synced after a while, without further requests."""
         end = time.monotonic() + SOON
         while self.unsynced() and time.monotonic() < end:
             time.sleep(0.1)
@@ -46,7 +47,7 @@ class Changes:
 
 
 def plays(host: Host, changes: Changes, journal: Path) -> tuple[Caller, Caller]:
-    """Returns a move and its step, each of which is synced once it is answered."""
+    """Plays a move and its step, and checks that each is synced when its reply comes. Returns both connections."""
     ana, tess = let_in(host.port, hello("ana"))[0], let_in(host.desk, hello("tess"))[0]
     for who, line in ((ana, MOVE), (tess, CLOSE)):
         if b'"place":' not in who.ask(line):
@@ -57,7 +58,7 @@ def plays(host: Host, changes: Changes, journal: Path) -> tuple[Caller, Caller]:
 
 
 def leaves(host: Host, ana: Caller, tess: Caller) -> Ended:
-    """Returns the class's last lines, and its end."""
+    """Sends the last lines of the class. Returns the host's end."""
     ana.ask(look("ana"))
     if (ana.ask(BYE), ana.line()) != (BID, b""):
         fail("resume: another reply to a student's bye")
@@ -65,8 +66,8 @@ def leaves(host: Host, ana: Caller, tess: Caller) -> Ended:
 
 
 def all_is_synced(room: Path) -> None:
-    """When a host listens the names and contents of all that it made are synced, beside older files too; what is said
-    is synced before long, and at the end all is."""
+    """When a host listens, the names and contents of all files that it made are synced, also beside older files.
+    Entries of the record are synced after a while, and everything at the end."""
     changes, lab, folder = Changes(room), lab_of(room, 4), room / "class"
     folder.mkdir()
     journal, record = folder / "journal", folder / "record"
@@ -83,7 +84,8 @@ def all_is_synced(room: Path) -> None:
 
 
 def last_words_are_synced(room: Path) -> None:
-    """What is said last is synced at the end, though the time of the next sync hasn't come: the host's clock goes slower."""
+    """The last lines are synced at the end, before the next regular sync. The host's clock is slowed down for
+    that."""
     changes, slow, lab, folder = Changes(room), built("outsiders/slow.c", room), lab_of(room, 4), room / "class"
     folder.mkdir()
     journal = folder / "journal"
@@ -95,7 +97,7 @@ def last_words_are_synced(room: Path) -> None:
 
 
 def resumes_are_synced(room: Path) -> None:
-    """So when a class goes on, of whose journal and record what is torn is taken off."""
+    """The same holds after a resume that removes incomplete lines from the journal and the record."""
     changes, lab, folder = Changes(room), lab_of(room, 4), room / "class"
     folder.mkdir()
     journal, record = folder / "journal", folder / "record"
@@ -121,7 +123,7 @@ def resumes_are_synced(room: Path) -> None:
 
 
 def synced_without_threads(room: Path) -> None:
-    """If the thread that syncs a record can't be made, it is synced at the end."""
+    """If the thread for syncing a record can't be made, it is synced at the end."""
     changes, threads, lab = Changes(room), Preloaded("faults/fail.c", room, "FAIL_COUNTS"), lab_of(room, 4)
     for at in (LOOKS + 1, LOOKS + 2):  # that which watches the journal, and that which syncs the record
         folder = room / str(at)

@@ -4,7 +4,7 @@
 
 The drawn journals are those of the model over drawn labs and scripts; so many are drawn, or 300. Of each the program
 prints what the model prints, and `./class mark` reads the same numbers. As many drawn runs are told with their
-records.
+records. Of as many drawn runs that go on step by step the class's own count finds the same rounds.
 """
 from __future__ import annotations
 
@@ -18,7 +18,7 @@ from tests.common.preload import TOP, fail, in_room
 from tests.common.second import agreed, said
 from tests.random.labs import drawn_lab
 from tests.random.scripts import drawn_script
-from tests.tally import recorded
+from tests.tally import recorded, stepwise
 
 JOURNALS = 300
 LINES = 80
@@ -35,31 +35,32 @@ PATH = "bounds 13 5 26\n"  # 3 nodes with two links, and as many as n²/4 is
 LESS = "bounds 11 5 22\n"  # with one link
 # What was written, and the lines that are to be printed.
 CASES = (
-    ("nothing", "", f"student ana {IDLE}\nstudent ben {IDLE}\nnode 2 ana {NOTHING} ben {NOTHING}\n{PATH}run 0 0 unstable 0 0 0 0 0 0 0\n"),
+    ("nothing", "", f"student ana {IDLE}\nstudent ben {IDLE}\nnode 2 ana {NOTHING} ben {NOTHING}\n{PATH}run 0 0 unstable 0 0 0 0 0 0 0\nrounds 0\n"),
     ("a move that is chosen still", "1 0 grant ben 2 seduction\n",
-     f"student ana {IDLE}\nstudent ben 0 0 1 0 {NOTHING} 0 1 1 0\nnode 2 ana {NOTHING} ben 0 0 1 0\n{PATH}run 1 0 unstable 0 0 0 0 0 0 0\n"),
+     f"student ana {IDLE}\nstudent ben 0 0 1 0 {NOTHING} 0 1 1 0\nnode 2 ana {NOTHING} ben 0 0 1 0\n{PATH}run 1 0 unstable 0 0 0 0 0 0 0\nrounds 0\n"),
     ("a release takes a move back", "1 0 grant ana 1 seduction\n2 0 release 1\n",
-     f"student ana 0 0 1 0 {NOTHING} 0 1 1 0\nstudent ben {IDLE}\nnode 2 ana {NOTHING} ben {NOTHING}\n{PATH}run 2 0 unstable 0 0 0 0 0 0 0\n"),
+     f"student ana 0 0 1 0 {NOTHING} 0 1 1 0\nstudent ben {IDLE}\nnode 2 ana {NOTHING} ben {NOTHING}\n{PATH}run 2 0 unstable 0 0 0 0 0 0 0\nrounds 0\n"),
     ("a last close that applies none of a student's moves",
      "1 0 grant ben 2 seduction\n2 0 grant ana 1 seduction\n3 0 release 2\n4 0 close\n",
      f"student ana 0 0 1 0 0 0 1 0 1 2 2 0\nstudent ben 0 0 1 0 {NOTHING} 0 1 1 0\nnode 2 ana {NOTHING} ben 0 0 1 0\n"
-     f"{PATH}run 4 1 unstable 1 0 0 0 1 1 1\n"),
+     f"{PATH}run 4 1 unstable 1 0 0 0 1 1 1\nrounds 0\n"),
     ("a node of two owners, with a fault between its two grants",
      "1 0 grant ana 1 seduction\n2 0 close\n3 1 grant ben 2 marriage 1\n4 1 fault 3 - true\n5 2 grant ana 2 marriage 1\n6 2 close\n",
      f"student ana 0 1 1 0 0 1 1 0 2 1 5 1\nstudent ben 0 1 0 0 {NOTHING} 0 3 3 0\nnode 2 ana 0 1 0 0 ben 0 1 0 0\n"
-     f"{PATH}run 6 3 unstable 2 1 0 0 2 1 1\n"),
+     f"{PATH}run 6 3 unstable 2 1 0 0 2 1 1\nrounds 0\n"),
     ("a link drops a move", "1 0 grant ana 1 seduction\n2 0 link 1 3\n",
-     f"student ana 0 0 1 0 {NOTHING} 0 1 1 0\nstudent ben {IDLE}\nnode 2 ana {NOTHING} ben {NOTHING}\n{PATH}run 2 1 unstable 0 0 1 0 0 0 0\n"),
+     f"student ana 0 0 1 0 {NOTHING} 0 1 1 0\nstudent ben {IDLE}\nnode 2 ana {NOTHING} ben {NOTHING}\n{PATH}run 2 1 unstable 0 0 1 0 0 0 0\nrounds 0\n"),
     ("a cut drops a move", "1 0 grant ana 1 seduction\n2 0 cut 2 3\n",
-     f"student ana 0 0 1 0 {NOTHING} 0 1 1 0\nstudent ben {IDLE}\nnode 2 ana {NOTHING} ben {NOTHING}\n{LESS}run 2 1 unstable 0 0 0 1 0 0 0\n"),
+     f"student ana 0 0 1 0 {NOTHING} 0 1 1 0\nstudent ben {IDLE}\nnode 2 ana {NOTHING} ben {NOTHING}\n{LESS}run 2 1 unstable 0 0 0 1 0 0 0\nrounds 0\n"),
     ("two moves of one student in a close", "1 0 grant ana 1 seduction\n2 0 grant ana 2 seduction\n3 0 close\n",
-     f"student ana 0 0 2 0 0 0 2 0 1 1 2 1\nstudent ben {IDLE}\nnode 2 ana 0 0 1 0 ben {NOTHING}\n{PATH}run 3 1 unstable 1 0 0 0 2 2 1\n"),
+     f"student ana 0 0 2 0 0 0 2 0 1 1 2 1\nstudent ben {IDLE}\nnode 2 ana 0 0 1 0 ben {NOTHING}\n{PATH}run 3 1 unstable 1 0 0 0 2 2 1\nrounds 1\n"),
 )
 WHOLE = """student ana 0 0 1 1 0 0 1 1 2 1 9 0
 student ben 1 0 1 0 1 0 1 0 2 2 6 0
 student cyd 1 1 0 0 1 1 0 0 2 4 7 0
 bounds 13 5 26
 run 10 4 stable 4 0 0 0 6 6 4
+rounds 4
 """
 REFUSED = (
     ("1 0 grant ana 1 seduction", "audit: line 1: torn"),
@@ -69,7 +70,7 @@ REFUSED = (
 
 
 def by_hand(room: Path) -> int:
-    """Tries the journals that were written by hand. Returns how many they are."""
+    """Checks the journals that are written by hand. Returns their number."""
     lab, journal = room / "lab.toml", room / "journal"
     lab.write_text(LAB, encoding="ascii")
     wanted = [(text, Ended(0, tally.encode(), b"")) for _, text, tally in CASES] + [(text, said(line)) for text, line in REFUSED]
@@ -85,7 +86,7 @@ def by_hand(room: Path) -> int:
 
 
 def drawn(room: Path, seed: int) -> bool:
-    """Tries a drawn journal. Returns whether it has an event."""
+    """Checks a random journal. Returns whether it has an event."""
     rng = Random(seed)
     document = drawn_lab(rng)
     model = read_lab(document.encode())
@@ -100,17 +101,20 @@ def drawn(room: Path, seed: int) -> bool:
 
 
 def test(room: Path) -> str:
-    """The runs by hand, and the drawn ones."""
+    """Runs the checks by hand, and the random ones. Returns a line about them."""
     count = int(sys.argv[1]) if len(sys.argv) > 1 else JOURNALS
     hands = by_hand(room)
     some = sum(drawn(room, seed) for seed in range(1, count + 1))
     if 2 * some < count:
         fail(f"only {some} of {count} drawn journals have an event")
     hands += recorded.by_hand(room, LAB)
-    denied = sum(recorded.drawn(room, seed) for seed in range(1, count + 1))
-    if 2 * denied < count:
-        fail(f"only in {denied} of {count} drawn runs a student is denied something")
-    return f"{hands} runs by hand, {some} drawn ones and {count} with records are printed as by the model"
+    counted = [recorded.drawn(room, seed) for seed in range(1, count + 1)]
+    for word in recorded.COUNTED:
+        runs = sum(word in words for words in counted)
+        if 2 * runs < count:
+            fail(f"only in {runs} of {count} drawn runs something is counted as {word}")
+    rounds = stepwise.tried(room, count)
+    return f"{hands} runs by hand, {some} drawn ones, {count} with records and {count} of {rounds} rounds are printed as by the model"
 
 
 if __name__ == "__main__":

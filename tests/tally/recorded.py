@@ -1,6 +1,8 @@
-"""What `tally` prints of a run with a record: one by hand, and drawn ones beside the plain model."""
+"""The output of `tally` for a run with a record: one run by hand, and random runs compared with the plain model."""
 from __future__ import annotations
 
+import re
+from collections.abc import Iterable
 from pathlib import Path
 from random import Random
 
@@ -11,10 +13,12 @@ from tests.random.labs import drawn_lab
 from tests.record.drawn import drawn_run
 from tests.record.recording import Recording
 
+COUNTED = ("denied", "refused", "denials")
 # What is said in the seats one after the other, with the number of the clause that denies it in the comment.
 TALK = (
     (1, b'{"do":"hello","key":"a-key","name":"ana"}'),
     (1, b'{"do":"hello","key":"a-key","name":"ana"}'),  # greeted, 1
+    (1, b'{"do":"see","node":99}'),  # hidden, 1
     (1, b'{"do":"move","node":2,"rule":"update","at":0}'),  # guard, 4
     (1, b'{"do":"move","node":2,"rule":"seduction","at":7}'),  # stale, 2
     (1, b'{"do":"move","node":3,"rule":"seduction","at":0}'),  # not-owner, 1
@@ -33,12 +37,39 @@ TALK = (
     (3, b"no request"),
     *((seat, b'{"do":"bye"}') for seat in (1, 2, 3)),
 )
-TOLD = """denied ana 2 1 1 1 1
+TOLD = """denied ana 3 1 1 1 1
 denied ben 2 0 1 0 0
 asked 2 ana 1 0 3 0 ben 0 1 0 0
-record 3 21 whole
+record 3 22 whole
 """
 WHOLE = "whole tess ana ben\n"
+REFUSED = "refused ana 0 0 0\nrefused ben 0 0 0\ndenials ana 1 1 1 0 1 1 1\ndenials ben 0 0 1 1 0 1 0\n"
+# What ana may do at her own node, so that the journal may refuse it.
+MORE = b'1 1 > {"do":"move","node":1,"rule":"seduction","at":0}\n1 1 < %s\n'
+GUARD = b'{"clause":4,"deny":"guard","text":"the guard of this rule does not hold"}'
+# In a lab of one event all later moves and closes are refused, if no clause denies them.
+FULL = (
+    (1, b'{"do":"hello","key":"a-key","name":"ana"}'),
+    (1, b'{"do":"move","node":1,"rule":"seduction","at":0}'),
+    (1, b'{"do":"move","node":2,"rule":"seduction","at":0}'),  # full
+    (1, b'{"do":"move","node":2,"rule":"seduction","at":0}'),  # full
+    (1, b'{"do":"move","node":3,"rule":"seduction","at":0}'),  # not-owner
+    (1, b'{"do":"close"}'),  # not-teacher
+    (2, b'{"do":"hello","key":"b-key","name":"ben"}'),
+    (2, b'{"do":"move","node":3,"rule":"seduction","at":0}'),  # guard
+    (2, b'{"do":"move","node":2,"rule":"seduction","at":0}'),  # full
+    (2, b"no request"),
+    (3, b'{"do":"hello","key":"chalk","name":"tess"}'),
+    (3, b'{"do":"close"}'),  # full, to the teacher
+    *((seat, b'{"do":"bye"}') for seat in (1, 2, 3)),
+)
+TOLD_FULL = """denied ana 2 0 0 0 0
+denied ben 0 0 0 1 1
+asked 2 ana 0 0 2 0 ben 0 0 1 0
+record 3 15 whole
+"""
+REFUSED_FULL = "refused ana 0 0 2\nrefused ben 0 0 1\ndenials ana 0 0 1 1 0 0 0\ndenials ben 0 0 0 0 0 0 1\n"
+DENIED_IN = re.compile(rb"(\d+ (\d+) > [^\n]*\n\d+ \d+ < )(\{\"(?:at\":\d+,\"|)clause\"[^\n]*)\n")
 
 
 class Files:
@@ -56,7 +87,7 @@ class Files:
             (self.folder / f"{seat}.record").write_bytes(text)
 
     def told(self, what: str) -> Ended:
-        """Returns how the word ends over them, about which the program and the model agree."""
+        """Returns the result of `tally` for these files. Fails if the model's result differs."""
         return agreed(what, "tally", self.lab, self.journal, self.folder)
 
     def bare(self) -> str:
@@ -64,34 +95,60 @@ class Files:
         return agreed("without a record", "tally", self.lab, self.journal).out.decode()
 
 
-def with_record(tally: str) -> str:
-    """Returns the tally with what is printed of the record in its place."""
+def with_record(tally: str, told: str, refused: str) -> str:
+    """Returns the tally with the lines about the record inserted."""
     front, bounds, end = tally.partition("bounds ")
-    return front + TOLD + bounds + end + WHOLE
+    end, rounds, number = end.partition("rounds ")
+    return front + told + bounds + end + WHOLE + refused + rounds + number
+
+
+def recorded(document: str, talk: Iterable[tuple[int, bytes]]) -> Recording:
+    """Returns the run of a talk, with its record."""
+    run = Recording(read_lab(document.encode()))
+    for seat, line in talk:
+        run.answer(seat, line)
+    return run
+
+
+def full(room: Path, document: str) -> int:
+    """Checks a run whose lab has had all its events. Returns the number of checks."""
+    document = document.replace("events = 100", "events = 1")
+    files = Files(room, document, recorded(document, FULL))
+    wanted = Ended(0, with_record(files.bare(), TOLD_FULL, REFUSED_FULL).encode(), b"")
+    if (found := files.told("a full lab")) != wanted:
+        fail(f"a full lab: {found}")
+    return 1
 
 
 def by_hand(room: Path, document: str) -> int:
-    """Returns the run by hand, also if memory ran out, cut, and hurt; how many these are."""
-    run = Recording(read_lab(document.encode()))
-    for seat, line in TALK:
-        run.answer(seat, line)
+    """Checks the run by hand, also with memory refusals, cut, and changed. Returns the number of checks."""
+    run = recorded(document, TALK)
     files = Files(room, document, run)
-    wanted = with_record(files.bare())
+    wanted = with_record(files.bare(), TOLD, REFUSED)
+    end = b'1 1 > {"do":"bye"}'
     first = files.folder / "1.record"
     text = first.read_bytes()
     changed = (
         ("as it came", text, wanted),
         # It is the line that is no request, whatever it was answered.
-        ("memory", text.replace(b'{"refuse":"malformed"}', b'{"refuse":"memory"}'), wanted),
+        ("memory", text.replace(b'{"refuse":"malformed"}', b'{"refuse":"memory"}'), wanted.replace("refused ana 0 0 0", "refused ana 0 1 0")),
+        ("no memory for a line that is denied", text.replace(GUARD, b'{"refuse":"memory"}'),
+         wanted.replace("denied ana 3 1 1 1 1", "denied ana 3 1 1 0 1").replace("refused ana 0 0 0", "refused ana 0 1 0")
+         .replace("denials ana 1 1 1 0 1 1 1", "denials ana 1 1 1 0 1 1 0")),
+        ("a halted journal", text.replace(end, MORE % b'{"refuse":"journal"}' + MORE % b'{"refuse":"journal"}' + end),
+         wanted.replace("record 3 22", "record 3 24").replace("refused ana 0 0 0", "refused ana 2 0 0")),
+        ("no memory for a move", text.replace(end, MORE % b'{"refuse":"memory"}' + end),
+         wanted.replace("record 3 22", "record 3 23").replace("refused ana 0 0 0", "refused ana 0 1 0")),
+        ("a full lab that isn't full", text.replace(end, MORE % b'{"refuse":"full"}' + end), "verify: seat 1, line 19: not the reply of the rules at place 1"),
         # What was refused so changed nothing, so ana isn't known, and her next hello is granted.
         ("an unheard hello", text.replace(b'{"ok":"hello","who":"ana"}', b'{"refuse":"memory"}').replace(
             b'{"clause":1,"deny":"greeted","text":"this connection has a name already"}', b'{"ok":"hello","who":"ana"}'),
-         wanted.replace("denied ana 2 ", "denied ana 1 ")),
-        ("a cut", text + b"1 2 !\n1 2 .\n", wanted.replace("record 3 21 whole", "record 4 21 cut").replace(WHOLE, "whole\n")),
-        ("a pause", text + b"1 1 -\n1 1 + 3\n1 1 .\n", wanted.replace("record 3 21 whole", "record 4 21 cut")),
+         wanted.replace("denied ana 3 ", "denied ana 2 ").replace("denials ana 1 ", "denials ana 0 ")),
+        ("a cut", text + b"1 2 !\n1 2 .\n", wanted.replace("record 3 22 whole", "record 4 22 cut").replace(WHOLE, "whole\n")),
+        ("a pause", text + b"1 1 -\n1 1 + 3\n1 1 .\n", wanted.replace("record 3 22 whole", "record 4 22 cut")),
         ("a pause for ana", text.replace(b'1 1 > {"do":"bye"}', b'1 1 -\n1 1 + 1\n1 1 .\n1 1 > {"do":"bye"}'),
-         wanted.replace("record 3 21 whole", "record 4 21 cut").replace(WHOLE, "whole tess ben\n")),
-        ("another clause", text.replace(b'"clause":4', b'"clause":3'), "verify: seat 1, line 5: not the reply of the rules at place 0"),
+         wanted.replace("record 3 22 whole", "record 4 22 cut").replace(WHOLE, "whole tess ben\n")),
+        ("another clause", text.replace(b'"clause":4', b'"clause":3'), "verify: seat 1, line 7: not the reply of the rules at place 0"),
     )
     for name, hurt, told in changed:
         if hurt == text and name != "as it came":
@@ -107,11 +164,26 @@ def by_hand(room: Path, document: str) -> int:
     files.journal.write_bytes(run.journal[:-1])
     if files.told("a torn journal") != said("audit: line 2: torn"):
         fail("a torn journal is told")
-    return len(changed) + 2
+    return len(changed) + 2 + full(room, document)
 
 
-def drawn(room: Path, seed: int) -> bool:
-    """Tries a drawn run. Returns whether a student was denied something."""
+def forgetful(rng: Random, text: bytes) -> bytes:
+    """Returns the record of a seat in which some denied lines are refused for memory instead. A refusal for memory shows no
+    new events, so these are lines before which no new event was seen."""
+    seen = b""
+
+    def refused(found: re.Match[bytes]) -> bytes:
+        """Returns the entry with its reply, or with the refusal."""
+        nonlocal seen
+        before, seen = seen, found[2]
+        is_refused = before == seen and rng.random() < 0.3
+        return found[1] + (b'{"refuse":"memory"}' if is_refused else found[3]) + b"\n"
+
+    return DENIED_IN.sub(refused, text)
+
+
+def drawn(room: Path, seed: int) -> set[str]:
+    """Checks a random run. Returns the first words of the lines that count something about a student."""
     rng = Random(seed)
     document = drawn_lab(rng)
     run = drawn_run(rng, read_lab(document.encode("ascii")))
@@ -123,7 +195,10 @@ def drawn(room: Path, seed: int) -> bool:
         run.pause(1)
         run.resume(1, rng.randrange(100))
         run.leave(1)
+    if rng.random() < 0.5:
+        run.texts = {seat: forgetful(rng, text) for seat, text in run.texts.items()}
     found = Files(room, document, run).told(f"seed {seed}, with a record")
     if found.status:
         fail(f"seed {seed}, with a record: {found}")
-    return any(line.startswith("denied ") and not line.endswith(" 0 0 0 0 0") for line in found.out.decode().splitlines())
+    lines = [line.split(" ") for line in found.out.decode().splitlines()]
+    return {word for word, _, *counts in (line for line in lines if line[0] in COUNTED) if any(map(int, counts))}

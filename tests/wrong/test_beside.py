@@ -1,4 +1,4 @@
-"""Wrong bodies beside an `rt ci` that runs, with scripts instead of the prover."""
+"""Wrong bodies while `rt ci` runs. Scripts stand in for the prover."""
 from __future__ import annotations
 
 import os
@@ -27,7 +27,7 @@ KILLED_ONCE = 'echo begun >> log; [ -e once ] || { touch once; kill -9 $$; }; ec
 
 
 class InRoom(unittest.TestCase):
-    """A test with a tree of three crates, of which the last is a program."""
+    """A test with a tree of three crates, the last of which is a program."""
 
     def setUp(self) -> None:
         room = tempfile.TemporaryDirectory()
@@ -37,17 +37,17 @@ class InRoom(unittest.TestCase):
         self.tree = Tree(self.room, self.room, {"low": [], "high": ["low"], "top": ["high"]}, self.room / "kept")
 
     def write(self, crate: str, text: str) -> None:
-        """Leaves a library as `rt` does."""
+        """Writes a library, as `rt` does."""
         self.tree.left(crate).mkdir(parents=True, exist_ok=True)
         (self.tree.left(crate) / "format").unlink(missing_ok=True)
         (self.tree.left(crate) / "format").write_text(text, encoding="utf-8")
 
 
 class Standing(InRoom):
-    """Which crates are tried when."""
+    """The times at which crates are tried."""
 
     def test_as_proved(self) -> None:
-        """Each crate comes once it and those below it are named, and at the end all that are left."""
+        """Each crate is tried after it and those below it are named, and the others at the end."""
         running = Running(beside=1)
         told: list[str] = []
 
@@ -62,7 +62,7 @@ class Standing(InRoom):
         self.assertEqual(([*given], running.beside), (["top"], None))
 
     def test_libraries_as_they_stood(self) -> None:
-        """What is written over them later isn't read, and one that isn't named isn't there."""
+        """A library that is overwritten later isn't read, and one that isn't named counts as missing."""
         self.write("low", "new")
         self.write("high", "old")
         given = as_proved(self.tree, ["low"], iter(("low\n", "top\n")), Running(beside=1))
@@ -80,7 +80,7 @@ class Standing(InRoom):
 
 
 class Turns(InRoom):
-    """How many checks run."""
+    """The number of checks that run."""
 
     def begin(self, running: Running, line: str, is_alone: bool = False) -> threading.Thread:
         """Starts a check in a thread."""
@@ -95,14 +95,14 @@ class Turns(InRoom):
         return it
 
     def waits(self, path: Path) -> None:
-        """Waits until a file is there."""
+        """Waits until a file exists."""
         until = time.monotonic() + LIMIT
         while not path.exists():
             self.assertLess(time.monotonic(), until)
             time.sleep(0.02)
 
     def test_who_may_begin(self) -> None:
-        """Beside proofs as many as the number, if memory is free; alone all."""
+        """Beside proofs, as many checks as the number run if memory is free. Alone, all run."""
         running = Running(beside=1)
         for free, may in ((MUCH, True), (MUCH - 1, False), (0, False)):
             with mock.patch.object(checks, "free_memory", return_value=free):
@@ -118,7 +118,7 @@ class Turns(InRoom):
         first.join(LIMIT)
 
     def test_one_that_waits_for_the_end_of_the_proofs(self) -> None:
-        """It begins then, or is stopped."""
+        """It begins after the proofs, or is stopped."""
         for running in (Running(beside=0), Running(beside=1)):
             waiting = self.begin(running, f"echo begun > {self.room}/begun", is_alone=running.beside == 1)
             waiting.join(0.5)
@@ -134,7 +134,7 @@ class Turns(InRoom):
         self.assertTrue(self.was_stopped)
 
     def test_one_that_is_killed(self) -> None:
-        """It runs once more; what is killed again stays so."""
+        """A killed check runs once more. If it is killed again, that is its result."""
         words = ["sh", "-c", f"cd {self.room}; {KILLED_ONCE}"]
         (self.room / "crates/low/src").mkdir(parents=True)
         with mock.patch.object(checks, "check_words", return_value=words):
@@ -146,7 +146,7 @@ class Turns(InRoom):
 
 
 class GivingWay(unittest.TestCase):
-    """What the whole of it does beside others."""
+    """The priority of checks beside other processes."""
 
     def test_all_others_go_first(self) -> None:
         line = "from tools.wrong.beside import give_way; give_way(); import os; print(os.nice(0), open('/proc/self/oom_score_adj').read())"

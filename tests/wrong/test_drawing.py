@@ -1,4 +1,5 @@
-"""Drawn plants: which bodies a crate has, which changes a line, and what is asked of the prover, a stand-in here."""
+"""Random plants: the bodies of a crate, the changes of a line, and the calls of the prover, for which a script
+stands in."""
 from __future__ import annotations
 
 import random
@@ -65,7 +66,7 @@ fn counts() {
 
 
 class Bodies(unittest.TestCase):
-    """The bodies of functions."""
+    """Finding the bodies of functions."""
 
     def test_each_body(self) -> None:
         lines = SOURCE.splitlines()
@@ -83,7 +84,7 @@ class Bodies(unittest.TestCase):
 
 
 class Changes(unittest.TestCase):
-    """What one small change makes of a line."""
+    """The results of a small change to a line."""
 
     def test_each_kind(self) -> None:
         kinds = {"Kind": ["First", "Second"]}

@@ -1,6 +1,6 @@
-"""The test of what is handed on from a library to the checks of its crate's wrong bodies.
+"""Passing the checked modules of a library on to the checks of its crate's wrong bodies.
 
-    python3 -B -m unittest tests.wrong.test_saved      a minute of processor; needs the toolchain and no library
+    python3 -B -m unittest tests.wrong.test_saved      a minute of processor time; needs the toolchain and no library
 """
 from __future__ import annotations
 
@@ -23,7 +23,7 @@ LOADED = re.compile(rf"(?m)^crate {CRATE}: modules loaded=(\d+) checked=(\d+)$")
 
 
 def write_library(library: Path, modules: dict[str, bytes]) -> None:
-    """Writes what a library holds of its check, with the sum of all at its end."""
+    """Writes a library with these modules, and the checksum of all at its end."""
     held, lines = b"!<arch>\n", ""
     for name, text in (*modules.items(), ("sum/all", b"of all")):
         lines += json.dumps([name, len(held), len(text)]) + "\n"
@@ -34,7 +34,7 @@ def write_library(library: Path, modules: dict[str, bytes]) -> None:
 
 
 class HandingOn(unittest.TestCase):
-    """Libraries written by hand."""
+    """Libraries that are written by hand."""
 
     def setUp(self) -> None:
         room = tempfile.TemporaryDirectory()
@@ -42,13 +42,13 @@ class HandingOn(unittest.TestCase):
         self.library, self.to = Path(room.name) / "it.rlib", Path(room.name) / "kept/saved"
 
     def test_each_module_is_a_file(self) -> None:
-        """Each has its own bytes, and the sum is none."""
+        """Each module becomes a file with its own bytes. The checksum doesn't."""
         write_library(self.library, {"It": b"one", "It-proofs.f": b"\0two\n"})
         hand_on(self.library, self.to)
         self.assertEqual({it.name: it.read_bytes() for it in self.to.iterdir()}, {"It.oantt": b"one", "It-proofs.f.oantt": b"\0two\n"})
 
     def test_what_a_check_left(self) -> None:
-        """A module that a check saved since then gives way to the library's, and what the library lacks stays."""
+        """A module that a check has saved is replaced by the library's. Modules that the library lacks stay."""
         write_library(self.library, {"It": b"one"})
         hand_on(self.library, self.to)
         (self.to / "It.oantt").write_bytes(b"two")
@@ -57,13 +57,13 @@ class HandingOn(unittest.TestCase):
         self.assertEqual({it.name: it.read_bytes() for it in self.to.iterdir()}, {"It.oantt": b"one", "More.oantt": b"more"})
 
     def test_a_library_without_modules(self) -> None:
-        """Nothing is handed on."""
+        """No file is written."""
         (self.library / "toolchain").mkdir(parents=True)
         hand_on(self.library, self.to)
         self.assertFalse(self.to.exists())
 
     def test_another_form(self) -> None:
-        """Of a list that isn't read to its end nothing is handed on."""
+        """If the list can't be read to its end, no file is written."""
         for line in ("no list", '["It", 1]', '["It", "1", "2"]', "7", '["It", -1, 2]', '["It", 8, 1000]'):
             shutil.rmtree(self.library, ignore_errors=True)
             write_library(self.library, {"It": b"one"})
@@ -74,10 +74,10 @@ class HandingOn(unittest.TestCase):
 
 
 class TakingUp(unittest.TestCase):
-    """The prover itself, over a copy of the smallest crate that has wrong bodies."""
+    """The real prover, over a copy of the smallest crate that has wrong bodies."""
 
     def test_what_is_handed_on_is_taken(self) -> None:
-        """A check takes what the one before saved, and refuses a wrong body all the same."""
+        """A check uses the modules that the one before saved, and still refuses a wrong body."""
         with tempfile.TemporaryDirectory() as room:
             top, folder = Path(room) / "top", Path(room) / "top/crates" / CRATE
             for part in ("src", "proofs"):

@@ -1,6 +1,7 @@
-"""The test of wrong bodies itself: each way in which it has to fail, over kept outputs of the prover and over the prover.
+"""The tool for wrong bodies: each way in which it has to fail, with stored outputs of the prover and with the
+prover itself.
 
-    python3 -B -m unittest tests.wrong.test_wrong      a minute of processor; needs the toolchain and no library
+    python3 -B -m unittest tests.wrong.test_wrong      a minute of processor time; needs the toolchain and no library
 """
 from __future__ import annotations
 
@@ -53,7 +54,7 @@ UNTYPED_KIND = Edit(UNTYPED.name, OTHER_KIND.wanted, (Pair(FILE, OTHER_KIND.pair
 
 
 def text_of(edit: Edit) -> str:
-    """Returns an edit's file."""
+    """Returns the text of an edit's file."""
     lines = [it.line() for it in edit.wanted]
     for pair in edit.pairs:
         lines += [f"file: {pair.file}", f"old: {pair.old}", f"new: {pair.new}"]
@@ -61,26 +62,26 @@ def text_of(edit: Edit) -> str:
 
 
 def kept(name: str) -> str:
-    """Returns an output of the prover that was kept."""
+    """Returns a stored output of the prover."""
     return (KEPT / name).read_text(encoding="utf-8")
 
 
 def judged(output: str, *edits: Edit, status: int = 1) -> Judged:
-    """Returns what comes of edits by an output."""
+    """Returns the verdicts on edits for this output."""
     return judge(list(edits), status, read_output(CRATE, output))
 
 
 class Judging(unittest.TestCase):
-    """Kept outputs. Of the three bodies the first is refused, the second proved, the third refused at one goal."""
+    """Stored outputs. Of three bodies, the first is refused, the second proved, and the third refused at one goal."""
 
     def test_refused_at_its_goal(self) -> None:
-        """What is as the edits say has no fault."""
+        """An output that matches the edits has no fault."""
         output = kept("three_bodies.txt")
         found = judged(output, NEVER, THERE)
         self.assertEqual((found.of_round, found.of_edit), ([], {}))
 
     def test_still_proved(self) -> None:
-        """A body that means the same fails, and the others don't."""
+        """An edit that doesn't change the meaning fails, and the others don't."""
         found = judged(kept("three_bodies.txt"), NEVER, SAME, THERE)
         self.assertEqual(found.of_round, [])
         self.assertEqual(
@@ -90,7 +91,7 @@ class Judging(unittest.TestCase):
         self.assertEqual(found.failed([NEVER, SAME, THERE]), [SAME.name])
 
     def test_another_goal(self) -> None:
-        """The right line is said."""
+        """The message names the right line."""
         found = judged(kept("three_bodies.txt"), NEVER, ELSEWHERE)
         self.assertEqual(
             found.of_edit,
@@ -103,7 +104,7 @@ class Judging(unittest.TestCase):
         )
 
     def test_one_too_many(self) -> None:
-        """A function that is refused though no edit names it fails all edits of the check."""
+        """A refused function that no edit names fails all edits of the check."""
         found = judged(kept("three_bodies.txt"), NEVER)
         self.assertEqual(
             found.of_round,
@@ -124,20 +125,20 @@ class Judging(unittest.TestCase):
         self.assertEqual(found.failed([UNTYPED, THERE]), [UNTYPED.name, THERE.name])
 
     def test_a_name_that_a_proof_lost(self) -> None:
-        """An answer that names what the edit took away shows nothing of a contract."""
+        """If a proof uses a name that the edit removed, its error isn't counted as a refusal at a contract."""
         line = "./proofs/retrying/is_interrupted/Answers.antt:9:5: error: `returns`: `c.kind` has no field `new`\n"
         found = judged(line + kept("three_bodies.txt"), NEVER, THERE)
         self.assertEqual(found.of_round, [f"an error of no goal: {line.strip()}"])
 
     def test_an_error_of_a_whole_file(self) -> None:
-        """An error needs no line: a body that the borrow checker doesn't cover has answers that aren't read."""
+        """An error may have no line: if the borrow checker rejects a body, its answers aren't read."""
         for line in ("./proofs/a/f/Answers.antt: error: rattle does not read `Answers.antt` of `mml_ends::a::f`",
                      "rattle: error: `mml_ends` has no function `f`"):
             found = judged(f"{line}\n{kept('three_bodies.txt')}", NEVER, THERE)
             self.assertEqual(found.of_round, [f"an error of no goal: {line}"])
 
     def test_an_answer_that_shows_its_goal_no_more(self) -> None:
-        """An answer's own error is a refusal at its goal."""
+        """An error in an answer counts as a refusal at its goal."""
         line = "./proofs/retrying/Retrying/new/Answers.antt:9:5: error: `returns-clause-inner`: `search`: no proof of `a ≡ b` was found\n"
         found = judged(line + kept("three_bodies.txt"), NEVER, ELSEWHERE)
         self.assertEqual((found.of_round, found.of_edit), ([], {}))
@@ -147,35 +148,35 @@ class Judging(unittest.TestCase):
         self.assertEqual((told.open_goals, told.errors), ({"reading::read_value": ["read_value-returns-in_ok-found"]}, []))
 
     def test_what_rests_on_an_answer(self) -> None:
-        """An answer that cites one with an error of its own adds nothing."""
+        """An answer that cites one with an error adds nothing."""
         line = "./proofs/retrying/Retrying/new/Answers.antt:9:5: error: 1 declaration that depends on `a`, which was rejected, was not checked: b\n"
         self.assertEqual(judged(line + kept("three_bodies.txt"), NEVER, THERE).of_round, [])
 
     def test_a_caller_of_what_is_refused(self) -> None:
-        """What only rests on a refused function counts as refused, and needs no edit."""
+        """A function that only depends on a refused one counts as refused, and needs no edit."""
         output = kept("three_bodies.txt").replace("is_out_of_memory: proved", "is_out_of_memory: no proof: it calls `a::b`, which is not proved")
         found = judged(output.replace("only=3 proved=1", "only=3 proved=0"), NEVER, THERE)
         self.assertEqual(found.of_round, [])
 
     def test_closures(self) -> None:
-        """Closures have lines that no count has."""
+        """Closures have lines, but aren't counted."""
         line = f"fn {CRATE}::retrying::fn::is_interrupted::any: proved\nfn {CRATE}::retrying::fn::is_interrupted::any+FnMut::call_mut: proved\n"
         self.assertEqual(judged(line + kept("three_bodies.txt"), NEVER, THERE).of_round, [])
 
     def test_a_function_that_may_wait(self) -> None:
-        """It is proved as others are, and so is a closure that leans on its callers."""
+        """An async function is proved like others, and so is a closure that depends on its callers."""
         for said in ("proved, may wait", "proved where its callers give what it asks, may wait"):
             output = kept("three_bodies.txt").replace("is_out_of_memory: proved", f"is_out_of_memory: {said}")
             self.assertEqual(judged(output, NEVER, THERE).of_round, [])
 
     def test_no_verdict(self) -> None:
-        """A function of which the prover could tell nothing isn't refused."""
+        """A function without a verdict isn't refused."""
         output = kept("three_bodies.txt").replace("is_out_of_memory: proved", "is_out_of_memory: could not tell")
         found = judged(output, NEVER, THERE, status=3)
         self.assertIn("retrying::is_out_of_memory is not proved, and no edit names it", found.of_round)
 
     def test_counts(self) -> None:
-        """Counts that don't fit the lines, no counts, and another status fail."""
+        """Counts that don't match the lines, missing counts, and another status fail."""
         output = kept("three_bodies.txt")
         self.assertIn("the counts don't fit: only=4 proved=1", judged(output.replace("only=3", "only=4"), NEVER, THERE).of_round[0])
         self.assertIn("the counts don't fit: only=3 proved=2", judged(output.replace("proved=1", "proved=2"), NEVER, THERE).of_round[0])
@@ -186,10 +187,10 @@ class Judging(unittest.TestCase):
 
 
 class Reading(unittest.TestCase):
-    """Edits as they stand in their files, and rounds."""
+    """Reading edits from their files, and forming rounds."""
 
     def setUp(self) -> None:
-        """A crate with one file."""
+        """Makes a crate with one file."""
         room = tempfile.TemporaryDirectory()
         self.addCleanup(room.cleanup)
         self.folder = Path(room.name)
@@ -202,14 +203,14 @@ class Reading(unittest.TestCase):
         (self.folder / "wrong" / name).write_text("".join(f"{it}\n" for it in lines), encoding="utf-8")
 
     def test_a_whole_edit(self) -> None:
-        """All that an edit says is read."""
+        """All parts of an edit are read."""
         self.assertEqual(parse_edit(NEVER.name, text_of(NEVER)), NEVER)
         two = parse_edit("two.edit", "# refused: a b\n# refused: c d\nfile: src/lib.rt\nold: x\nnew:\n")
         self.assertEqual(two.wanted, (Refusal("a", "b"), Refusal("c", "d")))
         self.assertEqual(two.pairs, (Pair("src/lib.rt", "x", ""),))
 
     def test_edits_that_cannot_be_read(self) -> None:
-        """A line that lacks, and a line too many."""
+        """A missing line and an extra line are errors."""
         for text, said in (
             ("file: src/lib.rt\nold: one\nnew: 1\n", "no line '# refused: FUNCTION GOAL'"),
             ("# refused: f\nfile: src/lib.rt\nold: one\nnew: 1\n", "not a line '# refused: FUNCTION GOAL'"),
@@ -241,7 +242,7 @@ class Reading(unittest.TestCase):
         )
 
     def test_rounds(self) -> None:
-        """Edits of one function, and edits of one text, are tried apart."""
+        """Edits of the same function, and edits of the same text, are in different rounds."""
         self.write("a.edit", "# refused: f g", "file: src/lib.rt", "old: one", "new: 1")
         self.write("b.edit", "# refused: h g", "file: src/lib.rt", "old: three", "new: 3")
         self.write("c.edit", "# refused: f k", "file: src/lib.rt", "old: three", "new: tree")
@@ -253,7 +254,7 @@ class Reading(unittest.TestCase):
         self.assertEqual(rounds[0].texts, {"src/lib.rt": "1\ntwo\ntwo\n3\n"})
 
     def test_a_later_round(self) -> None:
-        """An edit that is kept out of the first round is tried in the first of the later ones that takes it."""
+        """An edit that mustn't be in the first round is in the first later one that can take it."""
         self.write("a.edit", "# refused: f g", "# round: 2", "file: src/lib.rt", "old: one", "new: 1")
         self.write("b.edit", "# refused: h g", "file: src/lib.rt", "old: three", "new: 3")
         self.write("c.edit", "# refused: h k", "file: src/lib.rt", "old: three", "new: tree")
@@ -264,15 +265,15 @@ class Reading(unittest.TestCase):
         self.assertEqual([[it.name for it in one.edits] for one in rounds], [["b.edit"], ["c.edit", "a.edit"], ["d.edit"]])
 
     def test_the_list_of_crates(self) -> None:
-        """Comments and words after a crate's name aren't crates that it uses."""
+        """Comments aren't crates."""
         self.assertEqual(parse_uses("# all\nlow: io # words\n\nffi staticlib: low\n"), {"low": ["io"], "ffi": ["low"]})
 
 
 class Trying(unittest.TestCase):
-    """The prover itself, over a copy of the smallest crate that has wrong bodies."""
+    """The real prover, over a copy of the smallest crate that has wrong bodies."""
 
     def try_edits(self, *edits: Edit) -> Tried:
-        """Returns what comes of some edits of the crate."""
+        """Returns the verdicts on some edits of the crate."""
         with tempfile.TemporaryDirectory() as room:
             top, folder = Path(room), Path(room) / "crates" / CRATE
             for part in ("src", "proofs"):
@@ -284,7 +285,8 @@ class Trying(unittest.TestCase):
             return try_crate(tree_at(top), CRATE, Running())
 
     def test_three_bodies(self) -> None:
-        """One that is refused, one that means the same and one that is refused elsewhere, by one check."""
+        """One check tries three edits: one is refused, one doesn't change the meaning, and one is refused at
+        another goal."""
         tried = self.try_edits(OTHER_KIND, SAME_FLUSH, ELSEWHERE)
         self.assertEqual((tried.checks, tried.passed, tried.failed), (1, 1, 2))
         self.assertEqual(len(tried.faults), 2)
@@ -313,7 +315,7 @@ class Trying(unittest.TestCase):
         self.assertEqual(tried.faults, ["not built, which `rt ci` or `rt check` does: below"])
 
     def test_lanes_and_stops(self) -> None:
-        """There is a lane at least, and none begins once all are stopped."""
+        """There is at least one lane, and none begins after all are stopped."""
         self.assertEqual(lane_count(1), 1)
         running = Running()
         running.stop()

@@ -1,8 +1,8 @@
-"""Plays the nodes of many slips, each over a connection of its own that is made again when it is lost:
+"""Plays the nodes of many slips, each over its own connection, which is made again when it is lost:
 
     crowd.py FILE SLIP..
 
-FILE gets a line for each hello that was granted, with the name.
+FILE gets a line with the name for each granted hello.
 """
 from __future__ import annotations
 
@@ -19,7 +19,7 @@ PAUSE = 0.3  # seconds between two looks
 
 
 def play(slip: Slip, told: Path) -> None:
-    """Plays until the class is over, or the key is another one."""
+    """Plays until the class is over or the key has changed."""
     me = come(slip)
     while True:
         with told.open("a", encoding="utf-8") as it:
@@ -34,7 +34,7 @@ def play(slip: Slip, told: Path) -> None:
 
 
 def come(slip: Slip) -> Client:
-    """Greets, and again until there is a way in: a class may be about to begin."""
+    """Connects and greets. Tries again while the class hasn't begun."""
     while True:
         try:
             return enter(slip, 300)
@@ -43,7 +43,7 @@ def come(slip: Slip) -> Client:
 
 
 def turns(me: Client, slip: Slip) -> None:
-    """Asks for what a look shows, again and again."""
+    """Asks for the rules that looks show, again and again."""
     while True:
         for node in slip.nodes:
             try:

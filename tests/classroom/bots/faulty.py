@@ -1,5 +1,5 @@
 #!/usr/bin/env python3
-"""Bots of known faults: faulty.py FAULT WORD.. SLIP. Each is right but for what its fault says."""
+"""Bots with known faults: faulty.py FAULT WORD.. SLIP. Each is correct except for its fault."""
 from __future__ import annotations
 
 import ctypes
@@ -14,7 +14,7 @@ from collections.abc import Callable
 from pathlib import Path
 
 sys.path.append(str(Path(__file__).resolve().parents[3]))
-from classroom.client import Client, Closed, Denied, Look, NoSlip, Refused, Slip
+from classroom.client import Client, Closed, Denied, Look, NoSlip, Over, Refused, Slip
 
 FAULT = sys.argv[1]
 OWN = Path(sys.argv[-1])
@@ -25,7 +25,7 @@ SLEEP = "98765.25"  # what is left behind is known by it
 
 
 def ask(me: Client, look: Look) -> bool:
-    """Asks as a right bot does; whether it was granted."""
+    """Asks like a correct bot. Returns whether the move was granted."""
     try:
         me.move(look)
     except Denied as denied:
@@ -36,7 +36,7 @@ def ask(me: Client, look: Look) -> bool:
 
 
 def entered() -> Client:
-    """Returns a connection that was let in; if all seats are taken it comes again."""
+    """Returns a connection after its hello. Tries again if all seats are taken."""
     while True:
         try:
             return Client.of(SLIP)
@@ -46,35 +46,52 @@ def entered() -> Client:
             time.sleep(1)
 
 
-def loop(wants: Callable[[Client, Look], None], pause: float = PAUSE) -> None:
-    """Looks at its nodes again and again; `wants` does what there is to do at one."""
+def once(wants: Callable[[Client, Look], None], pause: float = PAUSE) -> None:
+    """Looks at its nodes again and again on one connection. `wants` is called with each look."""
     with entered() as me:
         while True:
             for node in SLIP.nodes:
-                wants(me, me.look(node))
+                try:
+                    wants(me, me.look(node))
+                except Refused as refused:
+                    if refused.word != "memory":
+                        raise
             time.sleep(pause)
 
 
+def loop(wants: Callable[[Client, Look], None], pause: float = PAUSE) -> None:
+    """Plays until the class is over, on one connection after another."""
+    while True:
+        try:
+            once(wants, pause)
+        except Over:
+            sys.exit()
+        except (Closed, Refused) as lost:
+            if isinstance(lost, Refused) and lost.word != "busy":
+                raise
+            time.sleep(0.5)
+
+
 def right(me: Client, look: Look) -> None:
-    """What a right bot does."""
+    """Does what a correct bot does with a look."""
     if look.rule and not look.chosen:
         ask(me, look)
 
 
 def never_updates(me: Client, look: Look) -> None:
-    """It knows three of the four rules."""
+    """Never asks for an update."""
     if look.rule != "update":
         right(me, look)
 
 
 def marries_anyone(me: Client, look: Look) -> None:
-    """If it may do anything it asks for a marriage with its first neighbour."""
+    """If any rule is enabled, asks for a marriage with its first neighbour."""
     if look.rule and not look.chosen:
         me.move(look, "marriage", look.near[0].node)
 
 
 def asks_always(me: Client, look: Look) -> None:
-    """Beside the right move it asks for one under a number that isn't there, whatever the look shows."""
+    """Asks for the right move, and also for one under a number that doesn't exist."""
     right(me, look)
     try:
         me.ask(do="move", node=look.node, at=look.at + 1000, rule="update")
@@ -83,7 +100,7 @@ def asks_always(me: Client, look: Look) -> None:
 
 
 def quotes_numbers() -> None:
-    """It puts its nodes' numbers into quotes in its first thirty lines."""
+    """Puts the node's number into quotes in its first thirty lines."""
     with Client.of(SLIP) as me:
         for _ in range(30):
             me._socket.sendall(b'{"do": "look", "node": "%d"}\n' % SLIP.nodes[0])
@@ -92,7 +109,7 @@ def quotes_numbers() -> None:
 
 
 def floods(me: Client, look: Look) -> None:
-    """It sends a hundred lines at a time, without a pause."""
+    """Sends a hundred lines at a time without a pause."""
     right(me, look)
     me._socket.sendall(b'{"do":"look","node":%d}\n' % look.node * 100)
     for _ in range(100):
@@ -100,7 +117,7 @@ def floods(me: Client, look: Look) -> None:
 
 
 def ignores_faults() -> None:
-    """It believes itself done if each of its nodes was granted the move by which it says that it is married."""
+    """Stops when each of its nodes has been granted the move that marks it as married."""
     left = set(SLIP.nodes)
     with Client.of(SLIP) as me:
         while left:
@@ -115,7 +132,7 @@ def ignores_faults() -> None:
 
 
 def needs_order(me: Client, look: Look) -> None:
-    """It takes a grant for a step: it waits for the next number before it looks at another node."""
+    """Takes a grant for a step: waits for the next number before it looks at another node."""
     if look.rule and not look.chosen:
         ask(me, look)
         while me.look(look.node).at == look.at:
@@ -123,28 +140,28 @@ def needs_order(me: Client, look: Look) -> None:
 
 
 def hangs() -> None:
-    """It says hello, and then nothing."""
+    """Says hello, and then nothing."""
     with entered():
         time.sleep(1000)
 
 
 def sulks() -> None:
-    """It waits for ever if its connection is closed."""
+    """Waits for ever after its connection is closed."""
     try:
-        loop(right)
+        once(right)
     except Closed:
         time.sleep(1000)
 
 
 def binary() -> None:
-    """It writes bytes that are no text."""
+    """Writes bytes that aren't text."""
     with socket.create_connection(("127.0.0.1", SLIP.port)) as it:
         it.sendall(bytes(range(128, 256)) + b"\n")
         time.sleep(1000)
 
 
 def never_ends_a_line() -> None:
-    """It writes without a newline."""
+    """Writes without a newline."""
     with socket.create_connection(("127.0.0.1", SLIP.port)) as it:
         try:
             while True:
@@ -154,25 +171,25 @@ def never_ends_a_line() -> None:
 
 
 def forks() -> None:
-    """It leaves a program running, in a session of its own, and ends."""
+    """Leaves a program running in its own session, and ends."""
     subprocess.Popen(["sleep", SLEEP], start_new_session=True)
     os._exit(0)
 
 
 def leaves() -> None:
-    """It leaves a program running, and goes on as it should."""
+    """Leaves a program running, and plays correctly."""
     subprocess.Popen(["sleep", SLEEP], start_new_session=True)
     loop(right)
 
 
 def bombs() -> None:
-    """It starts more and more of itself."""
+    """Starts more and more copies of itself."""
     while True:
         subprocess.Popen(["sleep", SLEEP], start_new_session=True)
 
 
 def eats_memory() -> None:
-    """It takes more and more memory."""
+    """Allocates more and more memory."""
     held: list[bytearray] = []
     while True:
         held.append(bytearray(32 << 20))
@@ -180,14 +197,14 @@ def eats_memory() -> None:
 
 
 def pretends() -> None:
-    """It prints what looks like a reply."""
+    """Prints what looks like a reply."""
     while True:
         print('{"at":9,"free":[],"ok":"report","open":[],"pairs":[[1,2]],"privileged":[],"stable":true}', flush=True)
         time.sleep(PAUSE)
 
 
 def swaps_output() -> None:
-    """It puts a pipe that nobody fills in the place of its kept output, and ends."""
+    """Replaces its output file by a pipe that nobody writes to, and ends."""
     output = Path(os.environ["HOME"]) / "output.txt"
     output.unlink(missing_ok=True)
     os.mkfifo(output)
@@ -195,7 +212,7 @@ def swaps_output() -> None:
 
 
 def halts() -> None:
-    """It stops whoever started it, again and again, says nothing, and gives up at last."""
+    """Stops the process that started it, again and again, says nothing, and gives up at last."""
     for _ in range(1000):
         os.kill(os.getppid(), signal.SIGSTOP)
         time.sleep(0.01)
@@ -203,7 +220,7 @@ def halts() -> None:
 
 
 def kills() -> None:
-    """It kills whoever started it, and leaves programs running that don't have its environment."""
+    """Kills the process that started it, and leaves programs running that don't have its environment."""
     for _ in range(3):
         subprocess.Popen(["/bin/sleep", SLEEP], start_new_session=True, env={"HOME": "/"})
     keeper = os.getppid()
@@ -215,7 +232,7 @@ def kills() -> None:
 
 
 def spoil() -> None:
-    """Greets for others, whose slips lie beside its own, and sends what no right bot would."""
+    """Greets with the slips of others, which are beside its own, and sends what no correct bot would send."""
     while True:
         for slip in OWN.parent.parent.glob("bot-*/bot.slip"):
             try:
@@ -229,13 +246,13 @@ def spoil() -> None:
 
 
 def spoils() -> None:
-    """It plays, and spoils what others do."""
+    """Plays, and disturbs other bots."""
     threading.Thread(target=spoil, daemon=True).start()
     loop(right)
 
 
 def copies() -> None:
-    """It looks for another's command, and runs that with its own slip; after a while it gives up."""
+    """Looks for the command of another bot, and runs it with its own slip. Gives up after a while."""
     for _ in range(100):
         for each in Path("/proc").glob("[0-9]*"):
             try:
@@ -249,7 +266,7 @@ def copies() -> None:
 
 
 def fills() -> None:
-    """It fills its folder."""
+    """Fills its folder."""
     for number in range(100):
         try:
             Path(f"filled-{number}").write_bytes(bytes(8 << 20))
@@ -259,7 +276,7 @@ def fills() -> None:
 
 
 def hides_memory() -> None:
-    """It takes memory in files without a name."""
+    """Allocates memory in files without a name."""
     held = []
     for _ in range(100):
         held.append(os.memfd_create("hidden"))
@@ -269,7 +286,7 @@ def hides_memory() -> None:
 
 
 def shares_memory() -> None:
-    """It takes memory that belongs to no process."""
+    """Allocates shared memory that belongs to no process."""
     libc = ctypes.CDLL(None)
     libc.shmat.restype = ctypes.c_void_p
     for _ in range(100):
@@ -281,7 +298,7 @@ def shares_memory() -> None:
 
 
 def links() -> None:
-    """It puts a link in the place of its kept output, and ends."""
+    """Replaces its output file by a link, and ends."""
     output = OWN.parent / "output.txt"
     output.unlink(missing_ok=True)
     output.symlink_to(GIVEN[0])
@@ -289,14 +306,14 @@ def links() -> None:
 
 
 def moves_out() -> None:
-    """It puts a link to another folder where its own was, and ends."""
+    """Replaces its folder by a link to another folder, and ends."""
     OWN.parent.rename(f"{OWN.parent}-moved")
     OWN.parent.symlink_to(GIVEN[0])
     os._exit(3)
 
 
 def digs() -> None:
-    """It makes folders in folders, deeper than any name of a file can be, the last of which it locks."""
+    """Makes nested folders, deeper than any path can be, and removes the permissions of the last."""
     for _ in range(3000):
         os.mkdir("deeper")
         os.chdir("deeper")
@@ -305,7 +322,7 @@ def digs() -> None:
 
 
 def tries(what: Callable[[], object]) -> str:
-    """Returns whether something can be done."""
+    """Returns whether an action succeeds, as a text."""
     try:
         return str(bool(what()))
     except OSError:
@@ -313,7 +330,7 @@ def tries(what: Callable[[], object]) -> str:
 
 
 def peeks() -> None:
-    """It tells which files it can read and write, and what else it can do, in its last line."""
+    """Prints in its last line which files it can read and write, and what else it can do."""
     found = [f"read {file.name}: {tries(file.read_bytes)}" for file in map(Path, GIVEN[1:])]
     found += [f"write {file.name}: {tries(lambda: os.access(file, os.W_OK))}" for file in map(Path, GIVEN[1:])]
     found += [f"connect: {tries(lambda: socket.create_connection(('127.0.0.1', int(GIVEN[0]))))}"]

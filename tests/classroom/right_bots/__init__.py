@@ -1,1 +1,1 @@
-"""Right bots in five styles, which each suite passes."""
+"""Correct bots in five styles, which pass every suite."""

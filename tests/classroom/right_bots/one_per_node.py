@@ -1,5 +1,5 @@
 #!/usr/bin/env python3
-"""A right bot of a thread and a connection for each of its nodes."""
+"""A correct bot with a thread and a connection for each of its nodes."""
 from __future__ import annotations
 
 import os

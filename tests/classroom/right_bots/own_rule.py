@@ -1,5 +1,5 @@
 #!/usr/bin/env python3
-"""A right bot without any module of the release: its own lines, its own reading, its own guards."""
+"""A correct bot that uses no module of the release: it reads and writes lines and computes guards by itself."""
 from __future__ import annotations
 
 import json
@@ -52,7 +52,7 @@ class Connection:
 
 
 def rule_of(look: dict[str, Any]) -> dict[str, object] | None:
-    """Returns the move that is enabled at a node, by its registers and those of its neighbours."""
+    """Returns the enabled move of a node, computed from its registers and those of its neighbours."""
     i, p, m, near = look["node"], look["p"], look["m"], {each["node"]: each for each in look["near"]}
     married = p is not None and near[p]["p"] == i
     if m != married:
@@ -67,10 +67,12 @@ def rule_of(look: dict[str, Any]) -> dict[str, object] | None:
 
 
 def play(it: Connection, nodes: list[int]) -> None:
-    """Looks, decides and asks."""
+    """Looks at each node, computes its move, and asks for it."""
     while True:
         for node in nodes:
             look = it.ask(do="look", node=node)
+            if "refuse" in look:
+                continue  # Out of memory: it looks again later.
             move = rule_of(look)
             if move and look["chosen"] is None:
                 reply = it.ask(do="move", node=node, at=look["at"], **move)

@@ -1,5 +1,5 @@
 #!/usr/bin/env python3
-"""A right bot that takes its time: it thinks between look and move, and waits long between two looks."""
+"""A slow correct bot: it waits between look and move, and longer between two looks."""
 from __future__ import annotations
 
 import sys
@@ -13,14 +13,14 @@ THINKING, WAITING = 0.3, 0.5  # seconds
 
 
 def ask(me: Client, nodes: tuple[int, ...]) -> None:
-    """Looks at one node after another, and thinks."""
+    """Looks at one node after another, and waits before each move."""
     while True:
         for node in nodes:
-            look = me.look(node)
-            if look.rule is None or look.chosen is not None:
-                continue
-            time.sleep(THINKING)
             try:
+                look = me.look(node)
+                if look.rule is None or look.chosen is not None:
+                    continue
+                time.sleep(THINKING)
                 me.move(look)
             except (Denied, Refused) as no:
                 if not goes_on(no):
@@ -35,7 +35,9 @@ def play(words: list[str]) -> None:
     while True:
         try:
             ask(me, slip.nodes)
-        except Closed as lost:
+        except (Closed, Refused) as lost:
+            if isinstance(lost, Refused) and lost.word != "busy":
+                raise
             me = again(slip, lost)
 
 

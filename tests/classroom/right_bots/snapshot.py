@@ -1,5 +1,5 @@
 #!/usr/bin/env python3
-"""A right bot that looks at all its nodes in one configuration, and then asks for all moves."""
+"""A correct bot that looks at all its nodes in one configuration, and then asks for all moves."""
 from __future__ import annotations
 
 import sys
@@ -7,7 +7,7 @@ import time
 from pathlib import Path
 
 sys.path.append(str(Path(__file__).resolve().parents[3]))
-from classroom.client import Client, Closed, Denied, Moving, Slip, again, enter, run  # noqa: E402
+from classroom.client import Client, Closed, Denied, Moving, Refused, Slip, again, enter, run  # noqa: E402
 
 
 def ask(me: Client, nodes: tuple[int, ...]) -> None:
@@ -32,7 +32,7 @@ def play(words: list[str]) -> None:
     while True:
         try:
             ask(me, slip.nodes)
-        except Closed as lost:
+        except (Closed, Refused) as lost:  # `memory` too: it asks again on a new connection.
             me = again(slip, lost)
 
 

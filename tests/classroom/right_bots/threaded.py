@@ -1,5 +1,5 @@
 #!/usr/bin/env python3
-"""A right bot of two threads: one looks, the other asks, over one connection that they share by a lock."""
+"""A correct bot with two threads, one that looks and one that asks, over one connection with a lock."""
 from __future__ import annotations
 
 import os
@@ -14,7 +14,7 @@ from classroom.client import Client, Closed, Denied, Look, Refused, Slip, again,
 
 
 class Bot:
-    """What both threads share."""
+    """The data that both threads share."""
 
     def __init__(self, slip: Slip) -> None:
         self.slip, self.lock = slip, threading.Lock()
@@ -22,7 +22,8 @@ class Bot:
         self.looks: queue.Queue[Look] = queue.Queue()
 
     def looking(self) -> None:
-        """Looks at each node, and hands on what there is to ask. While one look waits to be asked for, no other is taken."""
+        """Looks at each node, and queues the looks with an enabled rule. Waits until a queued look has been
+        handled."""
         while True:
             for node in self.slip.nodes:
                 with self.lock:
@@ -33,7 +34,7 @@ class Bot:
             time.sleep(0.05)
 
     def asking(self) -> None:
-        """Asks for what comes."""
+        """Asks for the move of each queued look."""
         while True:
             look = self.looks.get()
             try:
@@ -46,7 +47,7 @@ class Bot:
                 self.looks.task_done()
 
     def lasting(self, work: str) -> None:
-        """Does a thread's work; if the connection is lost the first thread that sees it greets again."""
+        """Runs a thread's work. If the connection is lost, the first thread that notices it connects again."""
         while True:
             me = self.me
             try:

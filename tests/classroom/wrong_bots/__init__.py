@@ -1,1 +1,1 @@
-"""Bots with one mistake each, as students make them; `base.py` is a right one, of which each changes a part."""
+"""Bots with one mistake each, as students make them. Each changes a part of the correct bot in `base.py`."""

@@ -1,4 +1,4 @@
-"""Mistakes in what is asked, and when."""
+"""Bots with mistakes in their requests and their timing."""
 from __future__ import annotations
 
 import time
@@ -57,7 +57,7 @@ class RepeatsTheLine(Bot):
 
 
 class TakesTheNumberOfADenial(Bot):
-    """Asks again under the number in `stale`, without a look."""
+    """Asks again with the number in the denial `stale`, without a new look."""
 
     def denied(self, denied: Denied, look: Look, rule: Rule) -> bool:
         if denied.name != "stale" or denied.at is None:
@@ -66,7 +66,7 @@ class TakesTheNumberOfADenial(Bot):
 
 
 class TakesTheNewestNumber(Bot):
-    """Asks under the newest number of any look, whatever the number of the look at this node was."""
+    """Asks with the newest number of any look, even if the look at this node has another."""
 
     def turn(self) -> None:
         looks = [self.me.look(node) for node in self.slip.nodes]
@@ -76,7 +76,7 @@ class TakesTheNewestNumber(Bot):
 
 
 class WaitsForTheNextNumber(Bot):
-    """After a grant it looks at the node, but asks nothing before the number has changed."""
+    """After a grant it looks at the node, but asks for nothing until the number changes."""
 
     def at(self, look: Look) -> None:
         asked = self.__dict__.setdefault("asked", {})
@@ -107,7 +107,7 @@ class TakesAGrantForAStep(Bot):
 
 
 class PlaysOneNode(Bot):
-    """Plays the first node of its slip alone."""
+    """Plays only the first node of its slip."""
 
     def turn(self) -> None:
         self.at(self.me.look(self.slip.nodes[0]))
@@ -129,7 +129,7 @@ class LeavesTheMarriedAlone(Bot):
 
 
 class TakesTheEldestNumber(Bot):
-    """Asks under the number of its first look."""
+    """Asks with the number of its first look."""
 
     def at(self, look: Look) -> None:
         first = self.__dict__.setdefault("first", look.at)
@@ -169,7 +169,7 @@ class SendsNumbersAsTexts(Bot):
 
 
 class MarriesWithoutAName(Bot):
-    """Leaves out with whom it marries."""
+    """Leaves out the partner of a marriage."""
 
     def ask(self, look: Look, rule: Rule) -> bool:
         try:

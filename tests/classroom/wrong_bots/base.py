@@ -1,4 +1,4 @@
-"""A right bot that decides by itself, in small parts: a wrong one changes one of them."""
+"""A correct bot in small parts, which computes rules by itself. Each wrong bot changes one part."""
 from __future__ import annotations
 
 import sys
@@ -12,7 +12,7 @@ PAUSE = 0.05
 
 
 class Bot:
-    """A right bot."""
+    """A correct bot."""
 
     def __init__(self, slip: Slip) -> None:
         self.slip = slip
@@ -27,16 +27,17 @@ class Bot:
             try:
                 self.loop()
             except (Closed, Refused) as lost:
-                if isinstance(lost, Refused) and lost.word != "busy":
+                if isinstance(lost, Closed) or lost.word == "busy":
+                    self.me = self.again(lost)
+                elif lost.word != "memory":
                     raise
-                self.me = self.again(lost)
 
     def enter(self) -> Client:
-        """Greets; if no seat is free, again a second later."""
+        """Connects and greets. Tries again each second if no seat is free."""
         return enter(self.slip)
 
     def again(self, lost: Closed | Refused) -> Client:
-        """Greets again after the connection was lost, unless the class is over."""
+        """Connects again after the connection was lost. Exits if the class is over."""
         return again(self.slip, lost)
 
     def loop(self) -> None:
@@ -46,18 +47,18 @@ class Bot:
             time.sleep(PAUSE)
 
     def turn(self) -> None:
-        """Looks at each of its nodes, and asks for what there is to ask."""
+        """Looks at each of its nodes, and asks for enabled moves."""
         for node in self.slip.nodes:
             self.at(self.me.look(node))
 
     def at(self, look: Look) -> None:
-        """Asks for the rule that is enabled at a node, if its move isn't chosen already."""
+        """Asks for the enabled rule of a node, unless its move is chosen already."""
         rule = self.rule(look)
         if rule and look.chosen is None:
             self.ask(look, rule)
 
     def ask(self, look: Look, rule: Rule) -> bool:
-        """Asks for a move; returns whether it was granted. A step that was closed meanwhile is no error."""
+        """Asks for a move. Returns whether it was granted. If a step was closed meanwhile, returns false."""
         try:
             self.me.move(look, rule, self.partner(look))
         except Denied as denied:
@@ -65,7 +66,7 @@ class Bot:
         return True
 
     def denied(self, denied: Denied, look: Look, rule: Rule) -> bool:
-        """Takes a denial, after which it looks again."""
+        """Handles a denial. Returns whether the bot goes on, by looking again."""
         if denied.name not in ("stale", "chosen"):
             raise denied
         return False
@@ -73,7 +74,7 @@ class Bot:
     # The rules.
 
     def rule(self, look: Look) -> Rule | None:
-        """Returns the rule that is enabled."""
+        """Returns the enabled rule of a node, or None."""
         if look.m != self.is_married(look):
             return "update"
         if look.p is None:
@@ -91,7 +92,7 @@ class Bot:
         return [near.node for near in look.near if near.p == look.node]
 
     def partner(self, look: Look) -> int | None:
-        """Returns whom to marry."""
+        """Returns the neighbour to marry."""
         return max(self.suitors(look), default=None)
 
     def candidates(self, look: Look) -> list[int]:
@@ -99,10 +100,10 @@ class Bot:
         return [near.node for near in look.near if near.node > look.node and near.p is None and not near.m]
 
     def pointed(self, look: Look) -> Near:
-        """Returns the neighbour at which the node points."""
+        """Returns the neighbour that the node points at."""
         return next(near for near in look.near if near.node == look.p)
 
     def gives_up(self, look: Look) -> bool:
-        """Returns whether the node, which points at a neighbour, abandons it."""
+        """Returns whether the node abandons the neighbour that it points at."""
         it = self.pointed(look)
         return it.p != look.node and (it.m or it.node < look.node)

@@ -1,4 +1,4 @@
-"""Mistakes in the guards."""
+"""Bots with mistakes in the guards."""
 from __future__ import annotations
 
 from classroom.client import Look, Rule
@@ -6,28 +6,28 @@ from tests.classroom.wrong_bots.base import Bot
 
 
 class NeverUpdates(Bot):
-    """Knows three of the four rules: no update."""
+    """Knows only three of the four rules, without the update."""
 
     def rule(self, look: Look) -> Rule | None:
         return None if look.m != self.is_married(look) else super().rule(look)
 
 
 class NeverAbandons(Bot):
-    """Waits for ever for whom it points at."""
+    """Waits for ever for the neighbour that it points at."""
 
     def gives_up(self, look: Look) -> bool:
         return False
 
 
 class NeverSeduces(Bot):
-    """Waits for suitors."""
+    """Waits until a neighbour points at it, and never seduces."""
 
     def candidates(self, look: Look) -> list[int]:
         return []
 
 
 class UpdatesOnlyToTrue(Bot):
-    """Notes that it is married, and never that it isn't any longer."""
+    """Sets m to true when it is married, but never to false."""
 
     def is_married(self, look: Look) -> bool:
         return look.m or super().is_married(look)
@@ -48,14 +48,14 @@ class TakesASuitorForAPair(Bot):
 
 
 class SeducesTheMarried(Bot):
-    """Forgets that the m of whom it seduces has to be false."""
+    """Doesn't check that m of the seduced node is false."""
 
     def candidates(self, look: Look) -> list[int]:
         return [near.node for near in look.near if near.node > look.node and near.p is None]
 
 
 class SeducesThePointing(Bot):
-    """Forgets that the p of whom it seduces has to be null."""
+    """Doesn't check that p of the seduced node is null."""
 
     def candidates(self, look: Look) -> list[int]:
         return [near.node for near in look.near if near.node > look.node and not near.m]
@@ -106,7 +106,7 @@ class RulesBeforeUpdate(Bot):
 
 
 class AbandonsOnlyTheMarried(Bot):
-    """Abandons only whose m is true, and never a lower one that doesn't point back."""
+    """Abandons only neighbours whose m is true, and never a lower one that doesn't point back."""
 
     def gives_up(self, look: Look) -> bool:
         it = self.pointed(look)
@@ -114,7 +114,7 @@ class AbandonsOnlyTheMarried(Bot):
 
 
 class AbandonsOnlyTheLower(Bot):
-    """Abandons only lower ones, and never a higher one that is married to somebody else."""
+    """Abandons only lower neighbours, and never a higher one that is married to another node."""
 
     def gives_up(self, look: Look) -> bool:
         it = self.pointed(look)
@@ -122,28 +122,28 @@ class AbandonsOnlyTheLower(Bot):
 
 
 class AbandonsAtOnce(Bot):
-    """Abandons everybody who doesn't point back at once."""
+    """Abandons each neighbour that doesn't point back at once."""
 
     def gives_up(self, look: Look) -> bool:
         return self.pointed(look).p != look.node
 
 
 class ComparesTexts(Bot):
-    """Compares identifiers as texts, by which 10 is less than 9."""
+    """Compares identifiers as texts, so that 10 is less than 9."""
 
     def candidates(self, look: Look) -> list[int]:
         return [near.node for near in look.near if str(near.node) > str(look.node) and near.p is None and not near.m]
 
 
 class LeavesOutItsOwn(Bot):
-    """Doesn't seduce nodes of its own."""
+    """Never seduces nodes of its own."""
 
     def candidates(self, look: Look) -> list[int]:
         return [node for node in super().candidates(look) if node not in self.slip.nodes]
 
 
 class RemembersTheNeighbours(Bot):
-    """Believes for ever what its first look at a node showed of the neighbours."""
+    """Uses the neighbours' registers of its first look at a node for ever."""
 
     def at(self, look: Look) -> None:
         first = self.__dict__.setdefault("first", {}).setdefault(look.node, look)

@@ -1,4 +1,4 @@
-"""Mistakes with the connection, and with the end."""
+"""Bots with mistakes in their connections and at the end."""
 from __future__ import annotations
 
 import socket
@@ -87,7 +87,7 @@ class ForgetsTheHello(Bot):
 
 
 class GoesOnForEver(Bot):
-    """Greets again and again, also when the class is over."""
+    """Greets again and again, even if the class is over."""
 
     def again(self, lost: Closed | Refused) -> Client:
         while True:
@@ -127,7 +127,7 @@ class GreetsTwice(Bot):
 
 
 class Reads(Bot):
-    """Reads replies in another way."""
+    """Reads replies incorrectly."""
 
     def enter(self) -> Client:
         return self.reading(super().enter())
@@ -142,11 +142,11 @@ class Reads(Bot):
 
 
 class ReadsOnce(Reads):
-    """Takes what one read gives for the whole reply."""
+    """Takes the bytes of one read for the whole reply."""
 
     def reading(self, it: Client) -> Client:
         def line() -> bytes:
-            """Returns what one read gives."""
+            """Returns the bytes of one read."""
             more = it._socket.recv(65536)
             if not more:
                 raise Closed("the connection has ended")
@@ -157,7 +157,7 @@ class ReadsOnce(Reads):
 
 
 class ReadsAKilobyte(Reads):
-    """Takes a kilobyte of a reply, and drops the rest."""
+    """Reads a kilobyte of a reply, and drops the rest."""
 
     def reading(self, it: Client) -> Client:
         whole = it._line

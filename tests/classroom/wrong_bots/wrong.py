@@ -1,5 +1,5 @@
 #!/usr/bin/env python3
-"""Bots with one mistake each: wrong.py NAME SLIP, if `right` is the one without a mistake."""
+"""Runs a bot with one mistake: wrong.py NAME SLIP. The bot `right` has none."""
 from __future__ import annotations
 
 import re
@@ -10,16 +10,18 @@ sys.path.append(str(Path(__file__).resolve().parents[3]))
 from classroom.client import Closed, Slip, stop  # noqa: E402
 from tests.classroom.wrong_bots.asking import ASKING  # noqa: E402
 from tests.classroom.wrong_bots.base import Bot  # noqa: E402
+from tests.classroom.wrong_bots.changing import CHANGING  # noqa: E402
 from tests.classroom.wrong_bots.guards import GUARDS  # noqa: E402
+from tests.classroom.wrong_bots.habits import HABITS  # noqa: E402
 from tests.classroom.wrong_bots.staying import STAYING  # noqa: E402
 
 
 def named(kind: type[Bot]) -> str:
-    """Returns a bot's name: `NeverUpdates` is `never-updates`."""
+    """Returns the name of a bot: `never-updates` for the class `NeverUpdates`."""
     return re.sub("(?!^)([A-Z])", r"-\1", kind.__name__).lower()
 
 
-BOTS = {named(kind): kind for kind in (*GUARDS, *ASKING, *STAYING)}
+BOTS = {named(kind): kind for kind in (*GUARDS, *ASKING, *STAYING, *CHANGING, *HABITS)}
 
 if __name__ == "__main__":
     try:

@@ -1,0 +1,134 @@
+"""The limits that `./class` reads from the host's program, and what it does without them."""
+from __future__ import annotations
+
+import os
+import re
+import shlex
+import tomllib
+import unittest
+import unittest.mock
+from dataclasses import astuple, fields
+from pathlib import Path
+from types import SimpleNamespace
+from typing import Any
+
+from classroom.core import limits
+from classroom.core.program import Fault
+from classroom.core.statuses import FAILED
+from classroom.run.announcing import Announcer
+from tests.classroom.help import InRoom, words
+from tests.common.limits import LIMITS, MOST, TEXT
+
+BEGIN = "mml_host is of another version, which prints "
+
+
+class Reads(unittest.TestCase):
+    """Lines of a program."""
+
+    def refuses(self, text: str, what: str) -> None:
+        """Wants a fault that says what is printed."""
+        with self.assertRaises(Fault) as raised:
+            limits.parsed(text)
+        self.assertEqual((str(raised.exception), raised.exception.status), (f"{BEGIN}{what}: build it again", FAILED))
+
+    def test_each_limit(self) -> None:
+        found = limits.parsed(TEXT)
+        self.assertEqual(astuple(found), tuple(MOST.values()))
+        self.assertEqual([it.name for it in fields(found)], [name.replace("-", "_") for name in LIMITS])
+        self.assertEqual(found.seats, MOST["sessions"] - 1)
+        self.assertEqual(limits.UNIT_OF, {name: unit for name, (_, unit) in LIMITS.items()})
+
+    def test_any_order_and_other_names(self) -> None:
+        """A later version may print more limits, of other units too."""
+        lines = TEXT.splitlines()
+        self.assertEqual(limits.parsed("\n".join(["colours 3 kinds", *lines[::-1], ""])), limits.parsed(TEXT))
+
+    def test_a_missing_line(self) -> None:
+        lines = TEXT.splitlines()
+        for index, name in enumerate(LIMITS):
+            self.refuses("".join(f"{line}\n" for line in lines[:index] + lines[index + 1:]), f"no limit {name}")
+        self.refuses("", "no limit nodes")
+        self.refuses(TEXT[:-1], "no limit write")
+
+    def test_a_strange_number(self) -> None:
+        for number in ("", "0", "-16", "+16", "016", "16.0", "1e2", "16 ", "0x10", "sixteen", "١٦", "16_000", "9" * 20):
+            line = f"sessions {number} count"
+            self.refuses(TEXT.replace("sessions 16 count", line), f"the limit {line!r}")
+
+    def test_a_strange_line(self) -> None:
+        for line in ("", " ", "sessions", "sessions 16", "sessions 16 seconds", "sessions 16 count more", "Sessions 16 count", "sessions  16 count",
+                     "sessions 16 count\r", "nodes 256 count"):
+            self.refuses(TEXT.replace("sessions 16 count", line), f"the limit {line!r}")
+
+
+class Asks(InRoom):
+    """Calls of a program."""
+
+    def setUp(self) -> None:
+        super().setUp()
+        self.addCleanup(limits.allowed.cache_clear)
+        limits.allowed.cache_clear()
+
+    def program(self, name: str, text: str, status: int = 0) -> str:
+        """Returns a program that prints this text as its limits, takes every lab, and notes its words."""
+        note = shlex.quote(str(self.room / "calls"))
+        path = self.file(name, f"""#!/bin/sh
+            echo "$1" >> {note}
+            [ "$1" = limits ] || exec echo "ok: 9 nodes, 9 students"
+            printf %s {shlex.quote(text)}
+            exit {status}
+        """)
+        path.chmod(0o755)
+        return str(path)
+
+    def test_the_program_is_called_once(self) -> None:
+        with unittest.mock.patch.dict(os.environ, {"MML_HOST": self.program("host", TEXT)}):
+            self.assertEqual((limits.allowed(), limits.allowed(), limits.known()), (limits.parsed(TEXT),) * 3)
+        self.assertEqual((self.room / "calls").read_text(encoding="utf-8"), "limits\n")
+
+    def test_no_limits(self) -> None:
+        """If a program is missing, prints nothing or fails, no limit is known."""
+        for path, what in ((str(self.room / "none"), "mml_host isn't built: "), (self.program("silent", ""), f"{BEGIN}no limit nodes: "),
+                           (self.program("failing", TEXT, 1), f"{BEGIN}no limits: ")):
+            with unittest.mock.patch.dict(os.environ, {"MML_HOST": path}):
+                self.assertIsNone(limits.known())
+                with self.assertRaisesRegex(Fault, f"^{what}"):
+                    limits.allowed()
+
+    def test_other_limits(self) -> None:
+        """Each word has the limits that the program prints."""
+        text = TEXT
+        for name, most in (("nodes", 9), ("sessions", 5), ("events", 500), ("name", 4), ("identifier", 99)):
+            text = re.sub(rf"(?m)^{name} \d+", f"{name} {most}", text)
+        it = self.program("it", text)
+        table = self.file("table.csv", "Name,Room\n" + "".join(f"student{number},A\n" for number in range(9)))
+        links = self.file("links", "1 100\n")
+        cases: tuple[tuple[list[str | Path], int, str], ...] = (
+            (["new", self.room / "it.toml", "--students", table, "--groups-by", "Room"], 0, "it-3.toml: 9 nodes"),
+            (["new", self.room / "more.toml", "--students", table, "--nodes", "10"], 1, "class: a lab has 1 to 9 nodes, not 10\n"),
+            (["new", self.room / "far.toml", "--students", table, "--links", links], 1, f"class: {links}: line 1: a node is 1 to 99: 1 100\n"),
+            (["experiment", "--nodes", "4..10"], 1, "4..10 isn't A..B or A..B/STEP with numbers from 1 to 9;"),
+        )
+        for given, status, what in cases:
+            done = words(*given, MML_HOST=it, MML_PROGRAM=it)
+            self.assertEqual(done.returncode, status, done.stderr)
+            self.assertIn(what, done.stdout + done.stderr)
+        made = tomllib.loads((self.room / "it-1.toml").read_text(encoding="utf-8"))
+        self.assertEqual((made["sessions"], made["events"]), (5, 500))
+        self.assertEqual([each["name"] for each in made["student"]], ["stud", "st-4", "st-7"])
+        self.assertFalse((self.room / "it-4.toml").exists())
+
+    def test_a_full_lab(self) -> None:
+        """If all events are used, the remedy names the limit, if it is known."""
+        most, go_on = MOST["events"], "; raise `events` in here/lab.toml"
+        for path, events, said in ((self.program("host", TEXT), most - 1, f"{go_on}, to at most {most}, then resume --again"),
+                                   (self.program("host", TEXT), most, ", the most that a lab may have; continue with a new lab"),
+                                   (str(self.room / "none"), most, f"{go_on}, then resume --again")):
+            limits.allowed.cache_clear()
+            run: Any = SimpleNamespace(lab=SimpleNamespace(events=events), folder="here", go_on="resume")
+            with unittest.mock.patch.dict(os.environ, {"MML_HOST": path}):
+                self.assertEqual(Announcer.why_full(run), said)
+
+
+if __name__ == "__main__":
+    unittest.main()

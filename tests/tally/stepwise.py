@@ -1,0 +1,114 @@
+"""Drawn runs that go on step by step, with faults, links and cuts on the way: the rounds that `tally` prints, beside
+the plain model's and those that the class counts along the configurations."""
+from __future__ import annotations
+
+from pathlib import Path
+from random import Random
+
+from classroom.core import tally as tallies
+from classroom.core.rounds import Recovery
+from model import Lab, read_lab
+from model.events import apply
+from model.journal import event_line
+from model.requests import Request
+from model.tally import privileged
+from model.world import World
+from tests.common.preload import fail
+from tests.common.second import agreed
+from tests.random.labs import drawn_lab
+
+EVENTS = 120  # at most so many a run, and no more than its lab allows
+
+
+class Run:
+    """A run in the making, and the count along its configurations."""
+
+    def __init__(self, rng: Random, lab: Lab) -> None:
+        self.rng, self.lab = rng, lab
+        self.world = lab.opening()
+        self.recovery = Recovery(privileged(self.world))
+        self.lines: list[str] = []
+        self.ended = 0  # rounds, in the whole run
+
+    def is_full(self) -> bool:
+        """Returns whether there are as many events as there may be."""
+        return len(self.lines) >= min(EVENTS, self.lab.events)
+
+    def put(self, who: str, asked: Request) -> None:
+        """Lets an event happen."""
+        self.lines.append(event_line(self.world, who, asked))
+        apply(self.world, asked)
+
+    def grant(self, node: int) -> None:
+        """Grants a move at a node to one of its owners."""
+        move = self.rng.choice(self.world.moves(node))
+        self.put(self.rng.choice(self.lab.owners[node]), Request("move", node=node, at=self.world.number, move=move))
+
+    def close(self) -> None:
+        """Closes the step, and counts it."""
+        moved, before = set(self.world.chosen), self.recovery.rounds
+        self.put(self.lab.teacher, Request("close"))
+        self.recovery.step(moved, privileged(self.world))
+        self.ended += self.recovery.rounds - before
+
+    def change(self) -> None:
+        """Makes a fault, a link or a cut, from which a new count begins."""
+        self.put(self.lab.teacher, changed(self.rng, self.world))
+        self.recovery = Recovery(privileged(self.world))
+
+    def step(self) -> None:
+        """Grants moves at some of the privileged nodes, takes one back now and then, and closes or changes something."""
+        free = sorted(privileged(self.world))
+        share = self.rng.choice((0.2, 0.6, 1.0))
+        for node in [node for node in free if self.rng.random() < share] or free[:1]:
+            if self.is_full():
+                return
+            self.grant(node)
+        if self.is_full():
+            return
+        if len(self.world.chosen) > 1 and self.rng.random() < 0.3:
+            self.put(self.lab.teacher, Request("release", node=self.rng.choice(sorted(self.world.chosen))))
+        if self.is_full():
+            return
+        if not self.world.chosen or self.rng.random() < 0.1:
+            self.change()
+        else:
+            self.close()
+
+
+def changed(rng: Random, world: World) -> Request:
+    """Returns a fault, or a link or a cut if there are two nodes for it."""
+    pairs = [(a, b) for a in world.nodes() for b in world.nodes() if a < b]
+    if pairs and rng.random() < 0.4:
+        a, b = rng.choice(pairs)
+        return Request("cut" if b in world.links[a] else "link", a=a, b=b)
+    node = rng.choice(world.nodes())
+    return Request("fault", node=node, p=rng.choice([None, *world.near(node)]), m=rng.random() < 0.5)
+
+
+def drawn(room: Path, seed: int) -> int:
+    """Tries a drawn run. Returns how many rounds ended in it."""
+    rng = Random(f"stepwise {seed}")
+    document = drawn_lab(rng)
+    run = Run(rng, read_lab(document.encode()))
+    while not run.is_full() and not (run.world.stable() and rng.random() < 0.2):
+        run.step()
+    lab, journal = room / "lab.toml", room / "journal"
+    lab.write_text(document, encoding="ascii")
+    journal.write_text("".join(run.lines), encoding="ascii")
+    found = agreed(f"stepwise, seed {seed}", "tally", lab, journal)
+    if found.status:
+        fail(f"stepwise, seed {seed}: {found}")
+    printed = tallies.read(found.out.decode())
+    if (printed.rounds, printed.since) != (run.recovery.rounds, (run.recovery.moves, run.recovery.closes)):
+        fail(f"stepwise, seed {seed}: {printed.rounds} rounds and {printed.since}, not {run.recovery.rounds} and "
+             f"{run.recovery.moves} moves in {run.recovery.closes} closes")
+    return run.ended
+
+
+def tried(room: Path, count: int) -> int:
+    """Tries so many drawn runs. Returns how many rounds ended in them."""
+    rounds = [drawn(room, seed) for seed in range(1, count + 1)]
+    if 3 * sum(ended > 1 for ended in rounds) < count:
+        fail("fewer than a third of the drawn runs have two rounds")
+    return sum(rounds)
