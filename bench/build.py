@@ -18,7 +18,8 @@ WRAPPER = Path("/usr/share/cargo/bin/cargo")
 
 
 def variables() -> dict[str, str]:
-    """Returns the environment that the wrapper wants: it works only with a CARGO_HOME whose name ends as here."""
+    """Returns the environment for Debian's wrapper of cargo. The wrapper works only if CARGO_HOME ends in this
+    way."""
     home = OUT / "debian/cargo_home"
     flags = {name: "" for name in ("CFLAGS", "CXXFLAGS", "CPPFLAGS", "LDFLAGS")}
     target = {"DEB_HOST_GNU_TYPE": "x86_64-linux-gnu", "DEB_HOST_RUST_TYPE": "x86_64-unknown-linux-gnu"}
@@ -29,17 +30,17 @@ def main() -> None:
     """Copies the sources, since cargo writes beside them, and builds the copy."""
     if not WRAPPER.exists():
         refuse("no cargo of Debian's: bench/README.md says what has to be installed")
-    told = variables()
+    environment = variables()
     cargo = os.environ.get("CARGO") or "/usr/bin/cargo"
     if "CARGO" not in os.environ:
-        told["RUSTC"] = "/usr/bin/rustc"
+        environment["RUSTC"] = "/usr/bin/rustc"
     source = OUT / "source"
     shutil.rmtree(source, ignore_errors=True)
     shutil.copytree(FOLDER, source, ignore=shutil.ignore_patterns("out"))
     prepare: Words = [WRAPPER, "prepare-debian", OUT / "packages", "--link-from-system"]
     build: Words = [cargo, "build", "--release", "--offline", "--target-dir", OUT / "target"]
     for call in prepare, build:
-        subprocess.run(call, cwd=source, env=told, check=True)
+        subprocess.run(call, cwd=source, env=environment, check=True)
     shutil.copy2(OUT / "target/release/typed", OUT / "typed")
 
 

@@ -20,7 +20,8 @@ def free_port() -> int:
 
 
 def ask(port: int, burst: int, bursts: int, begin: Barrier, results: "multiprocessing.Queue[set[bytes]]") -> None:
-    """A greeting, and then the bursts, once all clients are there: each after the last one's replies."""
+    """Greets, waits until all clients have greeted, and sends the bursts. Each burst follows the replies to the
+    last one. Puts the set of replies into `results`."""
     with socket.create_connection(("127.0.0.1", port)) as it, it.makefile("rb") as lines:
         it.setsockopt(socket.IPPROTO_TCP, socket.TCP_NODELAY, 1)
         it.sendall(HELLO)
@@ -36,8 +37,8 @@ def ask(port: int, burst: int, bursts: int, begin: Barrier, results: "multiproce
 
 
 def time_clients(port: int, burst: int, bursts: int) -> tuple[float, Optional[bytes]]:
-    """Returns how many seconds all clients take, and the one reply that all of them got, or None if they got
-    several."""
+    """Returns the seconds that all clients take together, and the reply that all of them got, or None if the
+    replies differ."""
     begin = multiprocessing.Barrier(CONNECTIONS + 1)
     results: "multiprocessing.Queue[set[bytes]]" = multiprocessing.Queue()
     words = (port, burst, bursts, begin, results)

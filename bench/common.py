@@ -17,17 +17,17 @@ Words = Sequence[Union[str, Path]]
 
 
 def refuse(why: str) -> NoReturn:
-    """Ends the whole, since nothing is measured."""
+    """Prints the reason, and exits, since nothing was measured."""
     sys.exit(f"bench: {why}")
 
 
 def built(program: Path) -> Path:
-    """Returns the path of a program that is built; if it isn't, the measurement ends."""
+    """Returns the path of a program. Exits if it isn't built."""
     return program if program.exists() else refuse(f"{program} isn't built: bench/README.md says how")
 
 
 def built_in(sessions: int = 4, events: int = 100) -> str:
-    """Returns the lab of a call without words, with these limits."""
+    """Returns the lab that the program uses without arguments, with these limits."""
     found = re.search(r'r#"(.*?)"#', BUILT_IN.read_text(encoding="utf-8"), re.DOTALL)
     if found is None:
         refuse(f"{BUILT_IN}: no lab")
@@ -36,27 +36,28 @@ def built_in(sessions: int = 4, events: int = 100) -> str:
 
 
 def stripped(program: Path, path: Path) -> Path:
-    """Writes to a path a program without what it holds for a debugger, which valgrind may not read. Returns the
-    path."""
+    """Writes a copy of a program without its debugging information, which valgrind may not read. Returns the path
+    of the copy."""
     subprocess.run(["strip", "--strip-debug", "-o", path, built(program)], check=True)
     return path
 
 
-def needs_valgrind() -> None:
-    """Ends where what counts isn't there."""
+def require_valgrind() -> None:
+    """Exits if valgrind or strip isn't installed."""
     for tool in "valgrind", "strip":
         if shutil.which(tool) is None:
             refuse(f"no {tool} on the path")
 
 
 def replies(words: Words, stdin: Path) -> bytes:
-    """Returns what a program writes to standard output."""
+    """Returns the standard output of a program."""
     with stdin.open("rb") as lines:
         return subprocess.run(words, stdin=lines, stdout=subprocess.PIPE, check=True).stdout
 
 
 def instructions(words: Words, stdin: Path) -> int:
-    """Returns how many instructions a run of a program takes: the same in every run, beside other work too."""
+    """Returns the number of instructions that a run of a program takes. It doesn't depend on what else runs on the
+    machine."""
     call = ["valgrind", "--tool=callgrind", "--callgrind-out-file=/dev/null", *words]
     with stdin.open("rb") as lines:
         run = subprocess.run(call, stdin=lines, stdout=subprocess.DEVNULL, stderr=subprocess.PIPE, check=True)

@@ -1,10 +1,11 @@
-"""Counts the instructions that a line takes, of this program and of the one by hand, by valgrind's callgrind.
+"""Counts the instructions per line of this program and of the one that is written by hand, with valgrind's
+callgrind.
 
     python3 -B -m bench.count [ROW..]
 
-Each figure is the difference of two runs of unlike lengths, by the lines that one has more, so that the
-start isn't counted. Before a figure is printed, both programs have to write the same for the longer input.
-With words only rows are counted whose names have one of them.
+Each figure compares two runs of different lengths: the difference of the instructions, divided by the difference
+of the lines, so that the start isn't counted. Before a figure is printed, both programs have to write the same
+output for the longer input. With arguments, only the rows whose names contain one of them are counted.
 """
 import sys
 import tempfile
@@ -13,12 +14,13 @@ from dataclasses import dataclass
 from pathlib import Path
 
 from bench import inputs
-from bench.common import PROGRAM, TYPED, Words, built_in, instructions, needs_valgrind, refuse, replies, stripped
+from bench.common import PROGRAM, TYPED, Words, built_in, instructions, require_valgrind, refuse, replies, stripped
 
 
 @dataclass(frozen=True)
 class Row:
-    """A lab, the lines of so many turns, two lengths in turns, and how many lines a figure is for."""
+    """A measurement: its lab, the lines of a number of turns, two lengths in turns, and the number of lines that
+    count as one."""
 
     name: str
     lab: Callable[[], str]
@@ -32,31 +34,31 @@ class Row:
 PIPED = ("PIPE",)
 ROWS = (
     Row("see, standard input", built_in, inputs.sees, 2_000, 22_000, PIPED),
-    Row("see, file", inputs.three, inputs.sees, 2_000, 22_000),
-    Row("mixed, file", inputs.three, inputs.mixed, 300, 3_300),
-    Row("granted move or release", inputs.three, inputs.granted, 1_000, 8_000),
+    Row("see, file", inputs.largest_built_in, inputs.sees, 2_000, 22_000),
+    Row("mixed, file", inputs.largest_built_in, inputs.mixed, 300, 3_300),
+    Row("granted move or release", inputs.largest_built_in, inputs.granted, 1_000, 8_000),
     Row("look, 64 nodes of six neighbours", lambda: inputs.ring(64, 3), inputs.looks, 1_000, 9_000),
-    Row("hello and bye, both", inputs.three, inputs.greetings, 1_000, 8_000, lines=2),
+    Row("hello and bye, both", inputs.largest_built_in, inputs.greetings, 1_000, 8_000, lines=2),
     Row("report, 3 nodes", lambda: inputs.ring(3), inputs.reports, 100, 1_100),
     Row("report, 64 nodes", lambda: inputs.ring(64), inputs.reports, 20, 120),
     Row("report, 256 nodes", lambda: inputs.ring(256), inputs.reports, 20, 120),
-    Row('a line with "x":[]', inputs.three, inputs.sees_and_more, 2_000, 22_000),
+    Row('a line with "x":[]', inputs.largest_built_in, inputs.sees_and_more, 2_000, 22_000),
     Row("student's see, all links", inputs.all_links, inputs.sees_of_all, 256, 5_376),
     Row("look there", inputs.all_links, inputs.looks_at_last, 50, 550),
-    Row("a line of an audit", inputs.three, inputs.journal, 333, 33_333, ("audit", "LAB", "TEXT")),
+    Row("a line of an audit", inputs.largest_built_in, inputs.journal, 333, 33_333, ("audit", "LAB", "TEXT")),
 )
 
 
 class Counter:
-    """Counts over files in one folder."""
+    """Counts instructions, with all its files in one folder."""
 
     def __init__(self, folder: Path) -> None:
         self.programs = stripped(PROGRAM, folder / "ours"), stripped(TYPED, folder / "typed")
         self.lab, self.text = folder / "lab", folder / "text"
 
     def call(self, row: Row, index: int) -> Words:
-        """Returns the words of a call: 0 is this program, 1 the one by hand. Through a pipe this program takes none,
-        over the lab that is built in."""
+        """Returns the command line for a row. Index 0 is this program, and 1 the one that is written by hand. For
+        a piped row this program takes no arguments and uses its built-in lab."""
         program = self.programs[index]
         if row.words == PIPED:
             return [program] if index == 0 else [program, "script", self.lab, "/dev/stdin"]
@@ -64,13 +66,13 @@ class Counter:
         return [program, *(named.get(word, word) for word in row.words)]
 
     def write(self, row: Row, turns: int) -> int:
-        """Writes so many turns, and returns how many lines they are."""
+        """Writes the lines of so many turns to the text file. Returns the number of lines."""
         lines = list(row.text(turns))
         self.text.write_text("".join(line + "\n" for line in lines), encoding="ascii")
         return len(lines)
 
     def count(self, row: Row) -> list[float]:
-        """Returns how many instructions a line of a row takes in this program, and in the one by hand."""
+        """Returns the instructions per line of a row, for this program and for the one that is written by hand."""
         self.lab.write_text(row.lab(), encoding="ascii")
         less = self.write(row, row.few)
         before = [instructions(self.call(row, index), self.text) for index in range(2)]
@@ -82,8 +84,8 @@ class Counter:
 
 
 def main() -> None:
-    """Counts each row, or those that are named."""
-    needs_valgrind()
+    """Prints a table with all rows, or with those that the arguments name."""
+    require_valgrind()
     asked = sys.argv[1:]
     rows = [row for row in ROWS if not asked or any(word in row.name for word in asked)]
     with tempfile.TemporaryDirectory() as folder:

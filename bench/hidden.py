@@ -1,15 +1,16 @@
-"""Counts the instructions of requests that are denied alike, by valgrind's callgrind.
+"""Compares the instructions of requests that get the same denial, with valgrind's callgrind.
 
     python3 -B -m bench.hidden
 
-The program answers scripts of a greeting and 2,000 lines of a kind, over the built-in lab. Told is what a line
-of each kind takes: its script's count less that of the greeting alone, by 2,000. Of each pair one asks for what
-isn't shown and the other for what isn't there, by words of the same length; their replies have to be the same.
+The program answers scripts of a greeting and 2,000 equal lines over the built-in lab. A figure is the number of
+instructions per line: the script's count minus that of the greeting alone, divided by 2,000. Of each pair of
+lines, one names something that isn't shown and the other something that doesn't exist. Both lines have the same
+length, and their replies have to be the same.
 """
 import tempfile
 from pathlib import Path
 
-from bench.common import PROGRAM, instructions, needs_valgrind, refuse, replies, stripped
+from bench.common import PROGRAM, instructions, require_valgrind, refuse, replies, stripped
 
 LINES = 2_000
 ANA = '1 {"do":"hello","key":"a-key","name":"ana"}\n'
@@ -28,7 +29,7 @@ PAIRS: list[tuple[str, str, str, str]] = [
 
 
 def count(program: Path, before: str, line: str, script: Path) -> tuple[float, bytes]:
-    """Returns how many instructions a line takes, and its reply."""
+    """Returns the instructions per line, and the reply to it."""
     script.write_text(before, encoding="ascii")
     begun = instructions([program], script)
     script.write_text(before + line * LINES, encoding="ascii")
@@ -39,8 +40,8 @@ def count(program: Path, before: str, line: str, script: Path) -> tuple[float, b
 
 
 def main() -> None:
-    """Counts each pair, and prints the difference."""
-    needs_valgrind()
+    """Prints the counts and the difference of each pair."""
+    require_valgrind()
     with tempfile.TemporaryDirectory() as folder:
         program, script = stripped(PROGRAM, Path(folder, "program")), Path(folder, "script")
         for word, before, hidden, missing in PAIRS:

@@ -1,9 +1,9 @@
-"""Times eight connections over `serve` beside eight over the host.
+"""Compares the speed of `serve` and of the host, with eight connections each.
 
     python3 -B -m bench.host
 
-Each serves the same views, 30,000 to each connection, asked for in bursts of 100; each is timed five times in
-turn, from the first request to the last reply, and the medians are printed. The replies have to be the same.
+Each answers 30,000 requests per connection, in bursts of 100. Both are timed five times in turn, from the first
+request to the last reply, and the medians are printed. The replies have to be the same.
 """
 import re
 import socket
@@ -22,7 +22,7 @@ Timed = tuple[float, Optional[bytes]]
 
 
 def time_serve(lab: Path) -> Timed:
-    """Returns how many seconds the clients take over `serve`, and the reply that all got."""
+    """Returns the seconds that the clients take with `serve`, and the reply that all of them got."""
     port = free_port()
     words: Words = [built(PROGRAM), "serve", lab, str(port), str(CONNECTIONS)]
     with subprocess.Popen(words, stdout=subprocess.PIPE) as server:
@@ -34,8 +34,8 @@ def time_serve(lab: Path) -> Timed:
 
 
 def time_host(lab: Path) -> Timed:
-    """Returns how many seconds the clients take over the host, which the teacher's bye at the desk ends, and the reply
-    that all got."""
+    """Returns the seconds that the clients take with the host, and the reply that all of them got. The teacher's
+    bye at the desk ends the host."""
     with subprocess.Popen([built(HOST), "host", lab, "0", "0"], stdout=subprocess.PIPE) as server:
         assert server.stdout is not None
         port, desk = map(int, re.findall(rb"\d+", server.stdout.readline()))

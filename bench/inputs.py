@@ -1,4 +1,4 @@
-"""Labs, scripts and journals to be measured with."""
+"""Labs, scripts and journals as input for measurements."""
 from collections.abc import Iterable
 
 from bench.common import built_in
@@ -12,20 +12,21 @@ BEN = '1 {"do":"hello","key":"b-key","name":"ben"}'
 FIRST, LAST = 65280, 65535
 
 
-def three() -> str:
-    """Returns the lab that is built in, with as many events as a lab may have."""
+def largest_built_in() -> str:
+    """Returns the built-in lab with the largest number of events that a lab may have."""
     return built_in(events=EVENTS)
 
 
 def lab(owners: dict[int, str], links: Iterable[tuple[int, int]]) -> str:
     """Returns a lab of these nodes and links."""
     listed = ", ".join(f"[{a}, {b}]" for a, b in links)
-    head = three().split("[[node]]")[0].replace("[[1, 2], [2, 3]]", f"[{listed}]")
+    head = largest_built_in().split("[[node]]")[0].replace("[[1, 2], [2, 3]]", f"[{listed}]")
     return head + "\n".join(f'[[node]]\nid = {node}\nowner = "{owner}"\n' for node, owner in owners.items())
 
 
 def ring(nodes: int, reach: int = 1) -> str:
-    """Nodes in a ring, each linked to so many on both sides, each of one of three students in turn."""
+    """Returns a lab whose nodes form a ring. Each node is linked to the next `reach` nodes on both sides, and
+    three students own the nodes in turn."""
     ids = range(1, nodes + 1)
     links = ((node, (node + step - 1) % nodes + 1) for node in ids for step in range(1, reach + 1))
     return lab({node: PEOPLE[node % 3] for node in ids}, links)
@@ -38,21 +39,21 @@ def all_links() -> str:
 
 
 def sees(turns: int) -> Iterable[str]:
-    """Returns the teacher sees three nodes in turn."""
+    """Yields the teacher's hello, and then requests to see three nodes in turn."""
     yield TESS
     for turn in range(turns):
         yield f'1 {{"do":"see","node":{turn % 3 + 1}}}'
 
 
 def sees_and_more(turns: int) -> Iterable[str]:
-    """Returns the teacher sees three nodes in turn, each time with a key that no request has."""
+    """Yields the same as `sees`, with a key in each line that no request has."""
     yield TESS
     for turn in range(turns):
         yield f'1 {{"do":"see","node":{turn % 3 + 1},"x":[]}}'
 
 
 def mixed(turns: int) -> Iterable[str]:
-    """Views, a move, a close, and a fault that takes the close back: three in six are granted."""
+    """Yields requests to look, a move, a close, and a fault that undoes the close. Three in six lines are granted."""
     yield from (TESS, ANA)
     for turn in range(turns):
         yield '1 {"do":"see","node":1}'
@@ -64,7 +65,7 @@ def mixed(turns: int) -> Iterable[str]:
 
 
 def granted(turns: int) -> Iterable[str]:
-    """Returns a move and its release."""
+    """Yields a move and its release, over and over."""
     yield from (TESS, ANA)
     for _ in range(turns):
         yield '2 {"at":0,"do":"move","node":1,"rule":"seduction"}'
@@ -72,42 +73,42 @@ def granted(turns: int) -> Iterable[str]:
 
 
 def greetings(turns: int) -> Iterable[str]:
-    """Returns a student's hello and bye, over and over."""
+    """Yields a student's hello and bye, over and over."""
     for _ in range(turns):
         yield BEN
         yield '1 {"do":"bye"}'
 
 
 def looks(turns: int) -> Iterable[str]:
-    """Looks at each of 64 nodes in turn."""
+    """Yields looks at each of 64 nodes in turn."""
     yield TESS
     for turn in range(turns):
         yield f'1 {{"do":"look","node":{turn % 64 + 1}}}'
 
 
 def reports(turns: int) -> Iterable[str]:
-    """Returns the teacher asks for the report, over and over."""
+    """Yields the teacher's request for the report, over and over."""
     yield TESS
     for _ in range(turns):
         yield '1 {"do":"report"}'
 
 
 def sees_of_all(turns: int) -> Iterable[str]:
-    """Returns what ben sees of the greatest lab, each node in turn."""
+    """Yields requests of ben to see each node of the largest lab in turn."""
     yield BEN
     for turn in range(turns):
         yield f'1 {{"do":"see","node":{FIRST + turn % 256}}}'
 
 
 def looks_at_last(turns: int) -> Iterable[str]:
-    """Looks at ben's node of the greatest lab."""
+    """Yields looks at ben's node of the largest lab."""
     yield BEN
     for _ in range(turns):
         yield f'1 {{"do":"look","node":{LAST}}}'
 
 
 def journal(turns: int) -> Iterable[str]:
-    """Returns what a move, a close and a fault that takes it back write, over and over."""
+    """Yields the journal's lines of a move, a close and a fault that undoes it, over and over."""
     for turn in range(turns):
         place, number = 3 * turn, 2 * turn
         yield f"{place + 1} {number} grant ana 1 seduction"

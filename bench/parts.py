@@ -1,9 +1,9 @@
-"""Prints on which functions of this program a line's instructions go, by valgrind's callgrind.
+"""Prints which functions of this program use the instructions of a line, with valgrind's callgrind.
 
     python3 -B -m bench.parts [ROW..]
 
-Each figure is what a function takes itself for a line of the row, as `bench.count` counts it: the difference of
-two runs of unlike lengths. With words only rows are printed whose names have one of them.
+Each figure is the instructions of a function itself per line of the row, as in `bench.count`: from the difference
+of two runs of different lengths. With arguments, only the rows whose names contain one of them are printed.
 """
 import re
 import subprocess
@@ -11,7 +11,7 @@ import sys
 import tempfile
 from pathlib import Path
 
-from bench.common import Words, needs_valgrind, refuse
+from bench.common import Words, require_valgrind, refuse
 from bench.count import ROWS, Counter, Row
 
 MOST = 12  # functions of a row that are printed
@@ -19,20 +19,20 @@ FOUND = re.compile(r"^\s*([\d,]+)\s+(?:\(\s*[\d.]+%\)\s+)?\S*?:(\S.*?)(?: \[[^]]
 
 
 def by_function(words: Words, stdin: Path, room: Path) -> dict[str, int]:
-    """Returns how many instructions each function of a run takes itself."""
+    """Returns the number of instructions of each function of a run, without those of the functions that it calls."""
     kept = room / "counts"
     call = ["valgrind", "--tool=callgrind", f"--callgrind-out-file={kept}", *words]
     with stdin.open("rb") as lines:
         subprocess.run(call, stdin=lines, stdout=subprocess.DEVNULL, stderr=subprocess.DEVNULL, check=True)
-    told = subprocess.run(["callgrind_annotate", "--threshold=100", kept], capture_output=True, encoding="utf-8", check=True)
+    annotated = subprocess.run(["callgrind_annotate", "--threshold=100", kept], capture_output=True, encoding="utf-8", check=True)
     taken: dict[str, int] = {}
-    for count, name in FOUND.findall(told.stdout):
+    for count, name in FOUND.findall(annotated.stdout):
         taken[name] = taken.get(name, 0) + int(count.replace(",", ""))
     return taken or refuse("callgrind_annotate printed no function")
 
 
 def parts_of(row: Row, counter: Counter, room: Path) -> dict[str, float]:
-    """Returns how many instructions each function takes itself for a line of a row."""
+    """Returns the instructions of each function per line of a row."""
     counter.lab.write_text(row.lab(), encoding="ascii")
     less = counter.write(row, row.few)
     before = by_function(counter.call(row, 0), counter.text, room)
@@ -42,8 +42,8 @@ def parts_of(row: Row, counter: Counter, room: Path) -> dict[str, float]:
 
 
 def main() -> None:
-    """Tells each row, the dearest function first."""
-    needs_valgrind()
+    """Prints the functions of each row, the one with the most instructions first."""
+    require_valgrind()
     wanted = sys.argv[1:]
     with tempfile.TemporaryDirectory() as folder:
         counter = Counter(Path(folder))

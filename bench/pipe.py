@@ -1,9 +1,9 @@
-"""Times the program on 40,000 lines that come through a pipe, beside the same lines as a script's file.
+"""Compares the time for 40,000 lines through a pipe with that for the same lines in a script's file.
 
     python3 -B -m bench.pipe
 
-Each way is timed 41 times in turn, from the call to the program's end, and the medians are printed. The replies
-have to be the same.
+Both are timed 41 times in turn, from the call to the program's end, and the medians are printed. The replies have
+to be the same.
 """
 import statistics
 import subprocess

@@ -1,10 +1,11 @@
-"""Prints what views over sockets take, of this program, of the one by hand, and of an echo.
+"""Compares the speed of requests over sockets: this program, the one that is written by hand, and an echo server.
 
     python3 -B -m bench.sockets [BURST]
 
-Eight clients ask at once, each BURST lines (1) after the last replies. The echo answers each line by a write of
-its own with a line as long as a view's reply. What is served is measured in turn, 21 times, and the medians are
-printed: of requests a second, which the clients, in Python, hold back, and of the server's own processor time.
+Eight clients send bursts of BURST lines (1), each after the replies to the last one. The echo server answers each
+line with one write of the same length as a reply to `see`. Each server is measured 21 times in turn, and the
+medians are printed: the requests per second, which the clients in Python limit, and the server's own processor
+time.
 """
 import os
 import subprocess
@@ -23,15 +24,15 @@ ROUNDS = 21
 
 @dataclass(frozen=True)
 class Served:
-    """Requests a second, microseconds of the server's processor time for each, and the reply."""
+    """A measurement: requests per second, microseconds of the server's processor time for each, and the reply."""
 
     rate: float
     used: float
     reply: bytes
 
 
-def served(words: Words, port: int, burst: int) -> Served:
-    """Returns what all clients were served."""
+def measure(words: Words, port: int, burst: int) -> Served:
+    """Starts a server, sends it the requests of all clients, and returns the measurement."""
     with subprocess.Popen(words, stdout=subprocess.PIPE) as server:
         assert server.stdout is not None
         server.stdout.readline()
@@ -45,8 +46,8 @@ def served(words: Words, port: int, burst: int) -> Served:
     return Served(count / taken, 1e6 * (used.ru_utime + used.ru_stime) / count, reply)
 
 
-def calls(lab: Path) -> dict[str, tuple[Words, int]]:
-    """Returns what is served, by the words of a call and its port."""
+def servers(lab: Path) -> dict[str, tuple[Words, int]]:
+    """Returns the command line and the port of each server, by its name."""
     ports, many = [free_port() for _ in range(3)], str(CONNECTIONS)
     return {
         "an echo": ([TYPED, "echo", str(ports[0]), many], ports[0]),
@@ -56,7 +57,7 @@ def calls(lab: Path) -> dict[str, tuple[Words, int]]:
 
 
 def main() -> None:
-    """Measures what is served in turn."""
+    """Measures the servers in turn, and prints the medians."""
     burst = int(sys.argv[1]) if len(sys.argv) > 1 else 1
     built(PROGRAM), built(TYPED)
     figures: dict[str, list[Served]] = {}
@@ -64,8 +65,8 @@ def main() -> None:
         lab = Path(folder, "lab")
         lab.write_text(built_in(sessions=CONNECTIONS), encoding="ascii")
         for _ in range(ROUNDS):
-            for name, (words, port) in calls(lab).items():
-                figures.setdefault(name, []).append(served(words, port, burst))
+            for name, (words, port) in servers(lab).items():
+                figures.setdefault(name, []).append(measure(words, port, burst))
     if len({one.reply for all_rounds in figures.values() for one in all_rounds}) != 1:
         refuse("the replies differ")
     for name, all_rounds in figures.items():

@@ -1,9 +1,9 @@
-"""Times grants by the host, whose journal is synced line by line, and a student's views meanwhile.
+"""Times events at the host, which syncs its journal after each line, and a student's requests meanwhile.
 
     python3 -B -m bench.synced [FOLDER]
 
-The teacher cuts and links the same two nodes, each after the last one's reply, and a student sees one node over
-and over. The journal lies in the folder, or else in one of the system's for what is temporary.
+The teacher cuts and links the same two nodes, each after the reply to the last. A student sees one node over and
+over. The journal is in FOLDER, or else in the system's folder for temporary files.
 """
 import re
 import socket
@@ -23,8 +23,8 @@ ANA = b'{"do":"hello","name":"ana","key":"a-key"}\n'
 ACTS = [b'{"a":1,"b":2,"do":"cut"}\n', b'{"a":1,"b":2,"do":"link"}\n']
 
 
-def ask_on(port: int, over: threading.Event, times: list[float]) -> None:
-    """Sees a node over and over until `over` is set; adds the seconds that each view took."""
+def see_until(port: int, over: threading.Event, times: list[float]) -> None:
+    """Sends requests to see a node until `over` is set. Appends the seconds that each of them took."""
     with socket.create_connection(("127.0.0.1", port)) as it, it.makefile("rb") as replies:
         it.setsockopt(socket.IPPROTO_TCP, socket.TCP_NODELAY, 1)
         it.sendall(ANA)
@@ -37,7 +37,7 @@ def ask_on(port: int, over: threading.Event, times: list[float]) -> None:
 
 
 def grant_all(desk: int) -> list[float]:
-    """Returns how many seconds each act takes; a bye at the end."""
+    """Sends all acts of the teacher and a bye. Returns the seconds that each act took."""
     times = []
     with socket.create_connection(("127.0.0.1", desk)) as it, it.makefile("rb") as replies:
         it.setsockopt(socket.IPPROTO_TCP, socket.TCP_NODELAY, 1)
@@ -53,13 +53,13 @@ def grant_all(desk: int) -> list[float]:
     return times
 
 
-def told(times: list[float]) -> str:
-    """Returns the median and the 99th of a hundred, in microseconds."""
+def median_and_99th(times: list[float]) -> str:
+    """Returns the median and the 99th percentile, in microseconds, as text."""
     return f"median {statistics.median(times) * 1e6:,.0f} us, 99th of a hundred {statistics.quantiles(times, n=100)[98] * 1e6:,.0f} us"
 
 
 def main() -> None:
-    """Times both side by side."""
+    """Times the teacher and the student at the same time, and prints both."""
     with tempfile.TemporaryDirectory(dir=sys.argv[1] if sys.argv[1:] else None) as folder:
         lab = Path(folder, "lab")
         lab.write_text(built_in(events=EVENTS), encoding="ascii")
@@ -68,13 +68,13 @@ def main() -> None:
             assert server.stdout is not None
             port, desk = map(int, re.findall(rb"\d+", server.stdout.readline()))
             over, views = threading.Event(), list[float]()
-            beside = threading.Thread(target=ask_on, args=(port, over, views))
+            beside = threading.Thread(target=see_until, args=(port, over, views))
             beside.start()
             grants = grant_all(desk)
             over.set()
             beside.join()
             server.stdout.read()
-    print(f"{EVENTS} grants, {EVENTS / sum(grants):,.0f} a second: {told(grants)}; {len(views)} views: {told(views)}")
+    print(f"{EVENTS} grants, {EVENTS / sum(grants):,.0f} a second: {median_and_99th(grants)}; {len(views)} views: {median_and_99th(views)}")
 
 
 if __name__ == "__main__":

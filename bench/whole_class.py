@@ -2,10 +2,11 @@
 
     python3 -B -m bench.whole_class [--networks 20] [--each 15] [--seconds 30] [--door]
 
-Each bot has a connection of its own, in one of eight processes. It looks at its node ten times a second, as the students'
-bot does, and asks for what is enabled. Steps are closed each second, and all registers are drawn anew every ten seconds.
-Printed are how long a hello and a move take, and what memory (a page that several processes share counts in parts) and
-processor the class takes while it goes on. With `--door` each bot comes through a door, from an address of its own.
+Each bot has its own connection, in one of eight processes. It looks at its node ten times a second, like the
+students' bot, and asks for the enabled rule. Steps are closed each second, and all registers are drawn anew every
+ten seconds. Prints how long a hello and a move take, and how much memory and processor time the class takes. A
+page of memory that several processes share counts in parts. With `--door`, each bot comes through a door, from its
+own address.
 """
 import argparse
 import csv
@@ -35,8 +36,9 @@ TICKS = os.sysconf("SC_CLK_TCK")
 Times = list[tuple[str, float]]
 
 
-def way_in(slip: Slip, number: int) -> socket.socket:
-    """Returns a connection to a slip's port, or through its door from an address that no other bot has."""
+def connection_to(slip: Slip, number: int) -> socket.socket:
+    """Returns a connection to the port of a slip. If the slip has a door, connects through it from an address that
+    no other bot has."""
     if not slip.door:
         return connected(slip.port, LIMIT)
     plain = socket.create_connection(door_of(slip.door), LIMIT, (f"127.1.{number // 250}.{number % 250 + 1}", 0))
@@ -44,19 +46,19 @@ def way_in(slip: Slip, number: int) -> socket.socket:
     return it
 
 
-def greeted(slip: Slip, number: int) -> Client:
-    """Returns a connection that has said hello; if there is no room, it tries again a second later, as bots do."""
+def greet(slip: Slip, number: int) -> Client:
+    """Returns a connection after its hello. If there is no room, tries again each second, like a bot."""
     while True:
         try:
-            return Client(slip.port, slip.name, slip.key, limit=LIMIT, connection=way_in(slip, number))
+            return Client(slip.port, slip.name, slip.key, limit=LIMIT, connection=connection_to(slip, number))
         except (Refused, Closed, OSError):
             time.sleep(1)
 
 
 def play(slip: Slip, number: int, times: Times) -> None:
-    """Plays until the class is over, and notes how many seconds each hello and each move takes."""
+    """Plays until the class is over. Appends the seconds that each hello and each move took."""
     begun = time.perf_counter()
-    me = greeted(slip, number)
+    me = greet(slip, number)
     times.append(("hello", time.perf_counter() - begun))
     try:
         while True:
@@ -73,8 +75,9 @@ def play(slip: Slip, number: int, times: Times) -> None:
         pass
 
 
-def crowd(slips: list[tuple[int, Slip]], every: "multiprocessing.Queue[int]", results: "multiprocessing.Queue[Times]") -> None:
-    """Plays for some students, a thread for each."""
+def play_all(slips: list[tuple[int, Slip]], every: "multiprocessing.Queue[int]", results: "multiprocessing.Queue[Times]") -> None:
+    """Plays for several students, each in a thread. Puts the number of students into `every` after all hellos, and
+    the times into `results` at the end."""
     times: Times = []
     threads = [threading.Thread(target=play, args=(slip, number, times)) for number, slip in slips]
     for thread in threads:
@@ -87,8 +90,8 @@ def crowd(slips: list[tuple[int, Slip]], every: "multiprocessing.Queue[int]", re
     results.put(times)
 
 
-def used(process: int) -> tuple[float, float]:
-    """Returns the megabytes that a process has, and the seconds of processor that it took."""
+def memory_and_time(process: int) -> tuple[float, float]:
+    """Returns the memory of a process in megabytes, and the processor time that it has used, in seconds."""
     folder = Path(f"/proc/{process}")
     shared = re.search(r"(?m)^Pss: +(\d+) kB$", (folder / "smaps_rollup").read_text(encoding="ascii"))
     times = (folder / "stat").read_text(encoding="utf-8").rpartition(") ")[2].split()[11:13]
@@ -96,7 +99,7 @@ def used(process: int) -> tuple[float, float]:
 
 
 def processes(folder: Path) -> dict[str, list[int]]:
-    """Returns the processes of a class, by what they are."""
+    """Returns the processes of a class, by their role."""
     kept = json.loads((folder / "class.json").read_text(encoding="utf-8"))
     records = [record for run in sorted(folder.iterdir()) if (record := Record.read(run)) is not None]
     found = {"servers": [it.server.number for it in records], "desks": [it.run.number for it in records], "the class's desk": [kept["desk"]["number"]]}
@@ -106,7 +109,7 @@ def processes(folder: Path) -> dict[str, list[int]]:
 
 
 def made(room: Path, networks: int, each: int, door: str) -> tuple[list[Path], list[tuple[int, Slip]]]:
-    """Makes the labs of a class, and returns them with all slips, which have a number each."""
+    """Makes the labs of a class. Returns them, and all slips, each with a number."""
     (room / "names.txt").write_text("".join(f"Student {number}\n" for number in range(networks * each)), encoding="ascii")
     words = ["--groups", str(networks), "--start", "hurt", *(["--door", door] if door else [])]
     subprocess.run([sys.executable, TOP / "class", "new", room / "big.toml", "--students", room / "names.txt", *words], check=True, stdout=subprocess.DEVNULL)
@@ -115,11 +118,11 @@ def made(room: Path, networks: int, each: int, door: str) -> tuple[list[Path], l
     return [room / f"big-{number}.toml" for number in range(1, networks + 1)], [*enumerate(slips)]
 
 
-def measured(desk: "subprocess.Popen[str]", folder: Path, seconds: float) -> None:
-    """Lets the class go on for so many seconds, and prints what its processes took."""
+def measure(desk: "subprocess.Popen[str]", folder: Path, seconds: float) -> None:
+    """Shakes the class now and then for so many seconds. Prints the memory and processor time of its processes."""
     assert desk.stdin is not None
     every = processes(folder)
-    before = {name: sum(used(it)[1] for it in numbers) for name, numbers in every.items()}
+    before = {name: sum(memory_and_time(it)[1] for it in numbers) for name, numbers in every.items()}
     begun = time.monotonic()
     while time.monotonic() - begun < seconds:
         desk.stdin.write("shake all\n")
@@ -127,12 +130,12 @@ def measured(desk: "subprocess.Popen[str]", folder: Path, seconds: float) -> Non
         time.sleep(min(SHAKES, seconds))
     taken = time.monotonic() - begun
     for name, numbers in every.items():
-        memory, processor = (sum(values) for values in zip(*map(used, numbers)))
+        memory, processor = (sum(values) for values in zip(*map(memory_and_time, numbers)))
         print(f"{name}: {len(numbers)}, {memory:.0f} MB, {100 * (processor - before[name]) / taken:.1f} % of a processor", flush=True)
 
 
 def main() -> None:
-    """Runs the class, and measures it."""
+    """Starts the class, and measures it."""
     parser = argparse.ArgumentParser(prog="bench.whole_class")
     parser.add_argument("--networks", type=int, default=20)
     parser.add_argument("--each", type=int, default=15)
@@ -149,14 +152,14 @@ def main() -> None:
             desk = subprocess.Popen([sys.executable, TOP / "class", "run", *labs, "--into", room / "runs", "--page", "--close", "every:1",
                                      "--typed", *more], stdin=subprocess.PIPE, stdout=prints, stderr=prints, text=True)
         try:
-            served(desk, room, slips, words.seconds)
+            run_class(desk, room, slips, words.seconds)
         finally:
             desk.terminate()
             desk.wait()
 
 
-def served(desk: "subprocess.Popen[str]", room: Path, slips: list[tuple[int, Slip]], seconds: float) -> None:
-    """Has all bots come, measures, ends the class, and prints how long hellos and moves took."""
+def run_class(desk: "subprocess.Popen[str]", room: Path, slips: list[tuple[int, Slip]], seconds: float) -> None:
+    """Starts all bots, measures, ends the class, and prints how long hellos and moves took."""
     begun = time.monotonic()
     while "\nwords: " not in (room / "prints").read_text(encoding="utf-8"):
         if desk.poll() is not None:
@@ -168,11 +171,11 @@ def served(desk: "subprocess.Popen[str]", room: Path, slips: list[tuple[int, Sli
     slips = [(number, replace(slip, port=ports[slip.network])) for number, slip in slips]
     every: "multiprocessing.Queue[int]" = multiprocessing.Queue()
     results: "multiprocessing.Queue[Times]" = multiprocessing.Queue()
-    crowds = [multiprocessing.Process(target=crowd, args=(slips[at::PROCESSES], every, results)) for at in range(PROCESSES)]
+    crowds = [multiprocessing.Process(target=play_all, args=(slips[at::PROCESSES], every, results)) for at in range(PROCESSES)]
     for each in crowds:
         each.start()
     print(f"{sum(every.get(timeout=LIMIT) for _ in crowds)} bots are greeted", flush=True)
-    measured(desk, folder, seconds)
+    measure(desk, folder, seconds)
     desk.terminate()
     times = [row for _ in crowds for row in results.get(timeout=LIMIT)]
     for what in ("hello", "move"):

@@ -28,7 +28,7 @@ public class Bot {
         return switch (find("\"(?:deny|refuse)\":\"([a-z-]+)\"", reply)) {
             case "unknown" -> stop(2, "name and key don't match: take both from your slip");
             case "not-owner" -> stop(3, "a node isn't yours: correct the nodes by your slip");
-            case "malformed" -> stop(3, "the server takes a line for no request: correct the program");
+            case "malformed" -> stop(3, "the server couldn't read a line as a request: correct the program");
             case "full", "journal" -> stop(6, "nothing is granted any longer: tell your teacher");
             case "over" -> stop(0, "the run is over");
             default -> reply;

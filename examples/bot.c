@@ -15,7 +15,7 @@ static FILE *server;
 static const char *STOPS[][2] = {
     {"\"unknown\"", "2 name and key don't match: take both from your slip"},
     {"\"not-owner\"", "3 a node isn't yours: correct the nodes by your slip"},
-    {"\"malformed\"", "3 the server takes a line for no request: correct the program"},
+    {"\"malformed\"", "3 the server couldn't read a line as a request: correct the program"},
     {"\"full\"", "6 nothing is granted any longer: tell your teacher"},
     {"\"journal\"", "6 nothing is granted any longer: tell your teacher"}, {"\"over\"", "0 the run is over"}};
 /* Whether a line comes that answers what was sent. */

@@ -7,7 +7,7 @@ const [fs, net, readline] = [require("fs"), require("net"), require("readline")]
 const STOPS = {
   unknown: [2, "name and key don't match: take both from your slip"],
   "not-owner": [3, "a node isn't yours: correct the nodes by your slip"],
-  malformed: [3, "the server takes a line for no request: correct the program"],
+  malformed: [3, "the server couldn't read a line as a request: correct the program"],
   full: [6, "nothing is granted any longer: tell your teacher"],
   journal: [6, "nothing is granted any longer: tell your teacher"],
   over: [0, "the run is over"],
@@ -33,7 +33,7 @@ async function connect(port) {
     const line = await lines.next().catch(() => ({ done: true })); // It may have been reset.
     if (line.done) throw LOST;
     if (!line.value.startsWith("{")) stop(4, `at port ${port} is another program; ask your teacher for the port`);
-    const reply = JSON.parse(line.value);
+    const reply = await Promise.resolve(line.value).then(JSON.parse).catch(() => { throw LOST; }); // A lost one's last line may be cut short.
     const why = STOPS[reply.deny ?? reply.refuse];
     return why ? stop(...why) : reply;
   };

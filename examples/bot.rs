@@ -7,7 +7,7 @@ use std::{env, fs, iter, process, thread, time::Duration};
 const STOPS: [(&str, i32, &str); 5] = [
     ("unknown", 2, "name and key don't match: take both from your slip"),
     ("not-owner", 3, "a node isn't yours: correct the nodes by your slip"),
-    ("malformed", 3, "the server takes a line for no request: correct the program"),
+    ("malformed", 3, "the server couldn't read a line as a request: correct the program"),
     ("full journal", 6, "nothing is granted any longer: tell your teacher"),
     ("over", 0, "the run is over"),
 ];

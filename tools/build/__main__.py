@@ -17,9 +17,9 @@ from pathlib import Path
 
 from tools.build.crates import TOP, Uses, expected, needed
 from tools.build.place import room
-from tools.build.progress import Progress, told
+from tools.build.progress import Progress, duration_text
 from tools.build.proving import Proving, at_once_of, jobs_of, processors
-from tools.build.running import Screen, Stopped, end_with_parent, heed_signals
+from tools.build.running import Screen, Stopped, end_with_parent, raise_on_signals
 
 WRONG = re.compile(r"error|: (not proved|no proof)|NOT PROVED|run rt fmt|^rt: (FAILED|note|the disk)")
 MOST_SHOWN = 5  # lines of what went wrong
@@ -27,26 +27,26 @@ ALONE = 0.2  # of a proof is done by one process, however many there are
 
 
 def say(line: str) -> None:
-    """Says something on standard error, if the progress line is."""
+    """Prints a line on standard error if the progress line goes there."""
     print(f"mml: {line}", file=sys.stderr, flush=True)
 
 
 def progress_of(crates: Uses, number: int) -> Progress:
-    """Returns the progress of proofs that haven't begun, on so many processors."""
+    """Returns the progress of proofs that haven't begun, on `number` processors."""
     share = ALONE + (1 - ALONE) / jobs_of(number)
     return Progress(crates, {crate: seconds * share for crate, seconds in expected(crates).items()}, at_once_of(number))
 
 
 def tell_beginning(programs: list[str], progress: Progress) -> None:
-    """Says what is done, how long that takes, and what else there is."""
+    """Prints what the build does, how long it takes, and the alternatives."""
     side = processors()
     say(f"building {' and '.join(programs)}, after proving {len(progress.crates)} crates; what this machine has proved before is taken")
-    say(f"from nothing that takes {told(progress.left(0.0))} on {side} processor{'s' if side > 1 else ''}, by the times of another "
+    say(f"from nothing that takes {duration_text(progress.left(0.0))} on {side} processor{'s' if side > 1 else ''}, by the times of another "
         "machine; stop it when you like, and the next build goes on there; ./try answers without a proof")
 
 
 def tell_failure(log: Path, programs: list[str]) -> None:
-    """Says why the build failed, and keeps the log."""
+    """Prints why the build failed, and keeps the log."""
     lines = log.read_text(encoding="utf-8", errors="replace").splitlines()
     for line in [it for it in lines if WRONG.search(it)][:MOST_SHOWN] or lines[-MOST_SHOWN:]:
         print(line, file=sys.stderr)
@@ -79,9 +79,9 @@ def build(programs: list[str]) -> int:
 
 
 def main(programs: list[str]) -> int:
-    """Builds programs; a signal stops that."""
+    """Builds programs. A signal stops the build."""
     end_with_parent()
-    heed_signals()
+    raise_on_signals()
     try:
         return build(programs)
     except Stopped as stopped:

@@ -12,7 +12,8 @@ Uses = dict[str, list[str]]
 
 
 def lines(top: Path = TOP) -> dict[str, str]:
-    """Returns each crate of `crates.txt` with its line, in the file's order: each after those that it uses."""
+    """Returns each crate of `crates.txt` with its line, in the file's order: each crate comes after those that it
+    uses."""
     text = (top / "crates.txt").read_text(encoding="utf-8")
     return {found[2]: found[1] for found in re.finditer(r"(?m)^((\w+)[^:\n#]*:.*)$", text)}
 
@@ -35,7 +36,8 @@ def with_those_below(crates: list[str], uses: Uses) -> Uses:
 
 
 def expected(crates: Uses) -> dict[str, float]:
-    """Returns the seconds of each crate's proof by the table. A crate that the table lacks counts as the average."""
+    """Returns the expected seconds of each crate's proof, from the table. A crate that the table lacks counts as the
+    average."""
     table = {}
     for line in SECONDS.read_text(encoding="utf-8").splitlines():
         if line and not line.startswith("#"):

@@ -26,7 +26,7 @@ NOT_SOURCES = shutil.ignore_patterns(".*", "*~")
 
 @dataclass(frozen=True)
 class Place:
-    """A repository, a folder for temporary files, and what `rt ci` writes there."""
+    """A repository, a folder for temporary files, and the output of `rt ci`."""
 
     repository: Path
     temporary: Path
@@ -35,8 +35,8 @@ class Place:
 
 @dataclass
 class Room:
-    """The folder in which the repositories of a build stand, the sources as they were when it began, and another
-    folder for temporary files."""
+    """The folder with the repositories of a build, the sources as they were at its beginning, and a folder for
+    temporary files."""
 
     folder: Path
     temporary: Path
@@ -53,9 +53,9 @@ class Room:
 
 
 def homes() -> list[Path]:
-    """Returns the folder for the repositories, and then that of temporary files. Git's own folder is on the clone's
-    disk, and no check looks into it; libraries take gigabytes, which may be more than the system has for temporary
-    files."""
+    """Returns the folder for repositories, and the one for temporary files. Repositories are in Git's own folder
+    if there is one: it is on the clone's disk, and no check looks into it. Libraries take gigabytes, which may be
+    too much for temporary files."""
     git, temporary = TOP / ".git", Path(tempfile.gettempdir())
     return [git if git.is_dir() and os.access(git, os.W_OK) else temporary, temporary]
 
@@ -70,7 +70,7 @@ def sweep() -> None:
 
 @contextmanager
 def room() -> Iterator[Room]:
-    """Returns a room for repositories, and removes it at the end."""
+    """Yields a room for repositories, and removes it at the end."""
     sweep()
     folders = []
     try:
@@ -103,7 +103,7 @@ def fill(top: Path, crates: Uses, of: Path) -> None:
 
 
 def take_library(top: Path, crate: str) -> None:
-    """Moves a library of that repository to this clone, where wrong bodies are tried over it. One that `rt check` has
+    """Moves a library from a repository to this clone, for trying wrong bodies. A library that `rt check` has
     built here, which has a stamp, stays."""
     made, to = (it / "crates" / crate / "out/rlib" for it in (top, TOP))
     if made.is_dir() and not (to / "stamp").exists():
@@ -113,7 +113,7 @@ def take_library(top: Path, crate: str) -> None:
 
 
 def take(top: Path, program: str) -> bool:
-    """Puts a program of that repository in its place in this clone. Returns whether it was there."""
+    """Moves a program from a repository to its place in this clone. Returns whether it was there."""
     made, to = top / "crates" / program / "out" / program, TOP / "crates" / program / "out" / program
     if not made.is_file():
         return False

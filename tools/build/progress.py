@@ -1,7 +1,5 @@
-"""Which proofs come next, how far a build is, and an estimate of how long the rest takes.
-
-A proof comes after those of the crates below it, and first comes the one with the longest chain of proofs above it.
-"""
+"""The order of proofs, the progress of a build, and an estimate of the time that is left. A proof comes after those of
+the crates below it. The proof with the longest chain of proofs above it comes first."""
 from __future__ import annotations
 
 import math
@@ -14,7 +12,7 @@ OVERRUN = 0.1  # of the time that a proof has taken is expected once more if it 
 
 
 def chains(crates: Uses, seconds: dict[str, float]) -> dict[str, float]:
-    """Returns how long the longest chain of proofs is that begins with each crate."""
+    """Returns the length in seconds of the longest chain of proofs that begins with each crate."""
     longest = {crate: 0.0 for crate in crates}
     for crate in reversed([*crates]):
         longest[crate] += seconds[crate]
@@ -24,7 +22,7 @@ def chains(crates: Uses, seconds: dict[str, float]) -> dict[str, float]:
 
 
 class Progress:
-    """The crates that are proved, and those whose proofs are under way, of which so many are side by side."""
+    """The crates that are proved, and those whose proofs are running, at most `number` side by side."""
 
     def __init__(self, crates: Uses, seconds: dict[str, float], at_once: int) -> None:
         self.crates, self.seconds, self.at_once = crates, seconds, at_once
@@ -33,21 +31,22 @@ class Progress:
         self.begun: dict[str, float] = {}
         self.took, self.planned = TRUST, TRUST
 
-    def ready(self, proved: set[str], begun: set[str]) -> list[str]:
+    def can_begin(self, proved: set[str], begun: set[str]) -> list[str]:
         """Returns the crates whose proofs can begin, in their order."""
         left = [crate for crate in self.crates if crate not in proved and crate not in begun]
         return sorted([crate for crate in left if proved.issuperset(self.crates[crate])], key=lambda crate: -self.longest[crate])
 
     def next(self) -> list[str]:
         """Returns the crates whose proofs are to begin now."""
-        return self.ready(self.proved, {*self.begun})[:max(self.at_once - len(self.begun), 0)]
+        return self.can_begin(self.proved, {*self.begun})[:max(self.at_once - len(self.begun), 0)]
 
     def is_first(self, crate: str) -> bool:
-        """Returns whether a chain begins with this crate that is the longest of all that is left, or nearly as long."""
+        """Returns whether the chain that begins with this crate is the longest of the remaining ones, or nearly as
+        long."""
         return all(self.longest[crate] >= NEAR * self.longest[it] for it in self.crates if it not in self.proved)
 
     def note(self, crate: str, is_kept: bool, now: float) -> None:
-        """Notes that a crate is proved, now or, if it is kept, by an earlier run."""
+        """Notes that a crate is proved: now, or by an earlier run if `is_kept` is set."""
         if crate not in self.crates or crate in self.proved:
             return
         begun = self.begun.pop(crate, None)
@@ -59,12 +58,12 @@ class Progress:
         self.proved.add(crate)
 
     def left(self, now: float) -> float:
-        """Returns the seconds that the rest is expected to take at the pace of this machine."""
+        """Returns the expected seconds of the remaining proofs at the pace of this machine."""
         pace = self.took / self.planned
         ends = {crate: max(self.seconds[crate] * pace - (now - begun), OVERRUN * (now - begun)) for crate, begun in self.begun.items()}
         proved, at = {*self.proved}, 0.0
         while len(proved) < len(self.crates):
-            for more in self.ready(proved, {*ends})[:self.at_once - len(ends)]:
+            for more in self.can_begin(proved, {*ends})[:self.at_once - len(ends)]:
                 ends[more] = at + self.seconds[more] * pace
             crate = min(ends, key=lambda it: ends[it])
             at = ends.pop(crate)
@@ -72,12 +71,12 @@ class Progress:
         return at
 
     def line(self, now: float) -> str:
-        """Returns the line that is shown."""
+        """Returns the progress line."""
         count = f"{len(self.proved)} of {len(self.crates)} crates proved"
         count += f", {len(self.kept)} of them earlier" if self.kept else ""
-        return f"{count}; {told(self.left(now))} left" if len(self.proved) < len(self.crates) else count
+        return f"{count}; {duration_text(self.left(now))} left" if len(self.proved) < len(self.crates) else count
 
 
-def told(seconds: float) -> str:
-    """Returns how a time is shown."""
+def duration_text(seconds: float) -> str:
+    """Returns a duration as a text."""
     return f"some {math.ceil(seconds / 60)} minutes" if seconds > 60 else "about a minute"

@@ -23,30 +23,32 @@ MOST_JOBS = 4  # processes of a proof, at most
 MEMORY = 4_000_000_000  # bytes that have to be free for one more proof side by side
 
 
-def asked() -> int:
-    """Returns by how many processes `rt` is to prove, each a crate, or 0 if it chooses."""
+def wanted_processes() -> int:
+    """Returns the number of processes for each proof that the environment asks for, or 0 if `rt` chooses."""
     number = os.environ.get("RT_JOBS", "")
     return int(number) if number.isdigit() else 0
 
 
 def processors() -> int:
-    """Returns how many processors there are to prove by."""
-    return asked() or len(os.sched_getaffinity(0))
+    """Returns the number of processors for proofs."""
+    return wanted_processes() or len(os.sched_getaffinity(0))
 
 
 def jobs_of(number: int) -> int:
-    """Returns by how many processes `rt ci` proves a crate that is alone in its repository, on so many processors."""
-    return 1 if asked() else max(1, min(MOST_JOBS, number // 2))
+    """Returns the number of processes with which `rt ci` proves a crate that is alone in its repository, on so
+    many processors."""
+    return 1 if wanted_processes() else max(1, min(MOST_JOBS, number // 2))
 
 
 def at_once_of(number: int) -> int:
-    """Returns how many crates are proved side by side: one more than fit, since a proof begins and ends as one process."""
+    """Returns the number of crates that are proved side by side: one more than fit, since a proof begins and ends
+    as a single process."""
     each = jobs_of(number)
     return -(-number // each) + (each > 1)
 
 
 def has_memory() -> bool:
-    """Returns whether one more proof fits into the free memory."""
+    """Returns whether the free memory is enough for one more proof."""
     free = re.search(r"MemAvailable:\s+(\d+)", Path("/proc/meminfo").read_text(encoding="ascii"))
     return free is None or 1024 * int(free[1]) >= MEMORY
 
@@ -59,7 +61,7 @@ class Proving:
         self.runs: dict[str, Run] = {}
 
     def all(self) -> Path | None:
-        """Proves all; returns the log of the run that failed, if one did."""
+        """Proves all crates. Returns the log of the run that failed, or None."""
         try:
             whole = Run(self.room.place(self.crates), is_whole=True)
             self.runs[""] = whole
@@ -73,7 +75,8 @@ class Proving:
                 run.end()
 
     def is_over(self, run: Run, is_look: bool) -> bool:
-        """Follows a run over all crates to its end, or, if it is a look, until it proves; returns whether it has ended."""
+        """Follows a run over all crates to its end, or with `is_look` until it proves something. Returns whether
+        it has ended."""
         while not run.has_ended():
             if is_look and run.is_proving():
                 run.follow(self.progress, self.screen)
@@ -85,7 +88,7 @@ class Proving:
         return True
 
     def each(self) -> Path | None:
-        """Proves the crates that are left, each by a run of its own; returns the log of one that failed."""
+        """Proves the remaining crates by one run each. Returns the log of a run that failed, or None."""
         self.runs.clear()
         while len(self.progress.proved) < len(self.crates):
             self.begin()
@@ -102,7 +105,8 @@ class Proving:
         return None
 
     def by_one_run(self) -> Path | None:
-        """Proves all by one run, since nothing is kept for others; returns its log if it failed."""
+        """Proves all crates by one run, because this machine keeps no proofs for other runs. Returns the log if it
+        failed, or None."""
         for run in self.runs.values():
             run.end()
         whole = Run(self.room.place(self.crates), is_whole=True)
@@ -113,7 +117,7 @@ class Proving:
         return self.outcome(whole, self.crates)
 
     def begin(self) -> None:
-        """Begins the proofs that come next, as long as there is memory."""
+        """Begins the next proofs while there is memory."""
         for crate in self.progress.next():
             if not self.runs or has_memory():
                 place = self.room.place(with_those_below([crate], self.crates))
@@ -121,14 +125,14 @@ class Proving:
                 self.progress.begun[crate] = time.monotonic()
 
     def outcome(self, run: Run, crates: list[str] | Uses) -> Path | None:
-        """Puts what a run made of crates into the clone; returns its log if it failed."""
+        """Copies the results of a run into the clone. Returns the log if the run failed, or None."""
         if run.process.returncode != 0 or not self.progress.proved.issuperset(crates):
             return run.place.log
         self.take(run.place, {*crates})
         return None
 
     def take(self, place: Place, crates: set[str]) -> None:
-        """Puts the libraries and programs of a repository into the clone."""
+        """Copies the libraries and programs of a repository into the clone."""
         for crate in crates:
             take_library(place.repository, crate)
             take(place.repository, crate)

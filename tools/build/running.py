@@ -26,15 +26,15 @@ NOT_KEPT = re.compile(r"^rt: note: .*(nothing is kept|is not kept)", re.MULTILIN
 
 
 class Stopped(Exception):
-    """A signal has come that ends the build."""
+    """The error that a signal ends the build."""
 
     def __init__(self, number: int) -> None:
         super().__init__(number)
         self.number = number
 
 
-def heed_signals() -> None:
-    """Lets the signals that end a process raise `Stopped`, but for those that the caller has this process ignore."""
+def raise_on_signals() -> None:
+    """Raises `Stopped` at the signals that end a process, except for those that the caller ignores."""
     def stop(number: int, _: FrameType | None) -> None:
         for each in ENDING:
             signal.signal(each, signal.SIG_IGN)
@@ -46,15 +46,13 @@ def heed_signals() -> None:
 
 
 def end_with_parent() -> None:
-    """Asks the system to send this process SIGTERM once its parent has ended, however that ends."""
+    """Asks the system to send this process SIGTERM when its parent ends."""
     ctypes.CDLL(None, use_errno=True).prctl(PR_SET_PDEATHSIG, signal.SIGTERM, 0, 0, 0)
 
 
 def begin_later() -> None:
-    """As above, for a process that leaves others the processors that they want.
-
-    If the system shares processors by session, only what is written for the session counts between two of them.
-    """
+    """Does the same as `end_with_parent`, and lowers the priority of this process. If the system shares processors
+    among sessions, only the session's priority has an effect."""
     end_with_parent()
     os.nice(LATER)
     with contextlib.suppress(OSError):
@@ -62,21 +60,22 @@ def begin_later() -> None:
 
 
 class Screen:
-    """The progress line: on a terminal one that is written over, else a line whenever more is proved."""
+    """The progress line. On a terminal it is overwritten, and elsewhere a new line is printed whenever more is
+    proved."""
 
     def __init__(self) -> None:
         self.is_terminal = sys.stderr.isatty()
         self.shown, self.at, self.is_new = "", 0.0, True
 
     def show(self, progress: Progress) -> None:
-        """Shows how far it is, at most once a second."""
+        """Prints the progress, at most once a second."""
         now = time.monotonic()
         if now >= self.at + 1 and (self.is_new or self.is_terminal):
             self.put(progress.line(now))
             self.at, self.is_new = now, False
 
     def put(self, line: str) -> None:
-        """Shows a line at once, if it is another one."""
+        """Prints a line at once if it differs from the last one."""
         begin, end = ("\r", "\x1b[K") if self.is_terminal else ("", "\n")
         if line != self.shown:
             print(f"{begin}mml: {line}", end=end, file=sys.stderr, flush=True)
@@ -90,7 +89,7 @@ class Screen:
 
 
 class Run:
-    """A run of `rt ci` over the repository of a place."""
+    """A run of `rt ci` over a repository."""
 
     def __init__(self, place: Place, is_first: bool = True, is_whole: bool = False) -> None:
         self.place, self.read = place, 0
@@ -103,7 +102,7 @@ class Run:
             )
 
     def follow(self, progress: Progress, screen: Screen) -> None:
-        """Notes the crates that it says are proved, each once."""
+        """Notes each crate that the output reports as proved, once."""
         with self.place.log.open("rb") as it:
             it.seek(self.read)
             whole, newline, _ = it.read().rpartition(b"\n")
@@ -113,15 +112,15 @@ class Run:
             progress.note(found[1], bool(found[2]), time.monotonic())
 
     def has_ended(self) -> bool:
-        """Returns whether it has ended."""
+        """Returns whether the run has ended."""
         return self.process.poll() is not None
 
     def lacks_keeping(self) -> bool:
-        """Returns whether it says that what it proved isn't kept for other runs."""
+        """Returns whether the output says that this machine keeps no proofs for other runs."""
         return bool(NOT_KEPT.search(self.place.log.read_text(encoding="utf-8", errors="replace")))
 
     def is_proving(self) -> bool:
-        """Returns whether a process below it proves something."""
+        """Returns whether a process below the run is proving something."""
         here = str(self.place.repository.resolve())
         for process in Path("/proc").glob("[0-9]*"):
             try:
@@ -132,7 +131,7 @@ class Run:
         return False
 
     def end(self) -> None:
-        """Ends it if it goes on, with what it started: what it set apart from its group its own guard ends."""
+        """Ends the run with all that it started. Processes outside its group are ended by its own guard."""
         if not self.has_ended():
             os.killpg(self.process.pid, signal.SIGTERM)
             try:

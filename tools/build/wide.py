@@ -11,17 +11,17 @@ import shutil
 import sys
 
 
-def twice(number: int) -> set[int]:
-    """Returns what stands for twice so many processors."""
+def doubled(number: int) -> set[int]:
+    """Returns a set with twice as many processors."""
     return {*range(2 * number)}
 
 
 def main() -> None:
-    """Runs the `rt` that is on the path, with the words given."""
+    """Runs the `rt` on the path with these arguments."""
     rt = shutil.which("rt")
     if rt is None:
         sys.exit("rt is not on the path")
-    found = twice(len(os.sched_getaffinity(0)))
+    found = doubled(len(os.sched_getaffinity(0)))
     os.sched_getaffinity = lambda _: found
     sys.argv[0] = rt
     runpy.run_path(rt, run_name="__main__")

@@ -19,7 +19,7 @@ TABLE = "# Seconds of processor that the proof of each crate took: `./check chai
 
 @dataclass(frozen=True)
 class Span:
-    """When the proof of a crate began and ended, in seconds of the run, and what it took of processors."""
+    """The beginning and the end of a crate's proof, in seconds of the run, and the processor time that it used."""
 
     begin: float
     end: float
@@ -30,7 +30,8 @@ Spans = dict[str, Span]
 
 
 def spans_of(checks: Checks) -> Spans:
-    """Returns the proofs that were done, in the order in which they ended. Those of crates that were kept aren't there."""
+    """Returns the proofs of a run, in the order in which they ended. Crates that weren't proved again are left
+    out."""
     found: Spans = {}
     for check, (crate, kind) in checks.works.items():
         if kind == "proof":
@@ -42,22 +43,23 @@ def spans_of(checks: Checks) -> Spans:
     return dict(sorted(moved.items(), key=lambda it: it[1].end))
 
 
-def keep(spans: Spans, file: Path = KEPT) -> None:
-    """Keeps the times of a run for `./check chain`."""
+def save_spans(spans: Spans, file: Path = KEPT) -> None:
+    """Saves the times of a run for `./check chain`."""
     file.parent.mkdir(exist_ok=True)
     lines = [f"{crate} {it.begin:.0f} {it.end:.0f} {it.used:.0f}\n" for crate, it in spans.items()]
     file.write_text(HEAD.format(time.strftime("%Y-%m-%d")) + "".join(lines), encoding="utf-8")
 
 
-def kept(file: Path = KEPT) -> Spans:
-    """Returns the times of the last run that proved something, or nothing if there was none here."""
+def saved_spans(file: Path = KEPT) -> Spans:
+    """Returns the times of the last run that proved something, or nothing."""
     text = file.read_text(encoding="utf-8") if file.exists() else ""
     rows = [line.split() for line in text.splitlines() if not line.startswith("#")]
     return {crate: Span(float(begin), float(end), float(used)) for crate, begin, end, used in rows}
 
 
 def chain(spans: Spans, crate: str) -> list[str]:
-    """Returns the crates on which a crate waited, lowest first: of those that each one uses, the last that was proved."""
+    """Returns the crates that a crate waited for, lowest first: for each crate, the last one proved among those
+    that it uses."""
     found, every = [crate], uses()
     while below := [it for it in every.get(found[0], []) if it in spans]:
         found.insert(0, max(below, key=lambda it: spans[it].end))
@@ -78,14 +80,14 @@ def lines_of(spans: Spans, crate: str) -> list[str]:
     return lines
 
 
-def told(spans: Spans, crates: list[str]) -> str:
-    """Returns the chains to these crates, or to the one that was proved last, each as a table."""
+def chain_tables(spans: Spans, crates: list[str]) -> str:
+    """Returns the chains to these crates, or to the crate that was proved last, as tables."""
     wanted = [it for it in crates if it in spans] or [*spans][-1:]
     return "\n\n".join("\n".join(lines_of(spans, it)) for it in wanted)
 
 
 def short(spans: Spans) -> str:
-    """Returns the chain to the crate that was proved last as a line."""
+    """Returns the chain to the last crate as a line."""
     crates = chain(spans, [*spans][-1])
     each = ", ".join(f"{it} {spans[it].end - spans[it].begin:.0f}" for it in crates)
     return f"the longest chain, in seconds: {each}; it ended after {spans[crates[-1]].end:.0f}: ./check chain says more"

@@ -1,4 +1,4 @@
-"""A check from its first line to its last."""
+"""A whole check, from its first line to its last."""
 from __future__ import annotations
 
 import os
@@ -8,7 +8,7 @@ from pathlib import Path
 
 from tools.check import chain
 from tools.check.measure import figures
-from tools.check.needs import install, missing, told
+from tools.check.needs import install, missing, instruction
 from tools.check.parts import PROOFS, TOP, Part, minutes_of
 from tools.check.processes import adopt_orphans
 from tools.check.results import not_tried, result
@@ -19,7 +19,7 @@ Stages = list[list[Part]]
 
 
 def is_gate() -> bool:
-    """Returns whether nothing may be left out."""
+    """Returns whether no part may be left out."""
     return bool(os.environ.get("CI"))
 
 
@@ -29,7 +29,7 @@ def tell(line: str) -> None:
 
 
 class Count:
-    """How many tests passed and failed, what each part took, and what was left out."""
+    """The number of tests that passed and failed, the time of each part, and the parts that were left out."""
 
     def __init__(self, left_out: list[str]) -> None:
         self.passed, self.failed = 0, 0
@@ -37,7 +37,7 @@ class Count:
         self.left_out = left_out
 
     def add(self, done: Done) -> bool:
-        """Returns what became of a part, and all that it wrote if it failed; answers whether it passed."""
+        """Prints the result of a part, and its whole output if it failed. Returns whether it passed."""
         it = result(done)
         self.passed += it.passed
         self.failed += it.failed
@@ -49,11 +49,12 @@ class Count:
         return not it.failed
 
     def with_needs(self, parts: list[Part]) -> list[Part]:
-        """Returns the parts that have what they need; the others are reported, or fail if none may be left out."""
+        """Returns the parts whose needs are met. Reports the others, or counts them as failed if no part may be left
+        out."""
         lacks = missing(parts)
         for name, need in lacks.items():
             names = [it.name for it in parts if name in it.needs + it.likes]
-            why = f"{', '.join(names)}: needs {told(need)}"
+            why = f"{', '.join(names)}: needs {instruction(need)}"
             if is_gate() or need.is_a_must:
                 self.failed += len(names)
                 tell(f"FAILED {why}")
@@ -62,12 +63,12 @@ class Count:
         return [it for it in parts if not set(it.needs) & set(lacks)]
 
     def close(self, crew: Crew) -> int:
-        """Returns what was left out, what all took, and the last line; answers the status."""
+        """Prints the parts that were left out, the time in all, and the last line. Returns the status."""
         for line in self.left_out:
             tell(f"left out: {line}")
         tell(figures(crew.checks, self.minutes).rstrip("\n"))
         if spans := chain.spans_of(crew.checks):
-            chain.keep(spans)
+            chain.save_spans(spans)
             tell(chain.short(spans))
         if self.passed + self.failed == 0:
             tell("FAILED: no test ran")
@@ -77,7 +78,7 @@ class Count:
 
 
 def begin(stages: Stages, processors: int) -> None:
-    """Gets what is missing, if nothing may be left out; prints how long it will take."""
+    """Installs missing packages if no part may be left out, and prints how long the check will take."""
     if is_gate():
         install([part for stage in stages for part in stage])
     names = [stage[0].name if len(stage) == 1 else "scripts" for stage in stages]
@@ -87,8 +88,8 @@ def begin(stages: Stages, processors: int) -> None:
 
 
 def run(stages: Stages, crew: Crew, count: Count) -> None:
-    """Runs the stages one after another, and from the first on what runs beside; if the proofs fail, there is no
-    program to go on with."""
+    """Runs the stages one after another. Parts that run beside start with the first stage. Stops if the proofs
+    fail, because there is no program then."""
     beside = [it for stage in stages for it in stage if it.is_beside]
     for number, stage in enumerate(stages):
         here = [it for it in stage if not it.is_beside]
@@ -104,13 +105,13 @@ def run(stages: Stages, crew: Crew, count: Count) -> None:
 
 
 def forget_records() -> None:
-    """Removes the records beside programs that `rt ci` has made anew: they are about older ones."""
+    """Removes the records beside programs that `rt ci` has built again, since they describe older programs."""
     for record in TOP.glob("crates/*/out/*.sources"):
         record.unlink()
 
 
 def check(stages: Stages, left_out: list[str], room: Path) -> int:
-    """Runs the stages with files in a folder, and leaves no process and no file however that ends."""
+    """Runs the stages with temporary files in a folder. Leaves no process and no file, however it ends."""
     processors = len(os.sched_getaffinity(0))
     adopt_orphans()
     crew, count = Crew(room, processors), Count(left_out)

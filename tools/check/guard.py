@@ -1,4 +1,5 @@
-"""The process that was called, which stays beside the one that checks: what is left of either, the other clears up."""
+"""The process that the user has called. It stays beside the process that checks, and each of them cleans up if the
+other is killed."""
 from __future__ import annotations
 
 import os
@@ -16,15 +17,15 @@ PATIENCE = 8.0  # seconds that processes of a check that was killed have to clea
 
 
 def guarded(work: Callable[[Path], int]) -> int:
-    """Returns the status of some work in a child, which has a folder of its own. Signals go on to the child; if it is
-    killed at once, all processes below it are ended here, and if this process is, the child is asked to end."""
+    """Runs some work in a child with its own folder, and returns its status. Passes signals to the child. If the
+    child is killed, ends all processes below it. If this process is killed, the child is asked to end."""
     adopt_orphans()
     room = Path(tempfile.mkdtemp(prefix="check-"))
     signal.pthread_sigmask(signal.SIG_BLOCK, ALL)
     guard, child = os.getpid(), os.fork()
     if child == 0:
         work_below(guard, room, work)
-    hand_on_signals(child)
+    forward_signals(child)
     _, ended = os.waitpid(child, 0)
     for number in ALL:
         signal.signal(number, signal.SIG_IGN)
@@ -37,7 +38,7 @@ def guarded(work: Callable[[Path], int]) -> int:
 
 
 def work_below(guard: int, room: Path, work: Callable[[Path], int]) -> None:
-    """Does the work in the child, in a session of its own, and ends it."""
+    """Does the work in the child, in its own session, and exits."""
     status = 1
     try:
         os.setsid()
@@ -53,8 +54,8 @@ def work_below(guard: int, room: Path, work: Callable[[Path], int]) -> None:
         os._exit(status)
 
 
-def hand_on_signals(child: int) -> None:
-    """From now on the signals that end a check go on to a child, but for those that whoever called this has it ignore."""
+def forward_signals(child: int) -> None:
+    """Passes the signals that end a check to a child from now on, except for those that the caller ignores."""
     def hand_on(number: int, _: object) -> None:
         try:
             os.kill(child, number)

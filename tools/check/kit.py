@@ -1,4 +1,4 @@
-"""Wants that README.md names the toolchain that this check runs with, and no other logic.
+"""Checks that README.md names the toolchain of this check, and no other logic.
 
     python3 -B -m tools.check.kit
 """
@@ -16,8 +16,8 @@ KIT = re.compile(r"`([^`]+ logic ([0-9a-f]+))`")
 
 
 def fault(readme: str, version: str) -> str:
-    """Returns what is wrong with the toolchain that a page names, if anything: kits of one logic, of which this is
-    one."""
+    """Returns what is wrong with the toolchain on a page, or an empty text. All its versions must be of one logic,
+    and include this one."""
     lines = NAMED.findall(readme)
     named = KIT.findall(lines[0]) if len(lines) == 1 else []
     if not named:
@@ -28,7 +28,7 @@ def fault(readme: str, version: str) -> str:
 
 
 def main() -> None:
-    """Compares."""
+    """Compares the page with the toolchain. Exits with status 1 if they differ."""
     version = subprocess.run(["rt", "version"], capture_output=True, text=True, check=True).stdout.strip()
     wrong = fault((TOP / "README.md").read_text(encoding="utf-8"), version)
     if wrong:

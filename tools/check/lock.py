@@ -10,12 +10,12 @@ from tools.check.parts import TOP
 
 
 class Taken(Exception):
-    """Another check runs in this tree."""
+    """The error that another check runs in this tree."""
 
 
 @contextmanager
 def alone() -> Iterator[None]:
-    """Holds a lock on the tree's file `check`, which goes with this process, however that ends."""
+    """Holds a lock on the tree's file `check`. The system releases it if this process ends."""
     file = os.open(TOP / "check", os.O_RDONLY | os.O_CLOEXEC)
     try:
         fcntl.flock(file, fcntl.LOCK_EX | fcntl.LOCK_NB)

@@ -22,7 +22,7 @@ Work = tuple[str, str]
 
 
 def work_of(pid: int, part: str) -> Work | None:
-    """Returns the crate and the kind of a check, once it is known."""
+    """Returns the crate and the kind of a check, or None if they aren't known yet."""
     with open(f"/proc/{pid}/cmdline", encoding="utf-8", errors="replace") as it:
         words = it.read().split("\0")
     if "--crate-name" not in words:
@@ -34,7 +34,7 @@ def work_of(pid: int, part: str) -> Work | None:
 
 
 class Checks:
-    """The checks below the parts that run, with what each has used."""
+    """The checks below the running parts, with the processor time that each has used."""
 
     def __init__(self) -> None:
         self.works: dict[Check, Work] = {}
@@ -44,7 +44,7 @@ class Checks:
         self.looked = 0.0
 
     def look(self, parts: dict[int, str]) -> None:
-        """Looks at all checks below these parts, if that was last done half a second ago."""
+        """Reads the processor times of all checks, at most twice a second."""
         if time.monotonic() < self.looked + PAUSE:
             return
         self.looked = time.monotonic()
@@ -64,7 +64,7 @@ class Checks:
             self.note(check, used, part_of[check])
 
     def note(self, check: Check, used: float, part: str) -> None:
-        """Notes what a check has used, once its crate is known."""
+        """Notes the processor time of a check if its crate is known."""
         try:
             work = self.works.get(check) or work_of(check[0], part)
         except (OSError, ValueError):
@@ -76,11 +76,11 @@ class Checks:
 
     @staticmethod
     def begin_of(check: Check) -> float:
-        """When a check began, by the clock of `seen`: in seconds since the machine was started."""
+        """Returns when a check began, in seconds since the machine was started."""
         return int(check[1]) / TICKS
 
     def minutes(self) -> dict[Work, float]:
-        """Returns the processor minutes of each crate and kind."""
+        """Returns the processor minutes by crate and kind."""
         sums: dict[Work, float] = {}
         for check, used in self.used.items():
             work = self.works[check]
@@ -89,7 +89,7 @@ class Checks:
 
 
 def check_above(pid: int, found: dict[int, Process], parts: dict[int, str]) -> tuple[Check | None, str]:
-    """Returns the check that a process is or was started by, and its part."""
+    """Returns the check to which a process belongs, and its part."""
     check = None
     while pid in found and pid not in parts:
         if found[pid].name == "rattle":
@@ -99,7 +99,7 @@ def check_above(pid: int, found: dict[int, Process], parts: dict[int, str]) -> t
 
 
 def figures(checks: Checks, parts: dict[str, float]) -> str:
-    """Returns the table of the crates and that of the parts, whose processor minutes are given."""
+    """Returns the tables of crates and of parts, with their processor minutes."""
     sums = checks.minutes()
     crates = sorted({crate for crate, _ in sums})
     of_kind = {kind: sum(it for (_, its), it in sums.items() if its == kind) for kind in KINDS}

@@ -1,6 +1,6 @@
-"""What the parts need of the machine: programs and Debian's packages, in the one module that installs any.
+"""The programs and Debian packages that parts of a check need. Only this module installs packages.
 
-    python3 -B -m tools.check.needs FOLDER     fetches the packages that are never installed into a folder
+    python3 -B -m tools.check.needs FOLDER     downloads the packages that are never installed into a folder
 """
 from __future__ import annotations
 
@@ -21,7 +21,7 @@ NEVER_INSTALLED = "openssh-server"  # Its installation would start a server.
 
 @dataclass(frozen=True)
 class Need:
-    """What has to be there, how that is reported, and the Debian packages that bring it."""
+    """A requirement of parts: its test, its text, and the Debian packages that meet it."""
 
     what: str
     is_there: Callable[[], bool]
@@ -30,12 +30,12 @@ class Need:
 
 
 def on_path(*programs: str) -> Callable[[], bool]:
-    """Returns whether all these programs are on the path."""
+    """Returns a function that returns whether all these programs are on the path."""
     return lambda: all(shutil.which(it) for it in programs)
 
 
 def is_installed(package: str) -> bool:
-    """Returns whether Debian's package manager says so."""
+    """Returns whether Debian's package manager lists the package as installed."""
     words = ["dpkg-query", "-W", "-f", "${Status}", package]
     try:
         return subprocess.run(words, capture_output=True, text=True, check=False).stdout == "install ok installed"
@@ -44,7 +44,7 @@ def is_installed(package: str) -> bool:
 
 
 def installed(*packages: str) -> Callable[[], bool]:
-    """Returns whether all these packages are installed."""
+    """Returns a function that returns whether all these packages are installed."""
     return lambda: all(map(is_installed, packages))
 
 
@@ -61,12 +61,12 @@ def is_built_or_named() -> bool:
 
 
 def has_tests() -> bool:
-    """Returns whether there is a program of a crate's tests."""
+    """Returns whether the test program of a crate exists."""
     return any(TOP.glob("crates/*/out/*_tests"))
 
 
 def can_be_fetched() -> bool:
-    """Returns whether the package that is never installed is here, or can be had."""
+    """Returns whether the package that is never installed is here or can be downloaded."""
     return is_installed(NEVER_INSTALLED) or apt("--print-uris", "install", NEVER_INSTALLED)
 
 
@@ -97,7 +97,7 @@ NEEDS = {
 
 
 def apt(*words: str) -> bool:
-    """Calls the package manager quietly."""
+    """Runs the package manager without output. Returns whether it succeeded."""
     try:
         return subprocess.run([*APT, *words], stdin=subprocess.DEVNULL, capture_output=True, check=False).returncode == 0
     except OSError:
@@ -105,20 +105,20 @@ def apt(*words: str) -> bool:
 
 
 def missing(parts: list[Part]) -> dict[str, Need]:
-    """Returns what these parts need or like and isn't there, by its name."""
+    """Returns the needs of these parts that aren't met, by name."""
     is_built.cache_clear()
     names = dict.fromkeys(name for part in parts for name in (*part.needs, *part.likes))
     return {name: NEEDS[name] for name in names if not NEEDS[name].is_there()}
 
 
-def told(need: Need) -> str:
-    """Returns a need as a reader can fill it."""
+def instruction(need: Need) -> str:
+    """Returns a need as an instruction for the reader."""
     lacking = [it for it in need.packages if not is_installed(it)] or [*need.packages]
     return f"{need.what} (Debian's {' '.join(lacking)})" if lacking else need.what
 
 
 def install(parts: list[Part]) -> None:
-    """Installs the packages that these parts need or like, if that can be done."""
+    """Tries to install the packages that these parts need or can use."""
     needs = [NEEDS[name] for part in parts for name in (*part.needs, *part.likes) if NEEDS[name].packages]
     packages = {it for need in needs if not need.is_there() for it in need.packages if not is_installed(it)}
     if packages and os.geteuid() == 0 and apt("update"):
@@ -126,7 +126,7 @@ def install(parts: list[Part]) -> None:
 
 
 def fetch(folder: Path) -> None:
-    """Puts the package that is never installed, with what it needs, into a folder."""
+    """Downloads the package that is never installed, with its dependencies, into a folder."""
     (folder / "partial").mkdir(parents=True, exist_ok=True)
     words = ["-o", f"Dir::Cache::archives={folder}", "-o", "APT::Sandbox::User=root", "--download-only", "install", NEVER_INSTALLED]
     if not (apt(*words) or apt("update") and apt(*words)):

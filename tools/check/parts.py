@@ -1,8 +1,4 @@
-"""The parts of a check: another one is a line of QUICK.
-
-A part is a call at the top whose status is 0 if it passed, and whose last line says how much it tried.
-Its figures were measured on four processors: they estimate what a check takes, and bound nothing.
-"""
+"""Returns the command line of a module of tests or tools."""
 from __future__ import annotations
 
 import re
@@ -16,7 +12,7 @@ ALL = 1_000_000  # wider than any machine: such a part runs alone
 
 @dataclass(frozen=True)
 class Part:
-    """A call, what it takes, and what it needs."""
+    """A part of a check: its call, its times, and its needs."""
 
     name: str
     command: tuple[str, ...]
@@ -30,11 +26,11 @@ class Part:
     is_beside: bool = False  # whether it runs from the beginning on, beside the others, with what they leave idle
 
     def minutes(self, processors: int) -> float:
-        """Returns how many minutes of the clock the part takes."""
+        """Returns the expected minutes of the part on so many processors."""
         return max(self.least, self.work / min(self.width, processors))
 
     def over(self, crates: list[str], share: float) -> Part:
-        """Returns the part over some crates, which have that share of its work."""
+        """Returns the same part for some crates only. `share` is their share of its work."""
         return replace(self, command=(*self.command, *crates), work=self.work * share, least=self.least * share)
 
 
@@ -44,7 +40,7 @@ def module(name: str, *words: str, of: str = "tests") -> tuple[str, ...]:
 
 
 def cases(*names: str, python: str = "python3") -> tuple[str, ...]:
-    """Returns the call of modules of test cases."""
+    """Returns the command line for modules of test cases."""
     return (python, "-B", "-m", "unittest", "-v", *(f"tests.{name}" for name in names))
 
 
@@ -53,14 +49,14 @@ LANGUAGES = ("java", "node", "cc", "rustc")
 LIKED = (*LANGUAGES, "jupyter-nbconvert")
 PROVED = "[ps]*/**/*.*t"  # a crate's src/, specs/ and proofs/
 EDITS = "wrong/*.edit"
-STANDS = r"^rt: (\w+) (?:proved$|is kept: )"  # a crate whose library is written
+STANDS = r"^rt: (\w+) (?:proved$|is kept: )"  # the line for a crate whose library has been written
 PROOFS = Part("proofs", ("rt", "ci"), 105, 42, ALL, ("rt",), shows=r"^rt: ", hands_on=STANDS)
 WRONG = Part("wrong", module("wrong", of="tools"), 57, 10, ALL, ("rt",))
 LAST_CRATES = 5  # minutes of the wrong bodies of the crates that are proved last
 
 
 def classroom() -> Iterator[Part]:
-    """Yields the modules of tests/classroom, each with servers, and some with a browser, of its own."""
+    """Yields a part for each module of tests/classroom. Each starts its own servers, and some start a browser."""
     for it in sorted((TOP / "tests/classroom").glob("test_*.py")):
         text = it.read_text(encoding="utf-8")
         needs = (*BUILT, "python3", *["browser"] * ("tests.classroom.browser" in text), *["pictures"] * ('"rsvg-convert"' in text))
@@ -69,7 +65,7 @@ def classroom() -> Iterator[Part]:
         yield Part(name, cases(f"classroom.{it.stem}", python="/usr/bin/python3"), 0.2, 0.4, 0.5, needs, likes)
 
 
-# What needs no proof. The first that fits is begun first, so that the long ones stand before the short ones.
+# The parts that need no proof. The first one that fits is started first, so the long ones come before the short ones.
 QUICK = [
     Part("release", ("bash", "tests/release/run"), 1.5, 2.5, 1, ("built", "root", "release", "openssh-server", "git")),
     Part("hostile", module("hostile"), 0.1, 1.1, 0.5, BUILT),
@@ -81,11 +77,13 @@ QUICK = [
     Part("outsiders-bots", module("outsiders.bots"), 0.2, 0.7, 0.5, BUILT),
     Part("hostile-host", module("hostile", "15", "host"), 0.2, 0.5, 0.5, BUILT),
     Part("resume", module("resume"), 0.5, 1.0, 0.5, (*BUILT, "rt")),
+    Part("memory-classes", module("memory", "classes"), 0.4, 0.8, 0.5, (*BUILT, "rt")),
     Part("record", module("record"), 0.4, 0.5, 1, BUILT),
     Part("wrong-tests", cases("wrong.test_wrong", "wrong.test_beside", "wrong.test_saved", "wrong.test_plants", "wrong.test_drawing"), 0.6, 0.6, 1, ("rt",)),
     Part("build", cases("build.test_build", "build.test_class"), 0.4, 0.9, 0.5, ("git",)),
     Part("check", cases("check.test_check", "check.test_pieces", "check.test_imports", "check.test_chain", "check.test_model"), 0.2, 0.8, 0.5),
     Part("memory", module("memory", "uses"), 0.2, 0.4, 0.5, (*BUILT, "rt")),
+    Part("memory-hosts", module("memory", "hosts"), 0.2, 0.3, 0.5, (*BUILT, "rt")),
     Part("tally", module("tally", "20"), 0.1, 0.2, 0.5, BUILT),
     Part("calls", module("program"), 0.2, 0.3, 1, BUILT),
     Part("refusals", module("memory", "tests"), 0.2, 0.2, 1, ("tests", "rt")),
@@ -106,13 +104,13 @@ QUICK = [
 
 
 def uses() -> dict[str, list[str]]:
-    """Returns all crates, each with what it uses."""
+    """Returns all crates, each with the crates that it uses."""
     lines = re.findall(r"(?m)^(\w+):(.*)$", (TOP / "crates.txt").read_text(encoding="utf-8"))
     return {crate: used.split() for crate, used in lines}
 
 
 def with_those_below(crates: list[str]) -> set[str]:
-    """These crates and all that they are built from."""
+    """Returns these crates and all crates below them."""
     all_uses, found, near = uses(), set[str](), [*crates]
     while near:
         crate = near.pop()
@@ -123,29 +121,30 @@ def with_those_below(crates: list[str]) -> set[str]:
 
 
 def share(crates: set[str], pattern: str) -> float:
-    """Returns what part of the bytes of these files of all crates is in some crates."""
+    """Returns the share of some crates in the size of all files that match a pattern."""
     sizes = {it: sum(file.stat().st_size for file in (TOP / "crates" / it).glob(pattern)) for it in uses()}
     whole = sum(sizes.values())
     return sum(sizes[it] for it in crates) / whole if crates and whole else 1.0
 
 
 def proofs_of(crates: list[str]) -> Part:
-    """Returns the proofs of some crates and those below them, or of all."""
+    """Returns the part that proves some crates and those below them, or all crates."""
     return PROOFS.over(crates, share(with_those_below(crates), PROVED))
 
 
 def wrong_of(crates: list[str]) -> Part:
-    """Returns the wrong bodies of some crates, or of all."""
+    """Returns the part that tries the wrong bodies of some crates, or of all."""
     return WRONG.over(crates, share({*crates}, EDITS))
 
 
 def wrong_beside() -> Part:
-    """Returns the wrong bodies of all crates, each as it is proved."""
+    """Returns the part that tries the wrong bodies of all crates while they are proved."""
     return replace(WRONG, command=(*WRONG.command, "--as-proved"), least=min(WRONG.least, LAST_CRATES), is_beside=True)
 
 
 def minutes_of(stages: list[list[Part]], processors: int) -> list[float]:
-    """Returns what stages take of the clock: a part beside only what the others don't leave idle."""
+    """Returns the expected minutes of each stage. A part that runs beside counts only for the time that the others
+    don't leave idle."""
     takes = [minutes([part for part in stage if not part.is_beside], processors) for stage in stages]
     idle = sum(takes) * processors - sum(part.work for stage in stages for part in stage if not part.is_beside)
     for number, stage in enumerate(stages):
@@ -156,7 +155,8 @@ def minutes_of(stages: list[list[Part]], processors: int) -> list[float]:
 
 
 def minutes(parts: list[Part], processors: int) -> float:
-    """Returns what these take of the clock: those that fill the machine one after another, the others side by side."""
+    """Returns the expected minutes of some parts. Those as wide as the machine run one after another, and the
+    others side by side."""
     alone = [it.minutes(processors) for it in parts if it.width >= processors]
     beside = [it for it in parts if it.width < processors]
     shared = sum(it.width * it.minutes(processors) for it in beside) / processors

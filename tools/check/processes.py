@@ -1,4 +1,4 @@
-"""What the system reports of processes, and the end of all that stand below this one."""
+"""Data about processes, and ending all processes below this one."""
 from __future__ import annotations
 
 import ctypes
@@ -17,7 +17,8 @@ PAUSE = 0.05
 
 @dataclass(frozen=True)
 class Process:
-    """A process's name, parent, state and start, the seconds that it and those it has waited for used, its memory."""
+    """A process: its name, parent, state and start, the seconds that it and its ended children have used, and its
+    memory."""
 
     name: str
     parent: int
@@ -28,7 +29,7 @@ class Process:
 
 
 def process(pid: int) -> Process:
-    """Returns what the system reports of a process."""
+    """Returns the system's data about a process."""
     with open(f"/proc/{pid}/stat", encoding="utf-8", errors="replace") as it:
         text = it.read()
     name = text[text.index("(") + 1 : text.rindex(")")]
@@ -38,7 +39,7 @@ def process(pid: int) -> Process:
 
 
 def processes() -> dict[int, Process]:
-    """Returns all of them, but for those that end meanwhile."""
+    """Returns the system's data about all processes. Skips those that end in the meantime."""
     found = {}
     for pid in map(int, filter(str.isdigit, os.listdir("/proc"))):
         try:
@@ -49,7 +50,7 @@ def processes() -> dict[int, Process]:
 
 
 def below(top: int) -> list[int]:
-    """Returns the processes below one that haven't ended."""
+    """Returns the descendants of a process that haven't ended."""
     found = processes()
     near = {top}
     while True:
@@ -66,19 +67,19 @@ def set_process(option: int, value: int) -> None:
 
 
 def adopt_orphans() -> None:
-    """Becomes the parent of each process below whose parent ends, in whatever session it is."""
+    """Makes this process the parent of each descendant whose parent ends, in whatever session it is."""
     set_process(PR_SET_CHILD_SUBREAPER, 1)
 
 
 def end_with_parent(parent: int) -> None:
-    """Is asked to end once that parent has, however that ends."""
+    """Asks the system to send this process a signal when its parent ends."""
     set_process(PR_SET_PDEATHSIG, signal.SIGTERM)
     if os.getppid() != parent:
         os.kill(os.getpid(), signal.SIGTERM)
 
 
 def send(pids: list[int], number: signal.Signals, to: Callable[[int, int], None] = os.kill) -> None:
-    """Sends a signal to processes, or by `os.killpg` to groups, of which some may have ended."""
+    """Sends a signal to processes, or to groups by `os.killpg`. Ignores those that have ended."""
     for pid in pids:
         try:
             to(pid, number)
@@ -87,7 +88,7 @@ def send(pids: list[int], number: signal.Signals, to: Callable[[int, int], None]
 
 
 def reap() -> None:
-    """Takes leave of the children that have ended."""
+    """Waits for the children that have ended, so that they don't stay as zombies."""
     try:
         while os.waitpid(-1, os.WNOHANG)[0] != 0:
             continue
@@ -95,8 +96,8 @@ def reap() -> None:
         return
 
 
-def gone(pids: Callable[[], Iterable[int]], seconds: float) -> bool:
-    """Waits until none of these is there, for so many seconds."""
+def wait_until_gone(pids: Callable[[], Iterable[int]], seconds: float) -> bool:
+    """Waits until none of these processes is left, at most `seconds`. Returns whether none is left."""
     until = time.monotonic() + seconds
     while set(pids()) & set(below(os.getpid())):
         if time.monotonic() > until:
@@ -107,15 +108,16 @@ def gone(pids: Callable[[], Iterable[int]], seconds: float) -> bool:
 
 
 def end_all(groups: list[int], patience: float) -> None:
-    """Ends all processes below this one: asks these groups first, whose leaders clear up, then each, and kills who stays."""
+    """Ends all processes below this one. Asks the leaders of these groups first, which clean up, then all others,
+    and kills those that stay."""
     def rest() -> list[int]:
         return below(os.getpid())
 
     send(groups, signal.SIGTERM, os.killpg)
-    gone(lambda: groups, patience)
+    wait_until_gone(lambda: groups, patience)
     send(rest(), signal.SIGTERM)
-    if not gone(rest, patience / 4):
+    if not wait_until_gone(rest, patience / 4):
         while rest():
             send(rest(), signal.SIGKILL)
-            gone(rest, patience / 4)
+            wait_until_gone(rest, patience / 4)
     reap()

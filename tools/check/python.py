@@ -1,8 +1,9 @@
-"""Checks all Python of the repository: its types, strictly, and what a linter says.
+"""Checks all Python sources of the repository: strict types, and the rules of a linter.
 
     python3 -B -m tools.check.python
 
-The settings are those of `pyproject.toml` and `.flake8`, so a tool that is called by hand, or by an editor, says the same.
+The settings are in `pyproject.toml` and `.flake8`, so the tools give the same results when they are called by hand
+or by an editor.
 """
 from __future__ import annotations
 
@@ -20,21 +21,21 @@ CALLS = (("class", "bench", "classroom", "model", "tests", "tools"), ("check",),
 
 
 def python_files() -> list[str]:
-    """Returns the Python that git knows of, or would."""
+    """Returns the Python files that Git tracks, or would."""
     listed = subprocess.run(["git", "ls-files", "-co", "--exclude-standard"], cwd=TOP, capture_output=True, text=True, check=True)
     files = [file for file in listed.stdout.splitlines() if (TOP / file).is_file()]
     return [file for file in files if file.endswith(".py") or file in ("class", "check")]
 
 
 def faults_of(command: list[str]) -> list[str]:
-    """Returns what a tool says, if it isn't content."""
+    """Returns the output of a tool that has failed, line by line."""
     environment = {**os.environ, "MYPYPATH": "classroom"} if command[-1].startswith(("examples", "student")) else None
     done = subprocess.run(command, cwd=TOP, capture_output=True, text=True, check=False, env=environment)
     return [line for line in (done.stdout + done.stderr).splitlines() if line] if done.returncode else []
 
 
 def main() -> None:
-    """Calls both tools."""
+    """Runs both tools. Exits with status 1 if one of them finds a fault."""
     files = python_files()
     with tempfile.TemporaryDirectory() as kept:
         mypy = ["mypy", "--config-file", "pyproject.toml", "--cache-dir", kept]

@@ -1,4 +1,4 @@
-"""What became of a part, from its status and what it wrote."""
+"""The result of a part, from its exit status and its output."""
 from __future__ import annotations
 
 import re
@@ -11,7 +11,8 @@ SUM = re.compile(r"(\d+) passed, (\d+) failed(?: \(.*\))?")  # `rt ci` says of s
 
 @dataclass(frozen=True)
 class Result:
-    """How many tests of a part passed and failed, as it counts them or else as one, and its last line."""
+    """The number of tests of a part that passed and failed, and the last line of its output. A part that doesn't count
+    its tests counts as one."""
 
     passed: int
     failed: int
@@ -19,7 +20,7 @@ class Result:
 
 
 def of_cases(output: str) -> str | None:
-    """Returns the result of a run of test cases, without those that were left out, or None if it isn't one."""
+    """Returns the line that sums up a run of test cases, without the skipped ones, or None if the output isn't one."""
     ran = re.search(r"^Ran (\d+) tests? in (.*)$", output, re.MULTILINE)
     if ran is None:
         return None
@@ -28,12 +29,12 @@ def of_cases(output: str) -> str | None:
 
 
 def last_line(output: str) -> str:
-    """Returns the last line that says something."""
+    """Returns the last line that isn't blank."""
     return next((line for line in reversed(output.splitlines()) if line.strip()), "")
 
 
 def result(done: Done) -> Result:
-    """Returns what became of a part. One whose output has no test, or says that there was none, has failed."""
+    """Returns the result of a part. A part fails if its output reports no test, or reports that none ran."""
     line = of_cases(done.output) or last_line(done.output)
     counted = SUM.fullmatch(line)
     passed, failed = (int(counted[1]), int(counted[2])) if counted else (int(done.status == 0), 0)
@@ -45,5 +46,5 @@ def result(done: Done) -> Result:
 
 
 def not_tried(output: str) -> list[str]:
-    """Returns why test cases were left out."""
+    """Returns the reasons why test cases were skipped."""
     return sorted(set(re.findall(r"^.* skipped [\"'](.*)[\"']$", output, re.MULTILINE)))

@@ -1,4 +1,4 @@
-"""Runs parts side by side, each in a session and with a folder of its own."""
+"""Runs parts side by side, each in its own session and with its own folder."""
 from __future__ import annotations
 
 import contextlib
@@ -21,7 +21,7 @@ PATIENCE = 8.0  # seconds that parts have to clear up if they are ended
 
 @dataclass(frozen=True)
 class Done:
-    """How a part ended: its status, what it took, and what it wrote."""
+    """The end of a part: its status, its time, and its output."""
 
     part: Part
     status: int
@@ -32,7 +32,7 @@ class Done:
 
 @dataclass
 class Running:
-    """A part that runs."""
+    """A part that is running."""
 
     part: Part
     process: subprocess.Popen[bytes]
@@ -41,7 +41,8 @@ class Running:
     shown: int = 0
 
     def show(self) -> list[str]:
-        """Prints the whole lines of its output that are to be shown and weren't yet; answers what they hand on."""
+        """Reads the complete lines that are new in the output. Prints those that match `shows`. Returns the words that
+        this part hands on to other parts, from all new lines."""
         if not self.part.shows:
             return []
         with self.output.open("rb") as output:
@@ -55,8 +56,8 @@ class Running:
         wanted = self.part.hands_on
         return [it[1] for line in lines if wanted and (it := re.search(wanted, line))]
 
-    def told(self, words: list[str], is_all: bool = False) -> None:
-        """Writes words to a part beside, if it still reads; lines so few that it needn't."""
+    def send_words(self, words: list[str], is_all: bool = False) -> None:
+        """Sends words to a part that runs beside, if it still reads. With `is_all` they are the last."""
         if self.process.stdin:
             with contextlib.suppress(BrokenPipeError):
                 self.process.stdin.write("".join(f"{it}\n" for it in words).encode())
@@ -66,7 +67,7 @@ class Running:
 
 
 class Crew:
-    """The parts that run now, on so many processors."""
+    """The parts that are running, on a number of processors."""
 
     def __init__(self, room: Path, processors: int) -> None:
         self.room, self.processors = room, processors
@@ -75,12 +76,12 @@ class Crew:
         self.checks = Checks()
 
     def fits(self, part: Part) -> bool:
-        """Returns whether so many processors are free as a part keeps busy; one beside takes none."""
+        """Returns whether enough processors are free for a part. A part that runs beside needs none."""
         taken = sum(min(it.part.width, self.processors) for it in self.running.values() if not it.part.is_beside)
         return part.is_beside or taken + min(part.width, self.processors) <= self.processors
 
     def begin(self, part: Part) -> None:
-        """Starts a part, which takes its temporary files from a folder of its own."""
+        """Starts a part with its own folder for temporary files."""
         self.begun += 1
         folder = self.room / str(self.begun)
         folder.mkdir(mode=0o711)
@@ -94,7 +95,7 @@ class Crew:
             self.running[process.pid] = Running(part, process, output)
 
     def ended(self) -> Iterator[Done]:
-        """Yields the parts that have ended; processes that they left and that end are taken leave of."""
+        """Yields the parts that have ended, and removes processes that they left and that have ended too."""
         while True:
             try:
                 pid, status, used = os.wait4(-1, os.WNOHANG)
@@ -106,21 +107,21 @@ class Crew:
                 it = self.running.pop(pid)
                 it.process.returncode = os.waitstatus_to_exitcode(status)
                 self.show(it, is_all=bool(it.part.hands_on))
-                it.told([], is_all=True)
+                it.send_words([], is_all=True)
                 text = it.output.read_text(encoding="utf-8", errors="replace")
                 minutes = (used.ru_utime + used.ru_stime) / 60
                 yield Done(it.part, it.process.returncode, time.monotonic() - it.begun, minutes, text)
 
     def show(self, of: Running, is_all: bool = False) -> None:
-        """Prints what is to be shown of a part, and passes to those beside what they need."""
+        """Prints the lines of a part that are to be shown, and passes their words to the parts that run beside."""
         words = of.show()
         for it in self.running.values():
             if words or is_all:
-                it.told(words, is_all)
+                it.send_words(words, is_all)
 
     def run(self, parts: list[Part]) -> Iterator[Done]:
-        """Runs parts, the first that fits first, to the end of all that aren't beside or, if there are none, of those
-        that are; gives each as it ends."""
+        """Runs parts to their ends, and yields each as it ends. The first part that fits begins first. Ends when
+        only parts that run beside are left, unless there are no others."""
         waiting = list(parts)
         is_last = not parts
         while waiting or any(is_last or not it.part.is_beside for it in self.running.values()):
@@ -136,7 +137,7 @@ class Crew:
                 time.sleep(POLL)
 
     def end(self) -> list[str]:
-        """Ends what still runs; answers the names of the parts that did."""
+        """Ends the parts that are still running. Returns their names."""
         names = [it.part.name for it in self.running.values()]
         end_all([*self.running], PATIENCE)
         return names

@@ -18,7 +18,7 @@ class Killed(Exception):
 
 
 class Heed:
-    """What the signals do: they raise `Killed`, at once or at the end of a block that mustn't be broken off."""
+    """Raises `Killed` at a signal: at once, or at the end of a block that mustn't be interrupted."""
 
     def __init__(self) -> None:
         self.is_held = False
@@ -30,19 +30,19 @@ class Heed:
             raise Killed(number)
 
     def begin(self) -> None:
-        """Heeds the signals from now on; those that whoever called the check has it ignore go on to be ignored."""
+        """Starts to handle the signals. Those that the caller of the check ignores stay ignored."""
         for number in ALL:
             if signal.getsignal(number) is not signal.SIG_IGN:
                 signal.signal(number, self)
 
     def end(self) -> None:
-        """Ignores the signals from now on, since the check clears up."""
+        """Ignores the signals from now on, while the check clears up."""
         for number in ALL:
             signal.signal(number, signal.SIG_IGN)
 
     @contextmanager
     def held(self) -> Iterator[None]:
-        """Yields a block that is done to its end."""
+        """Delays signals until the end of a block."""
         self.is_held = True
         try:
             yield

@@ -1,4 +1,4 @@
-"""The words of `./check`."""
+"""The command line of `./check`."""
 from __future__ import annotations
 
 import argparse
@@ -19,12 +19,12 @@ LEFT_OUT = {
 
 
 def taking(least: float) -> str:
-    """About how long that takes."""
+    """Returns the text about how long a subcommand takes."""
     return f"some {least + 0.5:.0f} minutes on four processors"
 
 
 def parser() -> argparse.ArgumentParser:
-    """Returns all words."""
+    """Returns the parser of all subcommands."""
     whole = sum(minutes_of([[PROOFS], QUICK, [wrong_beside()]], 4))
     every = argparse.ArgumentParser(
         prog="check", description=f"Tests all of it, {taking(whole)}: proofs, scripts, wrong bodies.",
@@ -46,23 +46,23 @@ def parser() -> argparse.ArgumentParser:
 
 def tell_chain(names: list[str], is_table: bool) -> int:
     """Prints the chain of the last run, or the table, and returns the exit status."""
-    spans = chain.kept()
+    spans = chain.saved_spans()
     if not spans:
         print("check: no ./check has proved anything in this tree", file=sys.stderr)
         return 1
-    print(chain.table(spans) if is_table else chain.told(spans, names))
+    print(chain.table(spans) if is_table else chain.chain_tables(spans, names))
     return 0
 
 
 def unknown(word: str | None, names: list[str]) -> str:
-    """Returns what is wrong with names, if anything."""
+    """Returns an error text for unknown names, or an empty text."""
     known = [it.name for it in QUICK] if word == "quick" else [*uses()] if names else []
     wrong = [it for it in names if it not in known]
     return f"there is no {'part' if word == 'quick' else 'crate'} {wrong[0]}; there are: {', '.join(known)}" if wrong else ""
 
 
 def stages_of(word: str | None, names: list[str]) -> tuple[Stages, list[str]]:
-    """Returns what these words ask for, one stage after another, and what that leaves out."""
+    """Returns the stages that a subcommand asks for, in order, and the parts that it leaves out."""
     if word == "quick":
         return [[it for it in QUICK if not names or it.name in names]], [] if names else [*LEFT_OUT.values()]
     if word == "proofs":
@@ -73,7 +73,7 @@ def stages_of(word: str | None, names: list[str]) -> tuple[Stages, list[str]]:
 
 
 def main(words: list[str] | None = None) -> int:
-    """Does what the words say, and returns the exit status."""
+    """Runs the subcommand, and returns the exit status."""
     every = parser()
     asked = every.parse_args(words)
     names: list[str] = getattr(asked, "names", [])

@@ -36,7 +36,7 @@ LAST = 300  # characters of what a test says last
 
 
 def words() -> argparse.Namespace:
-    """Returns the words of the command line."""
+    """Returns the arguments of the command line."""
     parser = argparse.ArgumentParser(prog="tools.plant", description=__doc__, formatter_class=argparse.RawDescriptionHelpFormatter)
     parser.add_argument("plants", nargs="*", metavar="PLANT", help="try these alone")
     parser.add_argument("--prove", action="store_true", help="ask the prover, and run no test")
@@ -53,7 +53,7 @@ def all_plants(tree: Tree) -> list[Plant]:
 
 
 def chosen(every: list[Plant], names: list[str]) -> list[Plant]:
-    """Returns the plants that are named, each by its own name or by its crate's."""
+    """Returns the plants with these names. A name is a plant's or a crate's."""
     for name in names:
         if not any(name in (it.name, it.crate) for it in every):
             raise PlantFault(f"{name}: there is no such plant, nor a crate that has one")
@@ -61,7 +61,7 @@ def chosen(every: list[Plant], names: list[str]) -> list[Plant]:
 
 
 def sees(plant: Plant, program: Path) -> tuple[bool, str]:
-    """Returns whether a plant's test fails over the program that has it, and what it says last."""
+    """Returns whether a plant's test fails over the program with the plant, and the test's last line."""
     given = {**os.environ, "MML_HOST": str(program)}
     done = subprocess.run([sys.executable, "-B", "-m", plant.module, plant.test], cwd=TOP, env=given, stdin=subprocess.DEVNULL,
                           stdout=subprocess.PIPE, stderr=subprocess.STDOUT, text=True, errors="replace", timeout=LIMIT, check=False)
@@ -70,7 +70,7 @@ def sees(plant: Plant, program: Path) -> tuple[bool, str]:
 
 
 def try_each(tree: Tree, plants: list[Plant]) -> int:
-    """Builds the program with each plant in turn, runs its test, and says what came of it; returns the status."""
+    """Builds the program with each plant in turn, runs its test, and prints the result. Returns the status."""
     missed, tested = 0, [plant for plant in plants if plant.test]
     with tempfile.TemporaryDirectory(prefix="mml-plant-") as room:
         for plant in tested:
@@ -84,7 +84,7 @@ def try_each(tree: Tree, plants: list[Plant]) -> int:
 
 
 def try_proofs(tree: Tree, plants: list[Plant]) -> int:
-    """Says what the prover says of each plant; returns the status."""
+    """Prints the prover's verdict on each plant. Returns the status."""
     counts = Counter[str]()
     for plant, verdict in prove_all(tree, plants):
         counts[verdict] += 1
@@ -94,7 +94,7 @@ def try_proofs(tree: Tree, plants: list[Plant]) -> int:
 
 
 def try_drawn(tree: Tree, crates: list[str], number: int, seed: int) -> int:
-    """Draws plants, says what the prover says of each; returns the status."""
+    """Draws plants, and prints the prover's verdict on each. Returns the status."""
     if unknown := [crate for crate in crates if crate not in tree.uses]:
         raise PlantFault(f"{unknown[0]}: there is no such crate")
     counts = Counter[str]()
@@ -107,7 +107,7 @@ def try_drawn(tree: Tree, crates: list[str], number: int, seed: int) -> int:
 
 
 def main() -> int:
-    """Does what the words ask for."""
+    """Runs what the arguments ask for."""
     asked = words()
     try:
         tree = tree_at(TOP)

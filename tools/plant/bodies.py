@@ -1,4 +1,4 @@
-"""The bodies of a crate's functions, as lines of its files: contracts, definitions and tests aren't among them."""
+"""The bodies of a crate's functions, as lines of its files, without contracts, definitions and tests."""
 from __future__ import annotations
 
 import re
@@ -13,7 +13,7 @@ GENERICS = re.compile(r"<[^<>]*>")
 
 @dataclass(frozen=True)
 class Body:
-    """A function, by its path below its crate, and the lines of its file, from 0, between its braces."""
+    """A function: its path below its crate, and the lines between its braces, counted from 0."""
 
     file: str
     function: str
@@ -22,13 +22,14 @@ class Body:
 
 
 def module_of(file: str) -> str:
-    """Returns the path of a file's module below its crate, with `::` after it; nothing for the crate's root."""
+    """Returns the path of a file's module below its crate, followed by `::`, or an empty text for the crate's
+    root."""
     path = file.removeprefix("src/").removesuffix(".rt")
     return "" if path in ("lib", "main") else path.replace("/", "::") + "::"
 
 
 def type_of(what: str) -> str:
-    """Returns the name that the prover gives an `impl`: the type's, and the trait's after it if there is one."""
+    """Returns the prover's name of an `impl`: the type, and the trait after it if there is one."""
     while GENERICS.search(what):
         what = GENERICS.sub("", what)
     first, _, second = what.partition(" for ")
@@ -37,7 +38,7 @@ def type_of(what: str) -> str:
 
 
 def header_end(lines: list[str], start: int, indent: str) -> int | None:
-    """Returns the line of the brace that opens the body of the function that begins at a line, if it has one."""
+    """Returns the line of the brace that opens a function's body, or None if it has no body."""
     if lines[start].endswith("{"):
         return start
     for number in range(start + 1, len(lines)):
@@ -51,7 +52,7 @@ def header_end(lines: list[str], start: int, indent: str) -> int | None:
 
 
 def impl_header(lines: list[str], start: int) -> str:
-    """Returns the header of an `impl` on one line."""
+    """Returns the header of an `impl` in one line."""
     header = lines[start]
     for line in lines[start + 1 :]:
         if header.endswith("{"):
@@ -61,7 +62,7 @@ def impl_header(lines: list[str], start: int) -> str:
 
 
 def bodies_of_file(file: str, lines: list[str]) -> Iterator[Body]:
-    """Returns the bodies of a file's functions, but for its tests."""
+    """Yields the bodies of a file's functions, without tests."""
     owner, number = "", 0
     while number < len(lines):
         line = lines[number]

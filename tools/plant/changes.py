@@ -1,4 +1,4 @@
-"""Small changes to a line of a body, as a tired programmer makes them."""
+"""Small changes to a line of a body, such as a tired programmer makes."""
 from __future__ import annotations
 
 import re
@@ -22,17 +22,17 @@ EXCHANGED = (
 
 
 def code_of(line: str) -> str:
-    """Returns a line with its texts blanked out, as long as before."""
+    """Returns a line with its string literals blanked out. Its length stays the same."""
     return STRING.sub(lambda found: " " * len(found[0]), line)
 
 
 def is_balanced(text: str) -> bool:
-    """Returns whether a text closes each bracket that it opens, by count."""
+    """Returns whether a text closes as many brackets of each kind as it opens."""
     return all(text.count(opened) == text.count(closed) for opened, closed in (("(", ")"), ("[", "]"), ("{", "}")))
 
 
 def exchanges(line: str) -> Iterator[str]:
-    """Returns the line with an operator, a truth or a question exchanged, once each."""
+    """Yields the line with one operator, truth value or question replaced."""
     code = code_of(line)
     for old, new in EXCHANGED:
         for found in re.finditer(re.escape(old), code):
@@ -41,7 +41,7 @@ def exchanges(line: str) -> Iterator[str]:
 
 
 def spans(line: str, variants: dict[str, list[str]]) -> Iterator[tuple[int, int, str]]:
-    """Returns replacements of parts of the line, each with the beginning and the end of its part."""
+    """Yields replacements of parts of the line, each with the beginning and the end of the part."""
     code = code_of(line)
     for found in NUMBER.finditer(code):
         yield found.start(), found.end(), str(int(found[0]) + 1)
@@ -56,7 +56,8 @@ def spans(line: str, variants: dict[str, list[str]]) -> Iterator[tuple[int, int,
 
 
 def changes_of(line: str, variants: dict[str, list[str]]) -> list[str]:
-    """Returns the lines that one small change makes of a line of code. `variants` has the names of each enum's plain variants."""
+    """Returns all lines that one small change makes of a line. `variants` has the names of each enum's plain
+    variants."""
     if not line.strip() or line.strip().startswith(ASIDE):
         return []
     found = [*exchanges(line), *(line[:begin] + new + line[end:] for begin, end, new in spans(line, variants))]
@@ -66,7 +67,7 @@ def changes_of(line: str, variants: dict[str, list[str]]) -> list[str]:
 
 
 def variants_of(text: str) -> dict[str, list[str]]:
-    """Returns the plain variants of each enum that a file's text has."""
+    """Returns the plain variants of each enum in a text."""
     found = {}
     for enum in re.finditer(r"^(?:pub(?:\(\w+\))? )?enum (\w+)[^{]*\{\n(.*?)^\}", text, re.MULTILINE | re.DOTALL):
         found[enum[1]] = re.findall(r"^    ([A-Z]\w*),", enum[2], re.MULTILINE)

@@ -1,4 +1,5 @@
-"""Draws plants: one small change in each of many functions, the same for the same seed, and asks the prover about them."""
+"""Draws random plants, one small change in each of many functions, and asks the prover about them. The same seed
+gives the same plants."""
 from __future__ import annotations
 
 import random
@@ -24,13 +25,13 @@ AT = re.compile(r"(?:\./)?(src/\S+?):(\d+):\d+: error")
 
 
 def candidates(body: Body, lines: list[str], variants: dict[str, list[str]]) -> list[tuple[str, str]]:
-    """Returns the changes of a body: a line that its file has once, and its replacement."""
+    """Returns the possible changes of a body: a line that occurs once in its file, and its replacement."""
     once = [line for line in lines[body.first : body.end] if line.strip() and lines.count(line) == 1 and "\n".join(lines).count(line) == 1]
     return [(line, changed) for line in once for changed in changes_of(line, variants)]
 
 
 def drawn_in(crate: str, folder: Path, chance: random.Random) -> list[Plant]:
-    """Returns a plant for each function of a crate that can be changed, in a drawn order."""
+    """Returns a plant for each function of a crate that can be changed, in random order."""
     texts = {body.file: (folder / body.file).read_text(encoding="utf-8") for body in bodies_of(folder)}
     variants = {name: kinds for text in texts.values() for name, kinds in variants_of(text).items()}
     plants = []
@@ -44,7 +45,7 @@ def drawn_in(crate: str, folder: Path, chance: random.Random) -> list[Plant]:
 
 
 def draw(tree: Tree, crates: list[str], number: int, seed: int) -> list[Plant]:
-    """Returns plants of crates, at most so many in all, as evenly over their functions as can be."""
+    """Returns at most `number` plants of crates, spread as evenly as possible over their functions."""
     chance = random.Random(seed)
     every = [plant for crate in crates for plant in drawn_in(crate, tree.folder(crate), chance)]
     chosen = {id(plant) for plant in chance.sample(every, min(number, len(every)))}
@@ -52,7 +53,7 @@ def draw(tree: Tree, crates: list[str], number: int, seed: int) -> list[Plant]:
 
 
 def culprits(plants: list[Plant], texts: dict[str, str], errors: list[str]) -> list[Plant]:
-    """Returns the plants in whose functions the first errors stand; all, if none can be told apart."""
+    """Returns the plants in whose functions the first errors are, or all plants if the errors don't show which."""
     places = {(found[1], int(found[2]) - 1) for error in errors if (found := AT.match(error))}
     guilty = []
     for plant in plants:
@@ -64,7 +65,7 @@ def culprits(plants: list[Plant], texts: dict[str, str], errors: list[str]) -> l
 
 
 def sift(tree: Tree, crate: str, plants: list[Plant], running: Running) -> Iterator[tuple[Plant, bool]]:
-    """Returns each plant of a crate, and whether the crate is a program with it, as far as names and types say."""
+    """Yields each plant of a crate, and whether the crate still passes the check of names and types."""
     todo = [plants]
     while todo:
         tried = todo.pop()
@@ -86,7 +87,7 @@ def sift(tree: Tree, crate: str, plants: list[Plant], running: Running) -> Itera
 
 
 def look(tree: Tree, crate: str, texts: dict[str, str], running: Running) -> str:
-    """Returns what a check of names and types alone prints, over a copy of a crate with other texts."""
+    """Returns the output of a check of names and types, over a copy of a crate with other texts."""
     with tempfile.TemporaryDirectory(prefix="mml-plant-") as room:
         copy, kept = Path(room) / "copy", Path(room) / "kept"
         kept.mkdir()
@@ -98,7 +99,8 @@ def look(tree: Tree, crate: str, texts: dict[str, str], running: Running) -> str
 
 
 def asked(tree: Tree, crate: str, plants: list[Plant], kept: str, running: Running) -> Iterator[tuple[Plant, str]]:
-    """Returns the verdict on each drawn plant of a crate, by one check of names and types and one proof in all, if no plant hinders another."""
+    """Yields the verdict on each plant of a crate. One check of names and types and one proof are enough if no
+    plant hinders another."""
     if missing := tree.missing(crate):
         raise PlantFault(f"{crate}: not built, which `rt ci` or `rt check` does: {', '.join(dict.fromkeys(missing))}")
     sifted = [*sift(tree, crate, plants, running)]
@@ -115,7 +117,7 @@ def asked(tree: Tree, crate: str, plants: list[Plant], kept: str, running: Runni
 
 
 def proved(tree: Tree, crate: str, plants: list[Plant], kept: str, running: Running) -> Told:
-    """Returns what the prover says of the functions of a crate that have these plants, all in one copy."""
+    """Returns the prover's output about the functions with these plants, all in one copy of the crate."""
     edits = [replace(plant.edit, wanted=(Refusal(plant.function, ANY),)) for plant in plants]
     texts: dict[str, str] = {}
     for edit in edits:
@@ -127,7 +129,7 @@ def proved(tree: Tree, crate: str, plants: list[Plant], kept: str, running: Runn
 
 
 def ask_all(tree: Tree, plants: list[Plant]) -> Iterator[tuple[Plant, str]]:
-    """Returns the verdict on each drawn plant, crate by crate."""
+    """Yields the verdict on each plant, crate by crate."""
     running, kept = Running(), find_name(tree)
     for crate in dict.fromkeys(plant.crate for plant in plants):
         yield from asked(tree, crate, [plant for plant in plants if plant.crate == crate], kept, running)

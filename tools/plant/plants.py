@@ -24,12 +24,12 @@ WORDS = {IN: ("FUNCTION",), SEEN: ("MODULE", "TEST")}
 
 
 class PlantFault(Exception):
-    """Why a plant can't be tried."""
+    """The reason why a plant can't be tried."""
 
 
 @dataclass(frozen=True)
 class Plant:
-    """A bug, the function that it is in, and the module and the name of the test that sees it; what isn't known is empty."""
+    """A bug: its function, and the module and name of the test that finds it. Unknown parts are empty."""
 
     crate: str
     edit: Edit
@@ -39,12 +39,12 @@ class Plant:
 
     @property
     def name(self) -> str:
-        """Returns what it is called."""
+        """Returns the name of the plant."""
         return f"{self.crate}/{self.edit.name.removesuffix('.edit')}"
 
 
 def marked(name: str, text: str, mark: str) -> list[str]:
-    """Returns the words of the line that begins with a mark; empty ones if there is no such line."""
+    """Returns the words of the line with a mark, or empty ones if there is no such line."""
     found = [line.removeprefix(mark).split() for line in text.splitlines() if line.startswith(mark)]
     if len(found) > 1 or any(len(words) != len(WORDS[mark]) for words in found):
         raise PlantFault(f"{name}: not one line '{mark} {' '.join(WORDS[mark])}'")
@@ -52,7 +52,7 @@ def marked(name: str, text: str, mark: str) -> list[str]:
 
 
 def parse_plant(crate: str, name: str, text: str) -> Plant:
-    """Returns the plant that a file's text spells."""
+    """Returns the plant in a file's text."""
     (function,), (module, test) = (marked(f"{crate}/{name}", text, mark) for mark in WORDS)
     if not function and not test:
         raise PlantFault(f"{crate}/{name}: neither a line '{IN} FUNCTION' nor a line '{SEEN} MODULE TEST'")
@@ -64,7 +64,7 @@ def parse_plant(crate: str, name: str, text: str) -> Plant:
 
 
 def planted(plant: Plant, folder: Path) -> dict[str, str]:
-    """Returns the texts of the files that a plant changes, in the crate's folder."""
+    """Returns the changed texts of the files of a plant."""
     try:
         return apply_edit(plant.edit, {}, folder)
     except EditFault as fault:
@@ -72,7 +72,8 @@ def planted(plant: Plant, folder: Path) -> dict[str, str]:
 
 
 def plants_of(crate: str, folder: Path) -> list[Plant]:
-    """Returns the plants of a crate, in the order of their names. Raises a fault if one of them has no place there."""
+    """Returns the plants of a crate, in the order of their names. Raises `PlantFault` if one doesn't fit the
+    sources."""
     found = [parse_plant(crate, path.name, path.read_text(encoding="utf-8")) for path in sorted((folder / "plants").glob("*"))]
     for plant in found:
         planted(plant, folder)

@@ -1,4 +1,4 @@
-"""What the prover says of plants: one check of a crate tries all of them whose functions and texts are apart."""
+"""The prover's verdicts on plants. One check of a crate tries all plants that are in different functions and texts."""
 from __future__ import annotations
 
 import tempfile
@@ -18,15 +18,16 @@ ANY = "any"
 
 
 def verdict(function: str, told: Told) -> str:
-    """Returns what a check says of the plant in a function."""
+    """Returns the verdict of a check on the plant in a function."""
     if function in told.open_goals:
         return REFUSED
     return LET_THROUGH if function in told.proved else UNDECIDED
 
 
 def prove_crate(tree: Tree, crate: str, plants: list[Plant], kept: str, running: Running) -> Iterator[tuple[Plant, str]]:
-    """Yields the verdict on each plant of a crate that names its function. `kept` is the name under which the prover keeps
-    what a library holds. Raises a fault if a library below isn't built, or a check comes to no end."""
+    """Yields the verdict on each plant of a crate that names its function. `kept` is the name under which the prover
+    keeps the contents of a library. Raises `PlantFault` if a library below isn't built, or if a check doesn't
+    finish."""
     if missing := tree.missing(crate):
         raise PlantFault(f"{crate}: not built, which `rt ci` or `rt check` does: {', '.join(dict.fromkeys(missing))}")
     named = {plant.edit.name: plant for plant in plants if plant.function}

@@ -33,7 +33,7 @@ TOP = Path(__file__).resolve().parents[2]
 
 
 def words() -> argparse.Namespace:
-    """Returns the words of the command line."""
+    """Returns the arguments of the command line."""
     parser = argparse.ArgumentParser(prog="tools.wrong", description=__doc__, formatter_class=argparse.RawDescriptionHelpFormatter)
     parser.add_argument("crates", nargs="*", metavar="CRATE", help="try these alone")
     parser.add_argument("--jobs", type=int, metavar="N", help="at most N checks side by side (else RT_JOBS, or the processors)")
@@ -45,7 +45,7 @@ def words() -> argparse.Namespace:
 
 
 def crates_of(tree: Tree, names: list[str]) -> list[str]:
-    """Returns the crates that are named, or all that have wrong bodies, the longest to try first."""
+    """Returns the crates with these names, or all that have wrong bodies. The one that takes longest is first."""
     for name in names:
         if name not in tree.uses or not tree.has_edits(name):
             sys.exit(f"tools.wrong: {name} is no crate with wrong bodies")
@@ -55,7 +55,7 @@ def crates_of(tree: Tree, names: list[str]) -> list[str]:
 
 
 def say_rounds(tree: Tree, crates: list[str]) -> None:
-    """Says which edits are tried together."""
+    """Prints which edits are tried together."""
     for crate in crates:
         edits, faults = read_edits(tree.folder(crate))
         for number, it in enumerate(rounds_of(edits, tree.folder(crate)), 1):
@@ -65,7 +65,7 @@ def say_rounds(tree: Tree, crates: list[str]) -> None:
 
 
 def tried_of(tree: Tree, crates: list[str], asked: argparse.Namespace) -> Iterator[Tried]:
-    """Yields what comes of the edits of crates, at once or as the crates are proved."""
+    """Yields the result of each crate, either at once or as the crates are proved."""
     lanes = lane_count(asked.jobs)
     if not asked.as_proved:
         yield from try_crates(tree, crates, lanes, asked.logs, Running())
@@ -78,7 +78,7 @@ def tried_of(tree: Tree, crates: list[str], asked: argparse.Namespace) -> Iterat
 
 
 def try_all(tree: Tree, crates: list[str], asked: argparse.Namespace) -> int:
-    """Tries the edits of crates, and says a line of each as it is done, and how many passed."""
+    """Tries the edits of crates. Prints a line for each crate, and how many passed. Returns the status."""
     done = []
     if asked.logs:
         asked.logs.mkdir(parents=True, exist_ok=True)
@@ -95,7 +95,7 @@ def try_all(tree: Tree, crates: list[str], asked: argparse.Namespace) -> int:
 
 
 def main() -> int:
-    """Says what is tried together, or tries it."""
+    """Prints what is tried together, or tries it. Returns the status."""
     asked = words()
     for it in (signal.SIGINT, signal.SIGTERM, signal.SIGHUP):
         signal.signal(it, lambda number, _: sys.exit(128 + number))

@@ -1,4 +1,4 @@
-"""Beside an `rt ci` that runs: crates as it proves them, with what it leaves idle."""
+"""Trying crates while `rt ci` proves them, with the processors that it leaves idle."""
 from __future__ import annotations
 
 import contextlib
@@ -15,7 +15,7 @@ FIRST_TO_END = 500
 
 
 def give_way() -> None:
-    """Lets all others go first: for a processor, and in what the system ends if memory is short."""
+    """Lowers the priority of this process, for processors and when the system runs out of memory."""
     os.nice(LAST_IN_TURN)
     changes = {"oom_score_adj": FIRST_TO_END}
     if os.getsid(0) == os.getpid():
@@ -27,7 +27,7 @@ def give_way() -> None:
 
 
 def keep_library(tree: Tree, crate: str) -> None:
-    """Keeps a crate's library as it stands, if it is one: at its end `rt ci` puts back what stood before it."""
+    """Keeps a copy of a crate's library, because `rt ci` restores the old one at its end."""
     if not (tree.left(crate) / "format").is_file():
         return
     try:
@@ -38,7 +38,7 @@ def keep_library(tree: Tree, crate: str) -> None:
 
 
 def as_proved(tree: Tree, crates: list[str], names: Iterable[str], running: Running) -> Iterator[str]:
-    """Gives each of these crates once it and all below it are named, and at the end of the names what is left."""
+    """Yields each of these crates after it and all below it have been named, and the others when the names end."""
     left, proved = [*crates], set[str]()
     for name in map(str.strip, names):
         if name in tree.uses and name not in proved:

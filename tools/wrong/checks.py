@@ -1,4 +1,4 @@
-"""Checks that run side by side, and that end when this process gets the signal."""
+"""Checks that run side by side, and are ended by a signal to this process."""
 from __future__ import annotations
 
 import os
@@ -23,12 +23,12 @@ WITH_THIS_PROCESS = ("setpriv", "--pdeathsig", "KILL")
 
 
 class Stopped(Exception):
-    """No check begins any more."""
+    """The error that no more checks can begin."""
 
 
 @dataclass(frozen=True)
 class Ended:
-    """A check's status and output, and the processor time that it took."""
+    """The status and output of a check, and its processor time."""
 
     status: int
     output: str
@@ -37,7 +37,7 @@ class Ended:
 
 @dataclass
 class Running:
-    """The checks that run now; beside proofs that do, as many as a number, and none if memory is short."""
+    """The running checks. Beside proofs there are at most a given number, and none if memory is short."""
 
     beside: int | None = None
     lock: threading.Condition = field(default_factory=threading.Condition)
@@ -45,17 +45,17 @@ class Running:
     is_over: bool = False
 
     def may_begin(self) -> bool:
-        """Returns whether another check may."""
+        """Returns whether another check may begin."""
         return self.beside is None or len(self.checks) < self.beside and free_memory() > MOST_HELD + LEFT_FREE
 
     def go_on_alone(self) -> None:
-        """From now on no proofs run."""
+        """Notes that no proofs are running any longer."""
         with self.lock:
             self.beside = None
             self.lock.notify_all()
 
     def run(self, words: list[str], folder: Path, is_alone: bool = False) -> Ended:
-        """Runs one check to its end, or only once no proofs run."""
+        """Runs one check to its end. With `is_alone`, waits until no proofs are running."""
         with tempfile.TemporaryFile() as output:
             with self.lock:
                 while not self.is_over and (is_alone and self.beside is not None or not self.may_begin()):
@@ -73,7 +73,7 @@ class Running:
         return Ended(check.returncode, text, used.ru_utime + used.ru_stime)
 
     def stop(self) -> None:
-        """Ends all checks, and lets none begin."""
+        """Ends all checks, and prevents others from beginning."""
         with self.lock:
             self.is_over = True
             self.lock.notify_all()
@@ -82,7 +82,7 @@ class Running:
 
 
 def copy_crate(folder: Path, to: Path, texts: dict[str, str]) -> None:
-    """Copies what a crate is checked from, with other texts instead of some of its files'."""
+    """Copies the files that a crate is checked from, with some texts replaced."""
     for part in ("src", "specs", "proofs"):
         if (folder / part).is_dir():
             shutil.copytree(folder / part, to / part)
@@ -91,7 +91,7 @@ def copy_crate(folder: Path, to: Path, texts: dict[str, str]) -> None:
 
 
 def try_round(tree: Tree, crate: str, tried: Round, room: Path, running: Running) -> Ended:
-    """Checks a copy of a crate with the edits of a round. The room holds what the rounds before it proved."""
+    """Checks a copy of a crate with the edits of a round. The room has what earlier rounds proved."""
     copy, kept = room / "copy", room / "kept"
     kept.mkdir(exist_ok=True)
     copy_crate(tree.folder(crate), copy, tried.texts)
@@ -105,12 +105,12 @@ def try_round(tree: Tree, crate: str, tried: Round, room: Path, running: Running
 
 
 def free_memory() -> int:
-    """Returns the bytes of memory that programs can still take."""
+    """Returns the available memory in bytes."""
     lines = Path("/proc/meminfo").read_text(encoding="ascii").splitlines()
     return next(int(line.split()[1]) * 1024 for line in lines if line.startswith("MemAvailable:"))
 
 
 def lane_count(wanted: int | None) -> int:
-    """Returns how many checks run side by side: as many as are wanted or there are processors, if memory allows."""
+    """Returns the number of checks that run side by side: the wanted one or that of processors, if memory allows."""
     jobs = wanted or int(os.environ.get("RT_JOBS") or 0) or len(os.sched_getaffinity(0))
     return max(1, min(jobs, free_memory() // MOST_HELD))

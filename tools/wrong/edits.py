@@ -26,7 +26,7 @@ ROUND = "# round:"
 
 
 class EditFault(Exception):
-    """Why an edit can't be tried."""
+    """The reason why an edit can't be tried."""
 
 
 @dataclass(frozen=True)
@@ -37,13 +37,13 @@ class Refusal:
     goal: str
 
     def line(self) -> str:
-        """Returns the line of an edit that says so."""
+        """Returns the line of an edit with this refusal."""
         return f"{MARK} {self.function} {self.goal}"
 
 
 @dataclass(frozen=True)
 class Pair:
-    """What stands in a file of the crate, and what an edit puts there."""
+    """A text in a file of the crate, and its replacement."""
 
     file: str
     old: str
@@ -52,7 +52,7 @@ class Pair:
 
 @dataclass(frozen=True)
 class Edit:
-    """A wrong body, if it is refused, and the first round that it may be tried in."""
+    """A wrong body: its replacements, the expected refusals, and the first round in which it may be tried."""
 
     name: str
     wanted: tuple[Refusal, ...]
@@ -60,24 +60,24 @@ class Edit:
     first: int = 1
 
     def functions(self) -> set[str]:
-        """Returns the functions that refuse it."""
+        """Returns the functions that must be refused."""
         return {it.function for it in self.wanted}
 
 
 @dataclass
 class Round:
-    """Edits that are tried in one copy of the crate, and the texts of the files that they change."""
+    """Edits that are tried in one copy of the crate, and the changed texts of its files."""
 
     edits: list[Edit]
     texts: dict[str, str]
 
     def functions(self) -> set[str]:
-        """Returns the functions that refuse one of them."""
+        """Returns the functions that must be refused because of one of the edits."""
         return {function for edit in self.edits for function in edit.functions()}
 
 
 def refusal_of(name: str, text: str) -> Refusal:
-    """Returns the refusal that a marked line wants."""
+    """Returns the refusal in a marked line."""
     words = text.split()
     if len(words) != 2:
         raise EditFault(f"{name}: not a line '{MARK} FUNCTION GOAL': {MARK}{text}")
@@ -85,14 +85,14 @@ def refusal_of(name: str, text: str) -> Refusal:
 
 
 def round_of(name: str, text: str) -> int:
-    """Returns the number of a round that isn't the first."""
+    """Returns the number of a later round in a marked line."""
     if not text.strip().isdecimal() or int(text) < 2:
         raise EditFault(f"{name}: not a line '{ROUND} NUMBER' of a later round than the first: {ROUND}{text}")
     return int(text)
 
 
 def parse_pairs(name: str, text: str) -> tuple[Pair, ...]:
-    """Returns the pairs that a file's text spells."""
+    """Returns the replacements in a file's text."""
     pairs: list[Pair] = []
     file, old = "", ""
     for line in text.split("\n"):
@@ -112,7 +112,7 @@ def parse_pairs(name: str, text: str) -> tuple[Pair, ...]:
 
 
 def parse_edit(name: str, text: str) -> Edit:
-    """Returns the edit that a file's text spells."""
+    """Returns the edit in a file's text."""
     wanted: list[Refusal] = []
     first, rest = 1, list[str]()
     for line in text.split("\n"):
@@ -128,8 +128,7 @@ def parse_edit(name: str, text: str) -> Edit:
 
 
 def apply_edit(edit: Edit, texts: Mapping[str, str], folder: Path) -> dict[str, str]:
-    """Returns the texts with what the edit makes of them; a file that isn't among them is read from the crate's
-    folder."""
+    """Returns the texts after an edit. Files that aren't in `texts` are read from the crate's folder."""
     after = dict(texts)
     for pair in edit.pairs:
         if pair.file not in after:
@@ -145,7 +144,7 @@ def apply_edit(edit: Edit, texts: Mapping[str, str], folder: Path) -> dict[str, 
 
 
 def read_edits(folder: Path) -> tuple[list[Edit], list[str]]:
-    """Returns the edits of a crate in the order of their names, and what is wrong with those that can't be tried."""
+    """Returns the edits of a crate in the order of their names, and the faults of those that can't be tried."""
     edits, faults = [], []
     for path in sorted((folder / "wrong").iterdir()):
         try:
@@ -160,7 +159,8 @@ def read_edits(folder: Path) -> tuple[list[Edit], list[str]]:
 
 
 def joined(into: Round, edit: Edit, folder: Path) -> bool:
-    """Puts an edit into a round, if no other there is refused by the same function or changes the same text."""
+    """Adds an edit to a round, unless another edit there changes the same text or is refused in the same function.
+    Returns whether it was added."""
     if into.functions() & edit.functions():
         return False
     try:
@@ -172,8 +172,7 @@ def joined(into: Round, edit: Edit, folder: Path) -> bool:
 
 
 def rounds_of(edits: Iterable[Edit], folder: Path) -> list[Round]:
-    """Returns the rounds in which a crate's edits are tried: each edit in the first that takes it, of those that it may
-    be in."""
+    """Returns the rounds of a crate's edits. Each edit is in the first allowed round that can take it."""
     rounds: list[Round] = []
     for edit in sorted(edits, key=lambda it: it.first):
         if not any(joined(it, edit, folder) for it in rounds[edit.first - 1 :]):

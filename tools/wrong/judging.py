@@ -1,4 +1,4 @@
-"""Whether a check refused each wrong body of a round at its own goal, and nothing else."""
+"""Judges whether a check refused each wrong body of a round at its own goal, and nothing else."""
 from __future__ import annotations
 
 from collections.abc import Iterable
@@ -12,24 +12,24 @@ LONGEST = 300
 
 @dataclass
 class Judged:
-    """What is wrong with the round as a whole, and with each of its edits."""
+    """The faults of a round as a whole, and of each of its edits."""
 
     of_round: list[str] = field(default_factory=list)
     of_edit: dict[str, list[str]] = field(default_factory=dict)
 
     def failed(self, edits: Iterable[Edit]) -> list[str]:
-        """Returns the edits of which nothing is shown: all of them, where something else than an edit is wrong."""
+        """Returns the edits that have failed. If the round has a fault, these are all."""
         return [it.name for it in edits if self.of_round or it.name in self.of_edit]
 
 
 def right_lines(function: str, told: Told) -> str:
-    """Returns the lines that an edit of a function may have, those of what it promises first."""
+    """Returns the possible lines of an edit for a function, those of its contract first."""
     goals = sorted(told.open_goals.get(function, ()), key=lambda goal: (not goal.startswith("returns"), "clause" not in goal))
     return " or ".join(f"'{Refusal(function, goal).line()}'" for goal in goals[:3])
 
 
 def fault_of(wanted: Refusal, told: Told) -> str | None:
-    """Returns why a function isn't refused at a goal, if it isn't."""
+    """Returns why a function isn't refused at a goal, or None if it is."""
     if wanted.goal in told.open_goals.get(wanted.function, ()):
         return None
     if wanted.function in told.proved:
@@ -43,13 +43,13 @@ def fault_of(wanted: Refusal, told: Told) -> str | None:
 
 
 def judge_edits(edits: Iterable[Edit], told: Told) -> dict[str, list[str]]:
-    """Returns what is wrong with each edit."""
+    """Returns the faults of each edit."""
     faults = {it.name: [fault for wanted in it.wanted if (fault := fault_of(wanted, told))] for it in edits}
     return {name: found for name, found in faults.items() if found}
 
 
 def judge_others(named: set[str], told: Told) -> list[str]:
-    """Returns what is refused though no edit names it."""
+    """Returns the functions that are refused although no edit names them."""
     faults = []
     for function in sorted(told.functions - told.proved - named):
         if function in told.open_goals:
@@ -60,12 +60,12 @@ def judge_others(named: set[str], told: Told) -> list[str]:
 
 
 def is_closure(function: str) -> bool:
-    """Returns whether a line is of a closure, or of how it is called: the check's counts leave these out."""
+    """Returns whether a line is about a closure or its calls, which the check doesn't count."""
     return "fn" in function.split("::")
 
 
 def judge_counts(named: set[str], told: Told) -> list[str]:
-    """Returns whether the check came to its end, and its counts are those of its lines."""
+    """Returns the faults of the check's counts: it must have ended, and its counts must match its lines."""
     if told.ending is None:
         return [f"the check came to no end: {told.last[:LONGEST]}"]
     asked, proved = told.ending
@@ -80,7 +80,7 @@ def judge_counts(named: set[str], told: Told) -> list[str]:
 
 
 def judge(edits: list[Edit], status: int, told: Told) -> Judged:
-    """Returns what is wrong with a round, by its check's status and output."""
+    """Returns the verdict on a round, from its check's status and output."""
     named = {function for edit in edits for function in edit.functions()}
     faults = [f"an error of no goal: {line[:LONGEST]}" for line in told.errors]
     faults += judge_others(named, told)

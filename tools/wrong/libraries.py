@@ -1,4 +1,4 @@
-"""The crates, and how the prover is called in the folder of one."""
+"""The crates of a repository, and the prover's command line for one of them."""
 from __future__ import annotations
 
 import shutil
@@ -7,13 +7,13 @@ from pathlib import Path
 
 
 class LibraryFault(Exception):
-    """Why a crate can't be checked here."""
+    """The reason why a crate can't be checked here."""
 
 
 @dataclass(frozen=True)
 class Tree:
-    """A copy of the repository, the kit, what each crate of `crates.txt` uses, and a folder of libraries where
-    those that `rt` leaves in the crates aren't to be read."""
+    """A copy of the repository, the kit, the crates with what each uses, and optionally another folder of
+    libraries."""
 
     top: Path
     kit: Path
@@ -29,7 +29,7 @@ class Tree:
         return (self.folder(crate) / "wrong").is_dir()
 
     def library(self, crate: str) -> Path:
-        """If a library of the repository is read, or one of the kit's own."""
+        """Returns the path of a library of the repository or of the kit."""
         if crate in self.uses:
             return self.libraries / f"{crate}.rlib" if self.libraries else self.left(crate)
         return self.kit / "rlibs" / f"{crate}.rlib"
@@ -39,7 +39,7 @@ class Tree:
         return self.folder(crate) / "out/rlib" / f"{crate}.rlib"
 
     def below(self, crate: str) -> list[str]:
-        """Returns the crates of the repository that a crate is built from, lowest first."""
+        """Returns the crates of the repository below a crate, lowest first."""
         found: list[str] = []
         for name in self.uses[crate]:
             if name in self.uses:
@@ -51,13 +51,13 @@ class Tree:
         return [it for it in (*self.below(crate), *self.uses[crate]) if not (self.library(it) / "format").is_file()]
 
     def size(self, crate: str) -> int:
-        """Returns how many bytes of sources and proofs a crate has."""
+        """Returns the size in bytes of a crate's sources and proofs."""
         folder = self.folder(crate)
         return sum(it.stat().st_size for part in ("src", "proofs") for it in (folder / part).rglob("*.*") if it.is_file())
 
 
 def kit_of(command: str = "rt") -> Path:
-    """Returns the kit that the command is of."""
+    """Returns the kit of a command."""
     found = shutil.which(command)
     if found is None:
         raise LibraryFault(f"the toolchain's command {command} is not on the path")
@@ -65,7 +65,7 @@ def kit_of(command: str = "rt") -> Path:
 
 
 def parse_uses(text: str) -> dict[str, list[str]]:
-    """Returns the lines of `crates.txt`: each crate with what it uses."""
+    """Returns the crates in `crates.txt`, each with what it uses."""
     uses = {}
     for line in text.splitlines():
         names, colon, used = line.partition("#")[0].partition(":")
@@ -75,13 +75,13 @@ def parse_uses(text: str) -> dict[str, list[str]]:
 
 
 def tree_at(top: Path) -> Tree:
-    """Returns the copy of the repository that stands in a folder."""
+    """Returns the copy of the repository in a folder."""
     return Tree(top, kit_of(), parse_uses((top / "crates.txt").read_text(encoding="utf-8")))
 
 
 def check_words(tree: Tree, crate: str, functions: set[str], kept: Path) -> list[str]:
-    """Returns a check of some functions of a crate, in a copy of its folder, that goes on from what an earlier one
-    kept."""
+    """Returns the command line of a check of some functions, in a copy of a crate's folder. The check continues
+    from what an earlier one saved."""
     root = "main" if (tree.folder(crate) / "src/main.rt").is_file() else "lib"
     words = [str(tree.kit / "bin/rattle"), "check", "--crate-name", crate, f"src/{root}.rt"]
     for name in ("std", *tree.uses[crate]):

@@ -1,4 +1,4 @@
-"""What the prover's output says of each function."""
+"""The prover's output about each function."""
 from __future__ import annotations
 
 import re
@@ -18,8 +18,8 @@ ENDING = re.compile(r"only=(\d+) proved=(\d+)")
 
 @dataclass
 class Told:
-    """What a check says: its functions, which of them are proved, the goals that are left open by function,
-    the functions that rest on one that isn't proved, and the errors that are of no goal."""
+    """The output of a check: its functions, the proved ones, the open goals by function, the functions that depend
+    on unproved ones, and other errors."""
 
     functions: set[str] = field(default_factory=set)
     proved: set[str] = field(default_factory=set)
@@ -30,13 +30,13 @@ class Told:
     last: str = ""
 
     def add_goal(self, function: str, goal: str) -> None:
-        """A goal of a function is left open."""
+        """Adds an open goal of a function."""
         goals = self.open_goals.setdefault(function, [])
         if goal not in goals:
             goals.append(goal)
 
     def add_function(self, name: str, said: str) -> None:
-        """The line of a function."""
+        """Adds the line of a function."""
         self.functions.add(name)
         # ("proved, may wait" is of one that waits for others, "proved if its callers give what it asks" of a closure)
         if re.match(r"(proved|assumed)\b", said):
@@ -48,7 +48,7 @@ class Told:
             self.resting.add(name)
 
     def add_error(self, line: str) -> None:
-        """An error, which is of a goal if a proof's answer doesn't show it any more."""
+        """Adds an error. It counts as an open goal if a proof's answer doesn't show the goal any more."""
         found = GOAL.fullmatch(line)
         if RESTS_ON_ANSWER.search(line):
             return
@@ -60,7 +60,7 @@ class Told:
 
 
 def read_output(crate: str, output: str) -> Told:
-    """Returns what a check of a crate printed."""
+    """Returns the parsed output of a check."""
     told = Told()
     for line in output.splitlines():
         if found := LINE.fullmatch(line):

@@ -19,7 +19,7 @@ TEXT = "#![tactic(auto)]\n\n/// Does nothing.\npub fn nothing() {}\n"
 
 
 def find_name(tree: Tree) -> str:
-    """Returns the name of the folder in which the checks of this prover save modules, or none. It waits for no other
+    """Returns the name of the folder in which this prover saves checked modules, or None. Waits for no other
     check."""
     with tempfile.TemporaryDirectory(prefix="mml-wrong-") as room:
         alone, kept = Tree(Path(room), tree.kit, {NOTHING: []}), Path(room) / "kept"
@@ -32,7 +32,7 @@ def find_name(tree: Tree) -> str:
 
 
 def hand_on(library: Path, to: Path) -> None:
-    """Puts the modules that a library holds into a folder, each as a file of its name."""
+    """Writes the modules in a library into a folder, one file each."""
     listed, modules = (library / "toolchain" / it for it in ("checked.json", "checked.a"))
     if not (listed.is_file() and modules.is_file()):
         return

@@ -1,4 +1,4 @@
-"""What comes of the crates' wrong bodies, crates side by side and the rounds of each one after the other."""
+"""Tries the wrong bodies of crates: crates side by side, and the rounds of each crate one after another."""
 from __future__ import annotations
 
 import tempfile
@@ -17,7 +17,7 @@ from tools.wrong.saved import find_name, hand_on
 
 @dataclass
 class Tried:
-    """What came of a crate's edits."""
+    """The result of a crate's edits."""
 
     crate: str
     checks: int = 0
@@ -27,13 +27,13 @@ class Tried:
     seconds: float = 0.0
 
     def line(self, with_times: bool) -> str:
-        """Returns the line of a crate."""
+        """Returns the line about a crate."""
         failed = f", {self.failed} failed" if self.failed else ""
         times = f", {self.seconds:.0f} processor seconds" if with_times else ""
         return f"{self.crate}: {self.passed} wrong bodies refused{failed}, in {self.checks} checks{times}"
 
     def add_round(self, tried: Round, status: int, output: str) -> None:
-        """Adds what a check said of the edits of a round."""
+        """Adds the result of a round."""
         judged = judge(tried.edits, status, read_output(self.crate, output))
         failed = judged.failed(tried.edits)
         self.passed += len(tried.edits) - len(failed)
@@ -43,7 +43,8 @@ class Tried:
 
 
 def try_crate(tree: Tree, crate: str, running: Running, logs: Path | None = None, saved: Future[str] | None = None) -> Tried:
-    """Tries the edits of a crate; what its library holds is handed on under the name of what is saved, if that is found."""
+    """Tries the edits of a crate. If the name of the folder for saved modules is known, copies the library's
+    modules there first."""
     folder, tried = tree.folder(crate), Tried(crate)
     edits, tried.faults = read_edits(folder)
     tried.failed = len(tried.faults)
@@ -68,7 +69,7 @@ def try_crate(tree: Tree, crate: str, running: Running, logs: Path | None = None
 
 
 def try_crates(tree: Tree, crates: Iterable[str], lanes: int, logs: Path | None, running: Running) -> Iterator[Tried]:
-    """Tries the edits of crates side by side, as they are given, and then gives what came of each as it is done."""
+    """Tries the edits of crates side by side. Yields the result of each as it is done."""
     with ThreadPoolExecutor(lanes) as pool:
         try:
             saved = pool.submit(find_name, tree)
