@@ -32,8 +32,7 @@ def is_command(line: bytes) -> bool:
 
 
 class Entry(NamedTuple):
-    """An entry: its mark, the number of events that had been seen, where its text ends, and for an answered line
-    both texts."""
+    """An entry: its mark, the number of events seen before it, where its text ends, and the two texts of an answered line."""
 
     mark: bytes
     seen: int
@@ -145,8 +144,7 @@ class Seat:
         return entry.mark == b">" and entry.reply != NO_MEMORY and self.known is not None and is_command(entry.line)
 
     def judge(self, entry: Entry) -> str | None:
-        """Takes an answered line. Returns the reason if no line may come now or its reply isn't that of the rules,
-        or None."""
+        """Takes an answered line. Returns the reason if no line may come now or its reply is wrong, or None."""
         if self.stage in (OVER, CUT, PAUSED):
             return "not the session's end"
         before = self.known

@@ -104,8 +104,7 @@ def script_line(lab: Lab, line: bytes) -> tuple[int, bytes] | None:
 
 
 def play(lab: Lab, script: bytes) -> tuple[Run, int | None]:
-    """Plays a script to its end, or to its first wrong line. Returns the run, and the number of the wrong line or
-    None."""
+    """Plays a script to its end or its first wrong line. Returns the run, and the wrong line's number or None."""
     run = Run(lab)
     *lines, last = script.split(b"\n")
     for k, line in enumerate(lines, 1):

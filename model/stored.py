@@ -17,8 +17,7 @@ def lab_of(script: Path) -> Path:
 
 
 def renew(stored: Path, content: bytes) -> int:
-    """Writes an output beside the stored one if it differs, and prints the difference. Returns 1 if it differs, or
-    else 0."""
+    """Writes an output beside the stored one if it differs, and prints the difference. Returns 1 then, else 0."""
     new = stored.with_name(f"{stored.name}.new")
     new.unlink(missing_ok=True)
     old = stored.read_bytes() if stored.exists() else b""
@@ -31,8 +30,7 @@ def renew(stored: Path, content: bytes) -> int:
 
 
 def write_all() -> int:
-    """Plays all scripts. Writes FILE.new for each output that differs from the stored one. Returns the exit
-    status."""
+    """Plays all scripts. Writes FILE.new for each output that differs from the stored one. Returns the status."""
     scripts = [script for folder in FOLDERS for script in sorted((TOP / folder).glob("*.script"))]
     others = 0
     for script in scripts:

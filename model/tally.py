@@ -90,8 +90,7 @@ def at_shared(word: str, counts: dict[int, dict[str, dict[str, int]]]) -> list[l
 
 
 def lines_asked(lab: Lab, said: Iterable[Said]) -> list[list[object]]:
-    """Returns the lines about the students' requests: denials by clause, malformed lines, and moves at shared
-    nodes."""
+    """Returns the lines about the students' requests: denials by clause, malformed lines, and moves at shared nodes."""
     denied = {name: dict.fromkeys([*CLAUSES, "malformed"], 0) for name in lab.students()}
     moves = {i: {name: none() for name in owners} for i, owners in lab.shared().items()}
     for it in said:
@@ -120,11 +119,8 @@ def lines_by_reply(lab: Lab, said: list[Said], word: str, key: str, columns: tup
 
 
 def bounds(world: World) -> list[object]:
-    """Returns the line with the most moves, rounds, and grants and closes until a network is stable: 3n + 2 min(L,
-    n²/4), 2n, and twice the moves.
-
-    With an odd number of nodes there is one round less.
-    """
+    """Returns the line with the most moves, rounds, and grants and closes until a network is stable: 3n + 2 min(L, n²/4),
+    2n (one round fewer if n is odd), and twice the moves."""
     nodes, links = len(world.links), sum(map(len, world.links.values())) // 2
     moves = 3 * nodes + 2 * min(links, nodes * nodes // 4)
     return ["bounds", moves, 2 * nodes - nodes % 2, 2 * moves]
