@@ -4,7 +4,7 @@ use Rattle.serde_json.specs.Data.{Data}
 use Rattle.mml_plain.specs.LookUps.{text_at, number_at, truth_at, register_at}
 use Rattle.mml_plain.specs.declared.fields.Fields.{Fields}
 
--- each field is what its key names in the value
+-- each field has what its key names in the value
 pub record Holds (f : Fields) (d : Data) : Type 0 where
   pub word : option_map (λ s. s.now) f.word ≡ text_at (codes "do") d
   pub name : option_map (λ s. s.now) f.name ≡ text_at (codes "name") d

@@ -27,8 +27,9 @@ const KEY: u32 = 0x6b65_7922;
 
 const NAME: u32 = 0x6e61_6d65;
 
-/// Returns whether the line is an object in the plain layout that this function reads. Then the fields, which come
-/// empty, hold what its keys name. Otherwise they hold anything, and the line may still be an object.
+/// Reads a line into `fields`, which must come empty, if the line is an object in the usual layout: strings without
+/// escapes, and spaces only after the opening brace, commas and colons. Returns true if it is; then `fields` has what
+/// the keys name. After false, `fields` may hold anything, and the line may be an object in another layout.
 #[inline(always)]
 pub(crate) fn read_compact<'a>(line: &'a [u8], fields: &mut Fields<'a>) -> bool
     requires { Holds fields.old (object no_members) }
@@ -49,8 +50,8 @@ pub(crate) fn read_compact<'a>(line: &'a [u8], fields: &mut Fields<'a>) -> bool
     }
 }
 
-/// Puts the next member of an object into the fields, and returns the text after it, or `None` if the member isn't read
-/// here.
+/// Reads the next member of an object, its key and its value, into `fields`. Returns the text after the member, or
+/// `None` if the member isn't in the layout that `read_compact` reads.
 #[inline(always)]
 fn member<'a>(text: &'a [u8], fields: &mut Fields<'a>) -> Option<&'a [u8]>
     ensures { IfSome result (λ rest. PutsMember text.now rest.now fields.old fields.new) }
@@ -68,9 +69,9 @@ fn member<'a>(text: &'a [u8], fields: &mut Fields<'a>) -> Option<&'a [u8]>
     any_member(in_key, fields)
 }
 
-/// Puts a member into the fields, and returns the text after it. The member begins with a quotation mark and the four
-/// bytes of `front`, followed by `text`. Returns `None`, with the fields unchanged, if its key isn't one of the seven
-/// that most requests have, or its value isn't one of that key's kind that is read here.
+/// Reads a member whose key is one of the seven most frequent into `fields`, and returns the text after it. `front` has
+/// the four bytes after the quotation mark that opens the key, and `text` is the rest. Returns `None`, and leaves
+/// `fields` as it was, if the key is another one, or if `text_value` or `number_value` doesn't read the key's value.
 #[inline(always)]
 fn known_value<'a>(front: u32, text: &'a [u8], fields: &mut Fields<'a>) -> Option<&'a [u8]>
     ensures member { IfSome result (λ rest. PutsKnown (to_be_bytes w32 front ++ text.now) rest.now fields.old fields.new) }
@@ -114,8 +115,8 @@ fn known_value<'a>(front: u32, text: &'a [u8], fields: &mut Fields<'a>) -> Optio
     None
 }
 
-/// Puts a member with any key into the fields, and returns the text after it, or `None` if the member isn't read here.
-/// The text begins after the quotation mark before the key.
+/// Reads a member with any key into `fields`, and returns the text after it. `text` begins after the quotation mark
+/// that opens the key. Returns `None` if the member isn't in the layout that `read_compact` reads.
 #[inline(never)]
 fn any_member<'a>(text: &'a [u8], fields: &mut Fields<'a>) -> Option<&'a [u8]>
     ensures { IfSome result (λ rest. (whole : List ℕ) → BeginsQuoted whole text.now →
@@ -129,7 +130,8 @@ fn any_member<'a>(text: &'a [u8], fields: &mut Fields<'a>) -> Option<&'a [u8]>
     Some(rest)
 }
 
-/// Returns the text after the spaces and the quotation mark at the front, or `None` if no quotation mark stands there.
+/// Skips spaces, if any, and a quotation mark, and returns the text after the mark. Returns `None` if no quotation mark
+/// comes.
 #[inline(always)]
 fn in_quotes<'a>(text: &'a [u8]) -> Option<&'a [u8]>
     ensures { IfSome result (λ rest. BeginsQuoted text.now rest.now) }
@@ -140,7 +142,8 @@ fn in_quotes<'a>(text: &'a [u8]) -> Option<&'a [u8]>
     behind(unspaced(text), b'"')
 }
 
-/// Returns the text after the quotation mark and the colon that end a key, or `None` if they don't stand at the front.
+/// Skips the quotation mark and the colon that end a key, and returns the text after them. Returns `None` if the text
+/// doesn't begin with both.
 #[inline(always)]
 fn quote_and_colon<'a>(text: &'a [u8]) -> Option<&'a [u8]>
     ensures { IfSome result (λ rest. text.now ≡ 34 ∷ 58 ∷ rest.now) }
@@ -148,8 +151,8 @@ fn quote_and_colon<'a>(text: &'a [u8]) -> Option<&'a [u8]>
     behind(behind(text, b'"')?, b':')
 }
 
-/// Returns the string after a colon, and the text after its closing quotation mark, or `None` if no string stands there
-/// that is read here.
+/// Reads the string that follows a colon, with spaces before it or not. Returns the string, and the text after its
+/// closing quotation mark. Returns `None` if no string comes that `bare_word` reads.
 #[inline(always)]
 fn text_value<'a>(text: &'a [u8]) -> Option<(&'a str, &'a [u8])>
     ensures { IfSome result (λ r. BeginsAfter text.now (Text r.0) r.1.now) }
@@ -157,7 +160,8 @@ fn text_value<'a>(text: &'a [u8]) -> Option<(&'a str, &'a [u8])>
     bare_word(in_quotes(text)?)
 }
 
-/// Returns the number after a colon, and the text after it, or `None` if no number stands there that is read here.
+/// Reads the number that follows a colon, with spaces before it or not. Returns the number, and the text after it.
+/// Returns `None` if no number comes that `whole_number` reads.
 #[inline(always)]
 fn number_value<'a>(text: &'a [u8]) -> Option<(u64, &'a [u8])>
     ensures { IfSome result (λ r. BeginsAfter text.now (Number r.0) r.1.now) }
@@ -165,7 +169,8 @@ fn number_value<'a>(text: &'a [u8]) -> Option<(u64, &'a [u8])>
     whole_number(unspaced(text))
 }
 
-/// Returns the text after `byte` at the front, or `None` if another byte stands there.
+/// Skips one byte, which must be `byte`, and returns the text after it. Returns `None` if the text doesn't begin with
+/// that byte.
 #[inline(always)]
 fn behind<'a>(text: &'a [u8], byte: u8) -> Option<&'a [u8]>
     ensures { IfSome result (λ rest. text.now ≡ byte ∷ rest.now) }
@@ -176,7 +181,7 @@ fn behind<'a>(text: &'a [u8], byte: u8) -> Option<&'a [u8]>
     Some(&text[1..])
 }
 
-/// Returns the text after the spaces at the front, or the whole text if it begins with none.
+/// Returns the text without the spaces at its front, if it has any.
 #[inline(always)]
 fn unspaced<'a>(text: &'a [u8]) -> &'a [u8]
     ensures { Spaced text.now result.now }
@@ -190,7 +195,8 @@ fn unspaced<'a>(text: &'a [u8]) -> &'a [u8]
     past_spaces(text)
 }
 
-/// Returns the text after the spaces at the front: the rare case of `unspaced` with more than one space.
+/// Returns the text without the spaces at its front. It is the part of `unspaced` for more than one space, which is
+/// rare.
 #[inline(never)]
 fn past_spaces<'a>(text: &'a [u8]) -> &'a [u8]
     ensures { Spaced text.now result.now }
@@ -202,8 +208,8 @@ fn past_spaces<'a>(text: &'a [u8]) -> &'a [u8]
     rest
 }
 
-/// Returns the value at the front and the text after it: a string without escapes, a number, a truth value, null, or an
-/// empty array or object. Returns `None` if none of them stands there that is read here.
+/// Reads the value at the front: a string without escapes, a whole number, a truth value, null, or an empty array or
+/// object. Returns the value, and the text after it. Returns `None` if another value or none comes.
 #[inline(always)]
 fn member_value<'a>(text: &'a [u8]) -> Option<(MemberValue<'a>, &'a [u8])>
     ensures { IfSome result (λ r. BeginsValue text.now r.0 r.1.now) }
@@ -230,7 +236,8 @@ fn member_value<'a>(text: &'a [u8]) -> Option<(MemberValue<'a>, &'a [u8])>
     empty_value(text)
 }
 
-/// Returns the empty array or object at the front and the text after it, or `None` if none stands there.
+/// Reads the empty array or the empty object at the front. Returns `Other` for it, and the text after it. Returns
+/// `None` if neither comes.
 #[inline(always)]
 fn empty_value<'a>(text: &'a [u8]) -> Option<(MemberValue<'a>, &'a [u8])>
     ensures { IfSome result (λ r. BeginsValue text.now r.0 r.1.now) }
@@ -244,8 +251,8 @@ fn empty_value<'a>(text: &'a [u8]) -> Option<(MemberValue<'a>, &'a [u8])>
     Some((MemberValue::Other, rest))
 }
 
-/// Returns the word before the next quotation mark, and the text after the mark. Returns `None` if no mark comes, or a
-/// byte before it isn't from 32 to 127 or is a backslash.
+/// Reads a string, after the quotation mark that opens it. Returns the string, and the text after its closing quotation
+/// mark. Returns `None` if no closing mark comes, or a byte before it is a backslash or isn't from 32 to 127.
 #[inline(always)]
 fn bare_word<'a>(text: &'a [u8]) -> Option<(&'a str, &'a [u8])>
     ensures { IfSome result (λ r. (text.now ≡ r.0.now ++ 34 ∷ r.1.now)
@@ -268,8 +275,8 @@ fn bare_word<'a>(text: &'a [u8]) -> Option<(&'a str, &'a [u8])>
     Some((word, &text[end + 1..]))
 }
 
-/// Returns the number at the front, in decimal digits without leading zeros, and the text after it. Returns `None` if
-/// no digit stands there, or the number may need more than 64 bits.
+/// Reads the number at the front, in decimal digits without leading zeros. Returns the number, and the text after it.
+/// Returns `None` if no digit comes first, or the number may need more than 64 bits.
 #[inline(always)]
 fn whole_number<'a>(text: &'a [u8]) -> Option<(u64, &'a [u8])>
     ensures { IfSome result (λ r. (text.now ≡ decimal r.0 ++ r.1.now) × (r.0 < 2 ^ 64)) }
@@ -291,7 +298,7 @@ fn whole_number<'a>(text: &'a [u8]) -> Option<(u64, &'a [u8])>
     Some((number, &text[end..]))
 }
 
-/// Returns the value of the digit at an index of the text, or `None` if no digit stands there.
+/// Returns the value of the digit at the index `at` of the text, or `None` if no digit stands there.
 #[inline(always)]
 fn digit(text: &[u8], at: usize) -> Option<u64>
     ensures { IfSome result (λ digit. (digit < 10) × (at < length text.now)

@@ -5,7 +5,8 @@ ghost use Rattle.mml_plain.specs.Fields.{with};
 
 use crate::member_value::MemberValue;
 
-/// What the keys of a request name in an object. A missing key, or one with another kind of value, names nothing.
+/// The members of an object that requests use, each under its key. A field is `None` if the object doesn't have the
+/// key, or its value is of another kind.
 #[derive(Clone, Copy, Debug, Drop)]
 pub struct Fields<'a> {
     /// The request's word, under the key `do`.

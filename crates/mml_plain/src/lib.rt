@@ -1,4 +1,4 @@
-//! What the keys of a request name in a line.
+//! Reading the fields of a request from a line of JSON.
 //!
 //! A line of JSON that is an object is read from its bytes or from its tokens. No tree is built, and the memory of the
 //! line before is used again. The result is what `serde_json` reads.

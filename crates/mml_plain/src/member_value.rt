@@ -7,7 +7,7 @@ ghost use Rattle.mml_plain.specs.Fields.{text_in, number_in, truth_in, register_
 
 use fast_float::Numeral;
 
-/// A member's value, as far as a request reads it.
+/// The value of a member of an object, as far as a request may use it.
 #[derive(Clone, Copy, Drop)]
 pub(crate) enum MemberValue<'a> {
     Null,
@@ -20,8 +20,8 @@ pub(crate) enum MemberValue<'a> {
 }
 
 impl<'a> MemberValue<'a> {
-    /// Returns the value of a number. `found` is the number if it has 64 bits and no sign, point or exponent, as a
-    /// request may have. If `found` is `None`, the value is `Other`.
+    /// Returns the value of a JSON number. `found` is the number if it fits 64 bits and is written without a sign, a
+    /// point and an exponent, as a request's numbers are. If `found` is `None`, the value is `Other`.
     #[inline(always)]
     pub(crate) fn of_number(found: Option<u64>) -> MemberValue<'a>
         ensures { (n : Num) → as_u64 n ≡ found → Shows result (number n) }
@@ -79,8 +79,9 @@ impl<'a> MemberValue<'a> {
     }
 }
 
-/// Reads the number of a token. Returns `Some(Some(number))` for one of 64 bits that is written without a sign, a point
-/// and an exponent, `Some(None)` for one that a request can't have, and `None` for one that is too great to be read.
+/// Reads the text of a JSON number. Returns `Some(Some(number))` if it fits 64 bits and is written without a sign, a
+/// point and an exponent. Returns `Some(None)` for any other number, which no request has, and `None` for one that is
+/// too great to be read.
 #[inline(always)]
 pub(crate) fn read_number(text: &str) -> Option<Option<u64>>
     ensures { result ≡ option_map as_u64 (number_of text.now) }
@@ -93,8 +94,8 @@ pub(crate) fn read_number(text: &str) -> Option<Option<u64>>
     }
 }
 
-// Returns the number of a numeral with no minus at its front. Returns `Some(None)` if it takes more than 64 bits or has
-// a point or an exponent, so that a request can't have it, and `None` if it is too great to be read.
+// Returns what `read_number` returns for a number without a minus: `Some(None)` if it needs more than 64 bits or has a
+// point or an exponent, and `None` if it is too great to be read.
 #[inline(always)]
 fn unsigned(numeral: &Numeral<'_>) -> Option<Option<u64>>
     ensures { result ≡ option_map as_u64 (number_from false numeral.now) }
@@ -105,8 +106,9 @@ fn unsigned(numeral: &Numeral<'_>) -> Option<Option<u64>>
     }
 }
 
-// Returns what is read of a numeral after a minus: `Some(None)`, since no request has such a number, not even -0, or
-// `None` if the numeral is too great to be read. A whole number below 0 of 64 bits isn't read as a float, to save time.
+// Returns what `read_number` returns for a number with a minus, of which `numeral` is the part after the minus:
+// `Some(None)`, since no request has such a number, not even -0, or `None` if it is too great to be read. An integer
+// below 0 that fits 64 bits isn't read as a float, to save time.
 #[inline(never)]
 fn below_zero(numeral: &Numeral<'_>) -> Option<Option<u64>>
     ensures { result ≡ option_map as_u64 (number_from true numeral.now) }
@@ -119,8 +121,8 @@ fn below_zero(numeral: &Numeral<'_>) -> Option<Option<u64>>
     float(true, numeral)
 }
 
-/// Returns what is read of a numeral as a float, after a minus if `negative`: `Some(None)`, since no request has a
-/// float, or `None` if it is too great for one.
+/// Returns what `read_number` returns for a number that is read as a float, with a minus before `numeral` if
+/// `negative`: `Some(None)`, since no request has a float, or `None` if the number is too great for one.
 #[inline(never)]
 fn float(negative: bool, numeral: &Numeral<'_>) -> Option<Option<u64>>
     ensures { result ≡ option_map as_u64 (float_of negative numeral.now) }
@@ -129,7 +131,7 @@ fn float(negative: bool, numeral: &Numeral<'_>) -> Option<Option<u64>>
     if float.is_finite() { Some(None) } else { None }
 }
 
-// Returns whether a minus stands at the front of a number's text.
+// Returns whether the text of a number begins with a minus.
 #[inline(always)]
 fn has_minus(bytes: &[u8]) -> bool
     ensures { result ≡ (slice_index bytes.now 0 == 45) }

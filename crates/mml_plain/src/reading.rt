@@ -15,8 +15,9 @@ use std::alloc::AllocError;
 /// How deep arrays and objects in the members of a line may nest.
 const DEPTH: usize = 126;
 
-/// Returns whether a line is an object that `serde_json` reads. Then the fields, which come empty, hold what its keys
-/// name; otherwise they hold anything. Returns `AllocError` if `scratch` has no room for the line and memory runs out.
+/// Reads a line into `fields`, which must come empty. Returns true if the line is an object that `serde_json` would
+/// read; then `fields` has what the keys name. Returns false if it isn't; then `fields` may hold anything. Returns
+/// `AllocError` if `scratch` has no room for the line and memory runs out.
 pub fn read_fields<'a>(
     line: &'a [u8],
     scratch: &'a mut LineScratch,
@@ -34,9 +35,9 @@ pub fn read_fields<'a>(
     read_tokens(line, scratch, fields)
 }
 
-/// Returns whether a line is an object, by its tokens. Then the fields hold what its keys name, whatever they held
-/// before. This is called if `read_compact` didn't read the line. Returns `AllocError` if `scratch` has no room for the
-/// line and memory runs out.
+/// Reads a line into `fields`, whatever they hold before, token by token. It is the slower way of `read_fields`, for a
+/// line that `read_compact` doesn't read, and returns the same: true if the line is an object, and false if it isn't.
+/// Returns `AllocError` if `scratch` has no room for the line and memory runs out.
 #[inline(never)]
 fn read_tokens<'a>(
     line: &'a [u8],
@@ -56,8 +57,8 @@ fn read_tokens<'a>(
     Ok(read_object(&mut reader, fields))
 }
 
-/// Returns whether the coming tokens are one object, with nothing after it. Then the fields, which come empty, hold
-/// what its keys name.
+/// Reads the tokens to come as one object into `fields`, which must come empty. Returns true if they are an object with
+/// nothing after it; then `fields` has what its keys name.
 #[inline(always)]
 fn read_object<'a>(reader: &mut Reader<'a>, fields: &mut Fields<'a>) -> bool
     requires { Holds fields.old (object no_members) }
@@ -70,8 +71,8 @@ fn read_object<'a>(reader: &mut Reader<'a>, fields: &mut Fields<'a>) -> bool
     }
 }
 
-/// Returns whether the tokens after an opening brace are members up to the end of the object, with nothing after it.
-/// Then the fields, which come empty, hold what the keys name.
+/// Reads the members of an object, after its opening brace, into `fields`, which must come empty. Returns true if the
+/// object ends, and nothing comes after it; then `fields` has what the keys name.
 #[inline(always)]
 fn read_members<'a>(reader: &mut Reader<'a>, fields: &mut Fields<'a>) -> bool
     requires { Holds fields.old (object no_members) }
@@ -94,7 +95,7 @@ fn read_members<'a>(reader: &mut Reader<'a>, fields: &mut Fields<'a>) -> bool
     }
 }
 
-/// Returns whether no token follows, so that all members were read.
+/// Returns whether no token follows the end of the object. If one does, the line isn't an object.
 #[inline(always)]
 fn is_over(reader: &mut Reader<'_>) -> bool
     ensures { (ms : Members) → MatchBool result (if_over (Some (ms, reader.old)) ≡ Some ms)
@@ -103,8 +104,8 @@ fn is_over(reader: &mut Reader<'_>) -> bool
     reader.next().is_none()
 }
 
-/// Returns the next value, or `None` if `serde_json` doesn't read it or its arrays and objects nest deeper than
-/// `depth`. An array or object is `Other`.
+/// Reads the next value. Arrays and objects are skipped, and returned as `Other`. Returns `None` if `serde_json`
+/// wouldn't read the value, or its arrays and objects nest deeper than `depth`.
 #[cycle(nested)]
 #[inline(always)]
 fn read_value<'a>(reader: &mut Reader<'a>, depth: usize) -> Option<MemberValue<'a>>
@@ -145,7 +146,7 @@ fn read_value<'a>(reader: &mut Reader<'a>, depth: usize) -> Option<MemberValue<'
     }
 }
 
-/// Skips the rest of an array, after its opening bracket, and returns whether it was one whose values nest no deeper
+/// Skips the rest of an array, after its opening bracket. Returns whether it was an array whose values nest no deeper
 /// than `depth`.
 #[cycle(nested)]
 #[inline(never)]
@@ -163,7 +164,7 @@ fn pass_items(reader: &mut Reader<'_>, depth: usize) -> bool
     true
 }
 
-/// Skips the rest of an object, after its opening brace, and returns whether it was one whose values nest no deeper
+/// Skips the rest of an object, after its opening brace. Returns whether it was an object whose values nest no deeper
 /// than `depth`.
 #[cycle(nested)]
 #[inline(never)]
