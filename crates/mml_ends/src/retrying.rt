@@ -15,7 +15,7 @@ pub struct Retrying<T: Drop> {
 }
 
 impl<T: Drop> Retrying<T> {
-    /// Returns a `Retrying` over a reader or a writer, of which no read or write has run out of memory yet.
+    /// Wraps a reader or a writer. So far no read or write of it has run out of memory.
     pub fn new(inner: T) -> Retrying<T>
         ensures inner { result.inner ≡ inner }
         ensures lacked_memory { result.lacked_memory ≡ false }

@@ -4,9 +4,9 @@ use std::io;
 use std::os::fd::{AsRawFd, IntoRawFd, RawFd};
 use std::rt::Files;
 
-/// Opens the null device for each closed standard stream: for input it can only be written, for output and error only
-/// be read. So each use of such a stream fails, and no file that is opened later gets its descriptor. It is called
-/// before any other file is opened. Returns an error if the null device can't be opened.
+/// Opens the null device for each standard stream that is closed, so that no file that is opened later gets its
+/// descriptor. Standard input is opened only for writing, the other two only for reading, so each use of such a stream
+/// still fails. Must be called before any other file is opened. Returns an error if the null device can't be opened.
 pub fn hold_streams<R: Files<File = File>>(rt: &R) -> io::Result<()> {
     for stream in 0..3 {
         hold_stream(rt, stream)?;
@@ -14,8 +14,9 @@ pub fn hold_streams<R: Files<File = File>>(rt: &R) -> io::Result<()> {
     Ok(())
 }
 
-// Opens the null device for a standard stream that is closed, and leaves an open one as it is. The system assigns the
-// least free descriptor, and the streams before `stream` are open. Fails if opening fails.
+// Opens the null device for one standard stream, given by its descriptor, if it is closed, and leaves an open one as it
+// is. The system assigns the least free descriptor, and the streams before `stream` are open. Returns an error if
+// opening fails.
 fn hold_stream<R: Files<File = File>>(rt: &R, stream: RawFd) -> io::Result<()> {
     let is_input = stream == 0;
     let file = OpenOptions::new()

@@ -32,7 +32,7 @@ impl From<IoError> for FileFault {
 }
 
 impl From<AllocError> for FileFault {
-    // Memory ran out.
+    // Turns a failed allocation into `Memory`, so that `?` returns it.
     fn from(_error: AllocError) -> FileFault
         ensures { result ≡ Memory }
     {
@@ -41,7 +41,7 @@ impl From<AllocError> for FileFault {
 }
 
 impl<T: Drop> From<AllocFailed<T>> for FileFault {
-    // Memory ran out. The value that the error carries is dropped.
+    // Turns a failed allocation into `Memory`, so that `?` returns it, and drops the value that the error carries.
     fn from(_error: AllocFailed<T>) -> FileFault
         ensures { result ≡ Memory }
     {
@@ -50,8 +50,8 @@ impl<T: Drop> From<AllocFailed<T>> for FileFault {
 }
 
 impl From<TryLockError> for FileFault {
-    // Turns the error of a lock into a fault: `Refused` if another program holds the lock, and else that of the call's
-    // error.
+    // Turns the error of locking a file into a fault: `Refused` if another program holds the lock, and else the fault
+    // for the error of the call.
     fn from(error: TryLockError) -> FileFault {
         match error {
             TryLockError::Error(error) => FileFault::from(error),

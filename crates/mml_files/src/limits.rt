@@ -16,13 +16,14 @@ pub fn file_size_limit() -> u64 {
     limit_of(FILE_SIZE)
 }
 
-/// Returns whether stacks may be too small for the deepest request. With such a stack the program would end without a
-/// message.
+/// Returns whether the system's limit on stacks may be too small for the deepest request. With such a stack the program
+/// would end without a message.
 pub fn has_small_stacks() -> bool {
     limit_of(STACK) < NEEDED
 }
 
-// Returns the system's limit in bytes on what the number `what` stands for, or `u64::MAX` if it sets or reports none.
+// Returns the system's limit, in bytes, on the resource with the number `what`, or `u64::MAX` if the system sets or
+// reports none.
 fn limit_of(what: i32) -> u64 {
     let mut limit = rlimit {
         rlim_cur: u64::MAX,

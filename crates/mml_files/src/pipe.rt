@@ -13,8 +13,8 @@ const LOOKS: u32 = 50;
 // How many milliseconds pass between two checks.
 const PAUSE: i32 = 20;
 
-/// Opens the pipe to append to it, and refuses one that nobody reads within a second. Opening a pipe only for writing
-/// would wait for a reader. So the pipe is opened for reading and writing first, until it is open for writing, too.
+/// Opens a named pipe to append to it. Returns `Refused` if nobody reads it within a second. Opening a pipe only for
+/// writing would wait for a reader, so the pipe is held open for reading, too, while it is opened for writing.
 pub fn open_pipe<R: Files<File = File>>(rt: &R, path: &str) -> Result<File, FileFault> {
     let both = appending().read(true).open(rt, path)?;
     let file = appending().open(rt, path)?;
@@ -29,8 +29,8 @@ pub fn open_pipe<R: Files<File = File>>(rt: &R, path: &str) -> Result<File, File
     Err(FileFault::Refused)
 }
 
-// Returns whether somebody has the pipe open for reading. `file` writes to the pipe, and the system reports an error
-// there if nobody reads it.
+// Returns whether somebody has the pipe open for reading. `file` is the end that writes, on which the system reports an
+// error if nobody does.
 fn is_read(file: &File) -> bool {
     let mut ends = [pollfd {
         fd: file.as_raw_fd(),

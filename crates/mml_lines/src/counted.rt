@@ -7,14 +7,14 @@ ghost use Rattle.mml_ids.specs.Lines.{IsUnbroken};
 use crate::lines::{MAX_READS, READ_SIZE, Step};
 use std::io::Read;
 
-/// A reader that is borrowed for counting, and how often it was read.
+/// A borrowed reader that counts its reads.
 pub(crate) struct Counted<'a, R> {
     reader: &'a mut R,
     reads: u32,
 }
 
 impl<R> Drop for Counted<'_, R> {
-    // Returns the reader to its owner, as the last read left it.
+    // Ends the borrow. The reader's owner finds it as the last read left it.
     fn drop(self)
         ensures { self.exit.0.now ≡ self.entry.reader.now }
     {
@@ -26,7 +26,7 @@ impl<R> Drop for Counted<'_, R> {
 }
 
 impl<'a, R: Read> Counted<'a, R> {
-    /// Returns the counted reader, which was read `reads` times before.
+    /// Borrows a reader that was read `reads` times before, and counts on from there.
     pub(crate) fn of(reader: &'a mut R, reads: u32) -> Counted<'a, R>
         ensures same_reader { result.reader.ghost_name ≡ reader.entry.ghost_name }
         ensures reader { result.reader.now ≡ reader.old }
@@ -35,15 +35,16 @@ impl<'a, R: Read> Counted<'a, R> {
         Counted { reader, reads }
     }
 
-    /// Returns how often the reader was read, including the reads made before `of`.
+    /// Returns how many reads were made, including the reads before `of`.
     pub(crate) fn reads(&self) -> u32
         ensures { result ≡ self.now.reads }
     {
         self.reads
     }
 
-    /// Reads once into `chunk`, counts the read, and appends the bytes to `held`, which has the beginning of a line.
-    /// Returns `End` at the reader's end and `ReadFault` if the read fails, and leaves `held` as it was.
+    /// Reads once into the buffer `chunk`, counts the read, and appends the bytes that were read to `held`, the
+    /// beginning of a line. Returns `End` at the reader's end and `ReadFault` if the read fails; then `held` is as it
+    /// was.
     pub(crate) fn read_onto(&mut self, held: &mut Vec<u8>, chunk: &mut Vec<u8>) -> Result<(), Step>
         requires needed { IsUnbroken held.old.items }
         requires few { self.old.reads < MAX_READS }

@@ -3,7 +3,7 @@ ghost use Rattle.std.specs.Prelude.{◌≡◌, ◌+◌, ◌≤◌, ◌++◌, Boo
 /// The most bytes that the rest of a line may have to count as short.
 pub const REST_ROOM: usize = 2048;
 
-/// The rest of a line, which writes itself into the output buffer, so that it isn't copied there.
+/// The rest of an output line, which writes itself into the output buffer, so that it needn't be copied there.
 pub trait LineRest {
     // What must hold of a rest that is appended to a buffer.
     ghost may_tell: { Self → Type 0 };

@@ -18,7 +18,8 @@ pub const OUTGOING_BYTES: usize = 8192;
 /// The most lines that an `Outgoing` holds.
 pub const OUTGOING_LINES: usize = 512;
 
-/// A buffer of lines, so that one write takes many. It allocates only when it is made. Contracts see the lines.
+/// A buffer of output lines, so that many lines take one write. It allocates only when it is made. Contracts see the
+/// lines that it holds.
 #[derive(Drop)]
 pub struct Outgoing {
     bytes: Vec<u8>,
@@ -49,9 +50,9 @@ impl Outgoing {
         })
     }
 
-    /// Appends a line, `front` and then `rest`, to the buffer. If there is no room for it, writes the held lines first,
-    /// and then the line too if it has more than `OUTGOING_BYTES` bytes. Flushes nothing. Returns `WriteFault` if a
-    /// write fails or takes nothing.
+    /// Appends a line, `front` and then `rest`, to the buffer. If the buffer has no room for it, writes all held lines
+    /// first, and also the line itself if it has more than `OUTGOING_BYTES` bytes. Flushes nothing. Returns
+    /// `WriteFault` if a write fails or takes nothing.
     #[tactic(auto, using(crate::proofs::SendingLemmas::breaks_before))]
     pub fn put<W: Write>(
         &mut self,
@@ -111,7 +112,8 @@ impl Outgoing {
         }
     }
 
-    /// Appends a line, `front` and then `rest`, if the rest is short and there is room for it. Returns whether it did.
+    /// Appends a line, `front` and then `rest`, to the buffer if the rest is short and there is room for the line.
+    /// Returns whether it was appended. Writes nothing.
     pub fn append<L: LineRest>(&mut self, front: &[u8], rest: &L) -> bool
         requires { L.may_tell rest.now }
         ensures lines { self.new ≡ (if result
@@ -133,7 +135,8 @@ impl Outgoing {
         false
     }
 
-    // Appends a line, `front` and then `rest`, if there is room for it. Returns whether it did.
+    // Appends a line, `front` and then `rest`, to the buffer if there is room for it. Returns whether it was appended.
+    // Writes nothing.
     fn hold(&mut self, front: &[u8], rest: &[u8]) -> bool
         ensures { self.new ≡ (if result then self.old ++ (front.now ++ rest.now) ∷ [] else self.old) }
     {
@@ -152,8 +155,8 @@ impl Outgoing {
     }
 }
 
-// Returns how many of the first `out` bytes are of the first line that isn't wholly written, if the lines have these
-// lengths.
+// Returns how many bytes of the first incomplete line were written. `lengths` has the lengths of the lines, and `out`
+// is how many of their bytes were written in all.
 fn part_of(lengths: &[usize], out: usize) -> usize
     ensures { result ≡ part_in lengths.now out }
 {

@@ -16,8 +16,8 @@ pub enum WholeFault {
     Memory,
 }
 
-/// Returns all bytes of a reader, up to `limit`. Asks for one byte more, to see whether there is one. Returns `TooLong`
-/// if there is, `Read` if a read fails, and `Memory` if memory runs out.
+/// Reads a reader to its end, and returns all its bytes. Returns `TooLong` if there are more than `limit`, for which it
+/// asks for one byte more, `Read` if a read fails, and `Memory` if memory runs out.
 pub fn read_whole<R: Read + Drop>(
     alloc: Global,
     reader: R,

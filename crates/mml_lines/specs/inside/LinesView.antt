@@ -8,7 +8,7 @@ use Rattle.mml_lines.specs.Finding.{Shows}
 use Rattle.mml_lines.specs.LinesState.{LinesState}
 use Rattle.mml_lines.specs.NextLine.{ending_of}
 
--- what the fields stand for
+-- the state that contracts see, by the fields
 abbrev pub lines_view : Inside → LinesState
 lines_view a = record {
   limit = a.limit;

@@ -15,7 +15,7 @@ abbrev pub total : List ℕ → ℕ
 total [] = 0
 total (n ∷ ns) = n + total ns
 
--- what the fields stand for
+-- the lines that contracts see, by the fields
 abbrev pub outgoing_view : Inside → List (List ℕ)
 outgoing_view a = parted a.lengths.items a.bytes.items
 
