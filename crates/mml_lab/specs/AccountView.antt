@@ -4,10 +4,10 @@ use Rattle.std.specs.declared.alloc.Global.{Global}
 use Rattle.mml_lab.specs.declared.accounts.Account.{Account as KeptAccount}
 use Rattle.mml_lab.specs.Rosters.{Account}
 
--- a name and a key, as bytes
+-- the name and the key of an account, as bytes
 abbrev pub account_view : KeptAccount → Account
 account_view p = record { name = string_bytes p.name; key = string_bytes p.key }
 
--- an entry of the map from names to keys
+-- an entry of the map from names to keys, as bytes
 abbrev pub entry_account : String Global × String Global → Account
 entry_account e = record { name = string_bytes e.0; key = string_bytes e.1 }

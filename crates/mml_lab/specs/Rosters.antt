@@ -43,7 +43,7 @@ has_name name a = bytes_eq name a.name
 abbrev pub has_name_and_key : List ℕ → List ℕ → Account → Bool
 has_name_and_key name key a = bytes_eq name a.name && bytes_eq key a.key
 
--- what stands past the end of a list of accounts
+-- the account that a look-up past the end of a list returns
 abbrev pub no_account : Account
 no_account = record { name = []; key = [] }
 

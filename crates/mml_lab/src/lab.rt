@@ -9,7 +9,7 @@ use mml_ids::{IdTable, Rank};
 use mml_rules::{Network, Regs};
 use std::marker::Model;
 
-/// A network, who takes part, and the limits of a run. Nodes are named by their ranks.
+/// A lab: the network at the beginning, who takes part, and the limits of a run. Nodes are named by their ranks.
 #[derive(Debug, Drop)]
 pub struct Lab {
     ids: IdTable,
@@ -36,7 +36,8 @@ impl Model for Lab {
 }
 
 impl Lab {
-    /// The lab of its identifiers, roster, first network and limits of events and sessions, which fit one another.
+    /// Returns the lab with these identifiers, this roster, this network at the beginning, and these limits of events
+    /// and of sessions, which must fit one another.
     pub fn new(ids: IdTable, roster: Roster, network: Network, events: u64, sessions: u8) -> Lab
         requires { IsLab (record {
           ids = ids;
@@ -76,7 +77,7 @@ impl Lab {
         &self.roster
     }
 
-    /// Returns whether two nodes are linked at the beginning.
+    /// Returns whether two nodes are linked at the beginning. Returns `false` if the rank `b` is past the last node.
     pub fn linked(&self, a: Rank, b: Rank) -> bool
         requires { a < length self.now.ids }
         ensures { result ≡ set.contains (neighbours_at self.now.network.neighbours a) b }

@@ -46,9 +46,9 @@ pub enum LabFault {
     BothOwners(usize),
     /// The nodes' identifiers can't be those of one network, for the reason inside, which is never `IdFault::Memory`.
     Id(IdFault),
-    /// A name or a key isn't of its form.
+    /// The name or the key of a participant isn't of its form.
     Name(usize),
-    /// This name stands before, too: the index is that of the later one.
+    /// Another participant before this one has the same name.
     NameTwice(usize),
     /// A name among a node's owners is no student's.
     NoOwner(usize),
@@ -58,7 +58,7 @@ pub enum LabFault {
     LinkEnd(usize),
     /// Both ends of a link are one node.
     Loop(usize),
-    /// This link stands before, too, with its ends in this order or the other.
+    /// A link before this one has the same ends, in this order or the other.
     LinkTwice(usize),
     /// A node points at one that isn't its neighbour.
     BadPointer(usize),

@@ -5,7 +5,7 @@ ghost use Rattle.mml_lab.specs.declared.who.Who.{Who};
 ghost use Rattle.mml_lab.specs.Rosters.{RosterValue, IsRoster, principal, owns, owners_of, name_of, student_named, is_name, is_key};
 ghost use Rattle.mml_lab.specs.RosterMeaning.{IsKnownAs, IsName, IsKey};
 
-/// The participant of a greeting is the one who takes part under its name and key, and there is at most one.
+/// A name and a key are those of at most one participant, and `principal` finds that participant.
 pub fn principal_is_the_one_known()
     ensures one { (r : RosterValue) (name key : List ℕ) (w : Who) → IsRoster r →
         (principal r name key ≡ Some w) ↔ IsKnownAs r w name key }
@@ -20,7 +20,8 @@ pub fn owns_means_owner()
     ensures teacher { (r : RosterValue) (i : ℕ) → owns r Who.Teacher i ≡ false }
 {}
 
-/// A student's name and the student of a name are inverse.
+/// The student who is found by a student's name is that student, and the name of the student who is found by a name is
+/// that name.
 pub fn names_and_students_are_inverse()
     ensures student_of_name { (r : RosterValue) (s : ℕ) → IsRoster r → s < length r.students →
         student_named r (name_of r (Who.Student s)) ≡ Some s }

@@ -12,8 +12,8 @@ use crate::who::Student;
 use mml_ids::{NodeSet, Rank};
 use std::alloc::Global;
 
-/// Returns for each student the set of the nodes that the student owns, and an empty set past the last student. Returns
-/// `Memory` if memory runs out.
+/// Returns for each student, in order, the set of the nodes that the student owns, and at the end an empty set.
+/// `students` is their number, and `owners` has by rank the owners of each node. Returns `Memory` if memory runs out.
 pub(crate) fn owned_by_each(
     alloc: Global,
     students: usize,
@@ -32,7 +32,7 @@ pub(crate) fn owned_by_each(
     Ok(rows)
 }
 
-/// Adds a node to the rows of its owners.
+/// Adds a node to the set of each of its owners. `rows` has the sets, by student.
 fn give(rows: &mut [NodeSet], node: Rank, owners: &[Student])
     requires { All (λ s. s < length rows.old) owners.now }
     ensures { (s i : ℕ) → set.contains (row_at rows.new s) i ≡ (set.contains (row_at rows.old s) i

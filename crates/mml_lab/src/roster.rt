@@ -41,7 +41,8 @@ impl Model for Roster {
 }
 
 impl Roster {
-    /// The roster of a teacher, of the students' names and keys in the file's order, and of each node's owners by rank.
+    /// Returns the roster with this teacher, the students' names and keys in the file's order, and by rank the owners
+    /// of each node. Returns `Memory` if memory runs out.
     pub fn new(
         alloc: Global,
         teacher: Account,
@@ -72,7 +73,7 @@ impl Roster {
         self.students.len() as u64
     }
 
-    /// Returns the participant under that name and that key, or `None` if there is none.
+    /// Returns the participant who has this name and this key, or `None` if nobody has both.
     pub fn hello(&self, name: &str, key: &str) -> Option<Who>
         ensures value { result ≡ principal self.now name.now key.now }
         ensures member { IfSome result (IsPrincipal self.now) }
@@ -86,8 +87,8 @@ impl Roster {
         index.map(|index| Who::Student(Student::new(index as u16)))
     }
 
-    /// Returns the nodes that `who` owns, and no nodes for the teacher or a student past the last. For every student
-    /// the steps are the same, whatever the student owns.
+    /// Returns the nodes that `who` owns: none for the teacher, and none for a student past the last. The steps are the
+    /// same for all students, whatever they own.
     pub fn owned(&self, who: Who) -> NodeSet
         ensures { (i : ℕ) → set.contains result i ≡ owns self.now who i }
     {
@@ -133,7 +134,7 @@ impl Roster {
     }
 }
 
-/// Returns whether name and key are the known name and its key. Both are compared, even if the name is another.
+/// Returns whether `name` is `known` and `key` is `secret`. Both are compared, even if the names differ.
 fn are_name_and_key(name: &str, key: &str, known: &str, secret: &str) -> bool
     ensures { result ≡
         has_name_and_key name.now key.now (record { name = known.now; key = secret.now }) }
@@ -143,8 +144,8 @@ fn are_name_and_key(name: &str, key: &str, known: &str, secret: &str) -> bool
     is_named & is_keyed
 }
 
-/// Returns the index of the student with that name and key, from 0 in the file's order, or `None` if there is no such
-/// student. Each student's name and key are compared, so that a student's name takes the same steps as an unknown name
+/// Returns the index of the student with this name and this key, from 0 in the file's order, or `None` if no student
+/// has both. Each student's name and key are compared, so that a student's name takes the same steps as an unknown name
 /// of its length.
 fn student_with(students: &IndexMap<String, String>, name: &str, key: &str) -> Option<usize>
     ensures value { result ≡
@@ -160,7 +161,7 @@ fn student_with(students: &IndexMap<String, String>, name: &str, key: &str) -> O
     found
 }
 
-/// Returns whether the student at an index has that name and key.
+/// Returns whether the student at this index has this name and this key.
 fn is_at(students: &IndexMap<String, String>, index: usize, name: &str, key: &str) -> bool
     requires { index < length students.now.entries }
     ensures { result ≡ has_name_and_key name.now key.now

@@ -117,39 +117,39 @@ pointers_fault links nodes = option_map fault.BadPointer (position (points_at_un
 abbrev pub pass_unless : Option LabFault → Result (Unit {0}) LabFault
 pass_unless fault = unless_fault fault tt
 
--- the nodes: none with both keys of its owners, and their identifiers are a table
+-- the test of the nodes: none has both keys `owner` and `owners`, and their identifiers are a table
 unfoldable pub identified : List NodeSpec → Result (Unit {0}) LabFault
 identified nodes = do
   pass_unless (both_fault nodes)
   pass_unless (ids_fault nodes)
 
--- who takes part: all names and keys have their forms, and each name stands once
+-- the test of who takes part: all names and keys have their forms, and no name stands twice
 unfoldable pub enrolled : Account → List Account → Result (Unit {0}) LabFault
 enrolled teacher students = do
   pass_unless (forms_fault (teacher ∷ students))
   pass_unless (name_twice (teacher ∷ students))
 
--- the owners: all are students, and both of a node differ
+-- the test of the owners: all are students, and both owners of a node differ
 unfoldable pub owned : List Account → List NodeSpec → Result (Unit {0}) LabFault
 owned students nodes = do
   pass_unless (no_owner_fault students nodes)
   pass_unless (owner_twice_fault nodes)
 
--- the links: each end is a node, both ends differ, and no link joins what an earlier one joins
+-- the test of the links: each end is a node, both ends differ, and no link joins what an earlier one joins
 unfoldable pub linked : List NodeSpec → List (ℤ × ℤ) → Result (Unit {0}) LabFault
 linked nodes links = do
   pass_unless (ends_fault nodes links)
   pass_unless (loops_fault links)
   pass_unless (again_fault links)
 
--- the limits: the numbers of events, of sessions and of students are within them
+-- the test of the limits: the numbers of events, of sessions and of students are within their ranges
 unfoldable pub limited : ℤ → ℤ → ℕ → Result (Unit {0}) LabFault
 limited events sessions students = do
   need (is_within MAX_EVENTS events) (fault.Limit key.Events)
   need (is_within MAX_SESSIONS sessions) (fault.Limit key.Sessions)
   need (nat_le students MAX_STUDENTS) (fault.Limit key.Student)
 
--- the tests of a file, in the order in which errors are told: each goes over the whole file before the next
+-- the tests of a file, in the order in which errors are reported: each goes over the whole file before the next begins
 unfoldable pub checked : RawSpec → Result (Unit {0}) LabFault
 checked raw = do
   identified raw.nodes
@@ -180,7 +180,7 @@ neighbours_of ids links id = those_below (length ids) (λ rank. is_linked links 
 abbrev pub registers_in : List ℕ → NodeSpec → Regs
 registers_in ids node = record { p = option_and_then (λ p. rank_in ids (number_of p)) node.p; m = node.m }
 
--- the index of that name among the students; 0 where none has it, which is an error
+-- the index of that name among the students; 0 if none has it, which is an error of the file
 abbrev pub student_index : List Account → List ℕ → ℕ
 student_index students name = unwrap_or (position (has_name name) students) 0
 
@@ -188,11 +188,11 @@ student_index students name = unwrap_or (position (has_name name) students) 0
 abbrev pub owners_in : List Account → NodeSpec → List ℕ
 owners_in students node = map (student_index students) node.owners
 
--- the registers of the node with that identifier; null and false where there is none
+-- the registers of the node with that identifier; null and false if there is none
 abbrev pub registers_with : List ℕ → List NodeSpec → ℕ → Regs
 registers_with ids nodes id = option_map_or (registers_in ids) (node_with nodes id) no_regs
 
--- the owners of the node with that identifier; none where there is no such node
+-- the owners of the node with that identifier; none if there is no such node
 abbrev pub owners_with : List Account → List NodeSpec → ℕ → List ℕ
 owners_with students nodes id = option_map_or (owners_in students) (node_with nodes id) []
 

@@ -12,7 +12,7 @@ use Rattle.mml_lab.specs.declared.lab_fault.LabFault.TheVariants as fault
 use Rattle.mml_lab.specs.declared.lab_fault.Key.{Key}
 use Rattle.mml_lab.specs.declared.lab_fault.Key.TheVariants as key
 
--- memory ran out, about which a definition says nothing
+-- the error is that memory ran out, about which the definitions say nothing
 abbrev pub is_lab_memory : LabFault → Bool
 is_lab_memory fault.Memory = true
 is_lab_memory _ = false

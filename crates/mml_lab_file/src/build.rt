@@ -20,7 +20,7 @@ use mml_lab::{Lab, LabFault, Roster, Student};
 use mml_rules::{Network, Regs};
 use std::alloc::Global;
 
-/// Returns the lab of a file that was checked. The only error left is `Memory`.
+/// Makes the lab of a file that was checked. Returns `Memory` if memory runs out, which is the only error left.
 #[tactic(auto, unfolding(crate::specs::inside::Checks::lab_with))]
 pub(crate) fn build(alloc: Global, checked: Checked) -> Result<Lab, LabFault>
     requires { IsLab (checked_view checked) }
@@ -41,8 +41,8 @@ pub(crate) fn build(alloc: Global, checked: Checked) -> Result<Lab, LabFault>
     Ok(Lab::new(ids, roster, network, events, sessions))
 }
 
-/// Returns the parts of a lab by the nodes of a file, both by rank: the registers of each node (first) and the owners
-/// of each (second).
+/// Returns by rank the registers of each node (first) and the owners of each node (second), as a checked file says.
+/// Returns `Memory` if memory runs out.
 fn parts(alloc: Global, checked: &Checked) -> Result<(Vec<Regs>, Vec<Vec<Student>>), LabFault>
     requires { length checked.now.students.entries ≤ MAX_STUDENTS }
     ensures registers { IfOk result (λ parts. parts.0.items ≡ map (registers_with
@@ -57,7 +57,8 @@ fn parts(alloc: Global, checked: &Checked) -> Result<(Vec<Regs>, Vec<Vec<Student
     Ok((registers, owners))
 }
 
-/// Returns each node's registers, by rank.
+/// Returns the registers of each node, by rank. `nodes` are the nodes as the file has them. Returns `Memory` if memory
+/// runs out.
 pub(crate) fn registers(
     alloc: Global,
     ids: &IdTable,
@@ -74,7 +75,7 @@ pub(crate) fn registers(
     Ok(found)
 }
 
-/// Returns the registers of the node with an identifier, or null and false if the file has no such node.
+/// Returns the registers of the node with the identifier `id`, or null and false if the file has no such node.
 fn registers_with(ids: &IdTable, nodes: &[RawNode], id: u64) -> Regs
     ensures { result ≡ registers_with ids.now (map node_view nodes.now) id }
 {
@@ -84,14 +85,15 @@ fn registers_with(ids: &IdTable, nodes: &[RawNode], id: u64) -> Regs
     }
 }
 
-/// Returns the file's first node with an identifier, or `None` if it has none.
+/// Returns the file's first node with the identifier `id`, or `None` if there is none.
 fn node_with(nodes: &[RawNode], id: u64) -> Option<&RawNode>
     ensures { option_copied result ≡ find (λ node. number_of node.id == id) nodes.now }
 {
     nodes.iter().find(|node| number_of(node.id) == id)
 }
 
-/// Returns a node's registers by the file: its pointer is the rank of the node that it names, or null if it names none.
+/// Returns a node's registers as the file says: its pointer is the rank of the node that it names, or null if it names
+/// none.
 #[tactic(auto, unfolding(crate::specs::inside::Checks::rank_at))]
 fn registers_in(ids: &IdTable, node: &RawNode) -> Regs
     ensures { result ≡ registers_in ids.now (node_view node.now) }
@@ -100,7 +102,8 @@ fn registers_in(ids: &IdTable, node: &RawNode) -> Regs
     Regs { p, m: node.m }
 }
 
-/// Returns each node's owners, by rank.
+/// Returns the owners of each node, by rank. `nodes` are the nodes as the file has them. Returns `Memory` if memory
+/// runs out.
 pub(crate) fn owners(
     alloc: Global,
     ids: &IdTable,
@@ -119,8 +122,8 @@ pub(crate) fn owners(
     Ok(found)
 }
 
-/// Returns the owners of the node with an identifier, or an empty list if the file has no such node. Returns `Memory`
-/// if memory runs out.
+/// Returns the owners of the node with the identifier `id`, or an empty list if the file has no such node. Returns
+/// `Memory` if memory runs out.
 fn owners_with(
     alloc: Global,
     students: &IndexMap<String, String>,

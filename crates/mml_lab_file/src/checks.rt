@@ -23,16 +23,16 @@ use mml_ids::{IdFault, IdTable, NodeSet};
 use mml_lab::{Account, Key, LabFault, MAX_EVENTS, MAX_SESSIONS, MAX_STUDENTS};
 use std::alloc::{AllocError, Global};
 
-/// Returns the number itself, or 0 for a negative one: 0 is outside the range of an identifier, of the number of events
-/// and of that of sessions.
+/// Returns the number itself, or 0 if it is negative. 0 is no valid identifier, and no valid number of events or of
+/// sessions.
 pub(crate) fn number_of(number: i64) -> u64
     ensures { result ≡ number_of number }
 {
     u64::try_from(number).unwrap_or(0)
 }
 
-/// The contents of a file without an error: its nodes and their identifiers, who takes part, for each node by rank its
-/// neighbours, and the limits of a run.
+/// The contents of a file without an error: its nodes and their identifiers, who takes part, by rank the neighbours of
+/// each node, and the limits of a run.
 #[derive(Drop)]
 pub struct Checked {
     pub ids: IdTable,
@@ -44,7 +44,8 @@ pub struct Checked {
     pub sessions: u8,
 }
 
-/// Returns the contents of a file, or its first error in the order of `LabFault`.
+/// Checks the contents of a file. Returns them with what the checks found, or the first error in the order of
+/// `LabFault`.
 pub(crate) fn check(alloc: Global, raw: RawLab) -> Result<Checked, LabFault>
     ensures { Gives is_lab_memory checked_view result (lab_from (raw_view raw)) }
 {
@@ -73,7 +74,7 @@ pub(crate) fn check(alloc: Global, raw: RawLab) -> Result<Checked, LabFault>
     })
 }
 
-/// The contents of a file without an error, beside its teacher and its nodes.
+/// What the checks of a file found, beside its teacher and its nodes.
 #[derive(Drop)]
 struct Found {
     ids: IdTable,
@@ -83,8 +84,8 @@ struct Found {
     sessions: u8,
 }
 
-/// The first error of a file that is given in parts, or else what was made of them while they were checked. The
-/// teacher and the nodes are lent, and stay with the caller.
+/// Checks the parts of a file. Returns what was made of them on the way, or the file's first error. The teacher and the
+/// nodes are borrowed, and stay with the caller.
 #[tactic(auto, unfolding(crate::specs::Reading::lab_from, crate::specs::Reading::checked))]
 fn check_parts(
     alloc: Global,
@@ -118,8 +119,8 @@ fn check_parts(
     })
 }
 
-/// The table of the nodes' identifiers; or the error of the first node with both keys of its owners, `owner` and
-/// `owners`, else that of the identifiers.
+/// Returns the table of the nodes' identifiers. Returns the error of the first node that has both keys `owner` and
+/// `owners`, or else the first error of the identifiers.
 #[tactic(auto, unfolding(crate::specs::Reading::identified))]
 fn identify(alloc: Global, nodes: &[RawNode]) -> Result<IdTable, LabFault>
     ensures tests { Gives is_lab_memory (λ _. tt {0}) result (identified (map node_view nodes.now)) }
@@ -129,8 +130,8 @@ fn identify(alloc: Global, nodes: &[RawNode]) -> Result<IdTable, LabFault>
     id_table(alloc, nodes)
 }
 
-/// The students' names and keys in the file's order; or the error of the first name or key, the teacher's too, that
-/// isn't of its form, else of the first name that stands twice.
+/// Returns the students' names and keys in the file's order. Returns the error of the first name or key that isn't of
+/// its form, the teacher's included, or else the error of the first name that stands twice.
 #[tactic(auto, unfolding(crate::specs::Reading::enrolled))]
 fn enrol(
     alloc: Global,
@@ -146,8 +147,8 @@ fn enrol(
     students_map(alloc, teacher, students)
 }
 
-/// The error of the first node with an owner who is no student, else of the first whose two owners are one student;
-/// `Ok(())` where there is neither.
+/// Returns `Ok(())` if all owners are students, and no node has one student as both owners. Otherwise returns the error
+/// of the first node with an owner who is no student, or else of the first node whose two owners are one student.
 #[tactic(auto, unfolding(crate::specs::Reading::owned))]
 fn check_owners(students: &IndexMap<String, String>, nodes: &[RawNode]) -> Result<(), LabFault>
     ensures { Gives is_lab_memory (λ u. u) result
@@ -157,7 +158,7 @@ fn check_owners(students: &IndexMap<String, String>, nodes: &[RawNode]) -> Resul
     pass_unless(owner_twice_fault(nodes))
 }
 
-/// Returns how many students a file has. The contract counts the accounts that the entries of the map stand for.
+/// Returns how many students a file has. The contract counts them as the definitions do, by their accounts.
 fn student_count(students: &IndexMap<String, String>) -> usize
     ensures { result ≡ length (map entry_account students.now.entries) }
 {
@@ -174,7 +175,7 @@ pub(crate) fn pass_unless(fault: Option<LabFault>) -> Result<(), LabFault>
     }
 }
 
-/// The error of the first node with both keys of its owners, `owner` and `owners`; `None` where no node has both.
+/// Returns the error of the first node that has both keys `owner` and `owners`, or `None` if no node has both.
 #[tactic(auto, unfolding(crate::specs::Reading::both_fault))]
 fn both_fault(nodes: &[RawNode]) -> Option<LabFault>
     ensures { result ≡ both_fault (map node_view nodes.now) }
@@ -182,8 +183,7 @@ fn both_fault(nodes: &[RawNode]) -> Option<LabFault>
     first_with_both(nodes).map(LabFault::BothOwners)
 }
 
-/// Returns the index of the first node with both keys of its owners, `owner` and `owners`, or `None` if no node has
-/// both.
+/// Returns the index of the first node that has both keys `owner` and `owners`, or `None` if no node has both.
 fn first_with_both(nodes: &[RawNode]) -> Option<usize>
     ensures { result ≡ position (λ node. node.both) nodes.now }
 {
@@ -200,8 +200,8 @@ fn id_table(alloc: Global, nodes: &[RawNode]) -> Result<IdTable, LabFault>
     IdTable::new(alloc, &ids).map_err(fault_of_ids)
 }
 
-/// Returns the error of a lab for an error of identifiers: `LabFault::Memory` for out of memory, and an `Id` for each
-/// other one.
+/// Turns an error of identifiers into one of a lab: `IdFault::Memory` into `LabFault::Memory`, and any other into an
+/// `Id`.
 fn fault_of_ids(fault: IdFault) -> LabFault
     ensures { result ≡ id_fault_as fault }
 {
@@ -218,8 +218,8 @@ fn file_ids(alloc: Global, nodes: &[RawNode]) -> Result<Vec<u64>, AllocError>
     nodes.iter().map(|node| number_of(node.id)).collect(alloc)
 }
 
-/// The error of the first name or key, the teacher's before the students', that isn't of its form; `None` where each
-/// is.
+/// Returns the error of the first name or key that isn't of its form, or `None` if all are. The teacher's come before
+/// the students'.
 #[tactic(auto, unfolding(crate::specs::Reading::forms_fault))]
 fn forms_fault(teacher: &Account, students: &[Account]) -> Option<LabFault>
     ensures { result ≡ forms_fault (account_view teacher.now ∷ map account_view students.now) }
@@ -227,7 +227,7 @@ fn forms_fault(teacher: &Account, students: &[Account]) -> Option<LabFault>
     first_malformed(teacher, students).map(LabFault::Name)
 }
 
-/// The error of the first node with an owner who is no student; `None` where each owner is one.
+/// Returns the error of the first node with an owner who is no student, or `None` if all owners are students.
 #[tactic(auto, unfolding(crate::specs::Reading::no_owner_fault))]
 fn no_owner_fault(students: &IndexMap<String, String>, nodes: &[RawNode]) -> Option<LabFault>
     ensures { result ≡
@@ -236,7 +236,7 @@ fn no_owner_fault(students: &IndexMap<String, String>, nodes: &[RawNode]) -> Opt
     first_without_owner(students, nodes).map(LabFault::NoOwner)
 }
 
-/// The error of the first node whose two owners are one student; `None` where there is no such node.
+/// Returns the error of the first node whose two owners are one student, or `None` if there is no such node.
 #[tactic(auto, unfolding(crate::specs::Reading::owner_twice_fault))]
 fn owner_twice_fault(nodes: &[RawNode]) -> Option<LabFault>
     ensures { result ≡ owner_twice_fault (map node_view nodes.now) }
@@ -244,7 +244,7 @@ fn owner_twice_fault(nodes: &[RawNode]) -> Option<LabFault>
     first_with_owner_twice(nodes).map(LabFault::OwnerTwice)
 }
 
-/// Returns the index of the first node with an owner who is no student, or `None` if each owner is one.
+/// Returns the index of the first node with an owner who is no student, or `None` if all owners are students.
 fn first_without_owner(students: &IndexMap<String, String>, nodes: &[RawNode]) -> Option<usize>
     ensures { result ≡ position
         (λ node. lacks_owner (map entry_account students.now.entries) (node_view node)) nodes.now }
@@ -282,14 +282,15 @@ fn first_with_owner_twice(nodes: &[RawNode]) -> Option<usize>
     nodes.iter().position(|node| are_one_twice(&node.owners))
 }
 
-/// Returns whether `names` are two, and the same name.
+/// Returns whether `names` has exactly two names, which are the same.
 fn are_one_twice(names: &[String]) -> bool
     ensures { result ≡ are_one_twice (map string_bytes names.now) }
 {
     names.len() == 2 && names[0] == names[1]
 }
 
-/// Returns the number, if it is from 1 to `greatest`, or the error that the value under `key` is out of its range.
+/// Returns the number, if it is from 1 to `greatest`. Otherwise returns the error that the value under `key` is out of
+/// its range.
 fn within(greatest: u64, number: i64, key: Key) -> Result<u64, LabFault>
     ensures test { Gives is_lab_memory (λ _. tt {0}) result
         (need (is_within greatest number) (Limit key)) }
@@ -304,8 +305,8 @@ fn within(greatest: u64, number: i64, key: Key) -> Result<u64, LabFault>
     }
 }
 
-/// The numbers of events (first) and sessions (second), if they and that of the students are within their limits; else
-/// the error of the first of the three that isn't.
+/// Checks the limits of a file. Returns the number of events (first) and of sessions (second). Returns the error of the
+/// first number that is out of its range, in the order of events, sessions and students.
 #[tactic(auto, unfolding(crate::specs::Reading::limited))]
 fn limits(bounds: RawLimits, students: usize) -> Result<(u64, u8), LabFault>
     ensures tests { Gives is_lab_memory (λ _. tt {0}) result
@@ -322,7 +323,8 @@ fn limits(bounds: RawLimits, students: usize) -> Result<(u64, u8), LabFault>
     }
 }
 
-/// The error of the first node that points at one that it isn't linked to; `None` where there is no such node.
+/// Returns the error of the first node that points at a node that it isn't linked to, or `None` if there is no such
+/// node.
 #[tactic(auto, unfolding(crate::specs::Reading::pointers_fault))]
 fn pointers_fault(links: &[(i64, i64)], nodes: &[RawNode]) -> Option<LabFault>
     ensures { result ≡ pointers_fault links.now (map node_view nodes.now) }
@@ -330,7 +332,8 @@ fn pointers_fault(links: &[(i64, i64)], nodes: &[RawNode]) -> Option<LabFault>
     first_at_unlinked(links, nodes).map(LabFault::BadPointer)
 }
 
-/// Returns the index of the first node that points at one that it isn't linked to, or `None` if there is no such node.
+/// Returns the index of the first node that points at a node that it isn't linked to, or `None` if there is no such
+/// node.
 fn first_at_unlinked(links: &[(i64, i64)], nodes: &[RawNode]) -> Option<usize>
     ensures { result ≡ position (λ node. points_at_unlinked links.now (node_view node)) nodes.now }
 {
@@ -339,7 +342,7 @@ fn first_at_unlinked(links: &[(i64, i64)], nodes: &[RawNode]) -> Option<usize>
         .position(|node| points_at_unlinked(links, node))
 }
 
-/// Returns whether the node points, and at one that it isn't linked to.
+/// Returns whether the node points at some node, and isn't linked to it.
 fn points_at_unlinked(links: &[(i64, i64)], node: &RawNode) -> bool
     ensures { result ≡ points_at_unlinked links.now (node_view node.now) }
 {

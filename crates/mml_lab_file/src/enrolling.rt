@@ -13,7 +13,8 @@ use indexmap::IndexMap;
 use mml_lab::{Account, LabFault};
 use std::alloc::Global;
 
-/// Whether a name is `teacher`, the teacher's, or that of one of `students`, the students read so far.
+/// Returns whether a name is in use: it is `teacher`, the teacher's name, or that of one of `students`, those read so
+/// far.
 fn is_taken(students: &IndexMap<String, String>, teacher: &str, name: &str) -> bool
     ensures { result ≡ (bytes_eq name.now teacher.now
         || is_some (lookup (λ k. bytes_eq name.now (string_bytes k)) students.now.entries)) }
@@ -21,8 +22,8 @@ fn is_taken(students: &IndexMap<String, String>, teacher: &str, name: &str) -> b
     name == teacher || students.contains_key(name)
 }
 
-/// The students' names and keys in the file's order, or the error of the first name that stands twice, the teacher's
-/// being before the students'.
+/// Returns the students' names and keys in the file's order. Returns `NameTwice` with the index of the first student
+/// whose name the teacher or an earlier student has, and `Memory` if memory runs out.
 pub(crate) fn students_map(
     alloc: Global,
     teacher: &Account,
@@ -37,8 +38,9 @@ pub(crate) fn students_map(
     Ok(found)
 }
 
-/// Puts the students' names and keys into an empty map, up to a name that the teacher or an earlier student has: the
-/// error then tells its index, counted from 1.
+/// Puts the students' names and keys into an empty map, in order. Stops at the first name that the teacher or an
+/// earlier student has, and returns `NameTwice` with its index, which counts the students from 1. Returns `Memory` if
+/// memory runs out.
 fn fill(
     found: &mut IndexMap<String, String>,
     teacher: &Account,
@@ -59,7 +61,7 @@ fn fill(
     Ok(())
 }
 
-/// Puts a name that the map doesn't have yet, with its key, at the end of the map.
+/// Puts a name that the map doesn't have yet, with its key, at the end of the map. Returns `Memory` if memory runs out.
 fn append(found: &mut IndexMap<String, String>, name: String, key: String) -> Result<(), LabFault>
     requires { get string_eq found.old name ≡ None }
     ensures entries { OnOk result (found.new.entries ≡ found.old.entries ++ (name, key) ∷ []) }

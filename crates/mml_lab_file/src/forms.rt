@@ -7,29 +7,29 @@ ghost use Rattle.mml_lab.specs.Rosters.{is_key, is_account};
 
 use mml_lab::{Account, MAX_KEY, is_name};
 
-/// Whether the bytes have the form of a key: 1 to 64, each a character of ASCII that can be seen; a space is none.
+/// Returns whether the bytes have the form of a key: 1 to 64 visible ASCII characters, without spaces.
 fn is_key(key: &[u8]) -> bool
     ensures { result ≡ is_key key.now }
 {
     !key.is_empty() && key.len() as u64 <= MAX_KEY && are_graphic(key)
 }
 
-/// Whether each byte is a character of ASCII that can be seen, from 33 to 126.
+/// Returns whether each byte is a visible ASCII character, from 33 to 126.
 fn are_graphic(bytes: &[u8]) -> bool
     ensures { result ≡ list_all is_ascii_graphic bytes.now }
 {
     bytes.iter().all(|byte| byte.is_ascii_graphic())
 }
 
-/// Whether both the name and the key have their forms.
+/// Returns whether both the name and the key have their forms.
 fn is_account(account: &Account) -> bool
     ensures { result ≡ is_account (account_view account.now) }
 {
     is_name(account.name.as_bytes()) && is_key(account.key.as_bytes())
 }
 
-/// The index of the first account whose name or key isn't of its form, of the teacher (0) and the students (from 1);
-/// `None` where there is no such account.
+/// Returns the index of the first participant whose name or key isn't of its form, or `None` if there is none. The
+/// teacher has the index 0, and the students count from 1.
 pub(crate) fn first_malformed(teacher: &Account, students: &[Account]) -> Option<usize>
     ensures { result ≡ position (λ a. not (is_account a))
         (account_view teacher.now ∷ map account_view students.now) }
@@ -40,7 +40,7 @@ pub(crate) fn first_malformed(teacher: &Account, students: &[Account]) -> Option
     first_malformed_student(students).map(|index| index + 1)
 }
 
-/// The index, from 0, of the first student whose name or key isn't of its form; `None` where there is none.
+/// Returns the index, from 0, of the first student whose name or key isn't of its form, or `None` if there is none.
 fn first_malformed_student(students: &[Account]) -> Option<usize>
     ensures value { result ≡ position (λ a. not (is_account (account_view a))) students.now }
     ensures within { IfSome result (λ index. index < length students.now) }

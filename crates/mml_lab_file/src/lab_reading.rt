@@ -1,4 +1,4 @@
-//! From the bytes of a file to the lab.
+//! Reading a lab file: from its bytes to the lab.
 ghost use Rattle.mml_ids.specs.Gives.{Gives};
 ghost use Rattle.mml_lab_file.specs.Shape.{is_lab_memory};
 ghost use Rattle.mml_lab_file.specs.Reading.{lab_of};
@@ -9,8 +9,9 @@ use crate::raw_lab::read_bytes;
 use mml_lab::{Lab, LabFault};
 use std::alloc::Global;
 
-/// The lab that bytes spell, or their first error: that they are no TOML, then the first key that is missing or of
-/// another kind, then the others in the order of `LabFault`. `Memory` tells that a growth was refused.
+/// Returns the lab that the bytes of a lab file describe, or their first error. The errors come in this order: the
+/// bytes are no TOML; a key is missing or of another kind; and then the others in the order of `LabFault`. Returns
+/// `Memory` if memory runs out.
 #[tactic(auto, unfolding(crate::specs::Reading::lab_of))]
 pub fn read_lab(alloc: Global, bytes: &[u8]) -> Result<Lab, LabFault>
     ensures { Gives is_lab_memory (λ lab. lab) result (lab_of bytes.now) }

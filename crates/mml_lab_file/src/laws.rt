@@ -12,7 +12,8 @@ ghost use Rattle.mml_lab_file.specs.Reading.{lab_fault, lab_in, lab_of, linked, 
 ghost use Rattle.mml_lab_file.specs.LabMeaning.{Joins, HasLink, HasNode, IsNodeOf, IsLabOfFile, JoinNodes, IsLinkAgain, IsFirstLinkAgain, id_at};
 ghost use Rattle.mml_lab_file.specs.LabMeaning.{IsFirstAgain, AreDistinctBelow};
 
-/// The error of a name that stands twice comes exactly where there is one, and tells the first.
+/// There is an error of a name that stands twice exactly if some name does, and it has the index of the first that
+/// stands at a lower index, too.
 pub fn name_twice_is_the_first()
     ensures fault { (accounts : List Account) (k : ℕ) →
         (name_twice accounts ≡ Some (fault.NameTwice k)) ↔ IsFirstAgain accounts k }
@@ -31,8 +32,8 @@ pub fn links_join_two_nodes()
         ¬ Joins again.0 again.1 link }
 {}
 
-/// Where each link joins two nodes that differ, the error of a link that stands twice comes exactly where there is one,
-/// and tells the first.
+/// If each link joins two nodes that differ: there is an error of a link that stands twice exactly if some link does,
+/// and it has the index of the first that stands at a lower index, too.
 pub fn link_twice_is_the_first()
     ensures fault { (raw : RawSpec) (k : ℕ) →
         (linked raw.nodes raw.links ≡ Err (fault.LinkTwice k))
@@ -51,7 +52,7 @@ pub fn identifiers_are_the_nodes()
         Contains (lab_in raw).ids id ↔ HasNode raw (pos id) }
 {}
 
-/// Two nodes are linked exactly where the file has a link with their identifiers as ends.
+/// Two nodes are linked exactly if the file has a link with their identifiers as ends.
 pub fn links_are_those_of_the_file()
     ensures { (raw : RawSpec) (i j : ℕ) → lab_fault raw ≡ None →
         i < length (lab_in raw).ids → j < length (lab_in raw).ids →
@@ -80,7 +81,7 @@ pub fn registers_are_those_of_the_file()
         × ((configuration_of (lab_in raw).network).linked i j ≡ true) }
 {}
 
-/// A student owns a node exactly where the file names the student as one of its owners.
+/// A student owns a node exactly if the file names the student as one of its owners.
 pub fn owners_are_those_of_the_file()
     ensures { (raw : RawSpec) (i s : ℕ) (node : NodeSpec) → lab_fault raw ≡ None →
         IsNodeOf raw (lab_in raw) i node → s < length raw.students →
@@ -88,7 +89,7 @@ pub fn owners_are_those_of_the_file()
         ↔ Contains node.owners (name_of (lab_in raw).roster (Who.Student s)) }
 {}
 
-/// Each node of a lab that bytes spell has one or two owners, which differ.
+/// Each node of a lab that was read from bytes has one or two owners, who differ.
 pub fn labs_have_owners()
     ensures one_or_two { (bytes : List ℕ) (lab : LabValue) (i : ℕ) → lab_of bytes ≡ Ok lab →
         i < length lab.ids →
@@ -98,18 +99,19 @@ pub fn labs_have_owners()
         slice_index (owners_of lab.roster i) j ≢ slice_index (owners_of lab.roster i) k }
 {}
 
-/// Every lab that bytes spell is lawful.
+/// Every lab that is read from bytes is lawful.
 pub fn labs_are_lawful()
     ensures { (bytes : List ℕ) (lab : LabValue) → lab_of bytes ≡ Ok lab → IsLab lab }
 {}
 
-/// Bytes are read as a lab exactly where they spell a file without an error, and the lab is that of the file.
+/// Bytes are read as a lab exactly if they are those of a file without an error, and the lab is that of the file.
 pub fn labs_are_those_of_files()
     ensures { (bytes : List ℕ) (lab : LabValue) →
         (lab_of bytes ≡ Ok lab) ↔ ((raw : RawSpec) × IsLabOfFile bytes raw lab) }
 {}
 
-/// Out of memory is no error of a file or of bytes, neither as `Memory` nor as an error of identifiers.
+/// By the definitions, no file and no bytes have the error `Memory`, neither of a lab nor of its identifiers: running
+/// out of memory says nothing about a file.
 pub fn want_of_memory_is_no_fault()
     ensures identifiers { (raw : RawSpec) → lab_fault raw ≢ Some (fault.Id id.Memory) }
     ensures file { (raw : RawSpec) → lab_fault raw ≢ Some fault.Memory }

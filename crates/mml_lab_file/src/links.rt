@@ -19,8 +19,8 @@ use mml_ids::{IdTable, NodeSet, Rank};
 use mml_lab::LabFault;
 use std::alloc::Global;
 
-/// For each node by rank the set of its neighbours; or the first error of the links: an end that is no node, then a
-/// loop, then a link that stands twice.
+/// Returns the set of neighbours of each node, by rank. Returns the first error of the links: that of the first end
+/// that is no node, else of the first loop, else of the first link that stands twice.
 #[tactic(auto, unfolding(crate::specs::Reading::linked))]
 pub(crate) fn neighbours(
     alloc: Global,
@@ -40,7 +40,7 @@ pub(crate) fn neighbours(
     rows(alloc, ids, links)
 }
 
-/// The error of the first link with an end that is no node; `None` where each end is one.
+/// Returns the error of the first link with an end that is no node, or `None` if all ends are nodes.
 #[tactic(auto, unfolding(crate::specs::Reading::ends_fault))]
 fn ends_fault(nodes: &[RawNode], links: &[(i64, i64)]) -> Option<LabFault>
     ensures { result ≡ ends_fault (map node_view nodes.now) links.now }
@@ -48,14 +48,14 @@ fn ends_fault(nodes: &[RawNode], links: &[(i64, i64)]) -> Option<LabFault>
     first_without_end(nodes, links).map(LabFault::LinkEnd)
 }
 
-/// Returns the index of the first link with an end that is no node, or `None` if each end is one.
+/// Returns the index of the first link with an end that is no node, or `None` if all ends are nodes.
 fn first_without_end(nodes: &[RawNode], links: &[(i64, i64)]) -> Option<usize>
     ensures { result ≡ position (lacks_end (map node_view nodes.now)) links.now }
 {
     links.iter().position(|link| lacks_end(nodes, *link))
 }
 
-/// Returns whether the first end of a link, or the second, is no node.
+/// Returns whether at least one end of a link is no node.
 fn lacks_end(nodes: &[RawNode], link: (i64, i64)) -> bool
     ensures { result ≡ lacks_end (map node_view nodes.now) link }
 {
@@ -63,8 +63,8 @@ fn lacks_end(nodes: &[RawNode], link: (i64, i64)) -> bool
     !(is_node(nodes, a) && is_node(nodes, b))
 }
 
-/// Returns whether an identifier is that of one of the file's nodes. The contract is about the nodes as the definitions
-/// have them, and that of `has_id` about the nodes as they were read.
+/// Returns whether one of the file's nodes has the identifier `id`. It is `has_id` with a contract about the nodes as
+/// the definitions have them.
 fn is_node(nodes: &[RawNode], id: i64) -> bool
     ensures { result ≡ is_node (map node_view nodes.now) id }
 {
@@ -78,7 +78,7 @@ fn has_id(nodes: &[RawNode], id: i64) -> bool
     nodes.iter().any(|node| node.id == id)
 }
 
-/// The error of the first link whose ends are one node; `None` where there is no such link.
+/// Returns the error of the first link whose ends are one node, or `None` if there is no such link.
 #[tactic(auto, unfolding(crate::specs::Reading::loops_fault))]
 fn loops_fault(links: &[(i64, i64)]) -> Option<LabFault>
     ensures { result ≡ loops_fault links.now }
@@ -100,8 +100,8 @@ fn is_loop(link: (i64, i64)) -> bool
     link.0 == link.1
 }
 
-/// Returns the set of neighbours of each node, by rank, or the error of the first link whose ends, in either order, are
-/// those of a link before it.
+/// Returns the set of neighbours of each node, by rank. Returns `LinkTwice` with the index of the first link that joins
+/// the same nodes as a link before it, and `Memory` if memory runs out.
 fn rows(alloc: Global, ids: &IdTable, links: &[(i64, i64)]) -> Result<Vec<NodeSet>, LabFault>
     requires { position (lacks_rank ids.now) links.now ≡ None }
     ensures tests { Gives is_lab_memory (λ _. tt {0}) result (pass_unless (again_fault links.now)) }
@@ -120,7 +120,8 @@ fn rows(alloc: Global, ids: &IdTable, links: &[(i64, i64)]) -> Result<Vec<NodeSe
     Ok(rows)
 }
 
-/// Returns whether `a` and `b` are both nodes, and neighbours in `rows`. `None` is no node.
+/// Returns whether `a` and `b` are neighbours in `rows`, which has by rank the neighbours of each node. `None` stands
+/// for no node, which has no neighbours.
 #[tactic(auto, unfolding(crate::specs::inside::Checks::are_near))]
 fn are_near(rows: &[NodeSet], a: Option<Rank>, b: Option<Rank>) -> bool
     requires { ForSome a (λ rank. rank < length rows.now) }
@@ -141,7 +142,8 @@ pub(crate) fn rank_at(ids: &IdTable, id: i64) -> Option<Rank>
     ids.rank_of(number_of(id))
 }
 
-/// Makes `a` and `b` neighbours in `rows`. Does nothing if one of them is `None`, and so no node.
+/// Makes `a` and `b` neighbours of each other in `rows`, which has by rank the neighbours of each node. Does nothing if
+/// one of them is `None`, which stands for no node.
 fn join(rows: &mut [NodeSet], a: Option<Rank>, b: Option<Rank>)
     requires a { ForSome a (λ rank. rank < length rows.old) }
     requires b { ForSome b (λ rank. rank < length rows.old) }
@@ -157,7 +159,7 @@ fn join(rows: &mut [NodeSet], a: Option<Rank>, b: Option<Rank>)
     }
 }
 
-/// Adds `neighbour` to the neighbours of `node`.
+/// Adds `neighbour` to the neighbours of `node`. `rows` has by rank the neighbours of each node.
 fn insert(rows: &mut [NodeSet], node: Rank, neighbour: Rank)
     requires { node < length rows.old }
     ensures { (i q : ℕ) → set.contains (neighbours_at rows.new i) q

@@ -12,7 +12,7 @@ use std::alloc::Global;
 use toml::value::Array;
 use toml::{Table, Value};
 
-/// A node as the file spells it: its identifier, the names of its owners, and its registers.
+/// A node as the file describes it: its identifier, the names of its owners, and its registers.
 #[derive(Drop)]
 pub struct RawNode {
     pub id: i64,
@@ -123,8 +123,8 @@ fn array_at<'a>(table: &'a Table, name: &str, key: Key) -> Result<&'a Array, Lab
     array_of(value_at(table, name, key)?, key)
 }
 
-/// Returns the strings under `name` and `key` of a table. An error of the first names `name_key`, one of the second
-/// `key_key`.
+/// Returns the strings under the keys `name` and `key` of a table, as a name and a key. An error of the first one names
+/// `name_key`, and an error of the second one `key_key`.
 #[tactic(auto, unfolding(crate::specs::Shape::account_in))]
 fn account_at(
     alloc: Global,
@@ -214,7 +214,8 @@ fn texts(alloc: Global, list: &Array, key: Key) -> Result<Vec<String>, LabFault>
     Ok(found)
 }
 
-/// Returns the names under `owners`, which are one or two strings, or the error that the key is of another kind.
+/// Returns the names in the value of `owners`, an array of one or two strings, or the error that the key is of another
+/// kind.
 #[tactic(auto, unfolding(crate::specs::Shape::names_of))]
 fn names(alloc: Global, value: &Value) -> Result<Vec<String>, LabFault>
     ensures { Gives is_lab_memory (λ v. map string_bytes v.items) result (names_of (view value.now)) }
@@ -226,7 +227,8 @@ fn names(alloc: Global, value: &Value) -> Result<Vec<String>, LabFault>
     Ok(names)
 }
 
-/// Returns the names under `owners`, or `None` if the key is left out, or the error that it is of another kind.
+/// Returns the names under `owners`, or `None` if the key is left out. Returns an error if its value isn't one or two
+/// strings.
 fn optional_names(alloc: Global, table: &Table) -> Result<Option<Vec<String>>, LabFault>
     ensures { Gives is_lab_memory (option_map (λ v. map string_bytes v.items)) result
         (optional names_of (get_member (codes "owners") (table_view table.now))) }
@@ -237,8 +239,8 @@ fn optional_names(alloc: Global, table: &Table) -> Result<Option<Vec<String>>, L
     }
 }
 
-/// Returns the names under `owners`, or else the one under `owner`, or the error that `owner` is missing if neither is
-/// there.
+/// Returns the names of a node's owners: those under `owners`, or else the one under `owner`. Returns the error that
+/// `owner` is missing if neither key is there.
 fn owner_names(
     alloc: Global,
     owner: Option<String>,
@@ -257,8 +259,8 @@ fn owner_names(
     Ok(names)
 }
 
-/// Returns a node as an element of `node` spells it, with m false if the key is left out, or the first error of the
-/// element.
+/// Returns the node that an element of `node` describes, or the first error of the element. m is false if its key is
+/// left out.
 #[tactic(auto, unfolding(crate::specs::Shape::node_of))]
 fn node(alloc: Global, value: &Value) -> Result<RawNode, LabFault>
     ensures { Gives is_lab_memory node_view result (node_of (view value.now)) }
@@ -280,7 +282,7 @@ fn node(alloc: Global, value: &Value) -> Result<RawNode, LabFault>
     })
 }
 
-/// Returns the nodes that the elements of `node` spell, in order, or the first error of one.
+/// Returns the nodes that the elements of `node` describe, in order, or the first error of one.
 fn nodes(alloc: Global, list: &Array) -> Result<Vec<RawNode>, LabFault>
     ensures { Gives is_lab_memory (λ v. map node_view v.items) result
         (each node_of (array_view list.now)) }
@@ -292,7 +294,8 @@ fn nodes(alloc: Global, list: &Array) -> Result<Vec<RawNode>, LabFault>
     Ok(found)
 }
 
-/// Returns the first and the second value of an array of exactly two, or the error that a link is of another kind.
+/// Returns the two values of an array, or the error that a link is of another kind if the array doesn't have exactly
+/// two.
 fn two_of(list: &Array) -> Result<(&Value, &Value), LabFault>
     ensures { Gives is_lab_memory (λ e. (view e.0.now, view e.1.now)) result
         (ok_or (two_of (array_view list.now)) (LabFault.WrongKind Key.Link)) }
@@ -303,8 +306,7 @@ fn two_of(list: &Array) -> Result<(&Value, &Value), LabFault>
     Ok((&list[0], &list[1]))
 }
 
-/// Returns the identifiers of the first and the second end of a link, or the error that it isn't an array of two
-/// integers.
+/// Returns the identifiers of the two ends of a link, or the error that the value isn't an array of two integers.
 #[tactic(auto, unfolding(crate::specs::Shape::link_of))]
 fn link_ends(value: &Value) -> Result<(i64, i64), LabFault>
     ensures { Gives is_lab_memory (λ e. e) result (link_of (view value.now)) }
@@ -315,8 +317,8 @@ fn link_ends(value: &Value) -> Result<(i64, i64), LabFault>
     Ok((a, b))
 }
 
-/// Returns for each link that the elements of `links` spell, in order, the identifiers of its two ends, or the first
-/// error of one.
+/// Returns the links that the elements of `links` describe, in order, or the first error of one. A link is given by the
+/// identifiers of its two ends.
 fn links(alloc: Global, list: &Array) -> Result<Vec<(i64, i64)>, LabFault>
     ensures { Gives is_lab_memory (λ v. v.items) result (each link_of (array_view list.now)) }
 {
@@ -327,8 +329,8 @@ fn links(alloc: Global, list: &Array) -> Result<Vec<(i64, i64)>, LabFault>
     Ok(found)
 }
 
-/// Returns the links under `links`, each by the identifiers of its two ends, or no links if the key is left out, or the
-/// first error.
+/// Returns the links under the key `links`, each by the identifiers of its two ends, or the first error of them.
+/// Returns no links if the key is left out.
 fn links_at(alloc: Global, table: &Table) -> Result<Vec<(i64, i64)>, LabFault>
     ensures { Gives is_lab_memory (λ v. v.items) result
         (links_of (get_member (codes "links") (table_view table.now))) }
@@ -339,8 +341,8 @@ fn links_at(alloc: Global, table: &Table) -> Result<Vec<(i64, i64)>, LabFault>
     }
 }
 
-/// Returns the name and key under `teacher`, or the error of the first key, `teacher` among them, that is missing or of
-/// another kind.
+/// Returns the name and the key under `teacher`. Returns the error of the first key, of `teacher` and the two in it,
+/// that is missing or of another kind.
 #[tactic(auto, unfolding(crate::specs::Shape::teacher_of))]
 fn teacher_at(alloc: Global, table: &Table) -> Result<Account, LabFault>
     ensures { Gives is_lab_memory account_view result (teacher_of (table_view table.now)) }
@@ -349,7 +351,8 @@ fn teacher_at(alloc: Global, table: &Table) -> Result<Account, LabFault>
     account_at(alloc, teacher, Key::TeacherName, Key::TeacherKey)
 }
 
-/// Returns the contents of a document's table, or the error of the first key that is missing or of the wrong kind.
+/// Reads the table of a lab file. Returns its contents, or the error of the first key that is missing or of another
+/// kind.
 #[tactic(auto, unfolding(crate::specs::Shape::raw_of, crate::specs::Shape::students_of, crate::specs::Shape::nodes_of))]
 pub fn read_raw(alloc: Global, table: &Table) -> Result<RawLab, LabFault>
     ensures { Gives is_lab_memory raw_view result (raw_of (table_view table.now)) }
@@ -369,8 +372,8 @@ pub fn read_raw(alloc: Global, table: &Table) -> Result<RawLab, LabFault>
     })
 }
 
-/// Returns the contents of the bytes of a lab file, or the error that they are no TOML, or of the first key that is
-/// missing or of the wrong kind.
+/// Reads the bytes of a lab file. Returns its contents, or the error that the bytes are no TOML, or of the first key
+/// that is missing or of another kind.
 #[tactic(auto, unfolding(crate::specs::Shape::spelled))]
 pub fn read_bytes(alloc: Global, bytes: &[u8]) -> Result<RawLab, LabFault>
     ensures { Gives is_lab_memory raw_view result (spelled bytes.now) }

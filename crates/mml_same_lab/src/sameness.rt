@@ -7,8 +7,8 @@ use mml_lab::{Lab, LabFault, Roster, Student, Who};
 use mml_lab_file::read_lab;
 use std::alloc::Global;
 
-/// Returns whether the bytes spell a lab with the same identifiers, names, links, registers and owners as `lab`.
-/// Returns `false` if they spell none, and `Memory` if memory runs out.
+/// Returns whether the bytes are a lab file whose lab has the same identifiers, names, links, registers and owners as
+/// `lab`. Returns `false` if they are no lab file, and `Memory` if memory runs out.
 pub fn spells_same_lab(alloc: Global, lab: &Lab, bytes: &[u8]) -> Result<bool, Memory>
     ensures { IfOk result (λ same. IsTrue same ↔ SpellsSame lab.now bytes.now) }
 {
@@ -19,7 +19,7 @@ pub fn spells_same_lab(alloc: Global, lab: &Lab, bytes: &[u8]) -> Result<bool, M
     }
 }
 
-/// Returns whether the labs have the same identifiers, names, links, registers and owners.
+/// Returns whether two labs have the same identifiers, names, links, registers and owners. Keys and limits may differ.
 pub fn is_same_lab(a: &Lab, b: &Lab) -> bool
     ensures { IsTrue result ↔ IsSameLab a.now b.now }
 {
@@ -37,7 +37,7 @@ pub fn is_same_lab(a: &Lab, b: &Lab) -> bool
     true
 }
 
-// Returns whether both have the same identifiers, in the same order.
+// Returns whether two tables have the same identifiers.
 fn has_same_ids(a: &IdTable, b: &IdTable) -> bool
     ensures { IsTrue result ↔ (a.now ≡ b.now) }
 {
@@ -52,7 +52,7 @@ fn has_same_ids(a: &IdTable, b: &IdTable) -> bool
     true
 }
 
-// Returns whether both have the same names: the teacher's, and the students' in the same order.
+// Returns whether two rosters have the same names: the teacher's, and the students' in the same order.
 fn has_same_names(a: &Roster, b: &Roster) -> bool
     ensures { IsTrue result ↔ HasSameNames a.now b.now }
 {
@@ -111,7 +111,7 @@ fn has_same_owners(a: &Roster, b: &Roster, node: Rank) -> bool
     true
 }
 
-// Returns the student with an index in the file's order, from 0, as a participant.
+// Returns the participant who is the student with this index, from 0 in the file's order.
 fn student_at(index: u64) -> Who
     requires { index < 256 }
     ensures { result ≡ Who.Student index }

@@ -9,7 +9,7 @@ use Rattle.mml_lab_file.specs.Shape.{NodeSpec, RawSpec}
 abbrev pub node_view : RawNode → NodeSpec
 node_view n = record { id = n.id; owners = map string_bytes n.owners.items; both = n.both; p = n.p; m = n.m }
 
--- what a file spells, with bytes for its texts
+-- the contents of a file, with bytes for its texts
 abbrev pub raw_view : RawLab → RawSpec
 raw_view r = record {
   events = r.bounds.events;
