@@ -8,7 +8,7 @@ use mml_ids::Rank;
 use mml_lab::{Roster, Who};
 use mml_rules::Rule;
 
-/// What is asked to happen, its nodes looked up: `None` if no node has the name.
+/// A request for an event, with its nodes looked up: a node is `None` if no node has the identifier that was named.
 #[derive(Clone, Copy, Debug, PartialEq, Eq)]
 pub enum Act {
     /// Choose a move for a node in the configuration with this number; no rule if its partner is no node.
@@ -41,7 +41,7 @@ pub enum Act {
     },
 }
 
-/// A rule that says who owns which node.
+/// An answer to the question who owns which node.
 pub trait Owners {
     ghost owned: { Self → Who → ℕ → Bool };
 
@@ -53,6 +53,7 @@ pub trait Owners {
 impl Owners for Roster {
     ghost owned = { owns };
 
+    // Returns whether `who` owns the node by the roster.
     fn is_owned(&self, who: Who, node: Rank) -> bool {
         self.owns(who, node)
     }
@@ -65,6 +66,7 @@ pub struct Anybody;
 impl Owners for Anybody {
     ghost owned = { λ _. anybodys };
 
+    // Returns true: anybody owns any node.
     fn is_owned(&self, _who: Who, _node: Rank) -> bool {
         true
     }

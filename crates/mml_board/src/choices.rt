@@ -33,7 +33,7 @@ impl Model for Choices {
 }
 
 impl Choices {
-    /// Returns the choices of `count` nodes, none of which has a chosen move.
+    /// Returns the choices of `count` nodes, none of which has a chosen move. Returns `Memory` if memory runs out.
     pub fn none(alloc: Global, count: usize) -> Result<Choices, Memory>
         ensures { IfOk result (λ choices. choices ≡ replicate count None) }
     {
@@ -44,7 +44,7 @@ impl Choices {
         })
     }
 
-    /// Returns a copy of the choices.
+    /// Returns a copy of the choices. Returns `Memory` if memory runs out.
     pub fn try_copy(&self, alloc: Global) -> Result<Choices, Memory>
         ensures { IfOk result (λ choices. choices ≡ self.now) }
     {
@@ -55,7 +55,7 @@ impl Choices {
         })
     }
 
-    /// Returns the chosen move of a node, or `None` if it has none or is past the last one.
+    /// Returns the chosen move of a node, or `None` if it has none or the rank is past the last node.
     pub fn at(&self, node: Rank) -> Option<Rule>
         ensures { result ≡ chosen_at self.now node }
     {
@@ -79,7 +79,7 @@ impl Choices {
         !is_empty(self.nodes)
     }
 
-    /// Makes `rule` the chosen move of a node, or, if it is `None`, leaves the node without one.
+    /// Makes `rule` the chosen move of a node. If it is `None`, the node has no chosen move afterwards.
     pub fn choose(&mut self, node: Rank, rule: Option<Rule>)
         requires { node < length self.old }
         ensures { self.new ≡ slice_set self.old node rule }

@@ -11,8 +11,8 @@ use mml_ids::{Rank, need};
 use mml_lab::{Student, Who};
 use mml_rules::{Regs, Rule};
 
-/// Tries the clauses of an act in order, and returns the event that they let happen, or the denial of the first that
-/// doesn't hold.
+/// Tries the clauses of an act, the conditions under which it is granted to `who`, in their order. Returns the event
+/// that is granted if all hold, or the denial of the first that doesn't. `owners` says who owns which node.
 #[inline(always)]
 pub fn check<O: Owners>(owners: &O, board: &Board, who: Who, act: &Act) -> Result<Event, Denial>
     requires { AreThere (length board.now.network.registers) act.now }
@@ -28,7 +28,9 @@ pub fn check<O: Owners>(owners: &O, board: &Board, who: Who, act: &Act) -> Resul
     }
 }
 
-/// Tries the clauses of a move, as `check` does.
+/// Returns the grant of a move if `who` is a student who owns the node, `at` is the number of the current
+/// configuration, no move is chosen for the node, and the rule may be applied there. Otherwise returns the denial of
+/// the first of these clauses that doesn't hold.
 fn check_move<O: Owners>(
     owners: &O,
     board: &Board,
@@ -61,7 +63,8 @@ fn check_move<O: Owners>(
     })
 }
 
-/// Returns who asks for which node; a student who owns nothing, and some node, if there is none.
+/// Returns the asker and the node. If `node` is `None`, returns a student who owns nothing, and some node: then the
+/// same test of the owner is made, and fails.
 fn asking(who: Who, node: Option<Rank>) -> (Who, Rank)
     ensures { IfSome node (λ i. result ≡ (who, i)) }
 {
@@ -71,7 +74,8 @@ fn asking(who: Who, node: Option<Rank>) -> (Who, Rank)
     }
 }
 
-/// Tries the clauses of a close, as `check` does.
+/// Returns the close if the teacher asks, and some node has a chosen move. Otherwise returns the denial of the first of
+/// these clauses that doesn't hold.
 fn check_close<O: Owners>(owners: &O, board: &Board, who: Who) -> Result<Event, Denial>
     ensures { result ≡ check (O.owned owners.now) board.now who act.Close }
 {
@@ -80,7 +84,8 @@ fn check_close<O: Owners>(owners: &O, board: &Board, who: Who) -> Result<Event, 
     Ok(Event::Close)
 }
 
-/// Tries the clauses of a fault, as `check` does.
+/// Returns the fault, which sets the node's registers to `p` and `m`, if the teacher asks, the node exists, and `p` is
+/// null or a neighbour of the node. Otherwise returns the denial of the first of these clauses that doesn't hold.
 fn check_fault<O: Owners>(
     owners: &O,
     board: &Board,
@@ -101,7 +106,8 @@ fn check_fault<O: Owners>(
     })
 }
 
-/// Tries the clauses of a link, as `check` does.
+/// Returns the event that links two nodes if the teacher asks, both nodes exist, they differ, and they aren't linked.
+/// Otherwise returns the denial of the first of these clauses that doesn't hold.
 fn check_link<O: Owners>(
     owners: &O,
     board: &Board,
@@ -119,7 +125,8 @@ fn check_link<O: Owners>(
     Ok(Event::Link { a, b })
 }
 
-/// Tries the clauses of a cut, as `check` does.
+/// Returns the event that removes a link if the teacher asks, both nodes exist, and they are linked. Otherwise returns
+/// the denial of the first of these clauses that doesn't hold.
 fn check_cut<O: Owners>(
     owners: &O,
     board: &Board,
@@ -136,7 +143,8 @@ fn check_cut<O: Owners>(
     Ok(Event::Cut { a, b })
 }
 
-/// Tries the clauses of a release, as `check` does.
+/// Returns the event that drops a node's chosen move if the teacher asks, the node exists, and it has a chosen move.
+/// Otherwise returns the denial of the first of these clauses that doesn't hold.
 fn check_release<O: Owners>(
     owners: &O,
     board: &Board,
@@ -151,14 +159,14 @@ fn check_release<O: Owners>(
     Ok(Event::Release { node: i })
 }
 
-/// Returns whether the one who asks is the teacher.
+/// Returns whether `who` is the teacher.
 pub fn is_teacher(who: Who) -> bool
     ensures { result ≡ is_teacher who }
 {
     matches!(who, Who::Teacher)
 }
 
-/// Returns the rule if its partner is a node, else the denial.
+/// Returns the rule. Returns `denial` if there is none, because no node has the identifier of the marriage's partner.
 fn named(rule: Option<Rule>, denial: Denial) -> Result<Rule, Denial>
     ensures { result ≡ ok_or rule denial }
 {
@@ -168,7 +176,8 @@ fn named(rule: Option<Rule>, denial: Denial) -> Result<Rule, Denial>
     }
 }
 
-/// Returns null, or the node that `p` names; the denial if it names none.
+/// Returns what a register is to point at: `None` for null, or a node. Returns `denial` if `p` is `Some(None)`, which
+/// names no node.
 fn pointer(p: Option<Option<Rank>>, denial: Denial) -> Result<Option<Rank>, Denial>
     ensures { result ≡ pointer p denial }
 {

@@ -39,8 +39,8 @@ pub enum Denial {
 }
 
 impl Denial {
-    /// Returns the number of the clause that doesn't hold, by the order in which the clauses of the denied request are
-    /// tried: from 1, or 0 for `NotGreeted`, which is tried before them.
+    /// Returns the number of the clause that doesn't hold. The clauses of the denied request count from 1, in the order
+    /// in which they are tried. 0 is `NotGreeted`, which is tried before them.
     pub fn clause(self) -> u8
         ensures { result ≡ clause_of self }
     {
@@ -64,7 +64,7 @@ impl Denial {
         }
     }
 
-    /// Returns the word for the denial in a reply, for programs to read.
+    /// Returns the word for the denial in a reply, which programs read.
     pub fn name(self) -> &'static str
         ensures { result.now ≡ denial_name self }
     {
@@ -88,7 +88,7 @@ impl Denial {
         }
     }
 
-    /// Returns the sentence for the denial in a reply, for people to read.
+    /// Returns the sentence for the denial in a reply, which people read.
     pub fn text(self) -> &'static str
         ensures { result.now ≡ text_of self }
     {

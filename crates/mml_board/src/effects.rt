@@ -12,8 +12,8 @@ use crate::indexed_network::IndexedNetwork;
 use mml_ids::{NodeSet, Rank};
 use mml_rules::{Regs, Rule, Scene, effect};
 
-/// Applies the chosen moves at once. `effects` is working memory for the new registers: what it holds at first doesn't
-/// matter.
+/// Applies all chosen moves to the network at once. `effects` is working memory for the new registers, and what it
+/// holds before doesn't matter.
 pub fn move_chosen(network: &mut IndexedNetwork, effects: &mut [Regs], chosen: &Choices)
     requires choices { length chosen.now ≡ length network.old.registers }
     requires room { length effects.old ≡ length network.old.registers }
@@ -31,8 +31,8 @@ pub fn move_chosen(network: &mut IndexedNetwork, effects: &mut [Regs], chosen: &
     write_effects(network, effects, nodes);
 }
 
-/// Writes into `effects`, by rank, the registers of each node after its chosen move. `nodes` has the nodes that have
-/// one.
+/// Computes the registers of each of `nodes` after its chosen move, and writes them into `effects`, by rank. `nodes`
+/// are the nodes that have a chosen move.
 fn compute_effects(network: &IndexedNetwork, effects: &mut [Regs], chosen: &Choices, nodes: NodeSet)
     requires choices { length chosen.now ≡ length network.now.registers }
     requires room { length effects.old ≡ length network.now.registers }
@@ -64,7 +64,7 @@ fn moved(network: &IndexedNetwork, node: Rank, rule: Option<Rule>) -> Regs
     }
 }
 
-/// Writes to each of `nodes` the registers that `effects` has for it.
+/// Writes the new registers of each of `nodes`, which `effects` has by rank, into the network.
 fn write_effects(network: &mut IndexedNetwork, effects: &[Regs], nodes: NodeSet)
     requires room { length effects.now ≡ length network.old.registers }
     requires within { (i : ℕ) → set.contains nodes i ≡ true → i < length network.old.registers }

@@ -11,7 +11,7 @@ use mml_rules::{Network, Regs, Scene};
 use std::alloc::Global;
 use std::marker::Model;
 
-/// A network with rows of bits beside it. Contracts see only the network; the rows make questions about it quick.
+/// A network with an index, sets of nodes that answer questions about it quickly. Contracts see only the network.
 #[derive(Debug, Drop)]
 pub struct IndexedNetwork {
     network: Network,
@@ -42,12 +42,12 @@ impl Model for IndexedNetwork {
 impl Scene for IndexedNetwork {
     ghost shown = { λ network. network };
 
-    /// Returns the network.
+    /// Returns the network without its index.
     fn network(&self) -> &Network {
         &self.network
     }
 
-    /// Returns whether some neighbour points at the node: its row of suitors isn't empty.
+    /// Returns whether some neighbour points at the node: whether its set of suitors isn't empty.
     fn has_suitor(&self, node: Rank) -> bool {
         // By what this call ensures, the network is lawful.
         let _size = self.network.size();
@@ -65,7 +65,7 @@ impl Scene for IndexedNetwork {
 }
 
 impl IndexedNetwork {
-    /// Returns a copy of the network, with the rows of its registers. Returns `Memory` if memory runs out.
+    /// Copies a network, and builds its index. Returns `Memory` if memory runs out.
     pub fn new(alloc: Global, network: &Network) -> Result<IndexedNetwork, Memory>
         ensures { IfOk result (λ indexed. indexed ≡ network.now) }
     {
@@ -89,7 +89,7 @@ impl IndexedNetwork {
         })
     }
 
-    /// Returns an equal network with rows of its own.
+    /// Returns a copy of the network and its index. Returns `Memory` if memory runs out.
     pub fn try_copy(&self, alloc: Global) -> Result<IndexedNetwork, Memory>
         ensures { IfOk result (λ indexed. indexed ≡ self.now) }
     {
@@ -103,7 +103,7 @@ impl IndexedNetwork {
         })
     }
 
-    /// Returns the nodes that a seduction of a node may choose: its neighbours above it that point at no node, with m
+    /// Returns the nodes that a seduction of a node may choose: its higher neighbours that point at no node and have m
     /// false.
     fn candidates(&self, node: Rank) -> NodeSet
         requires { node < length self.now.registers }
@@ -117,7 +117,7 @@ impl IndexedNetwork {
         unmarried.both(NodeSet::above(node))
     }
 
-    /// Writes a node's registers, whose p must be null or a neighbour.
+    /// Writes a node's registers, whose p must be null or a neighbour, and updates the index.
     pub fn set_registers(&mut self, node: Rank, registers: Regs)
         requires node { node < length self.old.registers }
         requires linked { (j : ℕ) → registers.p ≡ Some j →
@@ -145,7 +145,8 @@ impl IndexedNetwork {
         self.network.link(a, b);
     }
 
-    /// Removes the link between two nodes, and the pointers over it: these first, by calls that keep the rows right.
+    /// Removes the link between two nodes, and the pointers over it. The pointers are removed first, which also updates
+    /// the index.
     pub fn cut(&mut self, a: Rank, b: Rank)
         requires a { a < length self.old.registers }
         requires b { b < length self.old.registers }
@@ -156,7 +157,7 @@ impl IndexedNetwork {
         self.network.cut(a, b);
     }
 
-    /// Makes the pointer of `a` null if it was `b`, in the rows too, and else changes nothing.
+    /// Makes the pointer of `a` null, and updates the index, if `a` points at `b`. Otherwise changes nothing.
     fn unpoint(&mut self, a: Rank, b: Rank)
         requires { a < length self.old.registers }
         ensures neighbours { self.new.neighbours ≡ self.old.neighbours }
@@ -175,8 +176,8 @@ impl IndexedNetwork {
     }
 }
 
-/// Moves a node from the suitors of the node `from`, at which it pointed, to those of `to`, at which it points now.
-/// Null stands for no node.
+/// Moves a node from the suitors of `from`, at which it pointed, to the suitors of `to`, at which it points now. `None`
+/// stands for a null pointer. `suitors` has by rank the nodes that point at each node.
 fn move_suitor(suitors: &mut [NodeSet], node: Rank, from: Option<Rank>, to: Option<Rank>)
     requires from { (i : ℕ) → from ≡ Some i → i < length suitors.old }
     requires to { (i : ℕ) → to ≡ Some i → i < length suitors.old }
@@ -186,8 +187,8 @@ fn move_suitor(suitors: &mut [NodeSet], node: Rank, from: Option<Rank>, to: Opti
     put_suitor(suitors, to, node, true);
 }
 
-/// Adds a node to the suitors of the node that `p` names if `is_in` is true, and else removes it. Does nothing if `p`
-/// is null.
+/// Adds a node to the suitors of the node `p` if `is_in` is true, and else removes it from them. Does nothing if `p` is
+/// `None`. `suitors` has by rank the nodes that point at each node.
 fn put_suitor(suitors: &mut [NodeSet], p: Option<Rank>, node: Rank, is_in: bool)
     requires { (i : ℕ) → p ≡ Some i → i < length suitors.old }
     ensures { suitors.new ≡

@@ -9,7 +9,7 @@ use crate::node_sets::with_or_without;
 use mml_ids::{NodeSet, Rank};
 use mml_rules::{Scene, enabled};
 
-/// Returns the privileged nodes, computed from scratch.
+/// Returns the privileged nodes. Tests each node of the network.
 pub fn privileged_set(network: &IndexedNetwork) -> NodeSet
     ensures { result ≡ privileged_set (configuration_of network.now) }
 {
@@ -22,8 +22,8 @@ pub fn privileged_set(network: &IndexedNetwork) -> NodeSet
     nodes
 }
 
-/// Returns the privileged nodes after a change. The nodes in `changed` and their neighbours are tested anew; of each
-/// other node `privileged` says whether it is privileged.
+/// Returns the privileged nodes after a change of the network. Tests only the nodes in `changed` and their neighbours.
+/// For the other nodes, `privileged` is still right.
 pub fn refresh(network: &IndexedNetwork, privileged: NodeSet, changed: NodeSet) -> NodeSet
     requires { (j : ℕ) → IsUntouched (configuration_of network.now) changed j →
         set.contains privileged j ≡ is_privileged_node (configuration_of network.now) j }
@@ -40,7 +40,8 @@ pub fn refresh(network: &IndexedNetwork, privileged: NodeSet, changed: NodeSet) 
     privileged
 }
 
-/// Returns the set `privileged` after each of `nodes` is tested anew: it is in the set exactly if it is privileged now.
+/// Tests each of `nodes` anew, and returns the set `privileged` in which those that are privileged now are added, and
+/// the others of `nodes` removed.
 fn refresh_each(network: &IndexedNetwork, privileged: NodeSet, nodes: NodeSet) -> NodeSet
     ensures { (j : ℕ) → set.contains result j ≡
         (if set.contains nodes j then is_privileged_node (configuration_of network.now) j
@@ -54,7 +55,7 @@ fn refresh_each(network: &IndexedNetwork, privileged: NodeSet, nodes: NodeSet) -
     privileged
 }
 
-/// Returns whether the rank is that of a node, and the node is privileged.
+/// Returns whether the node is privileged. Returns `false` if the rank is past the last node.
 fn is_privileged(network: &IndexedNetwork, node: Rank) -> bool
     ensures { result ≡ is_privileged_node (configuration_of network.now) node }
 {

@@ -4,7 +4,7 @@ ghost use Rattle.std.specs.FinSet as set;
 
 use mml_ids::{NodeSet, Rank};
 
-/// Returns the set of the two ends of a link.
+/// Returns the set of the two nodes `a` and `b`.
 pub fn link_ends(a: Rank, b: Rank) -> NodeSet
     ensures { result ≡ set.insert (set.insert set.empty a) b }
 {

@@ -12,7 +12,7 @@ use Rattle.mml_board.specs.declared.denial.Denial.{Denial}
 abbrev pub node : List ℕ → ℕ → Denial → Result ℕ Denial
 node ids id d = ok_or (rank_in ids id) d
 
--- the rule that is asked for, the partner of a marriage as a node; None where no node has the partner's identifier
+-- the rule that is asked for, the partner of a marriage as a node; None if no node has the partner's identifier
 abbrev pub rule_of : List ℕ → Asked → Option Rule
 rule_of ids asked.Update = Some rules.Update
 rule_of ids (asked.Marriage id) = option_map rules.Marriage (rank_in ids id)

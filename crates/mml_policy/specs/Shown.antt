@@ -8,7 +8,7 @@ use Rattle.mml_board.specs.World.{World, size, configuration, chosen_at}
 use Rattle.mml_policy.specs.declared.see.See.{See}
 use Rattle.mml_policy.specs.declared.look.Look.{Look}
 
--- the registers of a node, and the number of the configuration that they are of
+-- what a see shows: the registers of a node, and the number of the configuration that they are of
 abbrev pub see_of : World → ℕ → See
 see_of w i = record { at = w.number; node = i; regs = registers_at w.network.registers i }
 

@@ -19,13 +19,13 @@ use Rattle.mml_policy.specs.Visible.{is_teacher, is_visible}
 use Rattle.mml_policy.specs.Clauses.{node, rule_of}
 use Rattle.mml_ids.specs.Ids.{rank_in}
 
--- leave for the event that clauses let happen
+-- leave for the event that clauses allow, or their denial
 abbrev pub granted : Result Event Denial → Result Leave Denial
 granted (Ok e) = Ok (Grant e)
 granted (Err d) = Err d
 
--- the clauses of each command, in the order in which they are tried, and what they give leave to; those of an act are its
--- clauses on the board
+-- the clauses of each command, in the order in which they are tried, and what the command is allowed if all hold; those
+-- of an act are its clauses on the board
 abbrev pub clauses : List ℕ → RosterValue → World → Who → Command → Result Leave Denial
 clauses ids r w x (command.See id) = do
   i ← node ids id Hidden

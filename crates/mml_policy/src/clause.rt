@@ -1,4 +1,4 @@
-//! What a command names, looked up.
+//! Looking up the nodes that a command names.
 ghost use Rattle.std.specs.Prelude.{◌≡◌, ◌<◌, length, IfSome, option_map};
 ghost use Rattle.mml_ids.specs.Ids.{rank_in};
 ghost use Rattle.mml_policy.specs.Clauses.{rule_of};
@@ -19,9 +19,9 @@ pub(crate) struct AskedNode {
     pub(crate) node: Rank,
 }
 
-/// Returns the node that is asked for, and who asks. If there is no such node, another node and a student who owns
-/// nothing stand in, so that the same tests are made as for a node that isn't shown. The caller then denies, since
-/// `found` is `None`.
+/// Looks up the node with the identifier `id`, for which `who` asks. If there is none, another node and a student who
+/// owns nothing stand in, so that the same tests are made as for a node that `who` may not see. The caller then denies,
+/// since `found` is `None`.
 pub(crate) fn asked_for(ids: &IdTable, who: Who, id: u64) -> AskedNode
     ensures found { result.found ≡ rank_in ids.now id }
     ensures asked { IfSome result.found (λ i. (result.who ≡ who) × (result.node ≡ i)) }
@@ -39,8 +39,8 @@ pub(crate) fn asked_for(ids: &IdTable, who: Who, id: u64) -> AskedNode
     }
 }
 
-/// Returns the rule that is asked for, the partner of a marriage by rank; `None` if no node has the partner's
-/// identifier.
+/// Returns the rule that is asked for, with the partner of a marriage looked up. Returns `None` if no node has the
+/// partner's identifier.
 pub(crate) fn rule_of(ids: &IdTable, asked: Asked) -> Option<Rule>
     ensures { result ≡ rule_of ids.now asked }
 {
@@ -52,7 +52,8 @@ pub(crate) fn rule_of(ids: &IdTable, asked: Asked) -> Option<Rule>
     }
 }
 
-/// Looks `p` up: null, or the node with that identifier, if there is one.
+/// Looks up what a register is to point at: `None` stays null, and an identifier becomes the node that has it, or
+/// `Some(None)` if no node has it.
 pub(crate) fn pointer(ids: &IdTable, p: Option<u64>) -> Option<Option<Rank>>
     ensures { result ≡ option_map (rank_in ids.now) p }
 {

@@ -1,7 +1,7 @@
 ghost use Rattle.std.specs.Prelude.{◌≡◌};
 ghost use Rattle.mml_policy.specs.Acts.{is_act};
 
-/// The command of a connection that has a name. Nodes are named by their identifiers.
+/// What a participant may ask on a connection, after hello. Nodes are named by their identifiers.
 #[derive(Clone, Copy, Debug, PartialEq, Eq)]
 pub enum Command {
     /// Shows the registers of a node.
@@ -24,7 +24,7 @@ pub enum Command {
     Report,
 }
 
-/// A rule as it is asked for: the partner of a marriage is named by its identifier.
+/// A rule as a command names it: the partner of a marriage by its identifier.
 #[derive(Clone, Copy, Debug, PartialEq, Eq)]
 pub enum Asked {
     Update,
@@ -35,7 +35,7 @@ pub enum Asked {
 }
 
 impl Command {
-    /// Returns whether the command asks for an event, and not to be shown something.
+    /// Returns whether the command asks for an event. The others, see, look and report, only ask to be shown something.
     pub fn is_act(&self) -> bool
         ensures { result ≡ is_act self.now }
     {

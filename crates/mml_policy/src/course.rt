@@ -2,7 +2,7 @@ use mml_board::Board;
 use mml_ids::IdTable;
 use mml_lab::Roster;
 
-/// The course that a command is judged in: a lab and the current state of its run.
+/// The data by which a command is judged: a lab, and the current state of its run.
 #[derive(Clone, Copy)]
 pub struct Course<'a> {
     /// The current world of the run.

@@ -199,9 +199,9 @@ pub fn rulings_name_nodes()
         (c : Command) → IsWorldOf ids w → IsRuled ids (ruling ids r limit is_halted w x c) }
 {}
 
-/// The identifiers of a lab are names of its nodes that come in the order of their ranks: so what the
-/// rules say of ranks holds of identifiers, in the lab's network and in each world of its nodes. A number that
-/// is no identifier has no link and no pointer, and its m is false.
+/// The identifiers of a lab are names of its nodes in the order of their ranks. So what the rules do with ranks they
+/// also do with identifiers, in the lab's network and in each world of its nodes. A number that is no identifier has no
+/// link and no pointer, and its m is false.
 pub fn identifiers_are_names()
     ensures lab { (lab : LabValue) → IsLab lab →
         IsRenamed (slice_index lab.ids) (configuration_of lab.network)

@@ -21,8 +21,8 @@ pub struct Look {
     pub near: Items<(Rank, Regs)>,
 }
 
-/// Returns a node as its owners see it, with the nodes linked to it, for which memory is allocated. Returns `Memory` if
-/// memory runs out.
+/// Returns a node as its owners see it: its registers, its chosen move, the rule that is enabled there, and its
+/// neighbours with their registers. Returns `Memory` if memory runs out.
 pub fn look_of(alloc: Global, board: &Board, node: Rank) -> Result<Look, Memory>
     requires { node < length board.now.network.registers }
     ensures { IfOk result (λ look. look ≡ look_of board.now node) }
@@ -37,7 +37,7 @@ pub fn look_of(alloc: Global, board: &Board, node: Rank) -> Result<Look, Memory>
     })
 }
 
-/// Returns the nodes linked to `node` in rising order, each with its registers.
+/// Returns the neighbours of a node in rising order, each with its registers. Returns `Memory` if memory runs out.
 fn near(alloc: Global, board: &Board, node: Rank) -> Result<Vec<(Rank, Regs)>, Memory>
     requires { node < length board.now.network.registers }
     ensures { IfOk result (λ nodes. nodes.items ≡ near board.now node) }

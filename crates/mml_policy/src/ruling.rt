@@ -32,7 +32,7 @@ pub enum Ruling {
 }
 
 impl Ruling {
-    /// Returns the event that happens, if one does.
+    /// Returns the event that the ruling grants, or `None` if it grants none.
     pub fn event(&self) -> Option<Event>
         ensures { result ≡ event_of self.now }
     {
@@ -48,11 +48,10 @@ impl Ruling {
     }
 }
 
-/// Returns the ruling on a command: the denial of the first clause that doesn't hold; or, if all hold, what the command
-/// asks to be shown (`Reported` for a report, which the caller makes), or the event that it asks for, with its effect.
-/// No event happens if the limit of events is reached, which is `Full`, or else if the journal is halted, which is
-/// `Journal`. Only a look allocates. Returns `Memory` if memory runs out.
-// Inlined into its caller, it took other steps for a hidden node than for one that doesn't exist.
+/// Returns the ruling on a command of `who`. If a clause doesn't hold, it is the denial of the first that doesn't. A
+/// see or a look is ruled with what it shows, and a report with `Reported`, for which the caller makes the report. An
+/// act is granted, with its event and the event's effect, unless there are `limit` events already, which is `Full`, or
+/// else the journal is halted, which is `Journal`. Only a look allocates. Returns `Memory` if memory runs out.
 #[inline(never)]
 pub fn rule_on(
     alloc: Global,
