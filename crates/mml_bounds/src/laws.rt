@@ -31,14 +31,16 @@ pub fn moves_are_few()
         applied_over w es ≤ most_moves (size w) (link_count w.network) }
 {}
 
-/// The most courtships among n nodes that aren't married are n²/4, rounded down.
+/// A courtship is a pointer of an unmarried node at a higher unmarried node whose m is false. Among n unmarried nodes
+/// there are at most n²/4, rounded down.
 pub fn courtships_in_numbers()
     ensures even { (k : ℕ) → most_courtships (2 * k) ≡ k * k }
     ensures odd { (k : ℕ) → most_courtships (2 * k + 1) ≡ k * k + k }
 {}
 
-/// In a step of moves whose guards hold, the potential that counts courtships falls by at least the number of nodes
-/// that move; and it is at most 3 for each of n nodes, and 2 for each of n²/4, rounded down.
+/// The potential that counts courtships (pointers of unmarried nodes at higher ones that may still marry them) falls in
+/// a step of moves whose guards hold, by at least the number of nodes that move. It is at most 3 for each of n nodes,
+/// and 2 for each of n²/4, rounded down.
 pub fn step_lowers_courting_potential()
     ensures lower { (c : Configuration) (chosen : ℕ → Option Rule) → IsLawful c → AllHold c chosen →
         courting_potential (step c chosen) + count_below c.size (moves chosen) ≤ courting_potential c }
@@ -46,9 +48,10 @@ pub fn step_lowers_courting_potential()
         courting_potential c ≤ 3 * c.size + 2 * most_courtships c.size }
 {}
 
-/// The bound on rounds, 2n or, if n is odd, 2n - 1, is reached for each number n of nodes from 2 on that a lab may
-/// have: a student who owns each node of the two halves has a legal list of grants and closes with one round less,
-/// after which some node is privileged; and another such list in which each close applies one move.
+/// The bound on rounds, 2n or, if n is odd, 2n - 1, can't be lowered for any number n of nodes from 2 on that a lab may
+/// have. In the network of two halves (`halves_world`), a student who owns each node has a legal list of grants and
+/// closes with one round less, after which some node is still privileged. There is also such a list in which each close
+/// applies one move.
 pub fn rounds_are_reached()
     ensures world { (n : ℕ) → n ≤ MAX_NODES →
         IsWorld (halves_world n) × (size (halves_world n) ≡ n) }
@@ -67,8 +70,8 @@ pub fn rounds_are_reached()
 {}
 
 /// The bound on moves, 3 for each of n nodes and 2 for each of n²/4, rounded down, is reached for each even n from 4 on
-/// that a lab may have, and missed by one for each odd n from 5 on: a student who owns each node of the dense network
-/// has a legal list of grants and closes that applies that many moves.
+/// that a lab may have, and missed by one for each odd n from 5 on. In the dense network (`crowd_world`), a student who
+/// owns each node has a legal list of grants and closes that applies that many moves.
 pub fn moves_are_reached()
     ensures world { (n : ℕ) → 4 ≤ n → n ≤ MAX_NODES →
         IsWorld (crowd_world n) × (size (crowd_world n) ≡ n) }
@@ -84,9 +87,10 @@ pub fn moves_are_reached()
         (applied_over (crowd_world (2 * k + 1)) es ≡ 3 * (2 * k + 1) + 2 * most_courtships (2 * k + 1) - 1) }
 {}
 
-/// From 4 nodes on the comb is a tree: it has one link less than nodes, and each node but the last is linked to a
-/// higher one. A student who owns each node has a legal list of grants and closes that applies one move less than 3 for
-/// each node and 2 for each link, and two less if the number of nodes is odd. That no tree takes more isn't stated.
+/// The comb (`comb_world`) is a network of 4 nodes or more that is a tree: it has one link less than nodes, and each
+/// node but the last is linked to a higher one. A student who owns each node has a legal list of grants and closes that
+/// applies one move less than 3 for each node and 2 for each link, and two less if the number of nodes is odd. That no
+/// tree takes more isn't stated.
 pub fn a_comb_takes_nearly_the_most_moves()
     ensures world { (n : ℕ) → 4 ≤ n → n ≤ MAX_NODES →
         IsWorld (comb_world n) × (size (comb_world n) ≡ n) }

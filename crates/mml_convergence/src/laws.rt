@@ -28,14 +28,14 @@ pub fn step_keeps_pairs()
         IsPair c i j → IsPair (step c chosen) i j }
 {}
 
-/// Over legal grants, releases and closes, m changes at most twice at a node.
+/// In a legal list of grants, releases and closes, m changes at most twice at each node.
 pub fn m_changes_at_most_twice()
     ensures { (r : RosterValue) (w : World) (es : List Event) (i : ℕ) → IsWorld w →
         is_legal_list r w es ≡ true → list_all is_of_step es ≡ true → changes_of_m i w es ≤ 2 }
 {}
 
-/// In a step of moves whose guards hold, all potentials together fall by at least the number of nodes that
-/// move; and they are at most 2 for each link and 3 for each node.
+/// The sum of all nodes' potentials (numbers that `potential` defines) falls in a step of moves whose guards hold, by
+/// at least the number of nodes that move. The sum is at most 2 for each link and 3 for each node.
 pub fn step_lowers_potential()
     ensures lower { (c : Configuration) (chosen : ℕ → Option Rule) → IsLawful c →
         AllHold c chosen →
@@ -93,21 +93,21 @@ pub fn rounds_are_bounded()
         ¬ IsStable (configuration (world_of w es)) → k < rounds_for (size w) }
 {}
 
-/// Four rounds for each two of n nodes, and one for a node left over, are 2n, or 2n - 1 if n is odd.
+/// `rounds_for n`, four rounds for each two of n nodes and one for a node left over, is 2n, or 2n - 1 if n is odd.
 pub fn rounds_in_numbers()
     ensures at_most { (n : ℕ) → rounds_for n ≤ 2 * n }
     ensures even { (k : ℕ) → rounds_for (2 * k) ≡ 4 * k }
     ensures odd { (k : ℕ) → rounds_for (2 * k + 1) ≡ 4 * k + 1 }
 {}
 
-/// If a list ends with no node privileged, it has any number of rounds: the later ones are empty.
+/// A list that ends with no node privileged has any number of rounds, of which the later ones are empty.
 pub fn stable_lists_have_rounds()
     ensures { (w : World) (es : List Event) (k : ℕ) → IsStable (configuration (world_of w es)) →
         Rounds k w es }
 {}
 
-/// From any world, a legal list of grants, releases and closes, each close of which finds a chosen move at every
-/// privileged node, has at most 2n closes for n nodes, and 2n - 1 if n is odd.
+/// From any world, a legal list of grants, releases and closes has at most 2n closes for n nodes, and 2n - 1 if n is
+/// odd, if at each close every privileged node has a chosen move.
 pub fn full_closes_are_few()
     ensures { (r : RosterValue) (w : World) (es : List Event) → IsWorld w →
         is_legal_list r w es ≡ true → list_all is_of_step es ≡ true → ClosesFull w es →
@@ -120,9 +120,9 @@ pub fn stable_is_final()
         is_of_step e ≡ true → is_legal r w e ≡ false }
 {}
 
-/// If each node has an owner: a legal list after which no grant and no close is legal ends with no node privileged, and
-/// the pairs are a maximal matching. From every world some legal list of grants and closes ends so, with at most 4
-/// events for each link and 6 for each node.
+/// Two facts if each node has an owner. A legal list after which no grant and no close is legal ends with no node
+/// privileged, and the pairs are a maximal matching. From every world some legal list of grants and closes ends with no
+/// node privileged, with at most 4 events for each link and 6 for each node.
 pub fn runs_end_stable()
     ensures ended { (r : RosterValue) (w : World) (es : List Event) → IsWorld w →
         EachHasOwner r (size w) → is_legal_list r w es ≡ true → IsOver r (world_of w es) →
@@ -131,10 +131,10 @@ pub fn runs_end_stable()
         (es : List Event) × LeadsToRest r w (4 * link_count w.network + 6 * size w) es }
 {}
 
-/// Potentials counted by hand, to see that the definition is the intended one. For two linked nodes: if neither points;
-/// if the second points at the first; if the first points at the second, whose m is true; and if they are a pair, with
-/// m true at both. For all nodes of a triangle with a tail together: 20, the most that its 4 links and 4 nodes may
-/// have.
+/// Potentials that were counted by hand, to see that the definition is the intended one. Two linked nodes are tried in
+/// four states: neither points; the second points at the first; the first points at the second, whose m is true; and
+/// they are a pair, with m true at both. For a triangle with a tail, the sum over all nodes is 20, the most that its 4
+/// links and 4 nodes may have.
 pub fn potentials_by_hand()
     ensures apart { (potential (two_nodes None false None false) 0 ≡ 3) ×
         (potential (two_nodes None false None false) 1 ≡ 1) }

@@ -10,8 +10,8 @@ use mml_board::Board;
 use mml_ids::Rank;
 use mml_rules::{Kind, Scene};
 
-/// Returns a privileged node and its rule for a link between two free nodes, `a` and a greater `b`. As long as there is
-/// such a link, the configuration isn't stable.
+/// Returns the witness of a link between two free nodes (in no pair), `a` and a greater `b`: a privileged node, and the
+/// rule that is enabled there. So as long as there is such a link, the configuration isn't stable.
 pub fn certify(board: &Board, a: Rank, b: Rank) -> (Rank, Kind)
     requires lower { a < b }
     requires linked { (configuration board.now).linked a b ≡ true }
@@ -29,9 +29,9 @@ pub fn certify(board: &Board, a: Rank, b: Rank) -> (Rank, Kind)
     witness(board, &kinds, a, b)
 }
 
-/// Returns the witness of a link between two free nodes, `a` and a greater `b`: the privileged node, with its rule,
-/// that the walk from `a` finds. If that finds none, it is the one that the walk from `b` finds; and else `a` itself,
-/// if a seduction is then enabled. `kinds` has by rank the rule that is enabled at each node.
+/// Returns the witness of a link between two free nodes (in no pair), `a` and a greater `b`: a privileged node, and the
+/// rule that is enabled there. It is what the walk from `a` finds; if that finds none, what the walk from `b` finds;
+/// and else `a` itself with a seduction. `kinds` has by rank the rule that is enabled at each node.
 #[tactic(auto, unfolding(crate::specs::Walk::certificate))]
 pub(crate) fn witness(board: &Board, kinds: &[Option<Kind>], a: Rank, b: Rank) -> (Rank, Kind)
     requires kinds { AreKinds (configuration board.now) kinds.now }
@@ -45,8 +45,8 @@ pub(crate) fn witness(board: &Board, kinds: &[Option<Kind>], a: Rank, b: Rank) -
     walk(board, kinds, b).unwrap_or((a, Kind::Seduction))
 }
 
-/// Returns the node at which the walk along the pointers from `node` ends, after at most as many steps as there are
-/// nodes, with the rule that is enabled there. Returns `None` if no rule is enabled there, or a seduction.
+/// Follows the pointers from `node`, as `top` does. Returns the node where that ends, with the rule that is enabled
+/// there. Returns `None` if no rule is enabled there, or a seduction.
 fn walk(board: &Board, kinds: &[Option<Kind>], node: Rank) -> Option<(Rank, Kind)>
     requires kinds { AreKinds (configuration board.now) kinds.now }
     requires node { node < length board.now.network.registers }
@@ -59,9 +59,9 @@ fn walk(board: &Board, kinds: &[Option<Kind>], node: Rank) -> Option<(Rank, Kind
     }
 }
 
-/// Returns the first node along the pointers from `node` that is privileged or points at no node, and the rule that is
-/// enabled there, if one is. If none comes within as many steps as there are nodes, it is the node that is reached
-/// then.
+/// Follows the pointers from `node` to the first node that is privileged or points at no node. Returns it, with the
+/// rule that is enabled there, if one is. After as many steps as there are nodes, returns the node that is reached
+/// then. `kinds` has by rank the rule that is enabled at each node.
 fn top(board: &Board, kinds: &[Option<Kind>], node: Rank) -> (Rank, Option<Kind>)
     requires kinds { AreKinds (configuration board.now) kinds.now }
     requires node { node < length board.now.network.registers }

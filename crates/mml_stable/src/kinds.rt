@@ -11,7 +11,7 @@ use mml_rules::{Kind, Scene};
 /// The most nodes that there may be, as the length of a list.
 pub(crate) const PLACES: usize = MAX_NODES as usize;
 
-/// Writes into `kinds`, by rank, the rule that is enabled at each node, or `None`.
+/// Finds the rule that is enabled at each node, if one is, and writes it into `kinds`, by rank.
 #[tactic(auto, using(crate::proofs::KindsLemmas::one_found, std::proofs::lemmas::Bool::Decides::nat_tests))]
 pub(crate) fn find_kinds(board: &Board, kinds: &mut [Option<Kind>])
     requires room { length board.now.network.registers ≤ length kinds.old }
@@ -22,7 +22,7 @@ pub(crate) fn find_kinds(board: &Board, kinds: &mut [Option<Kind>])
     }
 }
 
-/// Returns the rule that is enabled at a node, if one is, from `kinds`.
+/// Returns the rule that is enabled at a node, if one is. It is looked up in `kinds`, which `find_kinds` has filled.
 #[inline(always)]
 pub(crate) fn kind_at(board: &Board, kinds: &[Option<Kind>], node: Rank) -> Option<Kind>
     requires node { node < length board.now.network.registers }

@@ -22,7 +22,8 @@ pub fn stable_is_maximal()
         (c.m i ≡ true) ↔ IsMarried c i }
 {}
 
-/// From a node that is free or has m false the pointers rise, up to a node that is privileged or points at no node.
+/// If one follows the pointers from a node that is free (in no pair) or has m false, each node is greater than the one
+/// before, up to a node that is privileged or points at no node.
 pub fn walk_rises()
     ensures rises { (c : Configuration) (i j : ℕ) → IsLawful c → is_privileged c i ≡ false →
         (is_married c i ≡ false) ⊎ (c.m i ≡ false) → c.p i ≡ Some j →
@@ -37,9 +38,9 @@ pub fn reports_name_nodes()
     ensures { (w : World) → IsWorld w → NamesNodes (size w) (report_of w) }
 {}
 
-/// A report lists exactly the nodes that point at each other, the lower one first; the nodes in no
-/// pair; the nodes at which some rule may be applied, each with the kind of that rule; and the links between
-/// two nodes in no pair, the lower one first, each with its witness.
+/// A report lists exactly the following: the pairs of nodes that point at each other, the lower one first; the free
+/// nodes, which are in no pair; the nodes at which some rule may be applied, each with the kind of that rule; and the
+/// links between two free nodes, the lower one first, each with its witness.
 pub fn lists_are_exact()
     ensures pairs { (c : Configuration) (p : ℕ × ℕ) → IsLawful c →
         Contains (pairs c) p ↔ IsPairInOrder c p }
@@ -67,7 +68,8 @@ pub fn stable_reports_list_a_maximal_matching()
         IsMaximalMatching (configuration w) (report_of w).pairs }
 {}
 
-/// The witness of an open link is the same node, with the same kind, under names that keep the order.
+/// The witness of an open link, one between two free nodes, is the same node with the same rule if the nodes get other
+/// names in the same order.
 #[tactic(auto, using(crate::proofs::WitnessNamesLemmas::witness_named))]
 pub fn witnesses_keep_under_names()
     ensures { (f : ℕ → ℕ) (c d : Configuration) (a b : ℕ) → IsLawful c → IsRenamed f c d →

@@ -16,8 +16,9 @@ use mml_ids::{Items, Memory, NodeSet, Rank};
 use mml_rules::{Kind, Scene, married};
 use std::alloc::Global;
 
-/// Returns the report on the board's configuration: its number, its pairs, its free and its privileged nodes, its open
-/// links with their witnesses, and whether it is stable.
+/// Returns the report on the board's configuration: its number, its pairs, its free nodes (in no pair), its privileged
+/// nodes, its open links (between free nodes) with their witnesses, and whether it is stable. Returns `Memory` if
+/// memory runs out.
 pub fn report(alloc: Global, board: &Board) -> Result<Report, Memory>
     ensures report { IfOk result (λ report. report ≡ report_of board.now) }
     ensures nodes { IfOk result (NamesNodes (length board.now.network.registers)) }
@@ -27,8 +28,8 @@ pub fn report(alloc: Global, board: &Board) -> Result<Report, Memory>
     report_lists(alloc, board)
 }
 
-/// Returns the report on the board's configuration, made of its lists. That the lists name only nodes of the board is
-/// proved in `report`.
+/// Returns the report on the board's configuration. It is `report` without one clause, that the report names only nodes
+/// of the board, which is proved there. Returns `Memory` if memory runs out.
 fn report_lists(alloc: Global, board: &Board) -> Result<Report, Memory>
     ensures { IfOk result (λ report. report ≡ report_of board.now) }
 {
@@ -49,7 +50,8 @@ fn report_lists(alloc: Global, board: &Board) -> Result<Report, Memory>
     })
 }
 
-/// Returns the nodes that point at each other, the lower one first, in rising order.
+/// Returns the pairs, two nodes that point at each other with the lower one first, in rising order. Returns `Memory` if
+/// memory runs out.
 fn pairs(alloc: Global, board: &Board) -> Result<Vec<(Rank, Rank)>, Memory>
     ensures { IfOk result (λ all. all.items ≡ pairs (configuration board.now)) }
 {
@@ -65,7 +67,8 @@ fn pairs(alloc: Global, board: &Board) -> Result<Vec<(Rank, Rank)>, Memory>
     Ok(all)
 }
 
-/// Returns the nodes that are in no pair, in rising order as a list and, for the open links, as a set.
+/// Returns the free nodes, which are in no pair: as a list in rising order, and as a set, which is used to find the
+/// open links. Returns `Memory` if memory runs out.
 #[tactic(auto, unfolding(mml_ids::specs::Sets::those_below))]
 fn free_nodes(alloc: Global, board: &Board) -> Result<(Vec<Rank>, NodeSet), Memory>
     ensures list { IfOk result (λ free. free.0.items ≡ free_nodes (configuration board.now)) }
@@ -84,8 +87,8 @@ fn free_nodes(alloc: Global, board: &Board) -> Result<(Vec<Rank>, NodeSet), Memo
     Ok((all, set))
 }
 
-/// Returns the privileged nodes in rising order, each with the rule that is enabled there, which `kinds` has by rank,
-/// and whether there are none.
+/// Returns the privileged nodes in rising order, each with the rule that is enabled there, and whether there are none.
+/// `kinds` has by rank the rule that is enabled at each node. Returns `Memory` if memory runs out.
 fn privileged_nodes(
     alloc: Global,
     board: &Board,
@@ -106,8 +109,8 @@ fn privileged_nodes(
     Ok((all, stable))
 }
 
-/// Returns the greater ends of the open links (between free nodes) whose lower end is `a`, and no nodes if `a` isn't
-/// free. `rest` has the free nodes from `a` on.
+/// Returns the greater ends of the open links, which join two free nodes, whose lower end is `a`. If `a` isn't free,
+/// there are none. `rest` has the free nodes from `a` on.
 fn open_ends(board: &Board, rest: NodeSet, a: Rank) -> NodeSet
     requires a { a < length board.now.network.registers }
     requires rest { IsFreeFrom (configuration board.now) a rest }
@@ -122,7 +125,8 @@ fn open_ends(board: &Board, rest: NodeSet, a: Rank) -> NodeSet
     }
 }
 
-/// Returns the open link between `a` and `b`, with its witness.
+/// Returns the open link between `a` and `b`, with its witness. `kinds` has by rank the rule that is enabled at each
+/// node.
 fn open_link(board: &Board, kinds: &[Option<Kind>], a: Rank, b: Rank) -> OpenLink
     requires kinds { AreKinds (configuration board.now) kinds.now }
     requires a { a < length board.now.network.registers }
@@ -133,7 +137,8 @@ fn open_link(board: &Board, kinds: &[Option<Kind>], a: Rank, b: Rank) -> OpenLin
     OpenLink { a, b, node, kind }
 }
 
-/// Appends to `all` the open links whose lower end is `a`. `ends` are their greater ends.
+/// Appends the open links whose lower end is `a` to `all`, each with its witness. `ends` has their greater ends, and
+/// `kinds` has by rank the rule that is enabled at each node. Returns `Memory` if memory runs out.
 fn put_open_links(
     all: &mut Vec<OpenLink>,
     board: &Board,
@@ -155,8 +160,8 @@ fn put_open_links(
     Ok(())
 }
 
-/// Returns the links between two free nodes in rising order, each with its witness. `free` has the free nodes, and
-/// `kinds` has by rank the rule that is enabled at each node.
+/// Returns the open links, which join two free nodes, in rising order, each with its witness. `free` has the free
+/// nodes, and `kinds` has by rank the rule that is enabled at each node. Returns `Memory` if memory runs out.
 fn open_links(
     alloc: Global,
     board: &Board,
