@@ -14,9 +14,10 @@ use mml_lab::Who;
 use mml_policy::Command;
 use std::alloc::Global;
 
-/// Answers a line of a connection on which `known` has greeted, if anybody has, and sets `known` to who is known
-/// afterwards. Puts the reply into `reply`, since a reply is large to return. Returns `Closed`, and puts no reply, if a
-/// known participant asks for a view of an engine that shows nothing any more.
+/// Answers a request line of a connection, and puts the reply into `reply`, since a reply is large to return. `known`
+/// is the participant who has greeted on the connection, if anybody has; it is set to who is known afterwards. Returns
+/// `Closed`, and puts no reply, if a known participant asks to be shown something and the engine shows nothing any
+/// more.
 pub fn answer_line<E: Engine>(
     engine: &mut E,
     at: &mut E::View,
@@ -49,8 +50,9 @@ pub fn answer_line<E: Engine>(
     }
 }
 
-// Puts the reply to any request, and sets `known` to who is known afterwards. `answer_line` itself handles the commands
-// of known participants; the others are rare and their code is large, so this function isn't inlined.
+// Puts the reply to any request, and sets `known` to who is known afterwards. Handles what `answer_line` doesn't handle
+// itself: hello, bye, and commands of nobody. They are rare and their code is large, so this function isn't inlined.
+// Returns `Closed` as `answer_line` does.
 #[inline(never)]
 fn settle<E: Engine>(
     engine: &mut E,
@@ -80,8 +82,8 @@ fn settle<E: Engine>(
     }
 }
 
-// Puts the reply to the command of `who`. Returns `Closed`, and puts no reply, if a view is asked of an engine that
-// shows nothing any more.
+// Passes a command of `who` to the engine, which puts the reply into `reply`. Returns `Closed`, and puts no reply, if
+// the command asks to be shown something and the engine shows nothing any more.
 #[inline(always)]
 fn obey<E: Engine>(
     engine: &mut E,

@@ -3,12 +3,12 @@ use mml_lab::{Roster, Who};
 use mml_policy::Command;
 use std::alloc::Global;
 
-/// The reason why a view has no reply: the engine shows nothing any more.
+/// The error of a view that gets no reply, since the engine shows nothing any more.
 #[derive(Clone, Copy, Debug, PartialEq, Eq)]
 pub struct Closed;
 
-/// An engine: it answers the commands of known participants. It answers views from the events that it published before,
-/// and acts from all events.
+/// A server's state, which answers the commands of known participants. A view is answered by the events that were
+/// published before it, and an act by all events.
 pub trait Engine {
     ghost use Rattle.std.specs.Prelude.{◌≡◌, true, false, List, OnOk, IfErr};
     ghost use Rattle.mml_lab.specs.declared.who.Who.{Who};
@@ -35,12 +35,13 @@ pub trait Engine {
     // What holds if the engine shows nothing any more.
     ghost may_close: { Type 0 };
 
-    /// Returns the roster of the engine's lab.
+    /// Returns the roster of the engine's lab. `at` is the part of the engine that belongs to the session.
     fn roster<'r>(&'r self, at: &'r Self::View) -> &'r Roster
         ensures { result.now ≡ (lab self.now).roster };
 
-    /// Puts the reply to a view, which is a command that changes nothing. Returns `Closed`, and puts no reply, if the
-    /// engine shows nothing any more.
+    /// Puts the reply to a view into `reply`; a view is a command that only asks to be shown something. `at` is the
+    /// part of the engine that belongs to the session. Returns `Closed`, and puts no reply, if the engine shows nothing
+    /// any more.
     fn view(
         &mut self,
         at: &mut Self::View,
@@ -57,7 +58,8 @@ pub trait Engine {
         ensures about { OnOk result (IsAbout (lab self.old).ids (lab self.old).roster reply.new) }
         ensures closed { IfErr result (λ _. may_close × (self.new ≡ self.old) × (at.new ≡ at.old)) };
 
-    /// Puts the reply to an act, which is a command that asks for an event. The event happens if it is granted.
+    /// Puts the reply to an act into `reply`; an act is a command that asks for an event. If it is granted, the event
+    /// happens. `at` is the part of the engine that belongs to the session.
     fn act(
         &mut self,
         at: &mut Self::View,
