@@ -12,8 +12,8 @@ use Rattle.mml_board.specs.Vocabulary.{rule_name}
 use Rattle.mml_stable.specs.declared.open_link.OpenLink.{OpenLink}
 use Rattle.mml_codec.specs.Objects.{items_with, array_of, object_with}
 
--- a fact under a key of a reply; a clause's number has a kind of its own beside counts, since it is always small; nodes
--- that moved are a set, written in rising order
+-- the value of a key in a reply; the number of a clause is apart from counts, since it is always small; the nodes that
+-- moved are a set, and are written in rising order
 pub data Fact : Type 0 where
   count : ℕ → Fact
   clause : ℕ → Fact
@@ -30,7 +30,7 @@ pub data Fact : Type 0 where
   privileged : List (ℕ × Kind) → Fact
   open_links : List OpenLink → Fact
 
--- keys in byte order, and the fact of each
+-- keys in byte order, each with its value
 abbrev pub Fields : Type 0
 Fields = List (List ℕ × Fact)
 
@@ -81,11 +81,11 @@ unfoldable pub open_link_text : List ℕ → OpenLink → List ℕ
 open_link_text ids l =
     concat (codes "[" ∷ node_text ids l.a ∷ codes "," ∷ node_text ids l.b ∷ codes "," ∷ node_text ids l.node ∷ codes "," ∷ kind_text l.kind ∷ codes "]" ∷ [])
 
--- the texts as a list in brackets, with commas between them, before what follows
+-- the texts as a list in brackets, with commas between them, and then the rest
 abbrev pub list_then : List (List ℕ) → List ℕ → List ℕ
 list_then texts rest = codes "[" ++ (separated texts ++ (codes "]" ++ rest))
 
--- the text of a fact, before what follows; of a word no byte is escaped
+-- the text of a value, and then the rest; no byte of a word is escaped
 abbrev pub fact_then : List ℕ → Fact → List ℕ → List ℕ
 fact_then ids (count n) rest = decimal n ++ rest
 fact_then ids (clause n) rest = decimal n ++ rest
@@ -102,7 +102,7 @@ fact_then ids (pairs ps) rest = list_then (map (pair_text ids) ps) rest
 fact_then ids (privileged ns) rest = list_then (map (privileged_text ids) ns) rest
 fact_then ids (open_links ls) rest = list_then (map (open_link_text ids) ls) rest
 
--- fields and the closing brace: the bytes `first` stand before the first field, a comma before each other one
+-- fields and the closing brace: the text `first` stands before the first field, and a comma before each other one
 abbrev pub fields_after : List ℕ → List ℕ → Fields → List ℕ
 fields_after ids first [] = codes "}"
 fields_after ids first (f ∷ fs) = first ++ (codes "\"" ++ (f.0 ++ (codes "\":" ++ fact_then ids f.1 (fields_after ids (codes ",") fs))))
@@ -172,7 +172,7 @@ fact_value ids (open_links ls) = array_of (open_link_value ids) ls
 abbrev pub keys_of : List ℕ → Fields → List (List ℕ × Data)
 keys_of ids fs = map (λ f. (f.0, fact_value ids f.1)) fs
 
--- a count fits 64 bits; any other fact needs nothing
+-- a count fits 64 bits; about any other value nothing is said
 abbrev pub FitsCount : Fact → Type 0
 FitsCount (count n) = n < 2 ^ 64
 FitsCount _ = Unit {0}

@@ -40,7 +40,7 @@ greeting roster known requests.Bye = Answered replies.Bye None
 greeting roster None (requests.Do c) = denied denial.NotGreeted None
 greeting roster (Some who) (requests.Do c) = LeftToJudge who c
 
--- the result of a request, if its reply stands apart; there is no reply if a command is left to judge
+-- what a request leads to, if its reply is kept apart; a command that is left to judge has no reply yet
 abbrev pub greeting_with : Greeted → Reply → Greeting
 greeting_with (greeted.Known known) r = Answered r known
 greeting_with (greeted.LeftToJudge who c) r = LeftToJudge who c

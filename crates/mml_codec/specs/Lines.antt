@@ -22,7 +22,7 @@ value_in line = if is_utf8 line then read line else None
 unfoldable pub request_in : List ℕ → Result Request LineFault
 request_in line = ok_or (option_and_then request (value_in line)) fault.Malformed
 
--- the line is a hello, whose name and key are kept
+-- the line is a hello, the only request for which memory is allocated
 abbrev pub is_hello : Result Request LineFault → Bool
 is_hello (Ok (requests.Hello name key)) = true
 is_hello (Ok requests.Bye) = false

@@ -22,7 +22,7 @@ use Rattle.mml_codec.specs.Facts.{Fact, Fields, object_text}
 
 -- ---- the table: each key that comes, and its fact
 
--- the key with the word of the granted request
+-- the key `ok` with the word of the granted request
 abbrev pub ok : List ℕ → List ℕ × Fact
 ok word = (codes "ok", fact.word word)
 
@@ -77,7 +77,7 @@ abbrev pub current_number : Denial → Option ℕ
 current_number (denial.Stale at) = Some at
 current_number _ = None
 
--- the number of a configuration, if there is one, before the other fields
+-- the key `at` with a number, if there is one, before the other fields
 abbrev pub number_first : Option ℕ → Fields → Fields
 number_first None fs = fs
 number_first (Some at) fs = at_key at ∷ fs

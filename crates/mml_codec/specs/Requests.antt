@@ -22,7 +22,7 @@ rule_word (asked.Marriage id) = rule_name kind.Marriage
 rule_word asked.Seduction = rule_name kind.Seduction
 rule_word asked.Abandonment = rule_name kind.Abandonment
 
--- the key `with` and the partner that a marriage names; of other rules nothing
+-- the key `with` and the partner of a marriage; no key for the other rules
 abbrev pub partner_fields : Asked → List (List ℕ × Field)
 partner_fields asked.Update = []
 partner_fields (asked.Marriage id) = (codes "with", number id) ∷ []
@@ -34,7 +34,7 @@ abbrev pub register : Option ℕ → Field
 register None = null
 register (Some n) = number n
 
--- the key `do` and the word that asks
+-- the key `do` with the word of a request
 abbrev pub asks : List ℕ → List ℕ × Field
 asks w = (codes "do", word w)
 
@@ -106,7 +106,7 @@ fault_of d = do
   m ← truth_at (codes "m") d
   Some (requests.Do (command.Fault node p m))
 
--- what is asked by a word, with the keys that it names; other keys don't count
+-- the request by its word and the keys that it needs, if these are there; other keys don't count
 unfoldable pub by_word : List ℕ → Data → Option Request
 by_word w d = if bytes_eq w verb.hello then hello_of d
     else (if bytes_eq w verb.bye then Some requests.Bye

@@ -7,7 +7,7 @@ use crate::request::Request;
 use mml_lab::{Roster, Who};
 use mml_policy::{Command, Denial};
 
-/// The result of a request on a connection.
+/// What a request on a connection leads to.
 #[derive(Debug, Drop)]
 pub enum Greeting {
     /// A reply, and the participant that the connection is known as from then on.
@@ -16,7 +16,7 @@ pub enum Greeting {
     LeftToJudge { who: Who, command: Command },
 }
 
-/// The result of a request on a connection, without the reply to it.
+/// What a request on a connection leads to, with the reply to it kept apart.
 #[derive(Clone, Copy, Debug)]
 pub enum Greeted {
     /// The request is answered, and this is the participant that the connection is known as from then on.
@@ -25,8 +25,8 @@ pub enum Greeted {
     LeftToJudge { who: Who, command: Command },
 }
 
-/// Returns the result of a request on a connection that is known as a participant or as no one. A hello and a bye are
-/// answered. A command is denied if no one is known, and else left to judge.
+/// Handles a request on a connection, on which the participant `known` has greeted, or nobody if it is `None`. A hello
+/// and a bye are answered. A command is denied if nobody is known, and else left to the caller to judge.
 pub fn greet(roster: &Roster, known: Option<Who>, request: Request) -> Greeting
     requires { IfSome known (IsPrincipal roster.now) }
     ensures greeting { result ≡ greeting roster.now known request }
@@ -40,9 +40,9 @@ pub fn greet(roster: &Roster, known: Option<Who>, request: Request) -> Greeting
     }
 }
 
-/// Returns the result of a request on a connection that is known as a participant or as no one. A hello, a bye and a
-/// command of no one are answered in `reply`. A command of a known participant is left to judge, and `reply` stays as
-/// it was.
+/// Handles a request on a connection, on which the participant `known` has greeted, or nobody if it is `None`. Puts the
+/// reply to a hello, to a bye, and to a command of nobody into `reply`. Leaves a command of a known participant to the
+/// caller to judge, and `reply` as it was.
 pub fn greet_into(
     roster: &Roster,
     known: Option<Who>,
@@ -70,8 +70,8 @@ pub fn greet_into(
     }
 }
 
-// Returns the result of a hello on a connection that is known as no one, and puts the reply into `reply`. `found` is
-// the participant who has this name and key, if there is one.
+// Answers a hello on a connection on which nobody is known, and puts the reply into `reply`. `found` is the participant
+// who has the hello's name and key, if there is one.
 fn admit_into(found: Option<Who>, reply: &mut Reply) -> Greeted
     ensures { greeting_with result reply.new ≡ admitted found }
 {
@@ -84,7 +84,8 @@ fn admit_into(found: Option<Who>, reply: &mut Reply) -> Greeted
     }
 }
 
-// Puts a denial into `reply`, and returns that the connection is known as before: as `known`.
+// Puts a denial into `reply`. Returns that the request is answered, and that `known` is known on the connection as
+// before.
 fn deny_into(denial: Denial, known: Option<Who>, reply: &mut Reply) -> Greeted
     ensures { greeting_with result reply.new ≡ denied denial known }
 {

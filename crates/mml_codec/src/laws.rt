@@ -34,30 +34,30 @@ ghost use Rattle.mml_rules.specs.Rules.{kind_of};
 
 use crate::reply::{FULL_LINE, JOURNAL_LINE, MALFORMED_LINE, MEMORY_LINE};
 
-/// A value asks a request exactly if it has each field by which the request is written. Other keys don't count, and a
-/// value that has the fields of no request asks nothing.
+/// A JSON value is read as a request exactly if it has each field with which the request is written. Other keys don't
+/// count. A value that has all fields of no request is no request.
 pub fn a_request_is_asked_by_its_fields()
     ensures { (d : Data) (r : Request) → (request d ≡ Some r) ↔ HasEach d (fields_of r) }
 {}
 
-/// A request whose numbers fit 64 bits, and whose texts are UTF-8, is read again from its text.
+/// The text of a request is read as that request, if its numbers fit 64 bits and its texts are UTF-8.
 pub fn a_text_asks_its_request()
     ensures { (r : Request) → IsWritable r → request_in (canonical r) ≡ Ok r }
 {}
 
-/// A request's text has no newline, so with one at its end it is one line.
+/// The text of a request has no newline, so with a newline at its end it is one line.
 pub fn a_text_is_one_line()
     ensures { (r : Request) → IsWritable r → All (λ byte. byte ≢ 10) (canonical r) }
 {}
 
-/// No byte of a reply's text is 10, so its line is one line.
+/// The text of a reply has no newline, so with a newline at its end it is one line.
 pub fn a_reply_is_one_line()
     ensures { (ids : List ℕ) (roster : RosterValue) (r : Reply) → IsTable ids → IsRoster roster →
         IsAbout ids roster r → AreWritableCounts roster r → All (λ byte. byte ≢ 10) (text ids roster r) }
 {}
 
-/// The text of a reply spells an object, with no space between its parts, and is read as that object, whose
-/// keys rise in byte order.
+/// The text of a reply is a JSON object without spaces between its parts, is read as that object, and has its keys in
+/// rising byte order.
 pub fn a_reply_reads_back()
     ensures text { (ids : List ℕ) (roster : RosterValue) (r : Reply) → IsRoster roster →
         IsAbout ids roster r → text ids roster r ≡ compact_text (reply_value ids roster r) }
@@ -68,8 +68,8 @@ pub fn a_reply_reads_back()
         has_rising_keys (reply_value ids roster r) ≡ true }
 {}
 
-/// If a connection is known as no one, a hello is granted exactly to the participant who has that name and key, as whom
-/// it is then known. After a bye it is known as no one, and after a denial as before.
+/// If nobody is known on a connection, a hello is granted exactly to the participant who has its name and key, who is
+/// then known there. After a bye nobody is known, and after a denial the same as before.
 pub fn a_greeting_tells_who_is_known()
     ensures hello { (r : RosterValue) (name key : List ℕ) (who : Who) (known : Option Who) →
         IsRoster r →
@@ -82,7 +82,7 @@ pub fn a_greeting_tells_who_is_known()
         greeting r before q ≡ Answered (replies.Deny d) known → known ≡ before }
 {}
 
-/// The line of each refusal is the same in each lab: the constant of its name.
+/// The line of each refusal is the same in every lab: the constant with its name.
 #[tactic(auto, unfolding(crate::specs::Facts::object_text))]
 pub fn refusals_have_fixed_lines()
     ensures malformed { (ids : List ℕ) (roster : RosterValue) →
@@ -95,16 +95,16 @@ pub fn refusals_have_fixed_lines()
         reply_line ids roster (Refuse refused.Memory) ≡ MEMORY_LINE.now }
 {}
 
-/// The limits, as numbers: the most bytes of a request line, and the room in which the line of each
-/// reply but a look and a report is written without taking memory.
+/// The limits of requests and replies, as numbers: the most bytes of a request line, and the room in which any reply
+/// but a look and a report is written without allocating.
 pub fn limits()
     ensures request { MAX_REQUEST ≡ 4096 }
     ensures room { REPLY_ROOM ≡ 2048 }
 {}
 
-/// The reply to an event names the number and the place that `reply_of_done` is called with, and the event's nodes: of
-/// a close those that were chosen. A move's reply names its rule's kind; a fault's, link's or cut's names how many
-/// chosen moves end.
+/// The reply to an event has the numbers `at` and `place` that `reply_of_done` gets, and names the event's nodes; for a
+/// close these are the nodes that had a chosen move. For a move it also names the kind of rule, and for a fault, a link
+/// or a cut how many chosen moves were dropped.
 pub fn a_grant_is_told()
     ensures chosen { (at place : ℕ) (w : World) (s i : ℕ) (rule : Rule) →
         reply_of_done at place (done_by w (event.Grant s i rule))

@@ -12,7 +12,7 @@ use mml_ids::{IdTable, Memory};
 use mml_policy::Look;
 use mml_stable::Report;
 
-/// Appends the reply to a granted look.
+/// Appends the text of the reply to a granted look, a JSON object, to `out`. Returns `Memory` if memory runs out.
 #[tactic(auto, unfolding(crate::specs::Facts::object_text))]
 pub(crate) fn put_look(ids: &IdTable, look: &Look, out: &mut Vec<u8>) -> Result<(), Memory>
     requires { IsLookedAt ids.now look.now }
@@ -61,7 +61,7 @@ pub(crate) fn put_look(ids: &IdTable, look: &Look, out: &mut Vec<u8>) -> Result<
     fields.put_fields(ids, "{", out)
 }
 
-/// Appends a report.
+/// Appends the text of the reply to a granted report, a JSON object, to `out`. Returns `Memory` if memory runs out.
 #[tactic(auto, unfolding(crate::specs::Facts::object_text))]
 pub(crate) fn put_report(ids: &IdTable, report: &Report, out: &mut Vec<u8>) -> Result<(), Memory>
     requires { NamesNodes (length ids.now) report.now }

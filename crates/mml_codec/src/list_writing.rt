@@ -10,7 +10,7 @@ use mml_ids::{IdTable, Items, Memory, make_room, taken, with_text};
 // Enough bytes for the fields before a list, or after the last one.
 const FRONT_ROOM: usize = 128;
 
-/// Fields of which some are lists.
+/// Fields of a reply, some of which are lists, up to the end of its object.
 pub(crate) trait Listing {
     // The fields name nodes that have identifiers.
     ghost names: { List ℕ → Self → Type 0 };
@@ -19,7 +19,8 @@ pub(crate) trait Listing {
     // before the first field.
     ghost text: { List ℕ → List ℕ → Self → List ℕ };
 
-    // Appends the fields. `first` stands before the first field. If memory runs out, a front of them is appended.
+    // Appends the text of the fields to `out`, after the text `first`, which is a brace or ends a list. If memory runs
+    // out, returns `Memory`, and only the beginning of the text is appended.
     fn put_fields(&self, ids: &IdTable, first: &str, out: &mut Vec<u8>) -> Result<(), Memory>
         requires names { names ids.now self.now }
         requires first { length first.now ≤ 2 }
@@ -41,6 +42,7 @@ impl Table for Opening {
 
     ghost most = { λ o. 4 + length o.key.now };
 
+    // Returns the line with `first`, the quoted key, a colon and an opening bracket appended.
     #[inline(always)]
     fn with_fields(&self, line: Vec<u8>, _ids: &IdTable, first: &str) -> Vec<u8> {
         let line = with_text(line, first);
@@ -65,6 +67,7 @@ impl<'a, B: Table, L: Listed, R: Listing> Listing for ListRow<'a, B, L, R> {
     ghost text = { λ ids first r. B.text ids first r.before
         (separated (map (L.text ids) r.items.now) ++ R.text ids (codes "],") r.rest) };
 
+    // Appends the fields before the list, the list in brackets, and the fields after it.
     #[inline(always)]
     fn put_fields(&self, ids: &IdTable, first: &str, out: &mut Vec<u8>) -> Result<(), Memory> {
         make_room(out, FRONT_ROOM)?;
@@ -85,6 +88,7 @@ impl<T: Table> Listing for Rest<T> {
 
     ghost text = { λ ids first r. T.text ids first r.fields [] };
 
+    // Appends the fields after the last list, and the end of the object.
     #[inline(always)]
     fn put_fields(&self, ids: &IdTable, first: &str, out: &mut Vec<u8>) -> Result<(), Memory> {
         make_room(out, FRONT_ROOM)?;

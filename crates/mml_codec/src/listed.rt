@@ -22,7 +22,7 @@ pub(crate) trait Listed {
     // The item's text, in a lab with these identifiers.
     ghost text: { List ℕ → Self → List ℕ };
 
-    // Returns the line with the text of this item after it.
+    // Returns the line with the text of this item appended. The line must have room for 63 more bytes.
     fn with_item(&self, line: Vec<u8>, ids: &IdTable) -> Vec<u8>
         requires names { names ids.now self.now }
         requires room { length line.items + 63 ≤ vec_capacity line }
@@ -30,8 +30,8 @@ pub(crate) trait Listed {
         ensures capacity { vec_capacity result ≡ vec_capacity line };
 }
 
-/// Appends the texts of a list to the vector, with commas between them and without brackets. If memory runs out, the
-/// first texts are appended, up to the one without room, each whole.
+/// Appends the texts of the items to `out`, with commas between them and without brackets. If memory runs out, returns
+/// `Memory`, and only the items before the one without room are appended, each whole.
 pub(crate) fn put_list<T: Listed>(
     ids: &IdTable,
     items: &[T],
@@ -58,7 +58,7 @@ pub(crate) fn put_list<T: Listed>(
     Ok(())
 }
 
-// Returns the line with room for one more item, or the unchanged line as `Err` if memory runs out. The line comes by
+// Returns the line with room for one more item, or the line as it was as `Err` if memory runs out. The line comes by
 // value, so that its length can stay in a processor's register.
 #[inline(always)]
 fn with_room(line: Vec<u8>) -> Result<Vec<u8>, Vec<u8>>
@@ -73,8 +73,8 @@ fn with_room(line: Vec<u8>) -> Result<Vec<u8>, Vec<u8>>
     Ok(line)
 }
 
-// Returns the line, grown to have room for one more item, or the unchanged line as `Err` if memory runs out. This rare
-// case of `with_room` stands apart, so that `with_room` is short.
+// Reallocates the line, to have room for one more item. Returns the line as it was as `Err` if memory runs out. It is
+// the rare case of `with_room`, and a function of its own, so that `with_room` is short.
 #[inline(never)]
 fn grown(mut line: Vec<u8>) -> Result<Vec<u8>, Vec<u8>>
     ensures same { MatchResult result (λ l. l.items ≡ line.items) (λ l. l.items ≡ line.items) }
@@ -88,7 +88,7 @@ fn grown(mut line: Vec<u8>) -> Result<Vec<u8>, Vec<u8>>
     }
 }
 
-// Returns the line with a comma appended if `later`, which means that an item stands there already.
+// Returns the line with a comma appended if `later` is true, that is, if another item comes before.
 #[inline(always)]
 pub(crate) fn with_comma(line: Vec<u8>, later: bool) -> Vec<u8>
     requires { length line.items + 1 ≤ vec_capacity line }
@@ -105,6 +105,7 @@ impl Listed for Rank {
 
     ghost text = { node_text };
 
+    // Returns the line with the node's identifier appended.
     #[inline(always)]
     fn with_item(&self, line: Vec<u8>, ids: &IdTable) -> Vec<u8> {
         with_node(line, ids, *self)
@@ -117,6 +118,7 @@ impl Listed for (Rank, Regs) {
 
     ghost text = { near_text };
 
+    // Returns the line with the object of a neighbour appended: its m, its identifier and its p.
     #[inline(always)]
     #[tactic(auto, unfolding(crate::specs::Facts::near_text))]
     fn with_item(&self, line: Vec<u8>, ids: &IdTable) -> Vec<u8> {
@@ -128,8 +130,8 @@ impl Listed for (Rank, Regs) {
     }
 }
 
-// Returns the line with the beginning of an object appended: a truth value under the key `m`, and the key `node`, as
-// one literal.
+// Returns the line with the beginning of an object appended, as one literal: the key `m` with its truth value, and then
+// the key `node` without its value.
 #[inline(always)]
 fn with_first_m_then_node(line: Vec<u8>, m: bool) -> Vec<u8>
     requires { length line.items + 18 ≤ vec_capacity line }
@@ -145,7 +147,8 @@ fn with_first_m_then_node(line: Vec<u8>, m: bool) -> Vec<u8>
     }
 }
 
-// Returns the text with what a register points at appended, an identifier or null, and the end of the object.
+// Returns the text with the value of the last key of an object appended, what a register points at (an identifier or
+// null), and the closing brace.
 #[inline(always)]
 fn with_pointer_at_end(text: Vec<u8>, ids: &IdTable, p: Option<Rank>) -> Vec<u8>
     requires node { IfSome p (λ j. j < length ids.now) }
@@ -166,6 +169,7 @@ impl Listed for (Rank, Rank) {
 
     ghost text = { pair_text };
 
+    // Returns the line with the array of a pair appended: the identifiers of its two nodes.
     #[inline(always)]
     #[tactic(auto, unfolding(crate::specs::Facts::pair_text))]
     fn with_item(&self, line: Vec<u8>, ids: &IdTable) -> Vec<u8> {
@@ -184,6 +188,7 @@ impl Listed for (Rank, Kind) {
 
     ghost text = { privileged_text };
 
+    // Returns the line with the array of a privileged node appended: its identifier and its rule.
     #[inline(always)]
     #[tactic(auto, unfolding(crate::specs::Facts::privileged_text))]
     fn with_item(&self, line: Vec<u8>, ids: &IdTable) -> Vec<u8> {
@@ -202,6 +207,8 @@ impl Listed for OpenLink {
 
     ghost text = { open_link_text };
 
+    // Returns the line with the array of an open link appended: its two ends, its witness, and the rule that is enabled
+    // at the witness.
     #[inline(always)]
     #[tactic(auto, unfolding(crate::specs::Facts::open_link_text))]
     fn with_item(&self, line: Vec<u8>, ids: &IdTable) -> Vec<u8> {

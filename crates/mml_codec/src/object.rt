@@ -20,7 +20,8 @@ pub(crate) enum Field<'a> {
     Null,
 }
 
-/// Returns the text of the object with these keys and values, in this order.
+/// Returns the JSON text of an object that has these keys and values, in this order. Returns an error if memory runs
+/// out.
 pub(crate) fn object_text(
     alloc: Global,
     members: &[(&'static str, Field<'_>)],
@@ -37,7 +38,7 @@ pub(crate) fn object_text(
     Ok(writer.into_inner())
 }
 
-// Writes a key of an object and its value.
+// Writes a key and its value into an object. Returns an error if memory runs out.
 fn put_member(writer: &mut Writer, member: &(&'static str, Field<'_>)) -> Result<(), AllocError>
     ensures before { writer.new.before ≡ writer.old.before }
     ensures tokens { OnOk result
@@ -47,7 +48,7 @@ fn put_member(writer: &mut Writer, member: &(&'static str, Field<'_>)) -> Result
     put_field(writer, member.1)
 }
 
-// Writes the value of a key of an object.
+// Writes the value of a key. Returns an error if memory runs out.
 fn put_field(writer: &mut Writer, field: Field<'_>) -> Result<(), AllocError>
     ensures before { writer.new.before ≡ writer.old.before }
     ensures tokens { OnOk result (writer.new.tokens ≡

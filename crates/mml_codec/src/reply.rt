@@ -23,7 +23,7 @@ pub const JOURNAL_LINE: &str = "{\"refuse\":\"journal\"}\n";
 /// The reply line, with its newline, if memory ran out.
 pub const MEMORY_LINE: &str = "{\"refuse\":\"memory\"}\n";
 
-/// Why a request is refused.
+/// Why a request got neither an answer nor a denial.
 #[derive(Clone, Copy, Debug, PartialEq, Eq)]
 pub enum Refused {
     /// The line is no request.
@@ -113,7 +113,8 @@ pub enum Reply {
     Refuse(Refused),
 }
 
-/// Replaces a reply by another. Replies are large: each is written to its final place, and isn't passed on by value.
+/// Replaces a reply by another. This function is inlined: replies are large, and each is written straight to its final
+/// place.
 #[inline(always)]
 pub fn put_in(out: &mut Reply, reply: Reply)
     ensures { out.new ≡ reply }

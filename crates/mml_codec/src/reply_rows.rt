@@ -15,14 +15,14 @@ use mml_lab::{Roster, Who};
 use mml_policy::{Denial, See};
 use mml_rules::Kind;
 
-/// When an event happened: the number of the configuration after it, and its place.
+/// The two numbers in the reply to an event: that of the configuration after it, and its place.
 #[derive(Clone, Copy)]
 pub(crate) struct Moment {
     at: u64,
     place: u64,
 }
 
-/// Returns the moment of an event, from the fields of the reply to it. By its contract both numbers fit 64 bits.
+/// Returns the moment of an event from the two numbers in the reply to it. The contract says that both fit 64 bits.
 pub(crate) fn moment_of(at: &u64, place: &u64) -> Moment
     ensures moment { result ≡ record { at = at.now; place = place.now } }
     ensures at { at.now < 2 ^ 64 }
@@ -34,7 +34,7 @@ pub(crate) fn moment_of(at: &u64, place: &u64) -> Moment
     }
 }
 
-/// Appends the reply to a granted hello.
+/// Appends the text of the reply to a granted hello to `out`. Returns `Memory` if memory runs out.
 #[tactic(auto, unfolding(crate::specs::Facts::object_text))]
 pub(crate) fn put_hello(
     ids: &IdTable,
@@ -58,7 +58,7 @@ pub(crate) fn put_hello(
     put_object(ids, &fields, out)
 }
 
-/// Appends the reply to a bye.
+/// Appends the text of the reply to a bye to `out`. Returns `Memory` if memory runs out.
 #[tactic(auto, unfolding(crate::specs::Facts::object_text))]
 pub(crate) fn put_bye(ids: &IdTable, out: &mut Vec<u8>) -> Result<(), Memory>
     ensures { Puts (object_text ids.now bye_fields) TEXT_ROOM out.old out.new result }
@@ -71,7 +71,7 @@ pub(crate) fn put_bye(ids: &IdTable, out: &mut Vec<u8>) -> Result<(), Memory>
     put_object(ids, &fields, out)
 }
 
-/// Appends the reply to a granted see.
+/// Appends the text of the reply to a granted see to `out`. Returns `Memory` if memory runs out.
 #[tactic(auto, unfolding(crate::specs::Facts::object_text))]
 pub(crate) fn put_see(ids: &IdTable, see: &See, out: &mut Vec<u8>) -> Result<(), Memory>
     requires { IsSeen ids.now see.now }
@@ -104,7 +104,7 @@ pub(crate) fn put_see(ids: &IdTable, see: &See, out: &mut Vec<u8>) -> Result<(),
     put_object(ids, &fields, out)
 }
 
-/// Appends the reply to a granted move.
+/// Appends the text of the reply to a granted move to `out`. Returns `Memory` if memory runs out.
 #[tactic(auto, unfolding(crate::specs::Facts::object_text))]
 pub(crate) fn put_move(
     ids: &IdTable,
@@ -141,7 +141,7 @@ pub(crate) fn put_move(
     put_object(ids, &fields, out)
 }
 
-/// Appends the reply to a granted close.
+/// Appends the text of the reply to a granted close to `out`. Returns `Memory` if memory runs out.
 #[tactic(auto, unfolding(crate::specs::Facts::object_text))]
 pub(crate) fn put_close(
     ids: &IdTable,
@@ -173,7 +173,7 @@ pub(crate) fn put_close(
     put_object(ids, &fields, out)
 }
 
-/// Appends the reply to a granted fault.
+/// Appends the text of the reply to a granted fault to `out`. Returns `Memory` if memory runs out.
 #[tactic(auto, unfolding(crate::specs::Facts::object_text))]
 pub(crate) fn put_fault(
     ids: &IdTable,
@@ -210,7 +210,8 @@ pub(crate) fn put_fault(
     put_object(ids, &fields, out)
 }
 
-/// Appends the reply to a granted link or cut, by its word.
+/// Appends the text of the reply to a granted link or cut to `out`. `word` is `link` or `cut`, `ends` has the two
+/// nodes, and `dropped` is how many chosen moves were dropped. Returns `Memory` if memory runs out.
 #[tactic(auto, unfolding(crate::specs::Facts::object_text))]
 pub(crate) fn put_ends(
     ids: &IdTable,
@@ -254,7 +255,7 @@ pub(crate) fn put_ends(
     put_object(ids, &fields, out)
 }
 
-/// Appends the reply to a granted release.
+/// Appends the text of the reply to a granted release to `out`. Returns `Memory` if memory runs out.
 #[tactic(auto, unfolding(crate::specs::Facts::object_text))]
 pub(crate) fn put_release(
     ids: &IdTable,
@@ -286,7 +287,8 @@ pub(crate) fn put_release(
     put_object(ids, &fields, out)
 }
 
-/// Appends a denial. That of `stale` begins with the current number.
+/// Appends the text of the reply for a denial to `out`. That of `stale` begins with the number of the current
+/// configuration. Returns `Memory` if memory runs out.
 pub(crate) fn put_denial(ids: &IdTable, denial: Denial, out: &mut Vec<u8>) -> Result<(), Memory>
     ensures puts { Puts (object_text ids.now (deny_fields denial)) TEXT_ROOM out.old out.new result }
     ensures count { HaveFittingCounts (deny_fields denial) }
@@ -300,7 +302,8 @@ pub(crate) fn put_denial(ids: &IdTable, denial: Denial, out: &mut Vec<u8>) -> Re
     }
 }
 
-// Appends a denial by its clause, its name and its text.
+// Appends the text of the reply for any denial but `stale` to `out`: its clause, its name and its sentence. Returns
+// `Memory` if memory runs out.
 #[tactic(auto, unfolding(crate::specs::Facts::object_text))]
 fn put_told(
     ids: &IdTable,
@@ -330,7 +333,8 @@ fn put_told(
     put_object(ids, &fields, out)
 }
 
-// Appends the denial `stale`, by the current number, its clause, its name and its text.
+// Appends the text of the reply for the denial `stale` to `out`: the number `at` of the current configuration, and the
+// denial's clause, name and sentence. Returns `Memory` if memory runs out.
 #[tactic(auto, unfolding(crate::specs::Facts::object_text))]
 fn put_stale(
     ids: &IdTable,
@@ -365,7 +369,7 @@ fn put_stale(
     put_object(ids, &fields, out)
 }
 
-/// Appends a refusal.
+/// Appends the text of the reply for a refusal to `out`. Returns `Memory` if memory runs out.
 #[tactic(auto, unfolding(crate::specs::Facts::object_text))]
 pub(crate) fn put_refusal(ids: &IdTable, refused: Refused, out: &mut Vec<u8>) -> Result<(), Memory>
     ensures { Puts (object_text ids.now (refuse_fields refused)) TEXT_ROOM out.old out.new result }
@@ -378,7 +382,7 @@ pub(crate) fn put_refusal(ids: &IdTable, refused: Refused, out: &mut Vec<u8>) ->
     put_object(ids, &fields, out)
 }
 
-// Returns the word of a refusal in its reply.
+// Returns the word for a refusal in its reply.
 fn refusal_name(refused: Refused) -> &'static str
     ensures text { result.now ≡ refusal_name refused }
     ensures short { length result.now ≤ 40 }

@@ -15,8 +15,8 @@ use mml_ids::{IdTable, Memory, make_room};
 use mml_lab::Roster;
 use std::alloc::Global;
 
-/// Replaces the vector's bytes by the line of a reply, with its newline. If memory runs out, the vector is left empty:
-/// `REPLY_ROOM` is enough except for a look or a report.
+/// Replaces the bytes of `out` by the line of a reply, with its newline. Allocates only for a look or a report, if
+/// `out` has a capacity of `REPLY_ROOM`. Returns `Memory`, and leaves `out` empty, if memory runs out.
 pub fn write_reply(
     _alloc: Global,
     ids: &IdTable,
@@ -41,8 +41,8 @@ pub fn write_reply(
     written
 }
 
-/// Replaces the vector's bytes by the line of a reply, or of the refusal `memory` if memory runs out. Returns the reply
-/// whose line it is.
+/// Replaces the bytes of `out` by the line of a reply, with its newline, or by the line of the refusal `memory` if
+/// memory runs out. Returns the reply whose line it is.
 pub fn tell_reply(
     alloc: Global,
     ids: &IdTable,
@@ -62,8 +62,8 @@ pub fn tell_reply(
     }
 }
 
-/// Appends the line of a reply, unless it is a look or a report, or less than `REPLY_ROOM` is free, and returns whether
-/// it did. Allocates nothing.
+/// Appends the line of a reply to `out`, unless the reply is a look or a report, or `out` has less than `REPLY_ROOM`
+/// bytes free. Returns whether it was appended. Allocates nothing.
 pub fn append_reply(ids: &IdTable, roster: &Roster, reply: &Reply, out: &mut Vec<u8>) -> bool
     requires { IsAbout ids.now roster.now reply.now }
     ensures told { length out.old.items + REPLY_ROOM ≤ vec_capacity out.old →
@@ -80,15 +80,16 @@ pub fn append_reply(ids: &IdTable, roster: &Roster, reply: &Reply, out: &mut Vec
     true
 }
 
-// Returns whether a reply's line fits into `REPLY_ROOM` bytes in each lab. A look and a report, which list nodes,
-// don't.
+// Returns whether the line of a reply fits `REPLY_ROOM` bytes in every lab. The lines of a look and of a report, which
+// list nodes, may not.
 fn is_short(reply: &Reply) -> bool
     ensures { result ≡ is_short reply.now }
 {
     !matches!(reply, Reply::Look(_) | Reply::Report(_))
 }
 
-// Replaces the vector's bytes by the line of the refusal `memory`, and returns that refusal.
+// Replaces the bytes of `out` by the line of the refusal `memory`, which says that memory ran out. Returns that
+// refusal.
 fn tell_want_of_memory(alloc: Global, ids: &IdTable, roster: &Roster, out: &mut Vec<u8>) -> Reply
     requires room { REPLY_ROOM ≤ vec_capacity out.old }
     ensures told { result ≡ Reply.Refuse Refused.Memory }
@@ -100,7 +101,7 @@ fn tell_want_of_memory(alloc: Global, ids: &IdTable, roster: &Roster, out: &mut 
     told
 }
 
-// Appends the line of a reply, with its newline.
+// Appends the line of a reply, with its newline to `out`. Returns `Memory` if memory runs out.
 fn put_line(ids: &IdTable, roster: &Roster, reply: &Reply, out: &mut Vec<u8>) -> Result<(), Memory>
     requires { IsAbout ids.now roster.now reply.now }
     ensures line { OnOk result
@@ -119,7 +120,7 @@ fn put_line(ids: &IdTable, roster: &Roster, reply: &Reply, out: &mut Vec<u8>) ->
     put_end(out)
 }
 
-// Appends a newline.
+// Appends a newline to `out`. Returns `Memory` if memory runs out.
 fn put_end(out: &mut Vec<u8>) -> Result<(), Memory>
     ensures { Puts (10 ∷ []) 1 out.old out.new result }
 {
@@ -128,7 +129,7 @@ fn put_end(out: &mut Vec<u8>) -> Result<(), Memory>
     Ok(())
 }
 
-// Appends the text of a reply, without its newline.
+// Appends the text of a reply, without its newline to `out`. Returns `Memory` if memory runs out.
 fn put_text(ids: &IdTable, roster: &Roster, reply: &Reply, out: &mut Vec<u8>) -> Result<(), Memory>
     requires { IsAbout ids.now roster.now reply.now }
     ensures text { OnOk result

@@ -7,7 +7,7 @@ use mml_ids::Word;
 use mml_policy::Command;
 use std::alloc::AllocError;
 
-/// A request, as one line asks it.
+/// What one line of a client asks.
 #[derive(Debug, Drop)]
 pub enum Request {
     /// Asks that the connection is known as the participant with this name and key.
@@ -28,7 +28,7 @@ pub enum LineFault {
 }
 
 impl LineFault {
-    /// Returns the refusal of a line from which no request was read, under the same name.
+    /// Returns the refusal that answers a line from which no request was read.
     pub fn refusal(self) -> Refused
         ensures { result ≡ refusal_of self }
     {

@@ -13,8 +13,7 @@ use mml_plain::{Fields, LineScratch, read_fields};
 use mml_policy::{Asked, Command};
 use std::alloc::Global;
 
-/// Returns the request of a line, without its newline. Returns `Malformed` if the line is no request, and `Memory` if
-/// memory runs out.
+/// Reads a line, without its newline, as a request. Returns `Malformed` if it is none, and `Memory` if memory runs out.
 pub fn read_request(alloc: Global, line: &[u8]) -> Result<Request, LineFault>
     ensures { Gives is_line_memory (λ r. r) result (request_in line.now) }
 {
@@ -22,8 +21,9 @@ pub fn read_request(alloc: Global, line: &[u8]) -> Result<Request, LineFault>
     read_request_with(alloc, line, &mut scratch)
 }
 
-/// Returns the request of a line, without its newline. Returns `Malformed` if the line is no request, and `Memory` if
-/// memory runs out. Only a hello allocates, and a line for which `scratch`, kept from line to line, has no room.
+/// Reads a line, without its newline, as a request. Returns `Malformed` if it is none, and `Memory` if memory runs out.
+/// `scratch` is working memory that is kept from line to line. Only a hello allocates, and a line for which `scratch`
+/// has no room.
 pub fn read_request_with(
     alloc: Global,
     line: &[u8],
@@ -41,8 +41,8 @@ pub fn read_request_with(
     }
 }
 
-// Returns the request that the fields of a line ask, by the word of the key `do`. Returns `Malformed` if they ask none.
-// Only a hello allocates.
+// Returns the request that the fields of a line ask: the key `do` has its word, and the other keys its values. Returns
+// `Malformed` if they ask none, and `Memory` if memory runs out. Only a hello allocates.
 #[tactic(auto, unfolding(crate::specs::Requests::request, crate::specs::Requests::by_word))]
 fn request(alloc: Global, fields: &Fields<'_>) -> Result<Request, LineFault>
     ensures { Reads request fields.now result }
@@ -64,8 +64,8 @@ fn request(alloc: Global, fields: &Fields<'_>) -> Result<Request, LineFault>
     request.ok_or(LineFault::Malformed)
 }
 
-// Returns the hello that the fields ask, with copies of its name and key. Returns `Malformed` if one of the two is
-// missing, and `Memory` if memory runs out.
+// Returns the hello with copies of the name and the key in the fields. Returns `Malformed` if one of them is missing,
+// and `Memory` if memory runs out.
 #[tactic(auto, unfolding(crate::specs::Requests::hello_of))]
 fn hello_of(alloc: Global, fields: &Fields<'_>) -> Result<Request, LineFault>
     ensures { Reads hello_of fields.now result }
@@ -78,7 +78,7 @@ fn hello_of(alloc: Global, fields: &Fields<'_>) -> Result<Request, LineFault>
     })
 }
 
-// Returns the see that the fields ask, if it has a node.
+// Returns the see of the node in the fields, or `None` if the node is missing.
 fn see_of(fields: &Fields<'_>) -> Option<Request>
     ensures { (d : Data) → Holds fields.now d → result ≡ node_of command.See d }
 {
@@ -86,7 +86,7 @@ fn see_of(fields: &Fields<'_>) -> Option<Request>
     Some(Request::Do(Command::See { node }))
 }
 
-// Returns the look that the fields ask, if it has a node.
+// Returns the look at the node in the fields, or `None` if the node is missing.
 fn look_of(fields: &Fields<'_>) -> Option<Request>
     ensures { (d : Data) → Holds fields.now d → result ≡ node_of command.Look d }
 {
@@ -94,7 +94,7 @@ fn look_of(fields: &Fields<'_>) -> Option<Request>
     Some(Request::Do(Command::Look { node }))
 }
 
-// Returns the link that the fields ask, if it has both nodes.
+// Returns the link of the nodes `a` and `b` in the fields, or `None` if one of them is missing.
 fn link_of(fields: &Fields<'_>) -> Option<Request>
     ensures { (d : Data) → Holds fields.now d → result ≡ ends_of command.Link d }
 {
@@ -103,7 +103,7 @@ fn link_of(fields: &Fields<'_>) -> Option<Request>
     Some(Request::Do(Command::Link { a, b }))
 }
 
-// Returns the cut that the fields ask, if it has both nodes.
+// Returns the cut of the nodes `a` and `b` in the fields, or `None` if one of them is missing.
 fn cut_of(fields: &Fields<'_>) -> Option<Request>
     ensures { (d : Data) → Holds fields.now d → result ≡ ends_of command.Cut d }
 {
@@ -112,7 +112,7 @@ fn cut_of(fields: &Fields<'_>) -> Option<Request>
     Some(Request::Do(Command::Cut { a, b }))
 }
 
-// Returns the release that the fields ask, if it has a node.
+// Returns the release of the node in the fields, or `None` if the node is missing.
 fn release_of(fields: &Fields<'_>) -> Option<Request>
     ensures { (d : Data) → Holds fields.now d → result ≡ node_of command.Release d }
 {
@@ -120,8 +120,8 @@ fn release_of(fields: &Fields<'_>) -> Option<Request>
     Some(Request::Do(Command::Release { node }))
 }
 
-// Returns the move that the fields ask, if it has a node, the number of a configuration and the word of one of the four
-// rules, and for a marriage the partner.
+// Returns the move that the fields ask. Returns `None` if the node or the number of a configuration is missing, if the
+// rule isn't one of the four, or if a marriage has no partner.
 #[tactic(auto, unfolding(crate::specs::Requests::move_of, crate::specs::Requests::asked_at))]
 fn move_of(fields: &Fields<'_>) -> Option<Request>
     ensures { (d : Data) → Holds fields.now d → result ≡ move_of d }
@@ -138,7 +138,7 @@ fn move_of(fields: &Fields<'_>) -> Option<Request>
     Some(Request::Do(Command::Move { node, rule, at }))
 }
 
-// Returns the fault that the fields ask, if it has a node and both registers.
+// Returns the fault that the fields ask, or `None` if the node or one of the two registers is missing.
 #[tactic(auto, unfolding(crate::specs::Requests::fault_of))]
 fn fault_of(fields: &Fields<'_>) -> Option<Request>
     ensures { (d : Data) → Holds fields.now d → result ≡ fault_of d }

@@ -9,8 +9,8 @@ use mml_policy::Ruling;
 use mml_stable::report;
 use std::alloc::Global;
 
-/// Returns the reply to a command that was judged. The board is that after the event, if one happened. Only a report
-/// allocates. Returns `Memory` if memory runs out.
+/// Returns the reply for the ruling on a command. If the ruling grants an event, `board` is the board after it. Only a
+/// report allocates. Returns `Memory` if memory runs out.
 pub fn reply_of(alloc: Global, board: &Board, ruling: Ruling) -> Result<Reply, Memory>
     ensures reply { IfOk result (λ r. r ≡ reply_of board.now ruling) }
     ensures memory { OnErr result (ruling ≡ rulings.Reported) }
@@ -26,8 +26,8 @@ pub fn reply_of(alloc: Global, board: &Board, ruling: Ruling) -> Result<Reply, M
     }
 }
 
-/// Returns the reply to a command whose event happened: `at` is the configuration's number after the event, `place` the
-/// event's place.
+/// Returns the reply for an event that happened, with the effect `done`. `at` is the number of the configuration after
+/// the event, and `place` is the event's place.
 pub fn reply_of_done(at: u64, place: u64, done: Done) -> Reply
     ensures { result ≡ reply_of_done at place done }
 {

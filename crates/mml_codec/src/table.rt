@@ -9,7 +9,8 @@ use mml_ids::{IdTable, Memory, make_room, taken, with_text};
 /// Enough bytes for the text of each reply but a look and a report.
 pub(crate) const TEXT_ROOM: usize = 2000;
 
-/// Fields in a static table. Text, greatest length and facts follow from it.
+/// Fields of a reply, as a type that is built of rows. The text of the fields and the most bytes of it follow from the
+/// type.
 pub(crate) trait Table {
     // The fields name nodes that have identifiers.
     ghost names: { List ℕ → Self → Type 0 };
@@ -21,7 +22,7 @@ pub(crate) trait Table {
     // The most bytes of the fields.
     ghost most: { Self → ℕ };
 
-    // Returns the line with the fields appended. `first` stands before the first field.
+    // Returns the line with the text of the fields appended, after the text `first`. The line must have room for both.
     fn with_fields(&self, line: Vec<u8>, ids: &IdTable, first: &str) -> Vec<u8>
         requires names { names ids.now self.now }
         requires room { length line.items + (length first.now + most self.now) ≤ vec_capacity line }
@@ -32,7 +33,7 @@ pub(crate) trait Table {
             length line.items + (length first.now + most self.now) };
 }
 
-/// A key with what it holds, before the other fields.
+/// A key with its value, and the fields after it.
 #[derive(Clone, Copy)]
 pub(crate) struct Row<V, T> {
     pub(crate) key: &'static str,
@@ -48,6 +49,7 @@ impl<V: Told, T: Table> Table for Row<V, T> {
 
     ghost most = { λ r. 4 + (length r.key.now + (V.most r.value + T.most r.rest)) };
 
+    // Returns the line with `first`, the quoted key, a colon, the value and the fields after it appended.
     #[inline(always)]
     fn with_fields(&self, line: Vec<u8>, ids: &IdTable, first: &str) -> Vec<u8> {
         let line = with_text(line, first);
@@ -70,13 +72,14 @@ impl Table for End {
 
     ghost most = { λ _. 1 };
 
+    // Returns the line with the closing brace appended.
     #[inline(always)]
     fn with_fields(&self, line: Vec<u8>, _ids: &IdTable, _first: &str) -> Vec<u8> {
         with_text(line, "}")
     }
 }
 
-/// Appends the object with these fields.
+/// Appends the text of an object with these fields to `out`. Returns `Memory` if memory runs out.
 #[inline(always)]
 pub(crate) fn put_object<T: Table>(
     ids: &IdTable,

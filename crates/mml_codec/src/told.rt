@@ -9,21 +9,21 @@ use crate::listed::with_comma;
 use mml_ids::{IdTable, NodeSet, Rank, with_number, with_short_number, with_text};
 use mml_rules::Kind;
 
-/// What a key of a reply holds, if its text has a greatest length.
+/// The value of a key in a reply, if its text has a greatest length.
 pub(crate) trait Told {
-    // The fact that it is.
+    // The value, as the definitions name it.
     ghost fact: { Self → Fact };
 
-    // It names nodes that have identifiers.
+    // The nodes that the value names have identifiers.
     ghost names: { List ℕ → Self → Type 0 };
 
-    // Its text, in a lab with these identifiers.
+    // The value's text, in a lab with these identifiers.
     ghost text: { List ℕ → Self → List ℕ };
 
-    // The most bytes of its text.
+    // The most bytes of the value's text.
     ghost most: { Self → ℕ };
 
-    // Returns the line with the text appended.
+    // Returns the line with the value's text appended. The line must have room for it.
     fn with_told(&self, line: Vec<u8>, ids: &IdTable) -> Vec<u8>
         requires names { names ids.now self.now }
         requires room { length line.items + most self.now ≤ vec_capacity line }
@@ -31,7 +31,7 @@ pub(crate) trait Told {
         ensures capacity { vec_capacity result ≡ vec_capacity line }
         ensures grows { length result.items ≤ length line.items + most self.now };
 
-    // The text is that of the fact.
+    // The text is that which the definitions have for the value.
     ghost tells: { (ids : List ℕ) (told : Self) (rest : List ℕ) →
         fact_then ids (fact told) rest ≡ text ids told ++ rest };
 }
@@ -46,6 +46,7 @@ impl Told for u64 {
 
     ghost most = { λ _. 20 };
 
+    // Returns the line with the number appended in decimal.
     #[inline(always)]
     fn with_told(&self, line: Vec<u8>, _ids: &IdTable) -> Vec<u8> {
         with_number(line, *self)
@@ -64,6 +65,7 @@ impl Told for u16 {
 
     ghost most = { λ _. 5 };
 
+    // Returns the line with the number of nodes appended in decimal.
     #[inline(always)]
     fn with_told(&self, line: Vec<u8>, _ids: &IdTable) -> Vec<u8> {
         with_short_number(line, u64::from(*self))
@@ -82,6 +84,7 @@ impl Told for u8 {
 
     ghost most = { λ _. 5 };
 
+    // Returns the line with the number of a clause appended in decimal.
     #[inline(always)]
     fn with_told(&self, line: Vec<u8>, _ids: &IdTable) -> Vec<u8> {
         with_short_number(line, u64::from(*self))
@@ -103,6 +106,7 @@ impl<'a> Told for Word<'a> {
 
     ghost most = { λ w. 2 + length w.0.now };
 
+    // Returns the line with the word appended in quotation marks.
     #[inline(always)]
     fn with_told(&self, line: Vec<u8>, _ids: &IdTable) -> Vec<u8> {
         let line = with_text(line, "\"");
@@ -123,6 +127,7 @@ impl Told for bool {
 
     ghost most = { λ _. 5 };
 
+    // Returns the line with `true` or `false` appended.
     #[inline(always)]
     fn with_told(&self, line: Vec<u8>, _ids: &IdTable) -> Vec<u8> {
         if *self {
@@ -145,6 +150,7 @@ impl Told for Rank {
 
     ghost most = { λ _. 5 };
 
+    // Returns the line with the node's identifier appended.
     #[inline(always)]
     fn with_told(&self, line: Vec<u8>, ids: &IdTable) -> Vec<u8> {
         with_node(line, ids, *self)
@@ -163,6 +169,7 @@ impl Told for Option<Rank> {
 
     ghost most = { λ _. 5 };
 
+    // Returns the line with the identifier of the node that a register points at appended, or `null`.
     #[inline(always)]
     fn with_told(&self, line: Vec<u8>, ids: &IdTable) -> Vec<u8> {
         match *self {
@@ -184,6 +191,7 @@ impl Told for Kind {
 
     ghost most = { λ _. 13 };
 
+    // Returns the line with the rule's word appended in quotation marks.
     #[inline(always)]
     fn with_told(&self, line: Vec<u8>, _ids: &IdTable) -> Vec<u8> {
         with_kind(line, *self)
@@ -202,6 +210,7 @@ impl Told for Option<Kind> {
 
     ghost most = { λ _. 13 };
 
+    // Returns the line with the rule's word appended in quotation marks, or `null` if there is no rule.
     #[inline(always)]
     fn with_told(&self, line: Vec<u8>, _ids: &IdTable) -> Vec<u8> {
         match *self {
@@ -223,6 +232,7 @@ impl Told for NodeSet {
 
     ghost most = { λ _. 1538 };
 
+    // Returns the line with the identifiers of the set's nodes appended, as an array in rising order.
     #[inline(always)]
     fn with_told(&self, line: Vec<u8>, ids: &IdTable) -> Vec<u8> {
         let line = with_text(line, "[");
@@ -233,7 +243,8 @@ impl Told for NodeSet {
     ghost tells = { λ ids s rest. bracketed_tells (map (node_text ids) (members (length ids) s)) rest };
 }
 
-// Returns the text with the identifiers of a set's nodes appended, rising, with commas between: at most 256 of 6 bytes.
+// Returns the text with the identifiers of the nodes in `moved` appended, in rising order, with commas between them.
+// There are at most 256, each of at most 6 bytes with its comma.
 #[inline(always)]
 fn with_members(text: Vec<u8>, ids: &IdTable, moved: NodeSet) -> Vec<u8>
     requires room { length text.items + 1536 ≤ vec_capacity text }
@@ -254,7 +265,7 @@ fn with_members(text: Vec<u8>, ids: &IdTable, moved: NodeSet) -> Vec<u8>
     line
 }
 
-/// Returns the text with the identifier of a node appended.
+/// Returns the text with the identifier of a node appended. The text must have room for 5 more bytes.
 #[inline(always)]
 pub(crate) fn with_node(text: Vec<u8>, ids: &IdTable, node: Rank) -> Vec<u8>
     requires node { node < length ids.now }
@@ -266,7 +277,8 @@ pub(crate) fn with_node(text: Vec<u8>, ids: &IdTable, node: Rank) -> Vec<u8>
     with_short_number(text, ids.id_of(node))
 }
 
-/// Returns the text with the quoted word of a kind of rule appended.
+/// Returns the text with the word for a kind of rule appended, in quotation marks. The text must have room for 13 more
+/// bytes.
 #[inline(always)]
 pub(crate) fn with_kind(text: Vec<u8>, kind: Kind) -> Vec<u8>
     requires room { length text.items + 13 ≤ vec_capacity text }

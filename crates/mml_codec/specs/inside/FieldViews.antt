@@ -8,7 +8,7 @@ use Rattle.mml_codec.specs.declared.object.Field as TheField
 use Rattle.mml_codec.specs.declared.object.Field.TheVariants as fields
 use Rattle.mml_codec.specs.Fields.{Field, number, word, text, truth, null, value_of}
 
--- what a field of the code stands for
+-- the value of a key as the definitions have it
 abbrev pub field_view : TheField.Field → Field
 field_view (fields.Number n) = number n
 field_view (fields.Word w) = word w.now

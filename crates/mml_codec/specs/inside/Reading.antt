@@ -9,7 +9,7 @@ use Rattle.mml_codec.specs.declared.request.LineFault.TheVariants as fault
 use Rattle.mml_codec.specs.declared.request.Request.{Request}
 use Rattle.mml_codec.specs.Lines.{is_line_memory, is_hello}
 
--- the request is what is asked, if anything is; memory runs out for a hello alone
+-- the result is the request that is asked, or `Malformed` if none is; memory runs out only for a hello
 pub record Reads (asked : Data → Option Request) (f : Fields) (r : Result Request LineFault) : Type 0 where
   pub request : (d : Data) → Holds f d → Gives is_line_memory (λ r. r) r (ok_or (asked d) fault.Malformed)
   pub memory : r ≡ Err fault.Memory → (d : Data) → Holds f d → is_hello (ok_or (asked d) fault.Malformed) ≡ true

@@ -3,7 +3,7 @@ use Rattle.std.specs.Prelude.{◌≡◌, ℕ, ◌++◌, List, codes}
 use Rattle.std.proofs.Common.{ap, sym, append_assoc}
 use Rattle.mml_codec.specs.Facts.{separated, list_then}
 
--- the word in quotes
+-- the word in quotation marks
 abbrev pub quoted : List ℕ → List ℕ
 quoted w = codes "\"" ++ (w ++ codes "\"")
 
