@@ -11,7 +11,7 @@ use mml_rules::Kind;
 use std::alloc::Global;
 use std::slice;
 
-/// A line that a session answered.
+/// A line of a client that was answered, as far as the tally counts it.
 #[derive(Clone, Copy, Debug)]
 pub struct Ask {
     /// The student who was known when the line came, if one was.
@@ -20,7 +20,7 @@ pub struct Ask {
     pub line: Line,
     /// The number of the clause that denied the line, if one did.
     pub denied: Option<u8>,
-    /// The denial of the line, if it was denied, and a student who is known can get that denial.
+    /// The denial of the line, if it was denied by one that a known student can get.
     pub named: Option<StudentDenial>,
     /// Why the line was refused, if it was. A line that is no request is refused for no such reason.
     pub refused: Option<Refusal>,
@@ -47,7 +47,7 @@ pub struct Denials {
     pub malformed: u64,
 }
 
-/// Appends a copy of an ask to `asks`. Returns `Memory` if memory runs out.
+/// Appends a copy of a line to `asks`. Returns `Memory` if memory runs out.
 pub fn push_ask(asks: &mut Vec<Ask>, ask: &Ask) -> Result<(), Memory>
     ensures { OnOk result (asks.new.items ≡ asks.old.items ++ (ask.now ∷ [])) }
 {
@@ -56,7 +56,7 @@ pub fn push_ask(asks: &mut Vec<Ask>, ask: &Ask) -> Result<(), Memory>
     Ok(())
 }
 
-/// Returns the lines that came while the student was known, in order. Returns `Memory` if memory runs out.
+/// Returns the lines that a student sent, in order. Returns `Memory` if memory runs out.
 pub(crate) fn asks_by(alloc: Global, asks: &[Ask], student: Student) -> Result<Vec<Ask>, Memory>
     ensures { IfOk result (λ own. own.items ≡ asks_by student asks.now) }
 {
@@ -67,15 +67,16 @@ pub(crate) fn asks_by(alloc: Global, asks: &[Ask], student: Student) -> Result<V
     Ok(own.collect(alloc)?)
 }
 
-/// Returns whether a line came while this student was known. `who` is the student who was known, or `None` if none was.
+/// Returns whether a line was sent by this student. `who` is the student who was known when the line came, or `None` if
+/// none was.
 fn is_student(student: Student, who: Option<Student>) -> bool
     ensures { result ≡ is_student student who }
 {
     who == Some(student)
 }
 
-/// Returns how many of a student's lines each clause denied, and how many were no request. Returns `Memory` if memory
-/// runs out.
+/// Returns how many of a student's lines each clause denied, and how many were no request. `asks` has the lines of
+/// everybody. Returns `Memory` if memory runs out.
 pub fn denials_of(alloc: Global, asks: &[Ask], student: Student) -> Result<Denials, Memory>
     ensures { IfOk result (λ denied. denied ≡ denials_of asks.now student) }
 {
@@ -83,8 +84,8 @@ pub fn denials_of(alloc: Global, asks: &[Ask], student: Student) -> Result<Denia
     Ok(denials_in(&own))
 }
 
-/// Returns how many moves of each rule a student asked for at the node with this identifier. Returns `Memory` if memory
-/// runs out.
+/// Returns how many moves of each rule a student asked for at the node with the identifier `node`. `asks` has the lines
+/// of everybody. Returns `Memory` if memory runs out.
 pub fn moves_asked_by(
     alloc: Global,
     asks: &[Ask],
@@ -110,7 +111,7 @@ fn denials_in(own: &[Ask]) -> Denials
     }
 }
 
-/// Returns how many of the lines the clause with this number denied.
+/// Returns how many of the lines were denied by the clause with this number.
 fn count_clause(own: &[Ask], clause: u8) -> u64
     ensures { result ≡ count_by (λ a. is_clause clause a.denied) own.now }
 {
@@ -134,7 +135,7 @@ fn count_malformed(own: &[Ask]) -> u64
     own.iter().filter(|ask| is_malformed(ask.line)).count() as u64
 }
 
-/// Returns whether the line is no request.
+/// Returns whether a line was no request.
 fn is_malformed(line: Line) -> bool
     ensures { result ≡ is_malformed line }
 {
@@ -144,7 +145,7 @@ fn is_malformed(line: Line) -> bool
     }
 }
 
-/// Returns how many of a student's lines asked for a move of each rule at the node with this identifier.
+/// Returns how many of a student's lines, `own`, asked for a move of each rule at the node with the identifier `node`.
 fn moves_asked(node: u64, own: &[Ask]) -> ByRule
     ensures { result ≡ moves_asked node own.now }
 {
@@ -156,7 +157,7 @@ fn moves_asked(node: u64, own: &[Ask]) -> ByRule
     }
 }
 
-/// Returns how many of the lines asked for a move of this rule at the node with this identifier.
+/// Returns how many of the lines asked for a move of this rule at the node with the identifier `node`.
 fn count_moves(node: u64, kind: Kind, own: &[Ask]) -> u64
     ensures { result ≡ count_by (λ a. is_move node kind a.line) own.now }
 {
@@ -165,7 +166,7 @@ fn count_moves(node: u64, kind: Kind, own: &[Ask]) -> u64
         .count() as u64
 }
 
-/// Returns whether the line asks for a move of this rule at the node with this identifier.
+/// Returns whether a line asked for a move of this rule at the node with the identifier `node`.
 fn is_move(node: u64, kind: Kind, line: Line) -> bool
     ensures { result ≡ is_move node kind line }
 {

@@ -8,7 +8,7 @@ use mml_board::Board;
 use mml_lab::link_count;
 use mml_rules::Scene;
 
-/// The most that a run takes if no fault, link or cut comes.
+/// The most moves, rounds and events of a run in which no fault, link or cut comes.
 #[derive(Clone, Copy, Debug, PartialEq, Eq)]
 pub struct Bounds {
     /// The moves that closes apply.
@@ -19,15 +19,15 @@ pub struct Bounds {
     pub events: u64,
 }
 
-/// Returns the most moves, rounds and events that a run takes from the world of a board until no node is privileged, if
-/// no fault, link or cut comes.
+/// Returns the most moves, rounds and events that may come from the world of a board on, until no node is privileged,
+/// if no fault, link or cut comes.
 pub fn bounds_of(board: &Board) -> Bounds
     ensures { result ≡ bounds_of board.now }
 {
     bounds_for(board.size(), link_count(board.network()))
 }
 
-/// Returns the most moves, rounds and events that a run takes on `nodes` nodes with `links` links until no node is
+/// Returns the most moves, rounds and events that may come on `nodes` nodes with `links` links, until no node is
 /// privileged, if no fault, link or cut comes.
 fn bounds_for(nodes: u64, links: u64) -> Bounds
     requires { nodes ≤ MAX_NODES }
@@ -41,7 +41,8 @@ fn bounds_for(nodes: u64, links: u64) -> Bounds
     }
 }
 
-/// Returns the most courtships, pointers at a higher node that may still marry, among n nodes: n²/4, rounded down.
+/// Returns the most courtships that `nodes` unmarried nodes may have: n²/4 for n nodes, rounded down. A courtship is a
+/// pointer at a higher node that may still marry.
 fn most_courtships(nodes: u64) -> u64
     requires { nodes ≤ MAX_NODES }
     ensures exact { result ≡ most_courtships nodes }
@@ -51,7 +52,8 @@ fn most_courtships(nodes: u64) -> u64
     half * (nodes - half)
 }
 
-/// Returns the most rounds of a run on n nodes: 2n, or 2n - 1 if n is odd.
+/// Returns the most rounds that a run on `nodes` nodes needs until no node is privileged: 2n for n nodes, or 2n - 1 if
+/// n is odd.
 fn rounds_for(nodes: u64) -> u64
     requires { nodes ≤ MAX_NODES }
     ensures { result ≡ rounds_for nodes }

@@ -17,7 +17,8 @@ pub enum Fate {
     Chosen,
 }
 
-/// Returns what the event at a place does to the move that is chosen at a node, or `None` if the move stays chosen.
+/// Returns what an event does to the move that is chosen at a node, or `None` if the move stays chosen. `place` is the
+/// event's place.
 pub fn ended_by(node: Rank, place: u64, event: &Event) -> Option<Fate>
     ensures { result ≡ ended_by node place event.now }
 {
@@ -35,8 +36,8 @@ pub fn ended_by(node: Rank, place: u64, event: &Event) -> Option<Fate>
     }
 }
 
-/// Returns what happens to the move that is chosen at a node. `later` has the events after the move's grant, of which
-/// the first has the place `place`. Returns `Chosen` if no event ends the move.
+/// Returns what happens to a move that was granted at a node, or `Chosen` if no event ends it. `later` has the events
+/// after its grant, and `place` is the place of the first of them.
 pub fn fate_of(node: Rank, place: u64, later: &[Event]) -> Fate
     requires { place + length later.now < 2 ^ 64 }
     ensures { result ≡ fate_of node place later.now }

@@ -23,7 +23,8 @@ pub struct Move {
     pub fate: Fate,
 }
 
-/// Returns the moves that a list of events grants, in order, each with what happened to it.
+/// Returns the moves that a run's events grant, in order, each with what happened to it. Returns `Memory` if memory
+/// runs out.
 pub fn moves_of(alloc: Global, events: &[Event]) -> Result<Vec<Move>, Memory>
     ensures { IfOk result (λ all. all.items ≡ moves events.now) }
 {

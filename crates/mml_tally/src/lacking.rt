@@ -8,7 +8,7 @@ use mml_ids::{Memory, Piece, Rank, put};
 use mml_lab::{Lab, Roster, Student, Who};
 
 impl Findings {
-    /// Returns whether lines may be missing because recording paused while `who` was known.
+    /// Returns whether lines of `who` may be missing in the record because recording paused while `who` was known.
     pub fn lacks(&self, who: Who) -> bool
         requires { IsCounted who }
         ensures { result ≡ lacks self.now who }
@@ -19,8 +19,8 @@ impl Findings {
         }
     }
 
-    /// Returns whether all lines of `who` are recorded: no entry says that anything may be missing, or that recording
-    /// paused while `who` was known.
+    /// Returns whether the record has all lines of `who`: no entry says that lines of anybody may be missing, or that
+    /// recording paused while `who` was known.
     pub fn has_all_of(&self, who: Who) -> bool
         requires { IsCounted who }
         ensures { result ≡ has_all_of self.now who }
@@ -29,8 +29,8 @@ impl Findings {
     }
 }
 
-/// Appends the line of those whose lines are all recorded: `whole`, and each name, first the teacher's and then those
-/// of students in the lab's order.
+/// Appends the tally's line of the participants whose lines are all in the record: the word `whole`, and then their
+/// names, first the teacher's and then the students' in the lab's order. Returns `Memory` if memory runs out.
 pub fn put_recorded(out: &mut Vec<u8>, lab: &Lab, findings: &Findings) -> Result<(), Memory>
     ensures { OnOk result
         (out.new.items ≡ out.old.items ++ recorded_line lab.now findings.now) }
@@ -41,7 +41,8 @@ pub fn put_recorded(out: &mut Vec<u8>, lab: &Lab, findings: &Findings) -> Result
     put(out, &[Piece::Text("\n")])
 }
 
-/// Appends the names of the students whose lines are all recorded, in the lab's order, each with a space before it.
+/// Appends the names of the students whose lines are all in the record, in the lab's order, each after a space. Returns
+/// `Memory` if memory runs out.
 fn put_students(out: &mut Vec<u8>, lab: &Lab, findings: &Findings) -> Result<(), Memory>
     ensures { OnOk result (out.new.items ≡ out.old.items
         ++ whole_names lab.now.roster findings.now (length lab.now.roster.students)) }
@@ -54,7 +55,7 @@ fn put_students(out: &mut Vec<u8>, lab: &Lab, findings: &Findings) -> Result<(),
     Ok(())
 }
 
-/// Appends the name of `who`, with a space before it, if all lines of `who` are recorded.
+/// Appends the name of `who`, after a space, if the record has all lines of `who`. Returns `Memory` if memory runs out.
 fn put_if_whole(
     out: &mut Vec<u8>,
     roster: &Roster,

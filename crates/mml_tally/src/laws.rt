@@ -25,15 +25,15 @@ ghost use Rattle.mml_tally.specs.StudentDenials.{named_of, AreNamed, AreSums};
 ghost use Rattle.mml_tally.specs.AskMeaning.{asks_of_others, is_denied, total_denied, AreAsksOf, asked_under};
 ghost use Rattle.mml_tally.specs.Meaning.{IsNextClose, total, is_released, is_dropped, is_left, asked_as};
 
-/// A grant at i is applied by the close at place p exactly if no release of i, close, fault, link or cut comes between.
-/// The events are those after the grant, and the first of them has place q.
+/// A move that is granted at node i is applied by the close at place p exactly if no release of i, no close, fault,
+/// link or cut comes between. The law is about the events after the grant, of which the first has place q.
 pub fn moves_are_applied_by_the_next_close()
     ensures { (i q p : ℕ) (es : List Event) →
         (fate_of i q es ≡ Fate.Applied p) ↔ IsNextClose i q p es }
 {}
 
-/// The applied moves of all students together are as many as the closes of a legal list of a lab's events apply, and so
-/// are the moves in the line of the run.
+/// The applied moves of all students together are as many as the closes of the lab's events apply, if the list of
+/// events is legal. The tally's line of the run has the same number.
 pub fn students_apply_all_moves()
     ensures students { (lab : LabValue) (es : List Event) → IsLab lab →
         is_legal_list lab.roster (opening_of lab.network) es ≡ true →
@@ -44,8 +44,8 @@ pub fn students_apply_all_moves()
         (run_of es).moves ≡ applied_over (opening_of lab.network) es }
 {}
 
-/// The line of a run never has more moves since the last fault, link or cut than the line of the most that may follow
-/// has moves. If it has as many, no node is privileged.
+/// The tally's line `run` never has more moves since the last fault, link or cut than its line `bounds` has moves. If
+/// it has as many, no node is privileged.
 pub fn moves_since_are_within_the_most()
     ensures within { (lab : LabValue) (es : List Event) → IsLab lab →
         is_legal_list lab.roster (opening_of lab.network) es ≡ true →
@@ -56,8 +56,8 @@ pub fn moves_since_are_within_the_most()
         IsStable (configuration (world_of (opening_of lab.network) es)) }
 {}
 
-/// The line of the rounds since the last fault, link or cut never has more of them than the line of the most that may
-/// follow. If it has as many, no node is privileged.
+/// The rounds since the last fault, link or cut are never more than the rounds in the tally's line `bounds`. If they
+/// are as many, no node is privileged.
 pub fn rounds_since_are_within_the_most()
     ensures within { (lab : LabValue) (es : List Event) → IsLab lab →
         is_legal_list lab.roster (opening_of lab.network) es ≡ true →
@@ -70,8 +70,8 @@ pub fn rounds_since_are_within_the_most()
         IsStable (configuration (world_of (opening_of lab.network) es)) }
 {}
 
-/// The events of any list have as many rounds, one after another, as are counted in it. A legal list of grants,
-/// releases and closes that ends with a privileged node has no more.
+/// Any list of events begins with as many rounds, one after another, as `rounds_in` counts in it. A legal list of
+/// grants, releases and closes that ends with a privileged node has no more.
 pub fn as_many_rounds_are_counted_as_there_are()
     ensures there { (w : World) (es : List Event) → Rounds (rounds_in w es) w es }
     ensures most { (r : RosterValue) (w : World) (es : List Event) (k : ℕ) → IsWorld w →
@@ -79,8 +79,7 @@ pub fn as_many_rounds_are_counted_as_there_are()
         ¬ IsStable (configuration (world_of w es)) → k ≤ rounds_in w es }
 {}
 
-/// A run leads through as many configurations as it has closes, faults, links and cuts: the number of the configuration
-/// grows by this many.
+/// Over a run, the number of the configuration grows by the closes, faults, links and cuts that the tally counts.
 pub fn changes_of_a_run_are_its_configurations()
     ensures { (w : World) (es : List Event) → (world_of w es).number ≡ w.number
         + ((run_of es).closes + (run_of es).faults + (run_of es).links + (run_of es).cuts) }
@@ -95,21 +94,21 @@ pub fn granted_moves_have_one_fate()
         + count_by is_left (moves_by s (moves es)) }
 {}
 
-/// A student to whom no close is counted has no applied move: so a lone close that applied one isn't missed, not even
-/// if it is the last event.
+/// A student for whom the tally counts no close has no applied move. So no close that applied a move of the student's
+/// is missed, not even if it is the last event.
 pub fn who_has_no_close_has_no_applied_move()
     ensures { (r : RosterValue) (es : List Event) (s : ℕ) →
         (marks_of r es s).closes ≡ 0 → total (marks_of r es s).applied ≡ 0 }
 {}
 
-/// A student's marks don't change if the other students have other names, or several of them become one.
+/// The counts of a student's moves don't change if the other students get other names, or several of them become one.
 pub fn marks_depend_on_no_other_name()
     ensures { (r : RosterValue) (es : List Event) (s : ℕ) (f : ℕ → ℕ) →
         ((t : ℕ) → (f t ≡ s) ↔ (t ≡ s)) → marks_of r (map (asked_as f) es) s ≡ marks_of r es s }
 {}
 
-/// Each line that was denied, and each that was no request, is counted for one student, or came while the teacher was
-/// known, or nobody.
+/// Each line that was denied, and each that was no request, is counted for exactly one student, or was sent by the
+/// teacher or by nobody who was known.
 pub fn denials_are_of_one_student()
     ensures denied { (n : ℕ) (asks : List Ask) → AreAsksOf n asks →
         sum_below n (λ s. total_denied (denials_of asks s)) + count_by is_denied (asks_of_others asks)
@@ -120,8 +119,8 @@ pub fn denials_are_of_one_student()
         ≡ count_by (λ a. is_malformed a.line) asks }
 {}
 
-/// Each line that was refused is counted under its reason for one student, or came while the teacher was known, or
-/// nobody.
+/// Each line that was refused is counted under its reason for exactly one student, or was sent by the teacher or by
+/// nobody who was known.
 pub fn refusals_are_of_one_student()
     ensures journal { (n : ℕ) (asks : List Ask) → AreAsksOf n asks →
         sum_below n (λ s. (refusals_of asks s).journal)
@@ -137,14 +136,14 @@ pub fn refusals_are_of_one_student()
         ≡ count_by (λ a. is_refused Refusal.Full a.refused) asks }
 {}
 
-/// If each line of a student is denied exactly by the clause of the denial that is named, the number of lines that a
-/// clause denied to a student is the sum over the clause's denials.
+/// The number of a student's lines that a clause denied is the sum over the denials of that clause. This holds if each
+/// line of a student was denied by the clause of its denial, and by none if it has no denial.
 pub fn columns_are_sums_of_denials()
     ensures { (asks : List Ask) (s : ℕ) → AreNamed asks → AreSums (denials_of asks s) (named_of asks s) }
 {}
 
-/// What was denied and refused to a student, and what the student asked for at a node, doesn't depend on who asked the
-/// other lines.
+/// What was denied and refused to a student, and what the student asked for at a node, doesn't change if the lines of
+/// others get other names.
 pub fn asks_depend_on_no_other_name()
     ensures denied { (asks : List Ask) (s : ℕ) (f : ℕ → ℕ) → ((t : ℕ) → (f t ≡ s) ↔ (t ≡ s)) →
         denials_of (map (asked_under f) asks) s ≡ denials_of asks s }

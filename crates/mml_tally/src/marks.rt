@@ -21,7 +21,7 @@ pub struct ByRule {
     pub abandonment: u64,
 }
 
-/// The marks of a student in a run.
+/// What the tally counts of one student's moves in a run.
 #[derive(Clone, Copy, Debug, PartialEq, Eq)]
 pub struct Marks {
     /// The moves that were granted.
@@ -38,8 +38,8 @@ pub struct Marks {
     pub shared: u64,
 }
 
-/// Returns the marks of a student. `all` has the moves that the run's events grant. Returns `Memory` if memory runs
-/// out.
+/// Counts a student's moves. `all` has the moves that the run's events grant to all students. Returns `Memory` if
+/// memory runs out.
 pub fn marks_of(
     alloc: Global,
     roster: &Roster,
@@ -61,7 +61,7 @@ pub fn marks_of(
     })
 }
 
-/// Returns the moves of a student, in order.
+/// Returns the moves of a student among `all`, in order. Returns `Memory` if memory runs out.
 pub fn moves_by(alloc: Global, all: &[Move], student: Student) -> Result<Vec<Move>, Memory>
     ensures { IfOk result (λ own. own.items ≡ moves_by student all.now) }
 {
@@ -69,7 +69,7 @@ pub fn moves_by(alloc: Global, all: &[Move], student: Student) -> Result<Vec<Mov
     Ok(own.collect(alloc)?)
 }
 
-/// Returns the moves at a node, in order.
+/// Returns the moves at a node among `all`, in order. Returns `Memory` if memory runs out.
 pub fn moves_at(alloc: Global, all: &[Move], node: Rank) -> Result<Vec<Move>, Memory>
     ensures { IfOk result (λ there. there.items ≡ moves_at node all.now) }
 {
@@ -77,7 +77,7 @@ pub fn moves_at(alloc: Global, all: &[Move], node: Rank) -> Result<Vec<Move>, Me
     Ok(there.collect(alloc)?)
 }
 
-/// Returns the moves that a close applied, in order.
+/// Returns the moves among `all` that a close applied, in order. Returns `Memory` if memory runs out.
 fn applied(alloc: Global, all: &[Move]) -> Result<Vec<Move>, Memory>
     ensures { IfOk result (λ some. some.items ≡ applied all.now) }
 {
@@ -95,7 +95,7 @@ pub fn is_applied(granted: &Move) -> bool
     }
 }
 
-/// Returns how many of the moves are of each rule.
+/// Returns how many of the moves are of each kind of rule.
 pub fn by_rule(all: &[Move]) -> ByRule
     ensures { result ≡ by_rule all.now }
 {
@@ -107,7 +107,7 @@ pub fn by_rule(all: &[Move]) -> ByRule
     }
 }
 
-/// Returns how many of the moves are of this rule.
+/// Returns how many of the moves are of this kind of rule.
 fn count_kind(all: &[Move], kind: Kind) -> u64
     ensures { result ≡ count_by (λ m. is_kind kind m.kind) all.now }
 {
@@ -123,8 +123,8 @@ pub(crate) fn is_kind(asked: Kind, kind: Kind) -> bool
     asked == kind
 }
 
-/// Returns how many closes applied one of a student's moves. The moves come in the order of the closes that applied
-/// them, so a close that differs from the one before is a new one.
+/// Returns how many closes applied at least one of a student's moves. The moves come in the order of the closes that
+/// applied them, so a close is new if it differs from the last one.
 fn count_applying_closes(own: &[Move]) -> u64
     ensures { result ≡ count_new 0 own.now }
 {
@@ -140,8 +140,8 @@ fn count_applying_closes(own: &[Move]) -> u64
     closes
 }
 
-/// Returns the place of the close that applied a move with this fate, or `last`, that of the last such close before it,
-/// if none did.
+/// Returns the place of the close that applied a move with this fate. If none did, returns `last`, the place of the
+/// close that applied a move before it.
 fn close_of(last: u64, fate: Fate) -> u64
     ensures { result ≡ close_of last fate }
 {

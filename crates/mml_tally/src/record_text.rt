@@ -13,7 +13,7 @@ use mml_ids::{Memory, NodeSet, Piece, Rank, put};
 use mml_lab::{Lab, Roster, Student, Who};
 use std::alloc::Global;
 
-/// The summary of a record.
+/// What a record says as a whole, beside its lines.
 #[derive(Clone, Copy, Debug, Drop)]
 pub struct Findings {
     /// The number of sessions that ended.
@@ -31,9 +31,10 @@ pub struct Findings {
     pub lacking: NodeSet,
 }
 
-/// Appends the tally of a run that was recorded: the lines that any run has, before the last two of them those of the
-/// record, then the line of those whose lines are all recorded, and at the end what was refused to each student and
-/// denied by name. The board is the world after the events. The asks are what the record's lines asked.
+/// Appends the tally of a run of which there is a record. First come the lines of any run's tally, with the lines of
+/// the record before their last two. Then come those whose lines are all recorded, and at the end each student's
+/// refusals and denials. `board` is the world after `events`, and `asks` has the lines of the record. Returns `Memory`
+/// if memory runs out.
 pub fn put_recorded_tally(
     out: &mut Vec<u8>,
     alloc: Global,
@@ -51,7 +52,8 @@ pub fn put_recorded_tally(
     put_turned_down(out, alloc, lab, asks)
 }
 
-/// Appends how many lines of each student were refused for each reason, and then how many were denied by each denial.
+/// Appends two groups of lines, each with a line for each student: how many of the student's lines were refused for
+/// each reason, and how many got each denial. Returns `Memory` if memory runs out.
 fn put_turned_down(out: &mut Vec<u8>, alloc: Global, lab: &Lab, asks: &[Ask]) -> Result<(), Memory>
     ensures { OnOk result (out.new.items ≡ out.old.items ++ turned_down_text lab.now asks.now) }
 {
@@ -59,7 +61,8 @@ fn put_turned_down(out: &mut Vec<u8>, alloc: Global, lab: &Lab, asks: &[Ask]) ->
     put_named(out, alloc, lab, asks)
 }
 
-/// Appends the lines that the tally of any run has, and before the last two of them the lines of the record.
+/// Appends the lines of any run's tally, with the lines of the record before their last two. Returns `Memory` if memory
+/// runs out.
 fn put_recorded_run(
     out: &mut Vec<u8>,
     alloc: Global,
@@ -78,7 +81,8 @@ fn put_recorded_run(
     put_ends(out, board, events, &all)
 }
 
-/// Appends the lines of a record: what was denied, what was asked for at nodes that several own, and the summary.
+/// Appends the tally's lines about a record: each student's denials by clause, what was asked for at nodes that several
+/// students own, and the summary. Returns `Memory` if memory runs out.
 fn put_record(
     out: &mut Vec<u8>,
     alloc: Global,
@@ -95,7 +99,7 @@ fn put_record(
 }
 
 /// Appends a line for each student, in the lab's order: how many of the student's lines each clause denied, and how
-/// many were no request.
+/// many were no request. Returns `Memory` if memory runs out.
 fn put_denied(out: &mut Vec<u8>, alloc: Global, lab: &Lab, asks: &[Ask]) -> Result<(), Memory>
     ensures { OnOk result (out.new.items
         ≡ out.old.items ++ denied_text lab.now asks.now (length lab.now.roster.students)) }
@@ -109,7 +113,8 @@ fn put_denied(out: &mut Vec<u8>, alloc: Global, lab: &Lab, asks: &[Ask]) -> Resu
     Ok(())
 }
 
-/// Appends the line of one student: how many lines each clause denied, and how many were no request.
+/// Appends the line `denied` of one student: how many lines each clause denied, and how many were no request. Returns
+/// `Memory` if memory runs out.
 fn put_denials(out: &mut Vec<u8>, name: &str, denied: &Denials) -> Result<(), Memory>
     ensures { OnOk result (out.new.items ≡ out.old.items ++ denied_line name.now denied.now) }
 {
@@ -125,7 +130,8 @@ fn put_denials(out: &mut Vec<u8>, name: &str, denied: &Denials) -> Result<(), Me
     put(out, &[Piece::Text("\n")])
 }
 
-/// Appends a line for each node that several own: the moves that each owner asked for there.
+/// Appends a line for each node that several students own: how many moves of each rule each owner asked for there.
+/// Returns `Memory` if memory runs out.
 fn put_asked(out: &mut Vec<u8>, alloc: Global, lab: &Lab, asks: &[Ask]) -> Result<(), Memory>
     ensures { OnOk result (out.new.items
         ≡ out.old.items ++ asked_text lab.now asks.now (length lab.now.ids)) }
@@ -139,7 +145,8 @@ fn put_asked(out: &mut Vec<u8>, alloc: Global, lab: &Lab, asks: &[Ask]) -> Resul
     Ok(())
 }
 
-/// Appends the line of one node: the moves that each owner asked for there.
+/// Appends the line `asked` of one node: its identifier, and how many moves of each rule each owner asked for there.
+/// Returns `Memory` if memory runs out.
 fn put_asked_at(
     out: &mut Vec<u8>,
     alloc: Global,
@@ -158,7 +165,8 @@ fn put_asked_at(
     put(out, &[Piece::Text("\n")])
 }
 
-/// Appends the owners of a node, each with the moves that they asked for there.
+/// Appends the names of a node's owners, each with how many moves of each rule the owner asked for there. `id` is the
+/// node's identifier. Returns `Memory` if memory runs out.
 fn put_askers(
     out: &mut Vec<u8>,
     alloc: Global,
@@ -179,8 +187,8 @@ fn put_askers(
     Ok(())
 }
 
-/// Appends the line with the summary of a record: sessions that ended, lines that were answered, and whether it is
-/// whole.
+/// Appends the line `record`, the summary of a record: how many sessions ended, how many lines were answered, and
+/// whether nothing was left out. Returns `Memory` if memory runs out.
 fn put_findings(out: &mut Vec<u8>, findings: &Findings) -> Result<(), Memory>
     ensures { OnOk result (out.new.items ≡ out.old.items ++ record_line findings.now) }
 {
@@ -189,7 +197,8 @@ fn put_findings(out: &mut Vec<u8>, findings: &Findings) -> Result<(), Memory>
     put(out, &[Piece::Text(whole_text(findings.whole))])
 }
 
-/// Returns the word for a record that leaves nothing out, or for one that is cut, with its space and newline.
+/// Returns the last word of the line `record`, with a space before it and a newline after it: `whole` if nothing was
+/// left out of the record, and else `cut`.
 fn whole_text(is_whole: bool) -> &'static str
     ensures { result.now ≡ whole_text is_whole }
 {

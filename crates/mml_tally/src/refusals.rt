@@ -17,7 +17,8 @@ pub struct Refusals {
     pub full: u64,
 }
 
-/// Returns how many of a student's lines were refused for each reason. Returns `Memory` if memory runs out.
+/// Returns how many of a student's lines were refused for each reason. `asks` has the lines of everybody. Returns
+/// `Memory` if memory runs out.
 pub fn refusals_of(alloc: Global, asks: &[Ask], student: Student) -> Result<Refusals, Memory>
     ensures { IfOk result (λ refused. refused ≡ refusals_of asks.now student) }
 {
@@ -45,7 +46,7 @@ fn count_refused(own: &[Ask], reason: Refusal) -> u64
         .count() as u64
 }
 
-/// Returns whether a line was refused for this reason. `refused` is the reason for which it was, or `None` if it
+/// Returns whether a line was refused for this reason. `refused` is the reason why it was refused, or `None` if it
 /// wasn't.
 fn is_refused(reason: Refusal, refused: Option<Refusal>) -> bool
     ensures { result ≡ is_refused reason refused }
@@ -57,6 +58,7 @@ fn is_refused(reason: Refusal, refused: Option<Refusal>) -> bool
 }
 
 /// Appends a line for each student, in the lab's order: how many of the student's lines were refused for each reason.
+/// Returns `Memory` if memory runs out.
 pub(crate) fn put_refused(
     out: &mut Vec<u8>,
     alloc: Global,
@@ -75,7 +77,8 @@ pub(crate) fn put_refused(
     Ok(())
 }
 
-/// Appends the line of one student: how many lines were refused for each reason.
+/// Appends the line `refused` of one student: how many lines were refused for each reason. Returns `Memory` if memory
+/// runs out.
 fn put_refusals(out: &mut Vec<u8>, name: &str, refused: &Refusals) -> Result<(), Memory>
     ensures { OnOk result (out.new.items ≡ out.old.items ++ refused_line name.now refused.now) }
 {

@@ -14,7 +14,8 @@ use mml_lab::Lab;
 use mml_rules::Scene;
 use std::alloc::Global;
 
-/// Appends the line of the rounds since the last fault, link or cut.
+/// Appends the line `rounds`: how many rounds ended since the last fault, link or cut. Returns `Memory` if memory runs
+/// out.
 pub fn put_rounds(
     out: &mut Vec<u8>,
     alloc: Global,
@@ -30,8 +31,9 @@ pub fn put_rounds(
     put(out, &[Piece::Text("\n")])
 }
 
-/// Returns how many rounds of a lab's run ended after its last fault, link or cut. A round ends with the event by which
-/// each node has had its turn in it: at some point the node wasn't privileged, or a close applied its move.
+/// Returns how many rounds of a lab's run ended after its last fault, link or cut. A round ends as soon as each node
+/// has had its turn in it: at some point the node wasn't privileged, or a close applied its move. Returns `Memory` if
+/// memory runs out.
 pub fn rounds_since(alloc: Global, lab: &Lab, events: &[Event]) -> Result<u64, Memory>
     requires { is_legal_in lab.now events.now ≡ true }
     ensures { IfOk result
@@ -43,7 +45,7 @@ pub fn rounds_since(alloc: Global, lab: &Lab, events: &[Event]) -> Result<u64, M
     Ok(count_rounds(lab, events, &mut board, since))
 }
 
-/// Applies the first `count` events to the board, which is at the beginning of the run.
+/// Applies the first `count` of the events to a board that is at the beginning of the run.
 fn replay(lab: &Lab, events: &[Event], board: &mut Board, count: usize)
     requires legal { is_legal_in lab.now events.now ≡ true }
     requires board { board.old ≡ opening_of lab.now.network }
@@ -57,8 +59,8 @@ fn replay(lab: &Lab, events: &[Event], board: &mut Board, count: usize)
     }
 }
 
-/// Returns how many rounds end after the first `since` events, and applies the later events to the board. The board
-/// must be the world that the first `since` events led to.
+/// Returns how many rounds end after the first `since` events, counted from there. `board` must be the world after
+/// these events. The later events are applied to it.
 fn count_rounds(lab: &Lab, events: &[Event], board: &mut Board, since: usize) -> u64
     requires legal { is_legal_in lab.now events.now ≡ true }
     requires board { board.old ≡ world_in lab.now (take since events.now) }
@@ -79,8 +81,8 @@ fn count_rounds(lab: &Lab, events: &[Event], board: &mut Board, since: usize) ->
     rounds
 }
 
-/// Applies an event to the board. Returns those of the `waiting` nodes that still wait for their turn in the round: the
-/// event applied no move of theirs, and they are privileged after it.
+/// Applies an event to the board. Returns those of the nodes `waiting` that still wait for their turn in the round: the
+/// event has applied no move of theirs, and they are privileged after it.
 fn take_event(board: &mut Board, waiting: NodeSet, event: &Event) -> NodeSet
     requires { can_absorb board.old event.now ≡ true }
     ensures board { board.new ≡ after board.old event.now }

@@ -9,7 +9,7 @@ use crate::granted_move::Move;
 use crate::marks::is_applied;
 use mml_board::Event;
 
-/// The counts of a run.
+/// What the tally counts of a run as a whole.
 #[derive(Clone, Copy, Debug, PartialEq, Eq)]
 pub struct Run {
     pub closes: u64,
@@ -24,7 +24,7 @@ pub struct Run {
     pub closes_since: u64,
 }
 
-/// Returns the counts of a run. `granted` has the moves that its events grant.
+/// Counts the events and the applied moves of a run. `granted` has the moves that the events grant.
 pub fn run_of(events: &[Event], granted: &[Move]) -> Run
     requires { granted.now ≡ moves events.now }
     ensures { result ≡ run_of events.now }

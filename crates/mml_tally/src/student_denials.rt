@@ -27,7 +27,7 @@ pub enum StudentDenial {
     Guard,
 }
 
-/// How many lines were denied by each of these denials.
+/// How many lines got each of these denials.
 #[derive(Clone, Copy, Debug, PartialEq, Eq)]
 pub struct NamedDenials {
     pub greeted: u64,
@@ -39,7 +39,8 @@ pub struct NamedDenials {
     pub guard: u64,
 }
 
-/// Returns how many of a student's lines were denied by each denial. Returns `Memory` if memory runs out.
+/// Returns how many of a student's lines got each denial. `asks` has the lines of everybody. Returns `Memory` if memory
+/// runs out.
 pub fn named_of(alloc: Global, asks: &[Ask], student: Student) -> Result<NamedDenials, Memory>
     ensures { IfOk result (λ denied. denied ≡ named_of asks.now student) }
 {
@@ -47,7 +48,7 @@ pub fn named_of(alloc: Global, asks: &[Ask], student: Student) -> Result<NamedDe
     Ok(named_in(&own))
 }
 
-/// Returns how many of a student's lines, `own`, were denied by each denial.
+/// Returns how many of a student's lines, `own`, got each denial.
 fn named_in(own: &[Ask]) -> NamedDenials
     ensures { result ≡ named_in own.now }
 {
@@ -62,15 +63,14 @@ fn named_in(own: &[Ask]) -> NamedDenials
     }
 }
 
-/// Returns how many of the lines were denied by this denial.
+/// Returns how many of the lines got this denial.
 fn count_named(own: &[Ask], denial: StudentDenial) -> u64
     ensures { result ≡ count_by (λ a. is_named denial a.named) own.now }
 {
     own.iter().filter(|ask| is_named(denial, ask.named)).count() as u64
 }
 
-/// Returns whether a line was denied by this denial. `named` is the denial by which it was, or `None` if it was by none
-/// of these.
+/// Returns whether a line got this denial. `named` is the denial that it got, or `None` if it got none of these.
 fn is_named(denial: StudentDenial, named: Option<StudentDenial>) -> bool
     ensures { result ≡ is_named denial named }
 {
@@ -80,7 +80,8 @@ fn is_named(denial: StudentDenial, named: Option<StudentDenial>) -> bool
     }
 }
 
-/// Appends a line for each student, in the lab's order: how many of the student's lines were denied by each denial.
+/// Appends a line for each student, in the lab's order: how many of the student's lines got each denial. Returns
+/// `Memory` if memory runs out.
 pub(crate) fn put_named(
     out: &mut Vec<u8>,
     alloc: Global,
@@ -99,7 +100,7 @@ pub(crate) fn put_named(
     Ok(())
 }
 
-/// Appends the line of one student: how many lines were denied by each denial.
+/// Appends the line `denials` of one student: how many lines got each denial. Returns `Memory` if memory runs out.
 fn put_named_of(out: &mut Vec<u8>, name: &str, denied: &NamedDenials) -> Result<(), Memory>
     ensures { OnOk result (out.new.items ≡ out.old.items ++ denials_line name.now denied.now) }
 {

@@ -15,8 +15,8 @@ use mml_ids::{Memory, Piece, Rank, put};
 use mml_lab::{Lab, Roster, Student, Who};
 use std::alloc::Global;
 
-/// Appends the tally of a run: the lines of the students, of the nodes that several own, of the most that may follow,
-/// and of the run. `board` is the world that the events led to.
+/// Appends the tally of a run: a line for each student, a line for each node that several students own, the most that
+/// may follow, and the counts of the run. `board` is the world after `events`. Returns `Memory` if memory runs out.
 pub fn put_tally(
     out: &mut Vec<u8>,
     alloc: Global,
@@ -32,8 +32,8 @@ pub fn put_tally(
     put_ends(out, board, events, &all)
 }
 
-/// Appends the lines of the students, and of the nodes that several own. `all` has the moves that the run's events
-/// grant.
+/// Appends a line for each student, and a line for each node that several students own. `all` has the moves that the
+/// run's events grant. Returns `Memory` if memory runs out.
 pub(crate) fn put_granted(
     out: &mut Vec<u8>,
     alloc: Global,
@@ -49,7 +49,7 @@ pub(crate) fn put_granted(
 }
 
 /// Appends the last two lines of a tally: the most moves, rounds and events that may follow, and the counts of the run.
-/// `all` has the moves that the run's events grant.
+/// `board` is the world after `events`, and `all` has the moves that they grant. Returns `Memory` if memory runs out.
 pub(crate) fn put_ends(
     out: &mut Vec<u8>,
     board: &Board,
@@ -63,8 +63,8 @@ pub(crate) fn put_ends(
     put_run(out, board, &run_of(events, all))
 }
 
-/// Appends a line for each student, in the lab's order: name and marks. `all` has the moves that the run's events
-/// grant.
+/// Appends a line for each student, in the lab's order: the name, and the counts of the student's moves. `all` has the
+/// moves that the run's events grant. Returns `Memory` if memory runs out.
 fn put_students(out: &mut Vec<u8>, alloc: Global, lab: &Lab, all: &[Move]) -> Result<(), Memory>
     ensures { OnOk result ((es : List Event) → all.now ≡ moves es →
         out.new.items ≡ out.old.items ++ students_text lab.now es (length lab.now.roster.students)) }
@@ -78,7 +78,8 @@ fn put_students(out: &mut Vec<u8>, alloc: Global, lab: &Lab, all: &[Move]) -> Re
     Ok(())
 }
 
-/// Appends the line of one student, by name and marks.
+/// Appends the line `student` of one student: the name, and the counts of the student's moves. Returns `Memory` if
+/// memory runs out.
 fn put_student(out: &mut Vec<u8>, name: &str, marks: &Marks) -> Result<(), Memory>
     ensures { OnOk result (out.new.items ≡ out.old.items ++ student_line name.now marks.now) }
 {
@@ -87,8 +88,9 @@ fn put_student(out: &mut Vec<u8>, name: &str, marks: &Marks) -> Result<(), Memor
     put(out, &[Piece::Text("\n")])
 }
 
-/// Appends a student's marks as numbers: granted and applied moves by rule, closes that applied one, the places of the
-/// first and the last grant, and applied moves at nodes that others own too.
+/// Appends the counts of a student's moves as numbers: granted and applied moves of each rule, closes that applied one,
+/// the places of the first and the last grant, and applied moves at nodes that others own too. Returns `Memory` if
+/// memory runs out.
 fn put_marks(out: &mut Vec<u8>, marks: &Marks) -> Result<(), Memory>
     ensures { OnOk result (out.new.items ≡ out.old.items ++ marks_text marks.now) }
 {
@@ -100,7 +102,8 @@ fn put_marks(out: &mut Vec<u8>, marks: &Marks) -> Result<(), Memory>
     put_numbers(out, &[marks.shared])
 }
 
-/// Appends how many moves there are of each rule, in the order of the rules.
+/// Appends the number of moves of each rule, in the order update, marriage, seduction and abandonment, each after a
+/// space. Returns `Memory` if memory runs out.
 fn put_rules(out: &mut Vec<u8>, counts: &ByRule) -> Result<(), Memory>
     ensures { OnOk result (out.new.items ≡ out.old.items ++ rules_text counts.now) }
 {
@@ -113,7 +116,7 @@ fn put_rules(out: &mut Vec<u8>, counts: &ByRule) -> Result<(), Memory>
     put_numbers(out, &numbers)
 }
 
-/// Appends a place, or `-` if there is none.
+/// Appends the place of an event, or `-` if there is none, after a space. Returns `Memory` if memory runs out.
 fn put_place(out: &mut Vec<u8>, place: Option<u64>) -> Result<(), Memory>
     ensures { OnOk result (out.new.items ≡ out.old.items ++ place_text place) }
 {
@@ -123,7 +126,7 @@ fn put_place(out: &mut Vec<u8>, place: Option<u64>) -> Result<(), Memory>
     }
 }
 
-/// Appends each number, with a space before it.
+/// Appends the numbers in decimal, each after a space. Returns `Memory` if memory runs out.
 pub(crate) fn put_numbers(out: &mut Vec<u8>, numbers: &[u64]) -> Result<(), Memory>
     ensures { OnOk result (out.new.items ≡ out.old.items ++ numbers_text numbers.now) }
 {
@@ -133,7 +136,8 @@ pub(crate) fn put_numbers(out: &mut Vec<u8>, numbers: &[u64]) -> Result<(), Memo
     Ok(())
 }
 
-/// Appends a line for each node that several own: the moves that each owner was granted there.
+/// Appends a line for each node that several students own: how many moves of each rule each owner was granted there.
+/// `all` has the moves that the run's events grant. Returns `Memory` if memory runs out.
 fn put_nodes(out: &mut Vec<u8>, alloc: Global, lab: &Lab, all: &[Move]) -> Result<(), Memory>
     ensures { OnOk result ((es : List Event) → all.now ≡ moves es →
         out.new.items ≡ out.old.items ++ nodes_text lab.now es (length lab.now.ids)) }
@@ -147,7 +151,8 @@ fn put_nodes(out: &mut Vec<u8>, alloc: Global, lab: &Lab, all: &[Move]) -> Resul
     Ok(())
 }
 
-/// Appends the line of one node: the moves that each owner was granted there.
+/// Appends the line `node` of one node: its identifier, and how many moves of each rule each owner was granted there.
+/// `all` has the moves that the run's events grant. Returns `Memory` if memory runs out.
 fn put_node(
     out: &mut Vec<u8>,
     alloc: Global,
@@ -166,8 +171,8 @@ fn put_node(
     put(out, &[Piece::Text("\n")])
 }
 
-/// Appends the owners of a node, each with the moves that the owner was granted there. `there` has all moves at the
-/// node.
+/// Appends the names of a node's owners, each with how many moves of each rule the owner was granted there. `there` has
+/// all moves at the node. Returns `Memory` if memory runs out.
 fn put_owners(
     out: &mut Vec<u8>,
     alloc: Global,
@@ -187,7 +192,8 @@ fn put_owners(
     Ok(())
 }
 
-/// Appends the name of an owner, with the number of moves of each rule.
+/// Appends the name of an owner, after a space, and the number of moves of each rule. Returns `Memory` if memory runs
+/// out.
 pub(crate) fn put_owner(out: &mut Vec<u8>, name: &str, counts: &ByRule) -> Result<(), Memory>
     ensures { OnOk result (out.new.items ≡ out.old.items ++ owner_text name.now counts.now) }
 {
@@ -195,7 +201,7 @@ pub(crate) fn put_owner(out: &mut Vec<u8>, name: &str, counts: &ByRule) -> Resul
     put_rules(out, counts)
 }
 
-/// Appends the line with the most moves, rounds and events that may follow.
+/// Appends the line `bounds`: the most moves, rounds and events that may follow. Returns `Memory` if memory runs out.
 fn put_bounds(out: &mut Vec<u8>, bounds: &Bounds) -> Result<(), Memory>
     ensures { OnOk result (out.new.items ≡ out.old.items ++ bounds_line bounds.now) }
 {
@@ -204,7 +210,8 @@ fn put_bounds(out: &mut Vec<u8>, bounds: &Bounds) -> Result<(), Memory>
     put(out, &[Piece::Text("\n")])
 }
 
-/// Appends the line of the run: events, configuration, whether it is stable, and its counts.
+/// Appends the line `run`: the number of events, the number of the configuration, whether it is stable, and the counts
+/// of the run. `board` is the world after the run. Returns `Memory` if memory runs out.
 fn put_run(out: &mut Vec<u8>, board: &Board, run: &Run) -> Result<(), Memory>
     ensures { OnOk result (out.new.items ≡ out.old.items ++ run_line board.now run.now) }
 {
