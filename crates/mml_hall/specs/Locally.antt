@@ -7,7 +7,8 @@ use Rattle.mml_codec.specs.declared.reply.Reply.{Reply}
 use Rattle.mml_hall.specs.Halls.{HallValue}
 use Rattle.mml_hall.specs.Turns.{Comes, Halts, outcome_of}
 
--- the outcome of the ruling by all events, or what prevented it; and whether the journal halted
+-- the reply and the state are those by the ruling, which is judged by all events, or by what prevented it; and the
+-- journal halts only if a write fails
 abbrev pub TellsHere : {S : Type 0} → (S → ℕ) → HallValue S → ⊤ → Who → Command → Reply → HallValue S → ⊤ → Type 0
 TellsHere failures e v who c r e' v' =
     Comes e.state (outcome_of e.state (ruling e.lab.ids e.lab.roster e.lab.events e.state.halted e.state.world who c)) (record { reply = r; state = e'.state })

@@ -67,7 +67,7 @@ entered st (Some e) = with_event st e
 abbrev pub outcome_of : State → Ruling → Outcome
 outcome_of st r = let after = entered st (event_of r) in record { reply = reply_of after.world r; state = after }
 
--- the result of a request: a reply at once, and who is known then; or the result of the ruling on its command
+-- what a request leads to: a reply at once, and who is known then; or the outcome of the ruling on its command
 abbrev pub settled : LabValue → State → ℕ → Greeting → Outcome
 settled lab st k (Answered r x) = record { reply = r; state = with_known st k x }
 settled lab st k (LeftToJudge x c) = outcome_of st (ruling lab.ids lab.roster lab.events st.halted st.world x c)
@@ -77,7 +77,7 @@ abbrev pub answer_to : LabValue → State → ℕ → Result Request LineFault �
 answer_to lab st k (Err fault) = replied st (reply.Refuse (refusal_of fault))
 answer_to lab st k (Ok request) = settled lab st k (greeting lab.roster (known_on st k) request)
 
--- the turn of a line on a connection, if memory never runs out and no sink fails
+-- the answer to a line on a connection, if memory doesn't run out and no write to the sink fails
 unfoldable pub plain_turn : LabValue → State → ℕ → List ℕ → Outcome
 plain_turn lab st k line = answer_to lab st k (request_in line)
 
@@ -115,7 +115,7 @@ unless_refused st out = if takes_memory out.reply then without_memory st else ou
 abbrev pub unless_failed : State → Outcome → Outcome
 unless_failed st out = if is_grant out.reply then halting st else out
 
--- the turn of a line on a connection, by what went wrong in it
+-- the answer to a line on a connection, by what went wrong
 abbrev pub turn : Mishap → LabValue → State → ℕ → List ℕ → Outcome
 turn nothing lab st k line = plain_turn lab st k line
 turn while_read lab st k line = without_memory st
@@ -129,12 +129,12 @@ Prevents refusal.Full st plain after = ⊥
 Prevents refusal.Journal st plain after = (is_grant plain.reply ≡ true) × (after ≡ (halting st).state)
 Prevents refusal.Memory st plain after = (takes_memory plain.reply ≡ true) × (after ≡ st)
 
--- the plain outcome, or that it was prevented
+-- the outcome is the plain one, or that by which it was prevented
 abbrev pub Comes : State → Outcome → Outcome → Type 0
 Comes st plain out =
     (out ≡ plain) ⊎ ((takes_memory plain.reply ≡ true) × (out ≡ without_memory st)) ⊎ ((is_grant plain.reply ≡ true) × (out ≡ halting st))
 
--- a turn, whatever went wrong in it
+-- the outcome is the answer to a line on a connection, whatever went wrong
 abbrev pub Turn : LabValue → State → ℕ → List ℕ → Outcome → Type 0
 Turn lab st k line out = (mishap : Mishap) × (out ≡ turn mishap lab st k line)
 

@@ -16,8 +16,8 @@ use crate::MAX_SCRIPT_LINE;
 
 pub mod audit;
 
-/// The script lines of a transcript are the first lines of the bytes that it read with any rest after them, and all
-/// lines if the rest has no newline.
+/// The script lines of a transcript are the first lines of the bytes that were read for it. This holds whatever bytes
+/// follow; if these have no newline, there are no other lines.
 pub fn lines_of_a_transcript()
     ensures first { (lab : LabValue) (t : Transcript lab) (rest : List ℕ)
         → lab.sessions ≤ MAX_SESSIONS
@@ -33,21 +33,21 @@ pub fn one_reply_each()
 {}
 
 /// A request that is denied or refused leaves the world, the events, and who is known on each connection, as they were.
-/// It may only halt the journal.
+/// The only change that it may make is to halt the journal.
 pub fn refusals_change_nothing()
     ensures { (lab : LabValue) (st : State) (connection : ℕ) (line : List ℕ) (out : Outcome)
         → Turn lab st connection line out → IsRefusal out.reply → IsKept st out.state }
 {}
 
-/// A turn makes at most one event, and only if its reply is that to a grant, which names the place of the event. Every
-/// other reply leaves the world and the events as they were.
+/// Answering a line makes at most one event, and only if the reply is that to a grant, which names the event's place.
+/// With any other reply, the world and the events stay as they were.
 pub fn events_grow_by_grants()
     ensures { (lab : LabValue) (st : State) (connection : ℕ) (line : List ℕ) (out : Outcome)
         → Turn lab st connection line out → GrowsByGrant st out }
 {}
 
-/// A write that fails halts the journal, instead of a grant, and nothing else does. A journal that is halted stays so.
-/// If the reply is the refusal `journal`, the journal is halted after the turn.
+/// The journal is halted if a write to its sink fails, in place of a grant, and by nothing else. Once halted, it stays
+/// so. If the reply is the refusal `journal`, the journal is halted afterwards.
 pub fn failed_puts_halt_for_good()
     ensures failed { (lab : LabValue) (st : State) (connection : ℕ) (line : List ℕ)
         → is_grant (plain_turn lab st connection line).reply ≡ true
@@ -63,7 +63,7 @@ pub fn failed_puts_halt_for_good()
         → out.state.halted ≡ true }
 {}
 
-/// A turn leaves who is known on other connections.
+/// Answering a line on one connection doesn't change who is known on the others.
 pub fn others_stay_known()
     ensures { (lab : LabValue) (st : State) (connection other : ℕ) (line : List ℕ) (out : Outcome)
         → Turn lab st connection line out → 0 < connection → 0 < other → other ≢ connection

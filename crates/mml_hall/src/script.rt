@@ -59,10 +59,10 @@ impl From<WriteFault> for ScriptFault {
     }
 }
 
-/// Answers the lines of a script one by one. Returns the hall at the end of the input, or why the script ended before.
-/// Replies are buffered, so that one write takes many: the writer is flushed if the next line needs a read, and before
-/// a bad line is reported. The lines of the granted events go to the sink, which is dropped with the hall if an error
-/// ends the script.
+/// Answers the lines of a script, one by one, in a hall of the lab. Returns the hall at the end of the input, or why
+/// the script ended before. Replies are buffered: the writer is flushed only before the next line needs a read, and
+/// before a bad line is reported. The lines of the granted events go to the sink, which is dropped with the hall if an
+/// error ends the script.
 pub fn run_script<R: Read, W: Write, S: Sink + Drop>(
     alloc: Global,
     lab: Lab,
@@ -91,8 +91,8 @@ pub fn run_script<R: Read, W: Write, S: Sink + Drop>(
     }
 }
 
-// The buffers that are reserved before anything is read: for lines, for one reply and for lines that are written
-// together.
+// The buffers of a script: for its lines, for one reply, and for the replies that are written together. They are
+// reserved before anything is read.
 #[derive(Drop)]
 struct Buffers {
     lines: Lines,
@@ -101,7 +101,8 @@ struct Buffers {
 }
 
 impl Buffers {
-    // Returns empty buffers, with room for any reply but a look's or a report's. Returns `Memory` if memory runs out.
+    // Returns empty buffers, with room for any reply but that to a look or a report. Returns `Memory` if memory runs
+    // out.
     fn new(alloc: Global) -> Result<Buffers, Memory>
         ensures lines { IfOk result (λ b. b.lines ≡ fresh MAX_SCRIPT_LINE) }
         ensures room { IfOk result (λ b. REPLY_ROOM ≤ vec_capacity b.reply) }
@@ -118,8 +119,8 @@ impl Buffers {
     }
 }
 
-// Reserves the buffers, and answers all lines of the input in a hall that was just opened. Returns why the script ended
-// if it ended before its input.
+// Reserves the buffers, and answers all lines of the input in a hall that was just opened. Returns an error if the
+// script ended before its input, which is `Memory` only if nothing was read.
 fn answer_all<R: Read, W: Write, S: Sink>(
     alloc: Global,
     hall: &mut Hall<S>,
@@ -138,8 +139,8 @@ fn answer_all<R: Read, W: Write, S: Sink>(
     answer_lines(alloc, hall, &mut buffers, reader, writer)
 }
 
-// Answers line after line with reserved buffers, up to the end of the input. Returns why the script ended if it ended
-// before that, which is never `Memory`.
+// Answers the lines of the input, one by one, until it ends. The buffers must be new, and the hall just opened. Returns
+// an error if the script ended before its input, which is never `Memory`.
 fn answer_lines<R: Read, W: Write, S: Sink>(
     alloc: Global,
     hall: &mut Hall<S>,
@@ -177,8 +178,8 @@ fn answer_lines<R: Read, W: Write, S: Sink>(
     }
 }
 
-// Returns the fault of a line that is no script line, with the line's number, from 1. `answered` is how many lines came
-// before it.
+// Returns the error of a line that is no script line, with its number, which counts from 1. `answered` is the number of
+// lines before it.
 fn bad_line_after(answered: u64) -> ScriptFault
     requires { answered < 2 ^ 64 - 1 }
     ensures { result ≡ ScriptFault.BadLine (answered + 1) }
@@ -186,7 +187,7 @@ fn bad_line_after(answered: u64) -> ScriptFault
     ScriptFault::BadLine(answered + 1)
 }
 
-// The result of the next line.
+// What happened to the next line of a script.
 #[derive(Clone, Copy)]
 enum ScriptStep {
     Answered,
@@ -196,8 +197,8 @@ enum ScriptStep {
     WriteFault(WriteFault),
 }
 
-// Flushes all held replies if the next line needs a read, and else does nothing. Returns `WriteFault` if a write or
-// flush fails.
+// Flushes the held replies if `lines` needs a read to find the next line, and else does nothing. Returns `WriteFault`
+// if a write or the flush fails.
 fn flush_before_read<W: Write>(
     lines: &Lines,
     outgoing: &mut Outgoing,
@@ -219,8 +220,8 @@ fn flush_before_read<W: Write>(
     Ok(())
 }
 
-// Reads the next line and returns it, if it is a script line. Returns the result. Reads only if all replies are
-// written.
+// Reads the next line, and answers it if it is a script line. Returns what happened. If the line needs a read, the
+// caller must have flushed all held replies before.
 fn serve_next<R: Read, W: Write, S: Sink>(
     alloc: Global,
     hall: &mut Hall<S>,
@@ -265,8 +266,9 @@ fn serve_next<R: Read, W: Write, S: Sink>(
     }
 }
 
-// Answers a line, if it is a script line. Returns `Answered`, or `WriteFault` if a write failed, or `BadLine` if it is
-// no script line.
+// Answers a line of the input if it is a script line, and holds the reply in `outgoing`. Returns `Answered`, or
+// `WriteFault` if a write failed, or `BadLine` if it is no script line. `out` is the buffer for a reply that `outgoing`
+// can't take directly.
 fn serve_line<W: Write, S: Sink>(
     alloc: Global,
     hall: &mut Hall<S>,
@@ -294,8 +296,8 @@ fn serve_line<W: Write, S: Sink>(
     }
 }
 
-// Answers a script line and appends the reply to the held ones. A reply that is short and has room is written straight
-// into the buffer, and any other by `tell_apart`. Returns `WriteFault` if a write fails.
+// Answers a script line, and appends the reply to the held ones in `outgoing`. A short reply is written straight into
+// that buffer, if it has room, and any other by `tell_apart`, by way of `out`. Returns `WriteFault` if a write fails.
 fn serve_script_line<W: Write, S: Sink>(
     alloc: Global,
     hall: &mut Hall<S>,
@@ -328,7 +330,7 @@ fn serve_script_line<W: Write, S: Sink>(
     tell_apart(alloc, rest, line.front, out, outgoing, writer)
 }
 
-// A reply, as the rest of its output line after the connection.
+// A reply as the rest of an output line, which comes after the connection's number.
 #[derive(Clone, Copy)]
 struct ReplyRest<'a> {
     lab: &'a Lab,
@@ -342,15 +344,16 @@ impl LineRest for ReplyRest<'_> {
 
     ghost is_short = { λ t. is_short t.reply.now };
 
-    // Appends the reply's line, unless the reply is a look or a report, or there is too little room. Returns whether it
-    // did.
+    // Appends the reply's line to `out`, unless the reply is a look or a report, or there is too little room. Returns
+    // whether it was appended.
     fn append_to(&self, out: &mut Vec<u8>) -> bool {
         append_reply(self.lab.ids(), self.lab.roster(), self.reply, out)
     }
 }
 
-// Appends the line of a reply to the held ones, by way of a buffer of its own. This is for a reply that isn't short,
-// and one for which the held lines have to be written first. Returns `WriteFault` if a write fails.
+// Writes the line of a reply into the buffer `out`, and from there appends it, after `front`, to the held lines in
+// `outgoing`. This is for a reply that isn't short, or for which the held lines must be written first. Returns
+// `WriteFault` if a write fails.
 #[inline(never)]
 fn tell_apart<W: Write>(
     alloc: Global,
@@ -370,8 +373,8 @@ fn tell_apart<W: Write>(
     outgoing.put(front, out, writer)
 }
 
-// Replaces the vector's bytes by the line of a reply, or by that of the refusal `memory` if memory runs out. Returns
-// whether it was the reply's own.
+// Replaces the bytes of `out` by the line of a reply, or by the line of the refusal `memory` if memory runs out.
+// Returns whether it is the line of the reply.
 fn put_reply(alloc: Global, lab: &Lab, reply: &Reply, out: &mut Vec<u8>) -> bool
     requires room { REPLY_ROOM ≤ vec_capacity out.old }
     requires about { IsAbout lab.now.ids lab.now.roster reply.now }
@@ -388,7 +391,8 @@ fn put_reply(alloc: Global, lab: &Lab, reply: &Reply, out: &mut Vec<u8>) -> bool
     }
 }
 
-// Replaces the vector's bytes by the line of the refusal `memory`, for which it has room.
+// Replaces the bytes of `out` by the line of the refusal `memory`, which says that memory ran out. `out` must have room
+// for it.
 fn put_want_of_memory(alloc: Global, lab: &Lab, out: &mut Vec<u8>)
     requires room { REPLY_ROOM ≤ vec_capacity out.old }
     ensures room { REPLY_ROOM ≤ vec_capacity out.new }

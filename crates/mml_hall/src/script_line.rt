@@ -9,7 +9,7 @@ ghost use Rattle.mml_hall.specs.ScriptLines.{IsScriptLine, line_of, script_line}
 use crate::MAX_SCRIPT_LINE;
 use mml_codec::MAX_REQUEST;
 
-/// A request line, and the connection that it came on.
+/// A line of a script: a request line, and the number of the connection on which it comes.
 #[derive(Clone, Copy)]
 pub struct ScriptLine<'a> {
     pub connection: u8,
@@ -18,9 +18,9 @@ pub struct ScriptLine<'a> {
     pub request: &'a [u8],
 }
 
-/// Returns the connection and the request of a script line, without its newline: a connection in decimal, one space and
-/// the request. Returns `None` if the lab has no such connection, the request is longer than a request may be, or the
-/// line has another form.
+/// Reads a script line, without its newline: a connection in decimal, one space and a request. Returns `None` if the
+/// line has another form, the lab doesn't have the connection (`sessions` is how many it has), or the request is too
+/// long.
 pub fn read_script_line(line: &[u8], sessions: u8) -> Option<ScriptLine<'_>>
     requires few { sessions ≤ MAX_SESSIONS }
     requires line { IsWithinLimit MAX_SCRIPT_LINE line.now }
@@ -43,8 +43,8 @@ pub fn read_script_line(line: &[u8], sessions: u8) -> Option<ScriptLine<'_>>
     })
 }
 
-// Returns the number that the first one or two digits of a line spell, or 0 if it begins with none. More digits may
-// follow, or a zero may come first: no connection has such a number, and the whole line is tested afterwards.
+// Returns the number that the first one or two digits of a line spell, or 0 if it begins with none. The caller still
+// tests the whole line, since more digits may follow, or a zero may come first.
 fn connection_of(line: &[u8]) -> u8
     ensures { (n : ℕ) (rest : List ℕ) → 0 < n → n ≤ MAX_SESSIONS
         → line.now ≡ decimal n ++ 32 ∷ rest → result ≡ n }
@@ -56,7 +56,7 @@ fn connection_of(line: &[u8]) -> u8
     }
 }
 
-// Returns the value of the digit at an index of a line, from 0, or `None` if no digit stands there.
+// Returns the value of the digit at an index of a line, from 0, or `None` if there is no digit.
 fn digit_at(line: &[u8], index: usize) -> Option<u8>
     ensures digit { IfSome result (λ d. (d < 10) × (index < length line.now) × (slice_index line.now index ≡ 48 + d)) }
     ensures none { IfNone result (index < length line.now → (d : ℕ) → d < 10 → slice_index line.now index ≢ 48 + d) }
@@ -68,8 +68,8 @@ fn digit_at(line: &[u8], index: usize) -> Option<u8>
     }
 }
 
-// Returns the request of a line after the connection and one space, or `None` if the line doesn't begin with these, or
-// the request is too long.
+// Returns the request of a script line, which comes after the number `connection` and one space. Returns `None` if the
+// line doesn't begin with these, or the request is too long.
 fn short_request_on(connection: u8, line: &[u8]) -> Option<&[u8]>
     requires number { connection < 100 }
     requires line { IsUnbroken line.now }
@@ -87,7 +87,7 @@ fn short_request_on(connection: u8, line: &[u8]) -> Option<&[u8]>
     }
 }
 
-// Returns the bytes after the connection and one space at the front of a line, or `None` if it doesn't begin with
+// Returns the bytes of a line after the number `connection` and one space, or `None` if the line doesn't begin with
 // these.
 fn request_on(connection: u8, line: &[u8]) -> Option<&[u8]>
     requires { connection < 100 }
@@ -100,8 +100,8 @@ fn request_on(connection: u8, line: &[u8]) -> Option<&[u8]>
     Some(request)
 }
 
-// Returns the bytes after the connection's number, of one or two digits, at the front of a line, or `None` if it
-// doesn't begin with it.
+// Returns the bytes of a line after the number `connection`, which is below 100, or `None` if the line doesn't begin
+// with it.
 fn after_number(connection: u8, line: &[u8]) -> Option<&[u8]>
     requires { connection < 100 }
     ensures { MatchOption result
@@ -114,7 +114,7 @@ fn after_number(connection: u8, line: &[u8]) -> Option<&[u8]>
     after_word(line, &[b'0' + connection / 10, b'0' + connection % 10])
 }
 
-// Returns the bytes after a word at the front of a line, or `None` if the line doesn't begin with it.
+// Returns the bytes of a line after `word`, or `None` if the line doesn't begin with it.
 fn after_word<'a>(line: &'a [u8], word: &[u8]) -> Option<&'a [u8]>
     ensures { MatchOption result
         ((rest : List ℕ) → line.now ≢ word.now ++ rest)

@@ -10,7 +10,6 @@ use Rattle.mml_window.specs.declared.published.Common.{Common}
 abbrev pub common : World → ℕ → List Event → Common
 common board limit events = record { board = board; limit = limit; events = events }
 
--- the copy after the event, which stands after the others; the copy as it was if there is no room or the event may not
--- happen
+-- the copy with the event applied and appended, or the copy as it was if there is no room or the event isn't possible
 abbrev pub absorbs : Common → Event → Common
 absorbs s e = if (nat_lt (length s.events) s.limit && can_absorb s.board e) then common (after s.board e) s.limit (s.events ++ e ∷ []) else s

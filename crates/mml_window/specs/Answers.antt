@@ -41,7 +41,7 @@ Decides lab failures old who command (Refused Memory) new = Grants lab old.event
 Decides lab failures old who command (Granted place number done) new =
     (e : Event) × Takes lab old.events who command e place number done × Grows failures old new e
 
--- the effect of a legal event on the book, if there is room and the journal isn't halted: without memory it is as it
+-- what a legal event does to the book, if there is room and the journal isn't halted: without memory it stays as it
 -- was, it halts if the journal fails, and else it has the event
 abbrev pub Lets : {S : Type 0} → LabValue → (S → ℕ) → BookValue S → Event → Done → Answer → BookValue S → Type 0
 Lets lab failures old e done (Denied d) new = ⊥

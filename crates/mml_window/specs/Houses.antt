@@ -1,4 +1,4 @@
--- Which house a blank is.
+-- The name and the lab of a house, as contracts see them.
 use Rattle.std.specs.Prelude.{List, []}
 use denote.RawPtr.{Ptr, block_ptr}
 use Rattle.mml_lab.specs.Labs.{LabValue}

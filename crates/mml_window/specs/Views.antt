@@ -17,7 +17,7 @@ abbrev pub TellsNumber : LabValue → WindowValue → Result ℕ Closed → Wind
 TellsNumber lab old (Ok n) new = (n ≡ (world_in lab new.seen).number) × SeesOn lab old new
 TellsNumber lab old (Err closed) new = new ≡ old
 
--- what is ruled is shown, or it is denied; the refusal `memory` means that it would be shown
+-- the result is what the ruling shows, or its denial; `memory` means that it would be shown
 abbrev pub Shows : {A : Type 0} → (A → Ruling) → Ruling → Result A SightFault → Type 0
 Shows shown r (Ok x) = r ≡ shown x
 Shows shown r (Err (fault.Denied d)) = r ≡ Denied d

@@ -5,7 +5,7 @@ use left_right::writer::Writer;
 use mml_board::Event;
 pub use std::marker::Brand;
 
-/// Names one house, for contracts alone: a type that implements it ties a desk, its book and its windows.
+/// The name of one house, used only in contracts: a type that ties a desk, its book and its windows to each other.
 pub trait House {
     ghost use denote.RawPtr.{Ptr};
     ghost use Rattle.mml_lab.specs.Labs.{LabValue};
@@ -25,11 +25,11 @@ impl House for Brand {
     ghost lab = { no_lab };
 }
 
-/// A reader's slot of the published data.
+/// A reader's place at what a house publishes.
 pub(crate) type Slot<H> = Reader<Published, View, Publishing<H>>;
 
-/// A reader that has entered, with what it reads.
+/// A reader that has entered, with the copy that it reads.
 pub(crate) type Entered<H> = Reading<Published, View, Publishing<H>>;
 
-/// The publisher of a house.
+/// The writer by which a house publishes its events.
 pub(crate) type Press<H> = Writer<Published, Event, View, Publishing<H>>;

@@ -1,4 +1,4 @@
-//! How a reader looks at the published data.
+//! How a window's reader reads what is published.
 ghost use Rattle.std.specs.Prelude.{◌≡◌, true, length, IfSome, IfNone};
 ghost use Rattle.std.specs.Fn.{FnReturnsAt};
 ghost use Rattle.left_right.specs.Sides.{view};
@@ -32,7 +32,7 @@ impl<H: House> Model for Reader<H> {
 }
 
 impl<H: House> Reader<H> {
-    /// Returns how many events it has seen.
+    /// Returns how many events the reader has seen.
     pub(crate) fn count(&self) -> u64
         ensures { result ≡ length self.now.seen }
     {
@@ -40,7 +40,8 @@ impl<H: House> Reader<H> {
     }
 }
 
-/// Makes a reader that has seen nothing, if there is none yet and a slot is free.
+/// Makes a reader, which has seen nothing yet, if `reader` has none and a slot of `press` is free. `press` is the
+/// writer of what is published.
 pub(crate) fn take_slot<H: House>(press: &Press<H>, reader: &mut Option<Reader<H>>)
     ensures { view_by reader.new ≡ view_by reader.old }
 {
@@ -51,8 +52,8 @@ pub(crate) fn take_slot<H: House>(press: &Press<H>, reader: &mut Option<Reader<H
     }
 }
 
-/// Makes the reader enter what is published: it is taken out, with what it reads, until it leaves. Returns `None` if
-/// there is no reader, or if the writer is gone; then the reader stays.
+/// Lets the reader enter what is published, which can be read until `leave` is called. Takes the reader out of `reader`
+/// meanwhile. Returns `None` if there is no reader, or if the writer is gone; then the reader stays in `reader`.
 pub(crate) fn enter<H: House>(reader: &mut Option<Reader<H>>) -> Option<Entered<H>>
     ensures saw { IfSome result (λ reading.
         Saw H.lab (view_by reader.old) reading.part.value (view reading.place)) }
@@ -70,7 +71,7 @@ pub(crate) fn enter<H: House>(reader: &mut Option<Reader<H>>) -> Option<Entered<
     }
 }
 
-/// Makes a reader leave what it has entered. Returns the reader: it has seen all events of that, and has their count.
+/// Ends the reading that `enter` began, and returns the reader. It has then seen all events of what it entered.
 pub(crate) fn leave<H: House>(reading: Entered<H>) -> Reader<H>
     requires { view reading.place ≡ viewer reading.part.value.events.items }
     ensures { result ≡ view reading.place }
@@ -82,9 +83,9 @@ pub(crate) fn leave<H: House>(reading: Entered<H>) -> Reader<H>
     }
 }
 
-/// Looks again and again with a reader until `is_sought` says that it sees what is sought. If there is no reader, makes
-/// one first, as soon as a slot is free. While `press` is borrowed nothing is published, so if what is sought is what
-/// `press` shows, the first look finds it.
+/// Reads what is published, again and again, until `is_sought` returns true for it. If there is no reader yet, makes
+/// one as soon as a slot is free. Nothing is published while `press` is borrowed. So if `is_sought` returns true for
+/// what `press` shows, the first reading ends the search.
 pub(crate) fn look_for<H: House, R: Wait, F: Fn(&Published) -> bool>(
     rt: &R,
     press: &Press<H>,

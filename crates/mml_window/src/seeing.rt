@@ -5,13 +5,13 @@ use mml_board::Event;
 use std::collections::LinkedList;
 use std::marker::PhantomData;
 
-/// The events that the writer or a reader has seen. No value of it is made.
+/// The events that the writer or a reader has seen, for contracts. No value of it is made.
 pub struct View {
     pub seen: LinkedList<Event>,
 }
 
-/// The protocol by which a house publishes: what is published is legal in the lab of H, and what each has seen
-/// is a beginning of it.
+/// The protocol by which a house publishes: the published events are legal in the lab of `H`, and what each reader has
+/// seen is a beginning of them.
 pub struct Publishing<H: House> {
     of: PhantomData<H>,
 }
@@ -24,8 +24,8 @@ impl<H: House> Protocol<Published, View> for Publishing<H> {
     ghost first = { nothing_seen };
 }
 
-/// What a publishing or an entering leads to: the writer, or the reader, sees a list that begins with all that it had
-/// seen.
+/// What a publication by the writer, or an entry of a reader, leads to: it sees a list that begins with all events that
+/// it had seen.
 pub struct Seeing<H: House> {
     of: PhantomData<H>,
 }

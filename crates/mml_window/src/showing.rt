@@ -14,7 +14,7 @@ use mml_policy::{Course, Look, See, look_of, may_look, may_report, may_see, see_
 use mml_stable::{Report, report};
 use std::alloc::Global;
 
-/// Returns the data in which the clauses of a command are checked: the board, and the lab's nodes and roster.
+/// Returns the data by which a command is judged: the board, and the lab's identifiers and roster.
 fn course_in<'a>(board: &'a Board, lab: &'a Lab) -> Course<'a>
     ensures board { result.board.now ≡ board.now }
     ensures ids { result.ids.now ≡ lab.now.ids }
@@ -27,8 +27,8 @@ fn course_in<'a>(board: &'a Board, lab: &'a Lab) -> Course<'a>
     }
 }
 
-/// Returns what a node shows to those who may see it, or `Denied` with the clause that hides it from `who`. Allocates
-/// nothing.
+/// Returns the registers of the node with the identifier `node`, if `who` may see it, and else `Denied` with the
+/// reason. Allocates nothing.
 pub(crate) fn see_at(board: &Board, lab: &Lab, who: Who, node: u64) -> Result<See, SightFault>
     requires { length lab.now.ids ≡ length board.now.network.registers }
     ensures shows { Shows rulings.Seen (ruling_at lab.now board.now who (command.See node)) result }
@@ -41,7 +41,8 @@ pub(crate) fn see_at(board: &Board, lab: &Lab, who: Who, node: u64) -> Result<Se
     }
 }
 
-/// Returns what a node shows to its owners and the teacher, or `Denied` to others. Returns `Memory` if memory runs out.
+/// Returns the node with the identifier `node` as its owners see it, if `who` owns it or is the teacher, and else
+/// `Denied` with the reason. Returns `Memory` if memory runs out.
 pub(crate) fn look_at(
     alloc: Global,
     board: &Board,
@@ -62,8 +63,8 @@ pub(crate) fn look_at(
     }
 }
 
-/// Returns the report on the board's configuration to the teacher, or `Denied` to others. Returns `Memory` if memory
-/// runs out.
+/// Returns the report on the board's configuration, if `who` is the teacher, and else `Denied` with the reason. Returns
+/// `Memory` if memory runs out.
 pub(crate) fn report_at(
     alloc: Global,
     board: &Board,

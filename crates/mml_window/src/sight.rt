@@ -1,6 +1,6 @@
 use mml_policy::Denial;
 
-/// The error of a window whose writer is gone or that has no reader's slot.
+/// The error of a window that can't read: its house has ended, or it has no reader's slot.
 #[derive(Clone, Copy, Debug, PartialEq, Eq)]
 pub struct Closed;
 
@@ -9,8 +9,8 @@ pub struct Closed;
 pub enum SightFault {
     /// A clause doesn't hold.
     Denied(Denial),
-    /// Memory ran out. What is asked would be shown.
+    /// Memory ran out. Otherwise the view would be shown.
     Memory,
-    /// The writer is gone, or the window has no reader's slot.
+    /// The house has ended, or the window has no reader's slot.
     Closed,
 }

@@ -7,11 +7,11 @@ ghost use Rattle.mml_window.specs.inside.Cursors.{left_of, IsStuck};
 use crate::house::House;
 use crate::window::Window;
 
-/// For each window, how many of its places were counted off. There are at most 16 windows, as many as a lab may have
-/// sessions.
+/// For each window the index of the first of its places that isn't counted off yet. There are at most 16 windows, as
+/// many as a lab may have sessions.
 type Cursors = [usize; 16];
 
-/// Returns how many places the windows have in all.
+/// Returns how many places all windows together were granted.
 pub(crate) fn count_places<H: House>(windows: &[Window<H>]) -> u64
     requires few { length windows.now ≤ MAX_SESSIONS }
     ensures { result ≡ length (told_of windows.now) }
@@ -23,8 +23,9 @@ pub(crate) fn count_places<H: House>(windows: &[Window<H>]) -> u64
     count
 }
 
-/// Returns whether the windows' places are those above `first` and up to `most`, each once, and `false` if `first` is
-/// above `most`. The places of each window climb, so one pass with a cursor for each is enough.
+/// Returns whether the places that the windows were granted are those above `first` and up to `most`, each once.
+/// Returns `false` if `first` is above `most`. The places of each window climb, so one pass with a cursor for each
+/// window is enough.
 pub(crate) fn is_each_once<H: House>(windows: &[Window<H>], first: u64, most: u64) -> bool
     requires few { length windows.now ≤ MAX_SESSIONS }
     ensures { MatchBool result (IsEachOnceFrom first most (told_of windows.now))
@@ -42,7 +43,8 @@ pub(crate) fn is_each_once<H: House>(windows: &[Window<H>], first: u64, most: u6
     are_counted_off(windows, &cursors)
 }
 
-/// Advances the cursor of the first window whose next place is `place`. Returns `false` if that is no window's next.
+/// Counts off one place: advances the cursor of the first window whose next place is `place`, and returns true. Returns
+/// `false` if it is the next place of no window.
 fn count_off<H: House>(windows: &[Window<H>], cursors: &mut Cursors, place: u64) -> bool
     requires few { length windows.now ≤ MAX_SESSIONS }
     ensures { MatchBool result ((p : ℕ) → times p (left_of windows.now cursors.old)
@@ -58,7 +60,8 @@ fn count_off<H: House>(windows: &[Window<H>], cursors: &mut Cursors, place: u64)
     false
 }
 
-/// Returns whether each window's cursor is past all its places.
+/// Returns whether all places of all windows are counted off, that is, whether each cursor is past its window's last
+/// place.
 fn are_counted_off<H: House>(windows: &[Window<H>], cursors: &Cursors) -> bool
     requires few { length windows.now ≤ MAX_SESSIONS }
     ensures { MatchBool result (left_of windows.now cursors.now ≡ [])

@@ -30,8 +30,8 @@ use std::alloc::Global;
 use std::marker::{Model, PhantomData};
 use std::sync::{Arc, Wait};
 
-/// A reader of what a house publishes, with the places that its asker was granted. No public call of a window takes the
-/// runtime, so none can wait for the lock.
+/// The part of a house that belongs to one session: a reader of what is published, and the places of the events that
+/// the session was granted. No public call of a window takes the runtime, so none can wait for the lock.
 #[derive(Drop)]
 pub struct Window<H: House> {
     // None while a call of this crate is at work, and if there was no reader's slot at the start: then nothing was
@@ -59,7 +59,7 @@ impl<H: House> Model for Window<H> {
         × (arc_value w.lab ≡ H.lab) × (H.lab.events ≤ vec_capacity w.places) };
 }
 
-/// What a window is made of: the lab, and room for the places that the window may be granted.
+/// What a window is made of: the lab, and room for the places that its session may be granted.
 #[derive(Drop)]
 pub(crate) struct Seat {
     pub lab: Arc<Lab>,
@@ -67,7 +67,8 @@ pub(crate) struct Seat {
 }
 
 impl<H: House> Window<H> {
-    /// A window that has seen nothing. It takes a reader's slot at what is published, if one is free.
+    /// Makes a window of a seat. It has seen nothing yet. It takes a reader's slot of `press`, the writer of what is
+    /// published, if one is free.
     pub(crate) fn over(press: &Press<H>, seat: Seat) -> Window<H>
         requires lawful { IsLab H.lab }
         requires seat { IsSeat H.lab seat }
@@ -85,7 +86,7 @@ impl<H: House> Window<H> {
         }
     }
 
-    /// How many events it has seen.
+    /// Returns how many events the window has seen.
     pub fn seen_count(&self) -> u64
         ensures { result ≡ length self.now.seen }
     {
@@ -95,15 +96,16 @@ impl<H: House> Window<H> {
         }
     }
 
-    /// Returns why the window's last act was refused, or `None` if it was granted or denied, or before any act.
+    /// Returns why the last act of the window's session was refused. Returns `None` if it was granted or denied, or
+    /// there was none.
     pub fn refused(&self) -> Option<Refusal>
         ensures { result ≡ self.now.refused }
     {
         self.refused
     }
 
-    /// Keeps what an answer says: why the act was refused, if it was, or the event's place, if it was granted, once the
-    /// window sees the list that ends in that event.
+    /// Keeps what the answer to an act says: the event's place if it was granted, or why it was refused. After a grant,
+    /// first reads until the window has seen the event, the last one that `press` has published.
     #[tactic(auto, using(crate::proofs::ClimbingLemmas::climbs_count))]
     pub(crate) fn keep<R: Wait>(&mut self, rt: &R, press: &Press<H>, answer: &Answer)
         requires { IsNextPlace H.lab self.old.seen press.now.desk.shown.value.events.items answer.now }
@@ -127,7 +129,7 @@ impl<H: House> Window<H> {
         }
     }
 
-    /// Returns the nodes' identifiers.
+    /// Returns the identifiers of the lab's nodes.
     pub fn ids(&self) -> &IdTable
         ensures ids { result.now ≡ H.lab.ids }
         ensures window { IsWindow H.lab self.now }
@@ -135,7 +137,7 @@ impl<H: House> Window<H> {
         self.lab.ids()
     }
 
-    /// Returns the roster: who takes part, and who owns which node.
+    /// Returns the lab's roster: who takes part, and who owns which node.
     pub fn roster(&self) -> &Roster
         ensures roster { result.now ≡ H.lab.roster }
         ensures window { IsWindow H.lab self.now }
@@ -143,8 +145,8 @@ impl<H: House> Window<H> {
         self.lab.roster()
     }
 
-    /// Returns the number of the published configuration. Returns `Closed` if the writer is gone, or there is no
-    /// reader's slot.
+    /// Returns the number of the configuration that is published. Returns `Closed` if the house has ended, or the
+    /// window has no reader's slot.
     #[tactic(auto, using(crate::proofs::ClimbingLemmas::climbs_on))]
     pub fn number(&mut self) -> Result<u64, Closed>
         ensures { TellsNumber H.lab self.old result self.new }
@@ -157,8 +159,8 @@ impl<H: House> Window<H> {
         Ok(number)
     }
 
-    /// Returns what a node shows to those who may see it, or `Denied` with the clause that hides it. Allocates nothing.
-    /// Returns `Closed` if the writer is gone, or there is no reader's slot.
+    /// Returns the published registers of the node with the identifier `node`, if `who` may see it, and else `Denied`
+    /// with the reason. Returns `Closed` if the house has ended, or the window has no reader's slot. Allocates nothing.
     #[tactic(auto, using(crate::proofs::ClimbingLemmas::climbs_on))]
     pub fn see(&mut self, who: Who, node: u64) -> Result<See, SightFault>
         ensures tells { AnswersView rulings.Seen H.lab self.old who (command.See node) result self.new }
@@ -173,8 +175,9 @@ impl<H: House> Window<H> {
         see
     }
 
-    /// Returns what a node shows to its owners and the teacher, or `Denied` to others. Returns `Memory` if memory runs
-    /// out, and `Closed` if the writer is gone, or there is no reader's slot.
+    /// Returns the published node with the identifier `node` as its owners see it, if `who` owns it or is the teacher,
+    /// and else `Denied` with the reason. Returns `Memory` if memory runs out, and `Closed` if the house has ended, or
+    /// the window has no reader's slot.
     #[tactic(auto, using(crate::proofs::ClimbingLemmas::climbs_on))]
     pub fn look(&mut self, alloc: Global, who: Who, node: u64) -> Result<Look, SightFault>
         ensures tells { AnswersView rulings.Looked H.lab self.old who (command.Look node) result
@@ -189,8 +192,8 @@ impl<H: House> Window<H> {
         look
     }
 
-    /// Returns the report on the published configuration to the teacher, or `Denied` to others. Returns `Memory` if
-    /// memory runs out, and `Closed` if the writer is gone, or there is no reader's slot.
+    /// Returns the report on the published configuration, if `who` is the teacher, and else `Denied` with the reason.
+    /// Returns `Memory` if memory runs out, and `Closed` if the house has ended, or the window has no reader's slot.
     #[tactic(auto, using(crate::proofs::ClimbingLemmas::climbs_on))]
     pub fn report(&mut self, alloc: Global, who: Who) -> Result<Report, SightFault>
         ensures tells { AnswersView (λ r. rulings.Reported) H.lab self.old who command.Report result
@@ -206,7 +209,8 @@ impl<H: House> Window<H> {
         report
     }
 
-    /// Looks until it sees a list whose world is the board that is published.
+    /// Reads what is published until its board is the one that `press`, the writer, has published last. The window has
+    /// then seen events that lead to this board.
     #[tactic(auto, using(crate::proofs::ClimbingLemmas::climbs_on))]
     pub(crate) fn read_until_board<R: Wait>(&mut self, rt: &R, press: &Press<H>)
         ensures on { SeesOn H.lab self.old self.new }
@@ -218,7 +222,7 @@ impl<H: House> Window<H> {
         });
     }
 
-    /// Looks until it sees all that is published.
+    /// Reads what is published until the window has seen all events that `press`, the writer, has published.
     #[tactic(auto, using(crate::proofs::ClimbingLemmas::climbs_on))]
     pub(crate) fn read_until_all<R: Wait>(&mut self, rt: &R, press: &Press<H>)
         ensures window { self.new ≡ window_with press.now.desk.shown.value.events.items
@@ -231,7 +235,7 @@ impl<H: House> Window<H> {
         });
     }
 
-    /// Returns how many places it was granted.
+    /// Returns how many places the window's session was granted.
     pub(crate) fn place_count(&self) -> u64
         ensures count { result ≡ length self.now.places }
         ensures few { result ≤ MAX_EVENTS }
@@ -239,8 +243,8 @@ impl<H: House> Window<H> {
         self.places.len() as u64
     }
 
-    /// Returns whether the window's place at the cursor, before which all are counted off, is `place`. Returns `false`
-    /// if there is none at the cursor.
+    /// Returns whether the window's place at the index `cursor` is `place`. Returns `false` if there is none at this
+    /// index. The places before the cursor are counted off.
     pub(crate) fn is_next(&self, cursor: usize, place: u64) -> bool
         ensures next { IsTrue result → (drop cursor self.now.places
             ≡ place ∷ drop (cursor + 1) self.now.places) × (cursor < MAX_EVENTS) }
@@ -252,7 +256,7 @@ impl<H: House> Window<H> {
         }
     }
 
-    /// Returns whether the cursor is past all its places.
+    /// Returns whether all places of the window are counted off: the index `cursor` is past the last one.
     pub(crate) fn is_counted_off(&self, cursor: usize) -> bool
         ensures { MatchBool result (drop cursor self.now.places ≡ [])
             ((p : ℕ) × (0 < times p (drop cursor self.now.places))) }

@@ -4,6 +4,6 @@ use Rattle.std.specs.Arc.{arc_value}
 use Rattle.mml_lab.specs.Labs.{LabValue}
 use Rattle.mml_window.specs.declared.window.Seat.{Seat}
 
--- the seat has the lab, no place yet, and room for a place of each event that the lab allows
+-- the seat has the lab, no place yet, and room for the places of as many events as the lab allows
 abbrev pub IsSeat : LabValue → Seat → Type 0
 IsSeat lab s = (arc_value s.lab ≡ lab) × (s.places.items ≡ []) × (lab.events ≤ vec_capacity s.places)
