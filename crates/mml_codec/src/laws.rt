@@ -35,7 +35,7 @@ ghost use Rattle.mml_rules.specs.Rules.{kind_of};
 use crate::reply::{FULL_LINE, JOURNAL_LINE, MALFORMED_LINE, MEMORY_LINE};
 
 /// A JSON value is read as a request exactly if it has each field with which the request is written. Other keys don't
-/// count. A value that has all fields of no request is no request.
+/// count. A value that lacks a field of every request is no request.
 pub fn a_request_is_asked_by_its_fields()
     ensures { (d : Data) (r : Request) → (request d ≡ Some r) ↔ HasEach d (fields_of r) }
 {}

@@ -104,7 +104,8 @@ pub(crate) fn put_see(ids: &IdTable, see: &See, out: &mut Vec<u8>) -> Result<(),
     put_object(ids, &fields, out)
 }
 
-/// Appends the text of the reply to a granted move to `out`. Returns `Memory` if memory runs out.
+/// Appends the text of the reply to a granted move to `out`: `moment` has its numbers, `node` is the node, and `kind`
+/// its chosen rule. Returns `Memory` if memory runs out.
 #[tactic(auto, unfolding(crate::specs::Facts::object_text))]
 pub(crate) fn put_move(
     ids: &IdTable,
@@ -141,7 +142,8 @@ pub(crate) fn put_move(
     put_object(ids, &fields, out)
 }
 
-/// Appends the text of the reply to a granted close to `out`. Returns `Memory` if memory runs out.
+/// Appends the text of the reply to a granted close to `out`: `moment` has its numbers, and `moved` the nodes whose
+/// moves were applied. Returns `Memory` if memory runs out.
 #[tactic(auto, unfolding(crate::specs::Facts::object_text))]
 pub(crate) fn put_close(
     ids: &IdTable,
@@ -173,7 +175,8 @@ pub(crate) fn put_close(
     put_object(ids, &fields, out)
 }
 
-/// Appends the text of the reply to a granted fault to `out`. Returns `Memory` if memory runs out.
+/// Appends the text of the reply to a granted fault to `out`: `moment` has its numbers, `node` is the node, and
+/// `dropped` is how many chosen moves were dropped. Returns `Memory` if memory runs out.
 #[tactic(auto, unfolding(crate::specs::Facts::object_text))]
 pub(crate) fn put_fault(
     ids: &IdTable,
@@ -210,8 +213,9 @@ pub(crate) fn put_fault(
     put_object(ids, &fields, out)
 }
 
-/// Appends the text of the reply to a granted link or cut to `out`. `word` is `link` or `cut`, `ends` has the two
-/// nodes, and `dropped` is how many chosen moves were dropped. Returns `Memory` if memory runs out.
+/// Appends the text of the reply to a granted link or cut to `out`: `word` is `link` or `cut`, `moment` has its
+/// numbers, `ends` are the two nodes, and `dropped` is how many chosen moves were dropped. Returns `Memory` if memory
+/// runs out.
 #[tactic(auto, unfolding(crate::specs::Facts::object_text))]
 pub(crate) fn put_ends(
     ids: &IdTable,
@@ -255,7 +259,8 @@ pub(crate) fn put_ends(
     put_object(ids, &fields, out)
 }
 
-/// Appends the text of the reply to a granted release to `out`. Returns `Memory` if memory runs out.
+/// Appends the text of the reply to a granted release to `out`: `moment` has its numbers, and `node` is the node.
+/// Returns `Memory` if memory runs out.
 #[tactic(auto, unfolding(crate::specs::Facts::object_text))]
 pub(crate) fn put_release(
     ids: &IdTable,

@@ -60,8 +60,9 @@ pub fn closes_are_bounded()
         count_closes es ≤ 2 * link_count w.network + 3 * size w }
 {}
 
-/// The bound on all moves, 2 for each link and 3 for each node, is reached on one network: in a class of one student,
-/// who owns a triangle with a tail, a legal list of grants and closes applies 20, for 4 links and 4 nodes.
+/// The bound on all moves, 2 for each link and 3 for each node, is reached on one network: if one student owns all
+/// nodes of a triangle with a tail, which has 4 links and 4 nodes, some legal list of grants and closes applies 20
+/// moves.
 pub fn bound_is_reached()
     ensures roster { IsRoster sole_owner }
     ensures world { IsWorld triangle_world }

@@ -10,8 +10,8 @@ use Rattle.mml_lab_file.specs.Shape.{RawSpec}
 use Rattle.mml_lab_file.specs.Reading.{name_twice, is_within, both_fault, ids_fault, forms_fault, no_owner_fault, owner_twice_fault, ends_fault, loops_fault, again_fault, pointers_fault}
 
 -- the index of an error, from 0, in the order in which errors of a file that has all keys, each of its kind, are
--- reported: both keys for owners, identifiers, names and keys, names that stand twice, owners that are no students, two
--- owners that are one, ends that are no nodes, loops, links that stand twice, pointers, and the numbers of events, of
+-- reported: both keys for owners, identifiers, names and keys, names that occur twice, owners that are no students, two
+-- owners that are one, ends that are no nodes, loops, links that occur twice, pointers, and the numbers of events, of
 -- sessions and of students; 13 for any other error
 abbrev pub order_of : LabFault → ℕ
 order_of (fault.BothOwners i) = 0

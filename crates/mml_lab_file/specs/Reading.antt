@@ -73,7 +73,7 @@ is_within greatest n = nat_lt 0 (number_of n) && nat_le (number_of n) greatest
 unfoldable pub both_fault : List NodeSpec → Option LabFault
 both_fault nodes = option_map fault.BothOwners (position (λ node. node.both) nodes)
 
--- the name at this index of the list stands at a lower index too
+-- the name at this index of the list occurs at a lower index too
 abbrev pub is_name_again : List Account → ℕ → Bool
 is_name_again accounts k = list_any (has_name (slice_index_or accounts k no_account).name) (take k accounts)
 
@@ -123,7 +123,7 @@ identified nodes = do
   pass_unless (both_fault nodes)
   pass_unless (ids_fault nodes)
 
--- the test of who takes part: all names and keys have their forms, and no name stands twice
+-- the test of who takes part: all names and keys have their forms, and no name occurs twice
 unfoldable pub enrolled : Account → List Account → Result (Unit {0}) LabFault
 enrolled teacher students = do
   pass_unless (forms_fault (teacher ∷ students))

@@ -131,7 +131,7 @@ fn identify(alloc: Global, nodes: &[RawNode]) -> Result<IdTable, LabFault>
 }
 
 /// Returns the students' names and keys in the file's order. Returns the error of the first name or key that isn't of
-/// its form, the teacher's included, or else the error of the first name that stands twice.
+/// its form, the teacher's included, or else the error of the first name that occurs twice.
 #[tactic(auto, unfolding(crate::specs::Reading::enrolled))]
 fn enrol(
     alloc: Global,

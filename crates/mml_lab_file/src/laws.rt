@@ -12,8 +12,8 @@ ghost use Rattle.mml_lab_file.specs.Reading.{lab_fault, lab_in, lab_of, linked, 
 ghost use Rattle.mml_lab_file.specs.LabMeaning.{Joins, HasLink, HasNode, IsNodeOf, IsLabOfFile, JoinNodes, IsLinkAgain, IsFirstLinkAgain, id_at};
 ghost use Rattle.mml_lab_file.specs.LabMeaning.{IsFirstAgain, AreDistinctBelow};
 
-/// There is an error of a name that stands twice exactly if some name does, and it has the index of the first that
-/// stands at a lower index, too.
+/// The check of names finds an error exactly if some name occurs twice. The error has the index of the first name that
+/// occurs at a lower index, too.
 pub fn name_twice_is_the_first()
     ensures fault { (accounts : List Account) (k : ℕ) →
         (name_twice accounts ≡ Some (fault.NameTwice k)) ↔ IsFirstAgain accounts k }
@@ -32,8 +32,8 @@ pub fn links_join_two_nodes()
         ¬ Joins again.0 again.1 link }
 {}
 
-/// If each link joins two nodes that differ: there is an error of a link that stands twice exactly if some link does,
-/// and it has the index of the first that stands at a lower index, too.
+/// If each link joins two nodes that differ, the check of links finds an error exactly if some link occurs twice. The
+/// error has the index of the first link that occurs at a lower index, too.
 pub fn link_twice_is_the_first()
     ensures fault { (raw : RawSpec) (k : ℕ) →
         (linked raw.nodes raw.links ≡ Err (fault.LinkTwice k))

@@ -20,7 +20,7 @@ use mml_lab::LabFault;
 use std::alloc::Global;
 
 /// Returns the set of neighbours of each node, by rank. Returns the first error of the links: that of the first end
-/// that is no node, else of the first loop, else of the first link that stands twice.
+/// that is no node, else of the first loop, else of the first link that occurs twice.
 #[tactic(auto, unfolding(crate::specs::Reading::linked))]
 pub(crate) fn neighbours(
     alloc: Global,

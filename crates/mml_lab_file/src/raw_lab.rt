@@ -41,35 +41,38 @@ pub struct RawLab {
     pub links: Vec<(i64, i64)>,
 }
 
-/// Returns the value under the key `name` of a table, or `None` if the table doesn't have it.
+/// Returns the value under the key `name` of a table, or `None` if the table doesn't have the key.
 fn find<'a>(table: &'a Table, name: &str) -> Option<&'a Value>
     ensures { option_map (λ v. view v.now) result ≡ get_member name.now (table_view table.now) }
 {
     table.get(name)
 }
 
-/// Returns the value under the key `name` of a table, or the error that the key, named as `key`, is missing.
+/// Returns the value under the key `name` of a table. Returns `Missing(key)` if the table doesn't have the key.
 fn value_at<'a>(table: &'a Table, name: &str, key: Key) -> Result<&'a Value, LabFault>
     ensures { Gives is_lab_memory (λ v. view v.now) result (value_under key name.now (table_view table.now)) }
 {
     find(table, name).ok_or(LabFault::Missing(key))
 }
 
-/// Returns the value's integer, or the error that the value under `key` is of another kind.
+/// Returns the integer that a value is. Returns `WrongKind(key)` if the value is of another kind; `key` is the key
+/// under which it was found.
 fn integer(value: &Value, key: Key) -> Result<i64, LabFault>
     ensures { Gives is_lab_memory (λ z. z) result (of_kind key as_integer (view value.now)) }
 {
     value.as_integer().ok_or(LabFault::WrongKind(key))
 }
 
-/// Returns the value's truth value, or the error that the value under `key` is of another kind.
+/// Returns the truth value that a value is. Returns `WrongKind(key)` if the value is of another kind; `key` is the key
+/// under which it was found.
 fn boolean(value: &Value, key: Key) -> Result<bool, LabFault>
     ensures { Gives is_lab_memory (λ b. b) result (of_kind key as_bool (view value.now)) }
 {
     value.as_bool().ok_or(LabFault::WrongKind(key))
 }
 
-/// Returns the value's string, or the error that the value under `key` is of another kind.
+/// Returns the string that a value is. Returns `WrongKind(key)` if the value is of another kind; `key` is the key under
+/// which it was found. Returns `Memory` if memory runs out.
 fn text(alloc: Global, value: &Value, key: Key) -> Result<String, LabFault>
     ensures { Gives is_lab_memory string_bytes result (of_kind key as_str (view value.now)) }
 {
@@ -77,21 +80,24 @@ fn text(alloc: Global, value: &Value, key: Key) -> Result<String, LabFault>
     Ok(String::from_str(alloc, text)?)
 }
 
-/// Returns the value's table, or the error that the value under `key` is of another kind.
+/// Returns the table that a value is. Returns `WrongKind(key)` if the value is of another kind; `key` is the key under
+/// which it was found.
 fn table_of(value: &Value, key: Key) -> Result<&Table, LabFault>
     ensures { Gives is_lab_memory (λ t. table_view t.now) result (of_kind key as_table (view value.now)) }
 {
     value.as_table().ok_or(LabFault::WrongKind(key))
 }
 
-/// Returns the value's array, or the error that the value under `key` is of another kind.
+/// Returns the array that a value is. Returns `WrongKind(key)` if the value is of another kind; `key` is the key under
+/// which it was found.
 fn array_of(value: &Value, key: Key) -> Result<&Array, LabFault>
     ensures { Gives is_lab_memory (λ t. array_view t.now) result (of_kind key as_array (view value.now)) }
 {
     value.as_array().ok_or(LabFault::WrongKind(key))
 }
 
-/// Returns the integer under the key `name`, or the error that the key, named as `key`, is missing or of another kind.
+/// Returns the integer under the key `name` of a table. Returns `Missing(key)` if the table doesn't have the key, and
+/// `WrongKind(key)` if its value is of another kind.
 fn integer_at(table: &Table, name: &str, key: Key) -> Result<i64, LabFault>
     ensures { Gives is_lab_memory (λ z. z) result
         (needed key name.now as_integer (table_view table.now)) }
@@ -99,7 +105,8 @@ fn integer_at(table: &Table, name: &str, key: Key) -> Result<i64, LabFault>
     integer(value_at(table, name, key)?, key)
 }
 
-/// Returns the string under the key `name`, or the error that the key, named as `key`, is missing or of another kind.
+/// Returns the string under the key `name` of a table. Returns `Missing(key)` if the table doesn't have the key,
+/// `WrongKind(key)` if its value is of another kind, and `Memory` if memory runs out.
 fn text_at(alloc: Global, table: &Table, name: &str, key: Key) -> Result<String, LabFault>
     ensures { Gives is_lab_memory string_bytes result
         (needed key name.now as_str (table_view table.now)) }
@@ -107,7 +114,8 @@ fn text_at(alloc: Global, table: &Table, name: &str, key: Key) -> Result<String,
     text(alloc, value_at(table, name, key)?, key)
 }
 
-/// Returns the table under the key `name`, or the error that the key, named as `key`, is missing or of another kind.
+/// Returns the table under the key `name` of a table. Returns `Missing(key)` if the table doesn't have the key, and
+/// `WrongKind(key)` if its value is of another kind.
 fn table_at<'a>(table: &'a Table, name: &str, key: Key) -> Result<&'a Table, LabFault>
     ensures { Gives is_lab_memory (λ t. table_view t.now) result
         (needed key name.now as_table (table_view table.now)) }
@@ -115,7 +123,8 @@ fn table_at<'a>(table: &'a Table, name: &str, key: Key) -> Result<&'a Table, Lab
     table_of(value_at(table, name, key)?, key)
 }
 
-/// Returns the array under the key `name`, or the error that the key, named as `key`, is missing or of another kind.
+/// Returns the array under the key `name` of a table. Returns `Missing(key)` if the table doesn't have the key, and
+/// `WrongKind(key)` if its value is of another kind.
 fn array_at<'a>(table: &'a Table, name: &str, key: Key) -> Result<&'a Array, LabFault>
     ensures { Gives is_lab_memory (λ t. array_view t.now) result
         (needed key name.now as_array (table_view table.now)) }
@@ -123,8 +132,8 @@ fn array_at<'a>(table: &'a Table, name: &str, key: Key) -> Result<&'a Array, Lab
     array_of(value_at(table, name, key)?, key)
 }
 
-/// Returns the strings under the keys `name` and `key` of a table, as a name and a key. An error of the first one names
-/// `name_key`, and an error of the second one `key_key`.
+/// Returns the strings under the keys `name` and `key` of a table, which is that of the teacher or of a student. In an
+/// error, `name_key` stands for the first key, and `key_key` for the second. Returns `Memory` if memory runs out.
 #[tactic(auto, unfolding(crate::specs::Shape::account_in))]
 fn account_at(
     alloc: Global,
@@ -161,8 +170,8 @@ fn students(alloc: Global, list: &Array) -> Result<Vec<Account>, LabFault>
     Ok(found)
 }
 
-/// Returns the integer under the key `name`, or `None` if the key is left out. Returns the error that the key, named as
-/// `key`, is of another kind.
+/// Returns the integer under the key `name` of a table, or `None` if the table doesn't have the key. Returns
+/// `WrongKind(key)` if its value is of another kind.
 fn optional_integer(table: &Table, name: &str, key: Key) -> Result<Option<i64>, LabFault>
     ensures { Gives is_lab_memory (λ z. z) result
         (optional_of key as_integer (get_member name.now (table_view table.now))) }
@@ -173,8 +182,8 @@ fn optional_integer(table: &Table, name: &str, key: Key) -> Result<Option<i64>, 
     }
 }
 
-/// Returns the truth value under the key `name`, or `None` if the key is left out. Returns the error that the key,
-/// named as `key`, is of another kind.
+/// Returns the truth value under the key `name` of a table, or `None` if the table doesn't have the key. Returns
+/// `WrongKind(key)` if its value is of another kind.
 fn optional_boolean(table: &Table, name: &str, key: Key) -> Result<Option<bool>, LabFault>
     ensures { Gives is_lab_memory (λ z. z) result
         (optional_of key as_bool (get_member name.now (table_view table.now))) }
@@ -185,8 +194,8 @@ fn optional_boolean(table: &Table, name: &str, key: Key) -> Result<Option<bool>,
     }
 }
 
-/// Returns the string under the key `name`, or `None` if the key is left out. Returns the error that the key, named as
-/// `key`, is of another kind.
+/// Returns the string under the key `name` of a table, or `None` if the table doesn't have the key. Returns
+/// `WrongKind(key)` if its value is of another kind, and `Memory` if memory runs out.
 fn optional_text(
     alloc: Global,
     table: &Table,
@@ -202,7 +211,8 @@ fn optional_text(
     }
 }
 
-/// Returns the strings of an array, in order, or the error that an element of the value under `key` is of another kind.
+/// Returns the strings of an array, in order. Returns `WrongKind(key)` if one of its values is no string, and `Memory`
+/// if memory runs out; `key` is the key under which the array was found.
 fn texts(alloc: Global, list: &Array, key: Key) -> Result<Vec<String>, LabFault>
     ensures { Gives is_lab_memory (λ v. map string_bytes v.items) result
         (each (of_kind key as_str) (array_view list.now)) }

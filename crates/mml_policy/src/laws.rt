@@ -127,8 +127,8 @@ pub fn a_release_takes_a_chosen_node()
         IsDecided ids r w x (command.Release id) (MayRelease ids w id) (DeniesRelease ids w x id) }
 {}
 
-/// The verdict on a command that asks for an event is never that something is shown, and on a command that asks to be
-/// shown something never that an event is granted.
+/// A command that asks for an event is never shown something, and a command that asks to be shown something is never
+/// granted an event.
 pub fn no_act_is_shown_and_no_view_is_granted()
     ensures acts { (ids : List ℕ) (r : RosterValue) (w : World) (x : Who) (c : Command) →
         is_act c ≡ true → verdict ids r w x c ≢ verdicts.Show }
@@ -136,7 +136,7 @@ pub fn no_act_is_shown_and_no_view_is_granted()
         is_act c ≡ false → verdict ids r w x c ≢ verdicts.Grant e }
 {}
 
-/// An event that a verdict grants is legal.
+/// An event that is granted by the verdict on a command is legal.
 pub fn granted_events_are_legal()
     ensures { (ids : List ℕ) (r : RosterValue) (w : World) (x : Who) (c : Command) (e : Event) →
         length ids ≡ size w → verdict ids r w x c ≡ verdicts.Grant e → is_legal r w e ≡ true }

@@ -52,6 +52,7 @@ impl Ruling {
 /// see or a look is ruled with what it shows, and a report with `Reported`, for which the caller makes the report. An
 /// act is granted, with its event and the event's effect, unless there are `limit` events already, which is `Full`, or
 /// else the journal is halted, which is `Journal`. Only a look allocates. Returns `Memory` if memory runs out.
+// It isn't inlined: inlined, it took other steps for a hidden node than for one that doesn't exist.
 #[inline(never)]
 pub fn rule_on(
     alloc: Global,

@@ -79,7 +79,7 @@ pub fn as_many_rounds_are_counted_as_there_are()
         ¬ IsStable (configuration (world_of w es)) → k ≤ rounds_in w es }
 {}
 
-/// Over a run, the number of the configuration grows by the closes, faults, links and cuts that the tally counts.
+/// Over a run, the number of the configuration grows by as many as the tally counts closes, faults, links and cuts.
 pub fn changes_of_a_run_are_its_configurations()
     ensures { (w : World) (es : List Event) → (world_of w es).number ≡ w.number
         + ((run_of es).closes + (run_of es).faults + (run_of es).links + (run_of es).cuts) }
@@ -107,8 +107,8 @@ pub fn marks_depend_on_no_other_name()
         ((t : ℕ) → (f t ≡ s) ↔ (t ≡ s)) → marks_of r (map (asked_as f) es) s ≡ marks_of r es s }
 {}
 
-/// Each line that was denied, and each that was no request, is counted for exactly one student, or was sent by the
-/// teacher or by nobody who was known.
+/// Each line that was denied, and each that was no request, is counted for exactly one student, unless it came while
+/// the teacher was known, or nobody.
 pub fn denials_are_of_one_student()
     ensures denied { (n : ℕ) (asks : List Ask) → AreAsksOf n asks →
         sum_below n (λ s. total_denied (denials_of asks s)) + count_by is_denied (asks_of_others asks)
@@ -119,8 +119,8 @@ pub fn denials_are_of_one_student()
         ≡ count_by (λ a. is_malformed a.line) asks }
 {}
 
-/// Each line that was refused is counted under its reason for exactly one student, or was sent by the teacher or by
-/// nobody who was known.
+/// Each line that was refused is counted under its reason for exactly one student, unless it came while the teacher was
+/// known, or nobody.
 pub fn refusals_are_of_one_student()
     ensures journal { (n : ℕ) (asks : List Ask) → AreAsksOf n asks →
         sum_below n (λ s. (refusals_of asks s).journal)

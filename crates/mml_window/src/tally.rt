@@ -1,4 +1,4 @@
-//! Whether the places of windows are those after a first one, each once.
+//! Whether the places (event numbers) that windows were granted are those after a first one, each once.
 ghost use Rattle.std.specs.Prelude.{◌≡◌, ℕ, ◌+◌, ◌<◌, ◌≤◌, [], ◌∷◌, length, MatchBool};
 ghost use Rattle.mml_lab.specs.declared.TheConstants.{MAX_SESSIONS};
 ghost use Rattle.mml_window.specs.Tallies.{times, told_of, IsEachOnceFrom};
@@ -11,7 +11,7 @@ use crate::window::Window;
 /// many as a lab may have sessions.
 type Cursors = [usize; 16];
 
-/// Returns how many places all windows together were granted.
+/// Returns how many places (event numbers) all windows together were granted.
 pub(crate) fn count_places<H: House>(windows: &[Window<H>]) -> u64
     requires few { length windows.now ≤ MAX_SESSIONS }
     ensures { result ≡ length (told_of windows.now) }
@@ -23,9 +23,9 @@ pub(crate) fn count_places<H: House>(windows: &[Window<H>]) -> u64
     count
 }
 
-/// Returns whether the places that the windows were granted are those above `first` and up to `most`, each once.
-/// Returns `false` if `first` is above `most`. The places of each window climb, so one pass with a cursor for each
-/// window is enough.
+/// Returns whether the places (event numbers) that the windows were granted are those above `first` and up to `most`,
+/// each once. Returns `false` if `first` is above `most`. The places of each window climb, so one pass with a cursor
+/// for each window is enough.
 pub(crate) fn is_each_once<H: House>(windows: &[Window<H>], first: u64, most: u64) -> bool
     requires few { length windows.now ≤ MAX_SESSIONS }
     ensures { MatchBool result (IsEachOnceFrom first most (told_of windows.now))
@@ -43,8 +43,8 @@ pub(crate) fn is_each_once<H: House>(windows: &[Window<H>], first: u64, most: u6
     are_counted_off(windows, &cursors)
 }
 
-/// Counts off one place: advances the cursor of the first window whose next place is `place`, and returns true. Returns
-/// `false` if it is the next place of no window.
+/// Counts off one place (event number): advances the cursor of the first window whose next place is `place`, and
+/// returns true. Returns `false` if it is the next place of no window.
 fn count_off<H: House>(windows: &[Window<H>], cursors: &mut Cursors, place: u64) -> bool
     requires few { length windows.now ≤ MAX_SESSIONS }
     ensures { MatchBool result ((p : ℕ) → times p (left_of windows.now cursors.old)
@@ -60,8 +60,8 @@ fn count_off<H: House>(windows: &[Window<H>], cursors: &mut Cursors, place: u64)
     false
 }
 
-/// Returns whether all places of all windows are counted off, that is, whether each cursor is past its window's last
-/// place.
+/// Returns whether all places (event numbers) of all windows are counted off, that is, whether each cursor is past its
+/// window's last place.
 fn are_counted_off<H: House>(windows: &[Window<H>], cursors: &Cursors) -> bool
     requires few { length windows.now ≤ MAX_SESSIONS }
     ensures { MatchBool result (left_of windows.now cursors.now ≡ [])

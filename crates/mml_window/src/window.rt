@@ -104,8 +104,8 @@ impl<H: House> Window<H> {
         self.refused
     }
 
-    /// Keeps what the answer to an act says: the event's place if it was granted, or why it was refused. After a grant,
-    /// first reads until the window has seen the event, the last one that `press` has published.
+    /// Keeps what the answer to an act says: the event's place (number) if it was granted, or why it was refused. After
+    /// a grant, first reads until the window has seen the event, the last one that `press` has published.
     #[tactic(auto, using(crate::proofs::ClimbingLemmas::climbs_count))]
     pub(crate) fn keep<R: Wait>(&mut self, rt: &R, press: &Press<H>, answer: &Answer)
         requires { IsNextPlace H.lab self.old.seen press.now.desk.shown.value.events.items answer.now }
@@ -235,7 +235,7 @@ impl<H: House> Window<H> {
         });
     }
 
-    /// Returns how many places the window's session was granted.
+    /// Returns how many places (event numbers) the window's session was granted.
     pub(crate) fn place_count(&self) -> u64
         ensures count { result ≡ length self.now.places }
         ensures few { result ≤ MAX_EVENTS }
@@ -243,8 +243,8 @@ impl<H: House> Window<H> {
         self.places.len() as u64
     }
 
-    /// Returns whether the window's place at the index `cursor` is `place`. Returns `false` if there is none at this
-    /// index. The places before the cursor are counted off.
+    /// Returns whether the window's place (event number) at the index `cursor` is `place`. Returns `false` if there is
+    /// none at this index. The places before the cursor are counted off.
     pub(crate) fn is_next(&self, cursor: usize, place: u64) -> bool
         ensures next { IsTrue result → (drop cursor self.now.places
             ≡ place ∷ drop (cursor + 1) self.now.places) × (cursor < MAX_EVENTS) }
@@ -256,7 +256,8 @@ impl<H: House> Window<H> {
         }
     }
 
-    /// Returns whether all places of the window are counted off: the index `cursor` is past the last one.
+    /// Returns whether all places (event numbers) of the window are counted off: the index `cursor` is past the last
+    /// one.
     pub(crate) fn is_counted_off(&self, cursor: usize) -> bool
         ensures { MatchBool result (drop cursor self.now.places ≡ [])
             ((p : ℕ) × (0 < times p (drop cursor self.now.places))) }
