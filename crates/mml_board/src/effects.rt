@@ -24,7 +24,7 @@ pub fn move_chosen(network: &mut IndexedNetwork, effects: &mut [Regs], chosen: &
     ensures registers { (i : ℕ) → registers_at network.new.registers i ≡
         moved (configuration_of network.old) i (chosen_at chosen.now i) }
 {
-    // By what this call ensures, the network is lawful.
+    // Called only for its contract, which the proof needs: the network is lawful.
     let _size = network.size();
     let nodes = chosen.nodes();
     compute_effects(network, effects, chosen, nodes);
@@ -56,7 +56,7 @@ fn moved(network: &IndexedNetwork, node: Rank, rule: Option<Rule>) -> Regs
         guard (configuration_of network.now) node r ≡ true }
     ensures { result ≡ moved (configuration_of network.now) node rule }
 {
-    // By what this call ensures, the network is lawful.
+    // Called only for its contract, which the proof needs: the network is lawful.
     let _size = network.size();
     match rule {
         Some(rule) => effect(network, node, rule),

@@ -49,7 +49,7 @@ impl Scene for IndexedNetwork {
 
     /// Returns whether some neighbour points at the node: whether its set of suitors isn't empty.
     fn has_suitor(&self, node: Rank) -> bool {
-        // By what this call ensures, the network is lawful.
+        // Called only for its contract, which the proof needs: the network is lawful.
         let _size = self.network.size();
         !is_empty(self.suitors[node.index() as usize])
     }
@@ -58,7 +58,7 @@ impl Scene for IndexedNetwork {
     /// has no candidate.
     #[tactic(auto, using(crate::proofs::RowsLemmas::greatest_told))]
     fn greatest_candidate(&self, node: Rank) -> Option<Rank> {
-        // By what this call ensures, the network is lawful.
+        // Called only for its contract, which the proof needs: the network is lawful.
         let _size = self.size();
         self.candidates(node).greatest()
     }
@@ -110,7 +110,7 @@ impl IndexedNetwork {
         ensures { (j : ℕ) → set.contains result j ≡
             is_candidate (configuration_of self.now) node j }
     {
-        // By what this call ensures, the network is lawful.
+        // Called only for its contract, which the proof needs: the network is lawful.
         let _size = self.network.size();
         let free_neighbours = self.network.neighbours(node).both(self.free);
         let unmarried = free_neighbours.without(self.believing);
@@ -124,7 +124,7 @@ impl IndexedNetwork {
             set.contains (neighbours_at self.old.neighbours node) j ≡ true }
         ensures { self.new ≡ with_registers self.old node registers }
     {
-        // By what this call ensures, the network is lawful.
+        // Called only for its contract, which the proof needs: the network is lawful.
         let _size = self.network.size();
         // By reference: a value with a rank inside isn't copied by the toolchain if it is used again.
         let registers = &registers;

@@ -29,7 +29,7 @@ pub fn refresh(network: &IndexedNetwork, privileged: NodeSet, changed: NodeSet) 
         set.contains privileged j ≡ is_privileged_node (configuration_of network.now) j }
     ensures { result ≡ privileged_set (configuration_of network.now) }
 {
-    // By what this call ensures, the network is lawful.
+    // Called only for its contract, which the proof needs: the network is lawful.
     let _size = network.size();
     let mut privileged = privileged;
     let mut left = changed;

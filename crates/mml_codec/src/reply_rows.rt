@@ -78,7 +78,7 @@ pub(crate) fn put_see(ids: &IdTable, see: &See, out: &mut Vec<u8>) -> Result<(),
     ensures puts { Puts (object_text ids.now (see_fields see.now)) TEXT_ROOM out.old out.new result }
     ensures count { see.now.at < 2 ^ 64 }
 {
-    // By its type the number fits 64 bits, as the contract says.
+    // Read only for the proof of `count`: by its type the number fits 64 bits.
     let _at = see.at;
     let fields = Row {
         key: "at",

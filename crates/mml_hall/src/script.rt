@@ -232,7 +232,7 @@ fn serve_next<R: Read, W: Write, S: Sink>(
     requires going { buffers.old.lines.ending ≡ None }
     requires limit { buffers.old.lines.limit ≡ MAX_SCRIPT_LINE }
     requires room { REPLY_ROOM ≤ vec_capacity buffers.old.reply }
-    // Nothing is unwritten at a read.
+    // All replies are written before a read.
     requires written { IsWithinLimit buffers.old.lines.limit buffers.old.lines.unread → buffers.old.outgoing ≡ [] }
     ensures going { result ≡ ScriptStep.Answered → buffers.new.lines.ending ≡ None }
     ensures limit { buffers.new.lines.limit ≡ MAX_SCRIPT_LINE }
@@ -242,14 +242,14 @@ fn serve_next<R: Read, W: Write, S: Sink>(
     ensures halts { Halts hall.old.state.halted hall.new.state.halted
         (S.failures hall.old.sink) (S.failures hall.new.sink) }
     ensures journal { TellsJournal hall.new.lab hall.new.state (S.contents hall.new.sink) }
-    // Each line brings the end nearer, since the number of reads is limited.
+    // Each line leaves fewer bytes to come, since the number of reads is limited.
     ensures progress { result ≡ ScriptStep.Answered → bytes_ahead buffers.new.lines < bytes_ahead buffers.old.lines }
     ensures serves { ServesNext result hall.old.lab hall.old.state hall.new.state
         (prepend_known buffers.old.lines.unread (R.remaining reader.old))
         buffers.new.lines.unread (R.remaining reader.new) buffers.old.outgoing buffers.new.outgoing
         (W.contents writer.old) (W.contents writer.new) }
 {
-    // By what this getter ensures, the sink has the journal.
+    // Called only for its contract, which the proof needs: the sink has the journal.
     let _lab = hall.lab();
     match buffers.lines.next(reader) {
         Step::Line => serve_line(

@@ -31,7 +31,7 @@ is_name (b ∷ bs) = is_ascii_lowercase b && list_all is_name_byte bs && nat_le 
 abbrev pub is_key : List ℕ → Bool
 is_key key = nat_lt 0 (length key) && nat_le (length key) MAX_KEY && list_all is_ascii_graphic key
 
--- name and key have their forms
+-- name and key are well-formed
 abbrev pub is_account : Account → Bool
 is_account a = is_name a.name && is_key a.key
 
@@ -83,7 +83,7 @@ abbrev pub IsPrincipal : RosterValue → Who → Type 0
 IsPrincipal r who.Teacher = Unit {0}
 IsPrincipal r (who.Student s) = s < length r.students
 
--- at most 256 students; names and keys have their forms, no two have one name, and nodes are owned by students
+-- at most 256 students; names and keys are well-formed, no two have one name, and nodes are owned by students
 pub record IsRoster (r : RosterValue) : Type 0 where
   pub few : length r.students ≤ MAX_STUDENTS
   pub formed : (w : Who) → IsPrincipal r w → IsTrue (is_account (account_of r w))

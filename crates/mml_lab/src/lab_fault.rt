@@ -46,7 +46,7 @@ pub enum LabFault {
     BothOwners(usize),
     /// The nodes' identifiers can't be those of one network, for the reason inside, which is never `IdFault::Memory`.
     Id(IdFault),
-    /// The name or the key of a participant isn't of its form.
+    /// The name or the key of a participant isn't well-formed.
     Name(usize),
     /// Another participant before this one has the same name.
     NameTwice(usize),

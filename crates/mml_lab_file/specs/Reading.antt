@@ -85,7 +85,7 @@ name_twice accounts = option_map fault.NameTwice (first_below (is_name_again acc
 unfoldable pub ids_fault : List NodeSpec → Option LabFault
 ids_fault nodes = option_map fault.Id (id_fault (file_ids nodes))
 
--- the error of the first account whose name or key isn't of its form, if there is one; the teacher's is at index 0
+-- the error of the first account whose name or key isn't well-formed, if there is one; the teacher's is at index 0
 unfoldable pub forms_fault : List Account → Option LabFault
 forms_fault accounts = option_map fault.Name (position (λ a. not (is_account a)) accounts)
 
@@ -123,7 +123,7 @@ identified nodes = do
   pass_unless (both_fault nodes)
   pass_unless (ids_fault nodes)
 
--- the test of who takes part: all names and keys have their forms, and no name occurs twice
+-- the test of who takes part: all names and keys are well-formed, and no name occurs twice
 unfoldable pub enrolled : Account → List Account → Result (Unit {0}) LabFault
 enrolled teacher students = do
   pass_unless (forms_fault (teacher ∷ students))

@@ -84,8 +84,8 @@ struct Found {
     sessions: u8,
 }
 
-/// Checks the parts of a file. Returns what was made of them on the way, or the file's first error. The teacher and the
-/// nodes are borrowed, and stay with the caller.
+/// Checks the parts of a file. Returns what the checks found, or the file's first error. The teacher and the nodes are
+/// borrowed, and stay with the caller.
 #[tactic(auto, unfolding(crate::specs::Reading::lab_from, crate::specs::Reading::checked))]
 fn check_parts(
     alloc: Global,
@@ -130,8 +130,8 @@ fn identify(alloc: Global, nodes: &[RawNode]) -> Result<IdTable, LabFault>
     id_table(alloc, nodes)
 }
 
-/// Returns the students' names and keys in the file's order. Returns the error of the first name or key that isn't of
-/// its form, the teacher's included, or else the error of the first name that occurs twice.
+/// Returns the students' names and keys in the file's order. Returns the error of the first name or key that isn't
+/// well-formed, the teacher's included, or else the error of the first name that occurs twice.
 #[tactic(auto, unfolding(crate::specs::Reading::enrolled))]
 fn enrol(
     alloc: Global,
@@ -218,7 +218,7 @@ fn file_ids(alloc: Global, nodes: &[RawNode]) -> Result<Vec<u64>, AllocError>
     nodes.iter().map(|node| number_of(node.id)).collect(alloc)
 }
 
-/// Returns the error of the first name or key that isn't of its form, or `None` if all are. The teacher's come before
+/// Returns the error of the first name or key that isn't well-formed, or `None` if all are. The teacher's come before
 /// the students'.
 #[tactic(auto, unfolding(crate::specs::Reading::forms_fault))]
 fn forms_fault(teacher: &Account, students: &[Account]) -> Option<LabFault>

@@ -21,15 +21,15 @@ fn are_graphic(bytes: &[u8]) -> bool
     bytes.iter().all(|byte| byte.is_ascii_graphic())
 }
 
-/// Returns whether both the name and the key have their forms.
+/// Returns whether both the name and the key of an account are well-formed.
 fn is_account(account: &Account) -> bool
     ensures { result ≡ is_account (account_view account.now) }
 {
     is_name(account.name.as_bytes()) && is_key(account.key.as_bytes())
 }
 
-/// Returns the index of the first participant whose name or key isn't of its form, or `None` if there is none. The
-/// teacher has the index 0, and the students count from 1.
+/// Returns the index of the first participant whose name or key isn't well-formed, or `None` if all are. The teacher
+/// has the index 0, and the students count from 1.
 pub(crate) fn first_malformed(teacher: &Account, students: &[Account]) -> Option<usize>
     ensures { result ≡ position (λ a. not (is_account a))
         (account_view teacher.now ∷ map account_view students.now) }
@@ -40,7 +40,7 @@ pub(crate) fn first_malformed(teacher: &Account, students: &[Account]) -> Option
     first_malformed_student(students).map(|index| index + 1)
 }
 
-/// Returns the index, from 0, of the first student whose name or key isn't of its form, or `None` if there is none.
+/// Returns the index, from 0, of the first student whose name or key isn't well-formed, or `None` if all are.
 fn first_malformed_student(students: &[Account]) -> Option<usize>
     ensures value { result ≡ position (λ a. not (is_account (account_view a))) students.now }
     ensures within { IfSome result (λ index. index < length students.now) }

@@ -33,7 +33,7 @@ pub(crate) fn neighbours(
         (linked (map node_view nodes.now) links.now) }
     ensures rows { IfOk result (λ rows. rows.items ≡ map (neighbours_of ids.now links.now) ids.now) }
 {
-    // By what this call ensures, the identifiers are a table.
+    // Called only for its contract, which the proof needs: the identifiers are a table.
     let _count = ids.len();
     pass_unless(ends_fault(nodes, links))?;
     pass_unless(loops_fault(links))?;

@@ -147,7 +147,7 @@ impl Outgoing {
         if room - front.len() < rest.len() {
             return false;
         }
-        // Byte by byte, since the front is short.
+        // The front is copied byte by byte, since it is short.
         self.bytes = with_bytes(taken(&mut self.bytes), front);
         self.bytes.extend_from_slice(rest).unwrap();
         self.lengths.push_reserved(front.len() + rest.len());

@@ -261,7 +261,7 @@ fn bare_word<'a>(text: &'a [u8]) -> Option<(&'a str, &'a [u8])>
     let mut end = 0usize;
     'word: while end < text.len() {
         let byte = text[end];
-        // Small letters are tested first, since they are the most frequent.
+        // Lower-case letters are tested first, since they are the most frequent.
         if !((b'\\' < byte && byte < 128) || (31 < byte && byte < b'\\' && byte != b'"')) {
             break;
         }

@@ -42,7 +42,8 @@ fn near(alloc: Global, board: &Board, node: Rank) -> Result<Vec<(Rank, Regs)>, M
     requires { node < length board.now.network.registers }
     ensures { IfOk result (λ nodes. nodes.items ≡ near board.now node) }
 {
-    // By what this getter ensures, there are at most `MAX_NODES` nodes, and the configuration is lawful.
+    // Called only for its contract, which the proof needs: there are at most `MAX_NODES` nodes, and the configuration
+    // is lawful.
     let _size = board.size();
     let mut left = board.neighbours(node);
     let mut near = Vec::with_capacity(alloc, left.len() as usize)?;

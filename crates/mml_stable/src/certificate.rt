@@ -22,7 +22,8 @@ pub fn certify(board: &Board, a: Rank, b: Rank) -> (Rank, Kind)
     ensures holds { (rule : Rule) × (kind_of rule ≡ result.1)
         × (guard (configuration board.now) result.0 rule ≡ true) }
 {
-    // By what this getter ensures, there are at most `MAX_NODES` nodes, and the configuration is lawful.
+    // Called only for its contract, which the proof needs: there are at most `MAX_NODES` nodes, and the configuration
+    // is lawful.
     let _size = board.size();
     let mut kinds = [None; PLACES];
     find_kinds(board, &mut kinds);

@@ -29,7 +29,8 @@ pub(crate) fn kind_at(board: &Board, kinds: &[Option<Kind>], node: Rank) -> Opti
     requires kinds { AreKinds (configuration board.now) kinds.now }
     ensures { result ≡ enabled_kind (configuration board.now) node }
 {
-    // By what this getter ensures, there are at most `MAX_NODES` nodes, and the configuration is lawful.
+    // Called only for its contract, which the proof needs: there are at most `MAX_NODES` nodes, and the configuration
+    // is lawful.
     let _size = board.size();
     kinds[node.index() as usize]
 }

@@ -23,7 +23,7 @@ pub fn report(alloc: Global, board: &Board) -> Result<Report, Memory>
     ensures report { IfOk result (λ report. report ≡ report_of board.now) }
     ensures nodes { IfOk result (NamesNodes (length board.now.network.registers)) }
 {
-    // By what this getter ensures, the world is lawful.
+    // Called only for its contract, which the proof needs: the world is lawful.
     let _number = board.number();
     report_lists(alloc, board)
 }
@@ -33,7 +33,8 @@ pub fn report(alloc: Global, board: &Board) -> Result<Report, Memory>
 fn report_lists(alloc: Global, board: &Board) -> Result<Report, Memory>
     ensures { IfOk result (λ report. report ≡ report_of board.now) }
 {
-    // By what this getter ensures, there are at most `MAX_NODES` nodes, and the configuration is lawful.
+    // Called only for its contract, which the proof needs: there are at most `MAX_NODES` nodes, and the configuration
+    // is lawful.
     let _size = board.size();
     let mut kinds = [None; PLACES];
     find_kinds(board, &mut kinds);
@@ -116,7 +117,8 @@ fn open_ends(board: &Board, rest: NodeSet, a: Rank) -> NodeSet
     requires rest { IsFreeFrom (configuration board.now) a rest }
     ensures { (b : ℕ) → set.contains result b ≡ is_open (configuration board.now) a b }
 {
-    // By what this getter ensures, there are at most `MAX_NODES` nodes, and the configuration is lawful.
+    // Called only for its contract, which the proof needs: there are at most `MAX_NODES` nodes, and the configuration
+    // is lawful.
     let _size = board.size();
     if rest.has(a) {
         board.neighbours(a).both(rest)
@@ -151,7 +153,8 @@ fn put_open_links(
     ensures { OnOk result
         (all.new.items ≡ all.old.items ++ open_links_at (configuration board.now) a) }
 {
-    // By what this getter ensures, there are at most `MAX_NODES` nodes, and the configuration is lawful.
+    // Called only for its contract, which the proof needs: there are at most `MAX_NODES` nodes, and the configuration
+    // is lawful.
     let _size = board.size();
     let mut left = ends;
     while let Some(b) = left.take_least() {
@@ -173,7 +176,8 @@ fn open_links(
         ≡ those_below (length board.now.network.registers) (is_free (configuration board.now)) }
     ensures { IfOk result (λ all. all.items ≡ open_links (configuration board.now)) }
 {
-    // By what this getter ensures, there are at most `MAX_NODES` nodes, and the configuration is lawful.
+    // Called only for its contract, which the proof needs: there are at most `MAX_NODES` nodes, and the configuration
+    // is lawful.
     let _size = board.size();
     let mut all = Vec::new(alloc);
     let mut rest = free;

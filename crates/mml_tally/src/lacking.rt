@@ -66,7 +66,7 @@ fn put_if_whole(
     ensures { OnOk result
         (out.new.items ≡ out.old.items ++ whole_name roster.now findings.now who) }
 {
-    // By what this getter ensures, there are at most as many students as a set has ranks.
+    // Called only for its contract, which the proof needs: there are at most as many students as a set has ranks.
     let _count = roster.student_count();
     let who = &who;
     if findings.has_all_of(*who) {

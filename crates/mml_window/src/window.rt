@@ -34,8 +34,7 @@ use std::sync::{Arc, Wait};
 /// the session was granted. No public call of a window takes the runtime, so none can wait for the lock.
 #[derive(Drop)]
 pub struct Window<H: House> {
-    // None while a call of this crate is at work, and if there was no reader's slot at the start: then nothing was
-    // seen.
+    // `None` during a call of this crate, and if no reader's slot was free at the start. Then nothing was seen.
     reader: Option<Reader<H>>,
     lab: Arc<Lab>,
     places: Vec<u64>,
