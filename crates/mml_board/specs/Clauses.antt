@@ -95,7 +95,7 @@ check owned w x (act.Release node) = do
   need (is_chosen w i) NotChosen
   Ok (event.Release i)
 
--- ---- asked again
+-- ---- the act that asks for an event
 
 -- the node, if the world has it
 abbrev pub node_in : World → ℕ → Option ℕ

@@ -41,7 +41,7 @@ impl From<Refusal> for Refused {
 
     ghost from_gives = { λ refusal refused. refused ≡ refusal_for refusal };
 
-    // Returns the refusal of a command that all clauses allow, under the same name.
+    // Turns the reason why an allowed command isn't answered into the refusal with the same name.
     fn from(refusal: Refusal) -> Refused {
         match refusal {
             Refusal::Full => Refused::Full,

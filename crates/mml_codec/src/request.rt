@@ -42,7 +42,7 @@ impl LineFault {
 impl From<AllocError> for LineFault {
     ghost from_gives = { λ _ e. e ≡ Memory };
 
-    // Turns a failed allocation into the reason why no request was read.
+    // Turns a failed allocation into `LineFault::Memory`, so that `?` returns it.
     fn from(_error: AllocError) -> LineFault {
         LineFault::Memory
     }

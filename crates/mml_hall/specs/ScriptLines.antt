@@ -27,6 +27,6 @@ IsBad sessions held =
     × ((s : RequestLine) → IsScriptLine sessions s → line ≢ script_line s) × (length more < READ_SIZE))
     ⊎ (IsTooLong MAX_SCRIPT_LINE held × (length held ≤ MAX_SCRIPT_LINE + READ_SIZE))
 
--- what a script line of the program stands for
+-- the script line that contracts see, by the fields
 abbrev pub line_of : ScriptLine → RequestLine
 line_of s = record { connection = s.connection; request = s.request.now }

@@ -17,7 +17,7 @@ use Rattle.mml_hall.specs.Turns.{State, RequestLine}
 use Rattle.mml_hall.specs.ScriptLines.{IsScriptLine, IsBad, script_line}
 use Rattle.mml_hall.specs.Scripts.{LineTurn, line_read, line_written}
 
--- the reply whose line was put: the reply itself, or the refusal `memory`
+-- the reply whose line was written: the reply itself, or the refusal `memory`
 abbrev pub told_of : Reply → Bool → Reply
 told_of reply true = reply
 told_of reply false = replies.Refuse refused.Memory

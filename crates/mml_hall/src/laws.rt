@@ -27,7 +27,7 @@ pub fn lines_of_a_transcript()
         → lines_of (bytes_read t ++ rest) ≡ map script_line t.lines }
 {}
 
-/// Each line of a transcript has one reply.
+/// A transcript has exactly one reply to each of its lines.
 pub fn one_reply_each()
     ensures { (lab : LabValue) (t : Transcript lab) → length t.replies ≡ length t.lines }
 {}
@@ -70,7 +70,7 @@ pub fn others_stay_known()
         → known_on out.state other ≡ known_on st other }
 {}
 
-/// The limit of a script line, as a number.
+/// The most bytes of a script line, as a number.
 pub fn limit_of_script_lines()
     ensures { MAX_SCRIPT_LINE ≡ 4099 }
 {}

@@ -42,7 +42,7 @@ pub enum ScriptFault {
 impl From<Memory> for ScriptFault {
     ghost from_gives = { λ _ e. e ≡ faults.Memory };
 
-    // Turns a failed allocation into the reason why a script ended before anything was read.
+    // Turns a failed allocation into `ScriptFault::Memory`, so that `?` returns it.
     fn from(_memory: Memory) -> ScriptFault {
         ScriptFault::Memory
     }
@@ -51,7 +51,7 @@ impl From<Memory> for ScriptFault {
 impl From<WriteFault> for ScriptFault {
     ghost from_gives = { λ f e. e ≡ faults.Write f.written };
 
-    // Turns a failed write into the reason why a script ended, with the same count of bytes.
+    // Turns a failed write into `ScriptFault::Write`, with the same count of bytes, so that `?` returns it.
     fn from(fault: WriteFault) -> ScriptFault {
         ScriptFault::Write {
             written: fault.written,

@@ -31,7 +31,7 @@ is_name (b ∷ bs) = is_ascii_lowercase b && list_all is_name_byte bs && nat_le 
 abbrev pub is_key : List ℕ → Bool
 is_key key = nat_lt 0 (length key) && nat_le (length key) MAX_KEY && list_all is_ascii_graphic key
 
--- name and key are well-formed
+-- the name and the key are well-formed
 abbrev pub is_account : Account → Bool
 is_account a = is_name a.name && is_key a.key
 

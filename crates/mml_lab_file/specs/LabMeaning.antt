@@ -62,7 +62,7 @@ name_at accounts k = (slice_index_or accounts k no_account).name
 abbrev pub AreDistinctBelow : List Account → ℕ → Type 0
 AreDistinctBelow accounts n = (j k : ℕ) → j < k → k < n → name_at accounts j ≢ name_at accounts k
 
--- the name at k stands before k, and k is the first such index
+-- the name at index k occurs at a lower index, too, and k is the first such index
 pub record IsFirstAgain (accounts : List Account) (k : ℕ) : Type 0 where
   pub within : k < length accounts
   pub again : (j : ℕ) × (j < k) × (name_at accounts j ≡ name_at accounts k)

@@ -176,7 +176,7 @@ node_with nodes id = find (λ node. number_of node.id == id) nodes
 unfoldable pub neighbours_of : List ℕ → List (ℤ × ℤ) → ℕ → FinSet nat_cmp
 neighbours_of ids links id = those_below (length ids) (λ rank. is_linked links (pos id) (pos (slice_index ids rank)))
 
--- the registers that the file gives a node: the rank that it points at, if it points at one
+-- the registers that the file has for a node: p is the rank of the node that it points at, if it points at one
 abbrev pub registers_in : List ℕ → NodeSpec → Regs
 registers_in ids node = record { p = option_and_then (λ p. rank_in ids (number_of p)) node.p; m = node.m }
 

@@ -141,8 +141,8 @@ fn owners_with(
     }
 }
 
-/// Returns the students with the names in `names`, in order. For a name that no student has, which a checked file rules
-/// out, returns the first student.
+/// Returns the students with the names in `names`, in order. A name that no student has, which the checks of a file
+/// rule out, would count as the first student's. Returns `Memory` if memory runs out.
 fn owners_in(
     alloc: Global,
     students: &IndexMap<String, String>,
@@ -160,7 +160,8 @@ fn owners_in(
     Ok(found)
 }
 
-/// Returns the student with a name, or the first student if none has it, which a checked file rules out.
+/// Returns the student with this name. If no student had it, which the checks of a file rule out, it would be the first
+/// student.
 fn student_named(students: &IndexMap<String, String>, name: &str) -> Student
     requires { length students.now.entries ≤ MAX_STUDENTS }
     ensures { result ≡ student_index (map entry_account students.now.entries) name.now }

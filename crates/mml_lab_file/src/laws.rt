@@ -45,7 +45,7 @@ pub fn link_twice_is_the_first()
         lab_fault raw ≡ Some (fault.LinkTwice k) → IsFirstLinkAgain raw.links k }
 {}
 
-/// The identifiers of a lab are those of the file's nodes, each below the next.
+/// The identifiers of a lab are those of the file's nodes, in rising order.
 pub fn identifiers_are_the_nodes()
     ensures table { (raw : RawSpec) → lab_fault raw ≡ None → IsTable (lab_in raw).ids }
     ensures same { (raw : RawSpec) (id : ℕ) → lab_fault raw ≡ None →

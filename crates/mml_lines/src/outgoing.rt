@@ -40,7 +40,8 @@ impl Model for Outgoing {
 }
 
 impl Outgoing {
-    /// Returns an empty `Outgoing`, with all the memory that it needs. Returns `Memory` if memory runs out.
+    /// Returns an empty buffer of output lines, which has all the memory that it needs. Returns `Memory` if memory runs
+    /// out.
     pub fn new(alloc: Global) -> Result<Outgoing, Memory>
         ensures { IfOk result (λ lines. lines ≡ []) }
     {

@@ -32,7 +32,7 @@ impl LineScratch {
         Ok(LineScratch { inner })
     }
 
-    /// Returns the memory that the reader of one line works in.
+    /// Returns the working memory for reading one line.
     #[inline(always)]
     pub(crate) fn for_line(&mut self) -> &mut Scratch
         ensures { room result.now ≡ self.old }

@@ -56,17 +56,15 @@ pub fn a_move_takes_four_facts()
         DeniesMove ids r w x id asked at d }
 {}
 
-/// A see is shown its node exactly if some node has the identifier that it names, and that node is visible to the
-/// asker.
+/// A see is granted exactly if some node has the identifier that it names, and this node is visible to the asker.
 pub fn a_see_takes_a_visible_node()
     ensures { (ids : List ℕ) (r : RosterValue) (w : World) (x : Who) (id : ℕ) →
         IsLawful (configuration w) →
         (verdict ids r w x (command.See id) ≡ verdicts.Show) ↔ MaySee ids r w x id }
 {}
 
-/// A see is answered with its node's registers and the number of the configuration, as the world `w` has them, exactly
-/// if some node has the identifier that the see names, and that node is visible to the asker. Otherwise the see is
-/// denied as hidden.
+/// A see is answered with the registers of its node in the world `w`, and the number of the configuration, exactly if
+/// some node has the identifier that it names, and this node is visible to the asker. Otherwise it is denied as hidden.
 pub fn a_see_shows_the_registers()
     ensures seen { (ids : List ℕ) (r : RosterValue) (limit : ℕ) (is_halted : Bool) (w : World)
         (x : Who) (id : ℕ) (s : See) → IsLawful (configuration w) →
@@ -78,8 +76,8 @@ pub fn a_see_shows_the_registers()
         ruling ids r limit is_halted w x (command.See id) ≡ Denied Hidden }
 {}
 
-/// A look is answered exactly if some node has the identifier that it names, and one of that node's owners or the
-/// teacher asks.
+/// A look is granted exactly if some node has the identifier that it names, and the asker owns this node or is the
+/// teacher.
 pub fn a_look_takes_an_owner()
     ensures { (ids : List ℕ) (r : RosterValue) (w : World) (x : Who) (id : ℕ) →
         (verdict ids r w x (command.Look id) ≡ verdicts.Show) ↔ MayLook ids r x id }
@@ -150,8 +148,8 @@ pub fn legal_events_are_granted()
         (verdict ids r w (asker e) (command_of ids w e) ≡ verdicts.Grant e) }
 {}
 
-/// A privileged node without a chosen move has a rule, of the kind that is shown to its owners, which is
-/// granted to each of them who asks for it at the current number.
+/// For a privileged node without a chosen move, some rule of the kind that a look shows is granted to each owner who
+/// asks for it at the current number.
 pub fn privileged_nodes_are_granted()
     ensures { (ids : List ℕ) (r : RosterValue) (w : World) (i : ℕ) → IsTable ids →
         IsWorldOf ids w → i < size w → is_privileged (configuration w) i ≡ true →
@@ -163,8 +161,9 @@ pub fn privileged_nodes_are_granted()
         ≡ verdicts.Grant (event.Grant s i rule)) }
 {}
 
-/// The reply to a student depends on nothing that is hidden from the student: in worlds that are alike for a student
-/// each command has the same ruling, and the worlds afterwards are alike again.
+/// The reply to a student depends on nothing that is hidden from the student. In two worlds that look the same to a
+/// student, each command of the student has the same ruling, and the worlds after it look the same to the student
+/// again.
 pub fn hidden_values_change_no_ruling()
     ensures ruling { (ids : List ℕ) (r : RosterValue) (limit : ℕ) (is_halted : Bool)
         (w v : World) (s : ℕ)
@@ -177,7 +176,7 @@ pub fn hidden_values_change_no_ruling()
         (after_ruling v (ruling ids r limit is_halted v (who.Student s) c)) }
 {}
 
-/// A report is shown exactly if the teacher asks, and denied as `NotTeacher` exactly if a student does.
+/// A report is granted exactly if the teacher asks, and denied as `NotTeacher` exactly if a student does.
 pub fn a_report_takes_the_teacher()
     ensures shown { (ids : List ℕ) (r : RosterValue) (w : World) (x : Who) →
         (verdict ids r w x command.Report ≡ verdicts.Show) ↔ (x ≡ who.Teacher) }
@@ -192,8 +191,8 @@ pub fn events_that_happen_are_legal()
         (is_legal r w e ≡ true) × (w.place < limit) × (is_halted ≡ false) }
 {}
 
-/// The nodes that a ruling shows, those that they point at, and the nodes of an event's effect are the lab's. The law
-/// says nothing about the set of nodes that a close moves.
+/// A ruling names only nodes of the lab: those that it shows, those that they point at, and those of an event's effect.
+/// The law says nothing about the set of nodes that a close moves.
 pub fn rulings_name_nodes()
     ensures { (ids : List ℕ) (r : RosterValue) (limit : ℕ) (is_halted : Bool) (w : World) (x : Who)
         (c : Command) → IsWorldOf ids w → IsRuled ids (ruling ids r limit is_halted w x c) }
@@ -215,8 +214,8 @@ pub fn identifiers_are_names()
         IsEmptyElsewhere (slice_index ids) (configuration w) (with_identifiers ids (configuration w)) }
 {}
 
-/// Under names that keep the order of the nodes, a node is visible to the same people, if each name has its node's
-/// owners.
+/// If the nodes get other names in the same order, and each name has the owners of its node, a node is visible to the
+/// same participants.
 pub fn visible_keeps_under_names()
     ensures { (f : ℕ → ℕ) (c d : Configuration) (r s : RosterValue) (x : Who) (i : ℕ) →
         IsRenamed f c d → ((j : ℕ) → j < c.size → owners_of s (f j) ≡ owners_of r j) →

@@ -30,7 +30,7 @@ impl Model for Network {
 }
 
 impl Network {
-    /// Returns the network with these rows of neighbours and these registers, both listed by rank.
+    /// Returns the network with these neighbours and these registers of each node, both by rank.
     pub fn of(neighbours: Vec<NodeSet>, registers: Vec<Regs>) -> Network
         requires { IsNetwork (record { neighbours = neighbours.items; registers = registers.items }) }
         ensures { result ≡ record { neighbours = neighbours.items; registers = registers.items } }
@@ -63,7 +63,7 @@ impl Network {
         }
     }
 
-    /// Returns the registers of a node, whose rank must be below the size.
+    /// Returns the registers of a node, which must exist.
     pub fn registers(&self, node: Rank) -> Regs
         requires { node < length self.now.registers }
         ensures { result ≡ registers_at self.now.registers node }

@@ -9,7 +9,7 @@ use Rattle.mml_lab.specs.Rosters.{RosterValue, name_of}
 use Rattle.mml_stable.specs.Reports.{each_below}
 use Rattle.mml_tally.specs.declared.record_text.Findings.{Findings}
 
--- the teacher, or a student whose index a set can have
+-- the teacher, or a student whose index is below the size of a set of ranks
 abbrev pub IsCounted : Who → Type 0
 IsCounted who.Teacher = Unit {0}
 IsCounted (who.Student s) = s < MAX_NODES

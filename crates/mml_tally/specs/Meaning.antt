@@ -8,7 +8,7 @@ use Rattle.mml_tally.specs.declared.fate.Fate.TheVariants as fate
 use Rattle.mml_tally.specs.declared.granted_move.Move.{Move}
 use Rattle.mml_tally.specs.declared.marks.ByRule.{ByRule}
 
--- the event leaves what is chosen at i: it is no release of i, close, fault, link or cut
+-- the event doesn't end the move that is chosen at i: it is no release of i, no close, fault, link or cut
 abbrev pub leaves : ℕ → Event → Bool
 leaves i (event.Grant s j rule) = true
 leaves i (event.Release j) = not (j == i)
@@ -40,7 +40,7 @@ abbrev pub is_fate_dropped : Fate → Bool
 is_fate_dropped fate.Dropped = true
 is_fate_dropped _ = false
 
--- the fate is that a move is chosen still
+-- the fate is that a move is still chosen
 abbrev pub is_fate_left : Fate → Bool
 is_fate_left fate.Chosen = true
 is_fate_left _ = false
@@ -53,7 +53,7 @@ is_released m = is_fate_released m.fate
 abbrev pub is_dropped : Move → Bool
 is_dropped m = is_fate_dropped m.fate
 
--- the move is chosen still
+-- the move is still chosen
 abbrev pub is_left : Move → Bool
 is_left m = is_fate_left m.fate
 

@@ -85,8 +85,8 @@ pub fn changes_of_a_run_are_its_configurations()
         + ((run_of es).closes + (run_of es).faults + (run_of es).links + (run_of es).cuts) }
 {}
 
-/// Each granted move of a student was applied, or released, or dropped by a fault, a link or a cut, or is
-/// chosen still.
+/// Each granted move of a student was applied, was released, was dropped by a fault, a link or a cut, or is still
+/// chosen.
 pub fn granted_moves_have_one_fate()
     ensures { (r : RosterValue) (es : List Event) (s : ℕ) →
         total (marks_of r es s).granted ≡ total (marks_of r es s).applied

@@ -151,7 +151,7 @@ fn close_of(last: u64, fate: Fate) -> u64
     }
 }
 
-/// Returns the place of the grant of the first move, or `None` if there are no moves.
+/// Returns the place at which the first of the moves was granted, or `None` if there are no moves.
 fn first_place(all: &[Move]) -> Option<u64>
     ensures { result ≡ first_place all.now }
 {
@@ -159,7 +159,7 @@ fn first_place(all: &[Move]) -> Option<u64>
     Some(first.place)
 }
 
-/// Returns the place of the grant of the last move, or `None` if there are no moves.
+/// Returns the place at which the last of the moves was granted, or `None` if there are no moves.
 fn last_place(all: &[Move]) -> Option<u64>
     ensures { result ≡ last_place all.now }
 {

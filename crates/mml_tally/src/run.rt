@@ -92,7 +92,7 @@ fn is_change(event: &Event) -> bool
     )
 }
 
-/// Returns the place of the last fault, link or cut, or 0 if there is none.
+/// Returns the place of the last fault, link or cut, or 0 if there is none. The first of the events has the place 1.
 pub(crate) fn last_change(events: &[Event]) -> usize
     ensures exact { result ≡ last_change 0 1 events.now }
     ensures within { result ≤ length events.now }

@@ -14,13 +14,13 @@ pub record HouseValue : Type 0 where
 abbrev pub house_of : Ptr → LabValue → HouseValue
 house_of name lab = record { name = name; lab = lab }
 
--- a house that goes on: its name, its lab, and the events that came before it was opened
+-- a house that continues a run: its name, its lab, and the events that came before it was opened
 pub record ResumedValue : Type 0 where
   pub name : Ptr
   pub lab : LabValue
   pub begun : List Event
 
--- the house of this name and lab that goes on from these events
+-- the house of this name and lab that continues the run of these events
 abbrev pub resumed_of : Ptr → LabValue → List Event → ResumedValue
 resumed_of name lab begun = record { name = name; lab = lab; begun = begun }
 

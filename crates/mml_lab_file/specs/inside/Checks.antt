@@ -19,7 +19,7 @@ rank_at ids z = rank_in ids (number_of z)
 abbrev pub lacks_rank : List ℕ → ℤ × ℤ → Bool
 lacks_rank ids link = not (is_some (rank_at ids link.0) && is_some (rank_at ids link.1))
 
--- both are nodes, and the second stands in the row of the first
+-- both are nodes, and the second is a neighbour of the first in the rows
 unfoldable pub are_near : List (FinSet nat_cmp) → Option ℕ → Option ℕ → Bool
 are_near rows a b = option_map_or (λ i. option_map_or (set.contains (neighbours_at rows i)) b false) a false
 

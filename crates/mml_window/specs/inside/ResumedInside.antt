@@ -12,7 +12,7 @@ pub record IsCopyOf (lab : LabValue) (begun : List Event) (x : Published) : Type
   pub limit : x.limit ≡ lab.events
   pub events : x.events.items ≡ begun
 
--- a house that goes on, before it is started
+-- a house that continues a run, before it is started
 pub record IsResumed (lab : LabValue) (begun : List Event) (first second : Published) (halted : Bool) (taken : Option (List ℕ)) : Type 0 where
   pub lawful : IsLab lab
   pub legal : is_legal_in lab begun ≡ true
