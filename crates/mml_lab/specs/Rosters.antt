@@ -1,4 +1,4 @@
--- Who takes part in a lab, under which name and key, and who owns each node.
+-- The participants of a lab, the name and the key of each, and who owns each node.
 use Rattle.std.specs.Prelude.{◌≡◌, ◌==◌, ℕ, ◌<◌, ◌≤◌, nat_lt, nat_le, Bool, false, ◌&&◌, ◌||◌, IsTrue, List, [], ◌∷◌, length, position, slice_index_or}
 use Rattle.std.specs.Prelude.{All, Option, Some, option_map, if◌then◌else◌, bytes_eq}
 use Rattle.std.specs.List.{list_any, list_all}

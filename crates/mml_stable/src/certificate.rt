@@ -46,7 +46,7 @@ pub(crate) fn witness(board: &Board, kinds: &[Option<Kind>], a: Rank, b: Rank) -
     walk(board, kinds, b).unwrap_or((a, Kind::Seduction))
 }
 
-/// Follows the pointers from `node`, as `top` does. Returns the node where that ends, with the rule that is enabled
+/// Follows the pointers from `node`, as `top` does. Returns the node at which that ends, with the rule that is enabled
 /// there. Returns `None` if no rule is enabled there, or a seduction.
 fn walk(board: &Board, kinds: &[Option<Kind>], node: Rank) -> Option<(Rank, Kind)>
     requires kinds { AreKinds (configuration board.now) kinds.now }
