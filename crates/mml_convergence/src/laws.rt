@@ -84,7 +84,7 @@ pub fn privileged_nodes_may_move()
 
 /// From any world, a legal list of grants, releases and closes that has 2n rounds, for n nodes, ends with no node
 /// privileged, and the pairs are a maximal matching, however the moves are chosen. A list that ends with a privileged
-/// node has fewer rounds than four for each two nodes and one for a node left over.
+/// node has fewer than `rounds_for n` rounds, which are four for each two nodes and one for a node left over.
 pub fn rounds_are_bounded()
     ensures stable { (r : RosterValue) (w : World) (es : List Event) → IsWorld w →
         is_legal_list r w es ≡ true → list_all is_of_step es ≡ true → Rounds (2 * size w) w es →
