@@ -28,9 +28,9 @@ pub fn check<O: Owners>(owners: &O, board: &Board, who: Who, act: &Act) -> Resul
     }
 }
 
-/// Returns the grant of a move if `who` is a student who owns the node, `at` is the number of the current
-/// configuration, no move is chosen for the node, and the rule may be applied there. Otherwise returns the denial of
-/// the first of these clauses that doesn't hold.
+/// Returns the grant of a move if all four clauses hold: `who` is a student who owns the node, `at` is the number of
+/// the current configuration, no move is chosen for the node, and the rule may be applied there. Otherwise returns the
+/// denial of the first that doesn't hold.
 fn check_move<O: Owners>(
     owners: &O,
     board: &Board,

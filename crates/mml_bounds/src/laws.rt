@@ -23,8 +23,8 @@ ghost use Rattle.mml_bounds.specs.Halves.{halves_world};
 ghost use Rattle.mml_bounds.specs.Crowd.{crowd_world};
 ghost use Rattle.mml_bounds.specs.Comb.{comb_world};
 
-/// From any world with n nodes and L links, the closes of a legal list of grants, releases and closes apply at most
-/// 3n + 2 min(L, n²/4) moves in all, n²/4 rounded down, however the moves are chosen.
+/// On n nodes with L links, the closes of a legal list of grants, releases and closes apply at most 3n + 2 min(L, n²/4)
+/// moves, n²/4 rounded down. This holds from any world, and however the moves are chosen.
 pub fn moves_are_few()
     ensures { (r : RosterValue) (w : World) (es : List Event) → IsWorld w →
         is_legal_list r w es ≡ true → list_all is_of_step es ≡ true →
@@ -38,9 +38,9 @@ pub fn courtships_in_numbers()
     ensures odd { (k : ℕ) → most_courtships (2 * k + 1) ≡ k * k + k }
 {}
 
-/// The potential that counts courtships (pointers of unmarried nodes at higher ones that may still marry them) falls in
-/// a step of moves whose guards hold, by at least the number of nodes that move. It is at most 3 for each of n nodes,
-/// and 2 for each of n²/4, rounded down.
+/// The potential that counts courtships, pointers of unmarried nodes at higher ones that may still marry them, falls in
+/// a step of moves whose guards hold. It falls by at least the number of nodes that move. It is at most 3 for each of n
+/// nodes, and 2 for each of n²/4, rounded down.
 pub fn step_lowers_courting_potential()
     ensures lower { (c : Configuration) (chosen : ℕ → Option Rule) → IsLawful c → AllHold c chosen →
         courting_potential (step c chosen) + count_below c.size (moves chosen) ≤ courting_potential c }
@@ -69,9 +69,9 @@ pub fn rounds_are_reached()
         (¬ IsStable (configuration (world_of (halves_world n) es))) }
 {}
 
-/// The bound on moves, 3 for each of n nodes and 2 for each of n²/4, rounded down, is reached for each even n from 4 on
-/// that a lab may have, and missed by one for each odd n from 5 on. In the dense network (`crowd_world`), a student who
-/// owns each node has a legal list of grants and closes that applies that many moves.
+/// The bound on moves is 3 for each of n nodes and 2 for each of n²/4, rounded down. It is reached for each even n from
+/// 4 on that a lab may have, and missed by one for each odd n from 5 on. In the dense network (`crowd_world`), a
+/// student who owns each node has a legal list of grants and closes that applies that many moves.
 pub fn moves_are_reached()
     ensures world { (n : ℕ) → 4 ≤ n → n ≤ MAX_NODES →
         IsWorld (crowd_world n) × (size (crowd_world n) ≡ n) }
@@ -87,10 +87,10 @@ pub fn moves_are_reached()
         (applied_over (crowd_world (2 * k + 1)) es ≡ 3 * (2 * k + 1) + 2 * most_courtships (2 * k + 1) - 1) }
 {}
 
-/// The comb (`comb_world`) is a network of 4 nodes or more that is a tree: it has one link less than nodes, and each
-/// node but the last is linked to a higher one. A student who owns each node has a legal list of grants and closes that
-/// applies one move less than 3 for each node and 2 for each link, and two less if the number of nodes is odd. That no
-/// tree takes more isn't stated.
+/// The comb (`comb_world`) of 4 nodes or more is a tree. It has one link less than nodes, and each node but the last is
+/// linked to a higher one. A student who owns each node has a legal list of grants and closes with nearly the most
+/// moves, 3 for each node and 2 for each link. It applies one less than these, or two less if the number of nodes is
+/// odd. That no tree takes more isn't stated.
 pub fn a_comb_takes_nearly_the_most_moves()
     ensures world { (n : ℕ) → 4 ≤ n → n ≤ MAX_NODES →
         IsWorld (comb_world n) × (size (comb_world n) ≡ n) }

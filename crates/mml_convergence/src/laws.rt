@@ -44,8 +44,8 @@ pub fn step_lowers_potential()
         whole_potential (configuration_of n) ≤ 2 * link_count n + 3 * length n.registers }
 {}
 
-/// From any world, the closes of a legal list of grants, releases and closes apply at most 2 moves for each
-/// link and 3 for each node in all, however the moves are chosen.
+/// The closes of a legal list of grants, releases and closes, from any world, apply at most 2 moves for each link and 3
+/// for each node. This holds however the moves are chosen.
 pub fn moves_are_bounded()
     ensures { (r : RosterValue) (w : World) (es : List Event) → IsWorld w →
         is_legal_list r w es ≡ true → list_all is_of_step es ≡ true →
@@ -60,9 +60,8 @@ pub fn closes_are_bounded()
         count_closes es ≤ 2 * link_count w.network + 3 * size w }
 {}
 
-/// The bound on all moves, 2 for each link and 3 for each node, is reached on one network: if one student owns all
-/// nodes of a triangle with a tail, which has 4 links and 4 nodes, some legal list of grants and closes applies 20
-/// moves.
+/// The bound on all moves, 2 for each link and 3 for each node, is reached on one network: a triangle with a tail,
+/// which has 4 links and 4 nodes. If one student owns all nodes, some legal list of grants and closes applies 20 moves.
 pub fn bound_is_reached()
     ensures roster { IsRoster sole_owner }
     ensures world { IsWorld triangle_world }
@@ -82,9 +81,10 @@ pub fn privileged_nodes_may_move()
         is_legal r w (Event.Grant s i rule) ≡ true) }
 {}
 
-/// From any world, a legal list of grants, releases and closes that has 2n rounds, for n nodes, ends with no node
-/// privileged, and the pairs are a maximal matching, however the moves are chosen. A list that ends with a privileged
-/// node has fewer than `rounds_for n` rounds, which are four for each two nodes and one for a node left over.
+/// Let a legal list of grants, releases and closes, from any world, have 2n rounds for n nodes. Then it ends with no
+/// node privileged, and the pairs are a maximal matching, however the moves are chosen. A list that ends with a
+/// privileged node has fewer than `rounds_for n` rounds, which are four for each two nodes and one for a node left
+/// over.
 pub fn rounds_are_bounded()
     ensures stable { (r : RosterValue) (w : World) (es : List Event) → IsWorld w →
         is_legal_list r w es ≡ true → list_all is_of_step es ≡ true → Rounds (2 * size w) w es →
@@ -107,8 +107,8 @@ pub fn stable_lists_have_rounds()
         Rounds k w es }
 {}
 
-/// From any world, a legal list of grants, releases and closes has at most 2n closes for n nodes, and 2n - 1 if n is
-/// odd, if at each close every privileged node has a chosen move.
+/// Let every privileged node have a chosen move at each close of a legal list of grants, releases and closes. Then the
+/// list, from any world, has at most 2n closes for n nodes, and 2n - 1 if n is odd.
 pub fn full_closes_are_few()
     ensures { (r : RosterValue) (w : World) (es : List Event) → IsWorld w →
         is_legal_list r w es ≡ true → list_all is_of_step es ≡ true → ClosesFull w es →
@@ -133,9 +133,9 @@ pub fn runs_end_stable()
 {}
 
 /// Potentials that were counted by hand, to see that the definition is the intended one. Two linked nodes are tried in
-/// four states: neither points; the second points at the first; the first points at the second, whose m is true; and
-/// they are a pair, with m true at both. For a triangle with a tail, the sum over all nodes is 20, the most that its 4
-/// links and 4 nodes may have.
+/// four states. In `apart` neither points, and in `asked` the second points at the first. In `refused` the first points
+/// at the second, whose m is true. In `paired` they are a pair, with m true at both. For a triangle with a tail, the
+/// sum over all nodes is 20, the most that its 4 links and 4 nodes may have.
 pub fn potentials_by_hand()
     ensures apart { (potential (two_nodes None false None false) 0 ≡ 3) ×
         (potential (two_nodes None false None false) 1 ≡ 1) }

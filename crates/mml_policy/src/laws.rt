@@ -63,8 +63,9 @@ pub fn a_see_takes_a_visible_node()
         (verdict ids r w x (command.See id) ≡ verdicts.Show) ↔ MaySee ids r w x id }
 {}
 
-/// A see is answered with the registers of its node in the world `w`, and the number of the configuration, exactly if
-/// some node has the identifier that it names, and this node is visible to the asker. Otherwise it is denied as hidden.
+/// A see is answered exactly if some node has the identifier that it names, and this node is visible to the asker. The
+/// answer has the node's registers in the world `w`, and the number of the configuration. Otherwise the see is denied
+/// as hidden.
 pub fn a_see_shows_the_registers()
     ensures seen { (ids : List ℕ) (r : RosterValue) (limit : ℕ) (is_halted : Bool) (w : World)
         (x : Who) (id : ℕ) (s : See) → IsLawful (configuration w) →

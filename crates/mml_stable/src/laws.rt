@@ -22,8 +22,8 @@ pub fn stable_is_maximal()
         (c.m i ≡ true) ↔ IsMarried c i }
 {}
 
-/// If one follows the pointers from a node that is free (in no pair) or has m false, each node is greater than the one
-/// before, up to a node that is privileged or points at no node.
+/// The pointers rise from a node that is free (in no pair) or has m false: each node on the way is greater than the one
+/// before. The way ends at a node that is privileged or points at no node.
 pub fn walk_rises()
     ensures rises { (c : Configuration) (i j : ℕ) → IsLawful c → is_privileged c i ≡ false →
         (is_married c i ≡ false) ⊎ (c.m i ≡ false) → c.p i ≡ Some j →
@@ -38,9 +38,9 @@ pub fn reports_name_nodes()
     ensures { (w : World) → IsWorld w → NamesNodes (size w) (report_of w) }
 {}
 
-/// A report lists exactly the following: the pairs of nodes that point at each other, the lower one first; the free
-/// nodes, which are in no pair; the nodes at which some rule may be applied, each with the kind of that rule; and the
-/// links between two free nodes, the lower one first, each with its witness.
+/// Each list of a report is exact. `pairs` has the nodes that point at each other, the lower one first. `free_nodes`
+/// has the nodes in no pair. `privileged_nodes` has the nodes at which some rule may be applied, each with the kind of
+/// that rule. `open_links` has the links between two free nodes, the lower one first, each with its witness.
 pub fn lists_are_exact()
     ensures pairs { (c : Configuration) (p : ℕ × ℕ) → IsLawful c →
         Contains (pairs c) p ↔ IsPairInOrder c p }

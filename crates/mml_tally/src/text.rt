@@ -88,9 +88,9 @@ fn put_student(out: &mut Vec<u8>, name: &str, marks: &Marks) -> Result<(), Memor
     put(out, &[Piece::Text("\n")])
 }
 
-/// Appends the counts of a student's moves as numbers: granted and applied moves of each rule, closes that applied one,
-/// the places of the first and the last grant, and applied moves at nodes that others own too. Returns `Memory` if
-/// memory runs out.
+/// Appends the counts of a student's moves as numbers: granted and applied moves of each rule, and closes that applied
+/// one. Then come the places of the first and the last grant, and the applied moves at nodes that others own too.
+/// Returns `Memory` if memory runs out.
 fn put_marks(out: &mut Vec<u8>, marks: &Marks) -> Result<(), Memory>
     ensures { OnOk result (out.new.items ≡ out.old.items ++ marks_text marks.now) }
 {
