@@ -73,7 +73,7 @@ def classes() -> Iterator[tuple[str, str]]:
     yield README, f"`examples/` has {WORDS[len(list((TOP / 'examples').glob('*.toml')))]} labs, "
     small, families = WORDS[len(suites.SMALL)], WORDS[len(suites.FAMILIES)]
     yield STUDENT, f"`grade` tries {small} cases, each in an empty folder"
-    yield COURSE, f"`small` has {small} cases, `full` {len(suites.FULL)}, over {families} families of networks"
+    yield COURSE, f"The suite `small` has {small} cases, and the suite `full` has {len(suites.FULL)}, on networks of {families} families, "
     yield TEACHER, f"starts the server at the port of the slips ({FIRST_PORT} for the first network) or the next free one"
     yield TEACHER, f"when nothing came for {WORDS[int(CLOSING.value)]} seconds, or as `--daemon` says"
     yield TEACHER, (f"\n| 0 | done |\n| {statuses.USAGE} | the command line is wrong |\n| {statuses.LAB} | the lab is refused |\n"
