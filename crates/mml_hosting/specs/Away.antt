@@ -7,7 +7,8 @@ use Rattle.mml_lines.specs.declared.write_fault.WriteFault.{WriteFault}
 unfoldable pub busy_line : List ℕ
 busy_line = codes "{\"refuse\":\"busy\"}\n"
 
--- the line was written to the connection's writing end, or a beginning of it if a write failed, and then the connection was ended
+-- the line, or only a beginning of it if a write failed, was written to the connection's writing end, and then the
+-- connection was closed
 pub record TurnsAway {R W : Type 0} (contents : W → Option (List ℕ)) (IsHungUp : W → Type 0) (line : List ℕ) (ends : R × W)
     (told : Result (Unit {0}) WriteFault) : Type 0 where
   pub writer : W

@@ -1,4 +1,4 @@
--- Seats and their connections, that are served or being served, counted.
+-- The connections that were served or are being served in seats, compared by counting.
 use Rattle.std.specs.Prelude.{◌≡◌, ◌⊎◌, ℕ, ◌+◌, List, [], ◌∷◌, ◌++◌}
 use Rattle.std.specs.List.{sum_by}
 use Rattle.mml_hosting.specs.Seats.{came_to}
@@ -10,32 +10,33 @@ use Rattle.mml_hosting.specs.declared.port_serving.Busy.{Busy}
 abbrev pub bound_for : {H K C R W U : Type 0} → (K → ServedSession R W) → Busy H K C R W U → List (R × W)
 bound_for shows b = came_to shows b.handle.promise.0.value.record ++ b.handle.promise.1.value ∷ []
 
--- what is counted of a seat: of its number, and of each connection that came to it
+-- a sum over a seat: `g` of its number, and `h` of each connection that came to it
 abbrev pub count_in : {H K C R W : Type 0} → (K → ServedSession R W) → (ℕ → ℕ) → (R × W → ℕ) → Seat H K C → ℕ
 count_in shows g h s = g s.record.number + sum_by h (came_to shows s.record)
 
--- what is counted of all free seats
+-- this sum over all free seats
 abbrev pub count_free : {H K C R W : Type 0} → (K → ServedSession R W) → (ℕ → ℕ) → (R × W → ℕ) → List (Seat H K C) → ℕ
 count_free shows g h free = sum_by (count_in shows g h) free
 
--- what is counted of a seat to which one more will have come
+-- the same sum over a busy seat, with the connection that is being served there
 abbrev pub count_at : {H K C R W U : Type 0} → (K → ServedSession R W) → (ℕ → ℕ) → (R × W → ℕ) → Busy H K C R W U → ℕ
 count_at shows g h b = g b.handle.promise.0.value.record.number + sum_by h (bound_for shows b)
 
--- what is counted of all busy seats
+-- this sum over all busy seats
 abbrev pub count_busy : {H K C R W U : Type 0} → (K → ServedSession R W) → (ℕ → ℕ) → (R × W → ℕ) → List (Busy H K C R W U) → ℕ
 count_busy shows g h busy = sum_by (count_at shows g h) busy
 
--- what is counted of all seats of a port, the free ones and the busy ones
+-- this sum over all seats of a port, the free and the busy ones
 abbrev pub count_all : {H K C R W U : Type 0} → (K → ServedSession R W) → (ℕ → ℕ) → (R × W → ℕ) → List (Seat H K C) → List (Busy H K C R W U) → ℕ
 count_all shows g h free busy = count_free shows g h free + count_busy shows g h busy
 
--- whatever is counted of seats, the free and the busy ones afterwards have as many of it as the free and the busy ones at first
+-- no such sum changes: the free and the busy seats have the same numbers and connections as before, in whatever order
 abbrev pub KeepCounts : {H K C R W U : Type 0} → (K → ServedSession R W) → List (Seat H K C) → List (Busy H K C R W U) → List (Seat H K C)
     → List (Busy H K C R W U) → Type 0
 KeepCounts {H} {K} {C} {R} {W} shows free busy free' busy' = (g : ℕ → ℕ) (h : R × W → ℕ) → count_all shows g h free' busy' ≡ count_all shows g h free busy
 
--- the connection is among those served or being served, or it was turned away, so that this is true of it
+-- the connection is among those that were or are being served, and nothing else has changed; or it was turned away, as
+-- `IsAway` says
 abbrev pub TakesIn : {H K C R W U : Type 0} → (K → ServedSession R W) → (R × W → Type 0) → R × W → List (Seat H K C) → List (Busy H K C R W U)
     → List (Seat H K C) → List (Busy H K C R W U) → Type 0
 TakesIn {H} {K} {C} {R} {W} shows IsAway ends free busy free' busy' =

@@ -20,11 +20,12 @@ pub record IsUnused {H K C : Type 0} (begun : List Event) (given : ℕ → Optio
   pub sessions : s.record.sessions.items ≡ []
   pub dismissed : s.is_dismissed ≡ false
 
--- There is the log of one legal list of the lab, which begins with the events that came before; the places after these
--- are those that all windows were given, each once; each window has seen a beginning of the list, and these events at
--- least. The seats have the numbers 1 to that of the lab's sessions, each once. The sessions of each seat, in order,
--- led its window there, and the record of them led its recorder, and at the desk the last one, and no earlier one, was
--- ended by the teacher's bye. The connections that came to a port were served, each once, or turned away
+-- The house left the log of one legal list of events, which begins with the events that came before it was opened. The
+-- places after these are those that all windows were given, each once. Each window has seen a beginning of the list,
+-- and at least the events before. The seats have the numbers from 1 to the number of the lab's sessions, each once. The
+-- sessions of each seat, in order, led its window and its recorder to their states. At the desk, the last session was
+-- ended by the teacher's bye, and no earlier one. The connections that came to a port were served, each once, or turned
+-- away
 pub record HostsFrom {S K C R W : Type 0} (begun : List Event) (given : ℕ → Option Kept) (lab : LabValue) (sink : S → Option (List ℕ))
     (remaining : R → Option (List ℕ)) (contents : W → Option (List ℕ)) (recorded : C → Option Kept) (shows : K → ServedSession R W)
     (to_desk to_come : Option (List (R × W))) (house : Hosted S K C) : Type 0 where

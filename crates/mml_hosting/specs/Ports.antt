@@ -8,11 +8,12 @@ use Rattle.mml_hosting.specs.declared.seat.SeatRecord.{SeatRecord}
 use Rattle.mml_hosting.specs.Seats.{IsSeat, Terms, came_to}
 use Rattle.mml_hosting.specs.Away.{IsTurnedAway}
 
--- whatever is counted in them, both lists have as many
+-- both lists have the same elements, each as often, in whatever order
 abbrev pub HaveSame : {A : Type 0} → List A → List A → Type 0
 HaveSame {A} xs ys = (h : A → ℕ) → sum_by h xs ≡ sum_by h ys
 
--- the first connections to come came; these and the old ones are, each as often, the new ones and those that were turned away
+-- the first of the connections to come have come; together with the old ones they are the new ones and those that were
+-- turned away, each as often
 pub record Attends {C : Type 0} (to_come : Option (List C)) (old new : List C) : Type 0 where
   pub connections : List C
   pub turned : List C
@@ -32,8 +33,8 @@ windows_of ss = map (λ s. s.window) ss
 abbrev pub numbers_of : {K C : Type 0} → List (SeatRecord K C) → List ℕ
 numbers_of rs = map (λ r. r.number) rs
 
--- as many seats as there were, with their numbers, in which the old connections and those that came were served, each as often, but for
--- those that were turned away
+-- the seats and their numbers are as before. The old connections and those that came were served in them, each once,
+-- except for those that were turned away
 pub record ServesPort {H K C R W : Type 0} (t : Terms K C R W) (to_come : Option (List (R × W))) (old new : List (Seat H K C)) : Type 0 where
   pub seats : All (IsSeat t) new
   pub count : length new ≡ length old

@@ -39,8 +39,8 @@ terms lab begun given remaining contents recorded shows = record {
   shows = shows;
 }
 
--- the connection was served to such an end, through a window that it led from the one value to the other, and what was recorded of it,
--- under this number, led the recorder
+-- the connection was served until this end, which led the window from the state `a` to the state `b`; and what was
+-- recorded of it under this number led the recorder likewise
 abbrev pub Leads : {K C R W : Type 0} → Terms K C R W → ℕ → ServedSession R W → Stand → Stand → Type 0
 Leads t number s a b =
     EndedRecorded s.ending.end s.ending.who number t.lab a.window b.window (t.remaining s.came.value.0) (t.remaining s.reader)
@@ -51,7 +51,7 @@ abbrev pub kept_from : {C : Type 0} → (C → Option Kept) → ℕ → List C �
 kept_from kept first [] n = None
 kept_from kept first (c ∷ cs) n = if n == first then kept c else kept_from kept (first + 1) cs n
 
--- the recorders of seats that are numbered from this number on have kept what each was to have
+-- the recorders of seats that are numbered from `n` on have kept what `given` says for each
 abbrev pub AreGiven : {C : Type 0} → (ℕ → Option Kept) → (C → Option Kept) → ℕ → List C → Type 0
 AreGiven given kept n [] = ⊤
 AreGiven given kept n (c ∷ cs) = (kept c ≡ given n) × AreGiven given kept (n + 1) cs
@@ -99,7 +99,7 @@ pub record IsReady {H K C R W : Type 0} (t : Terms K C R W) (s : Seat H K C) : T
   pub going_on : s.is_dismissed ≡ false
   pub room : vec_len s.record.sessions < vec_capacity s.record.sessions
 
--- the seat afterwards is lawful, and has its number and its connections, and this one after them
+-- the new seat is valid, and has the number and the connections of the old one, and this connection after them
 pub record ServesIn {H K C R W : Type 0} (t : Terms K C R W) (old : Seat H K C) (ends : R × W) (new : Seat H K C) : Type 0 where
   pub seat : IsSeat t new
   pub came : came_to t.shows new.record ≡ came_to t.shows old.record ++ ends ∷ []

@@ -7,43 +7,45 @@ use std::io::{Read, Write};
 /// The result of an accept.
 #[derive(Drop)]
 pub enum Accepted<R: Drop, W: Drop, U: Drop> {
-    /// A connection: its two ends, and the cut-off that ends it from elsewhere.
+    /// A connection: its reading and its writing end, and the cut-off, with which another thread can end it.
     Came((R, W), U),
-    /// Nobody. Connections whose sessions have ended are to be dropped before the next accept.
+    /// No connection. The caller should drop the connections whose sessions have ended, and accept again.
     Nobody,
-    /// No more are to be served.
+    /// No more connections are to be served.
     Over,
 }
 
-/// A source of connections as they come.
+/// A source of connections, which it returns as they come.
 pub trait Accept<R: Read + Drop, W: Write + Drop, U: CutOff + Drop> {
-    // The connections that are still to come, if they are known.
+    // The connections that are still to come; `None` if contracts can't name them.
     ghost to_come: { Self → Option (List (R × W)) } = { λ _. None };
 
-    /// Returns the next connection, for which it may wait; or nobody, or that no more are to be served.
+    /// Waits for the next connection and returns it. May also return `Nobody`, after which the caller accepts again, or
+    /// `Over` if no more connections are to be served.
     fn accept_next(&mut self) -> Accepted<R, W, U>
         ensures { Brings (to_come self.old) (to_come self.new) result };
 }
 
-/// The cut-off of a connection, for another thread than its own.
+/// The means by which another thread ends a connection.
 pub trait CutOff {
-    // The receipt that its connection was ended. Of a type parameter, only `cut_off` gives it.
+    // The statement that the connection was ended. For an unknown type `U`, only a call of `cut_off` can prove it.
     ghost IsCutOff: { Self → Type 0 } = { λ _. Unit {0} };
 
-    /// Ends the connection, even if it isn't served yet: its next read or write finds the end.
+    /// Ends the connection, so that its next read or write finds its end. Works also before the connection is served.
     fn cut_off(&self)
         ensures { IsCutOff self.now };
 }
 
-/// The signal that a session has ended, or a port can't be served.
+/// The signal by which the threads that serve connections wake the house.
 pub trait Bell {
     ghost use Rattle.std.specs.Prelude.{Bool};
 
-    // The receipt that it was rung, and whether for the house's end. Of a type parameter, only `ring` gives it.
+    // The statement that the bell was rung, and with which `is_dismissed`. For an unknown type, only a call of `ring`
+    // can prove it.
     ghost IsRung: { Self → Bool → Type 0 } = { λ _ _. Unit {0} };
 
-    /// Notes that a session has ended. If `is_dismissed`, notes that the house is to end: by the teacher's bye at the
-    /// desk, or since a port couldn't be served.
+    /// Signals that a session has ended. `is_dismissed` is set if the whole house is to end: because the teacher said
+    /// bye at the desk, or because a port couldn't be served.
     fn ring(&self, is_dismissed: bool)
         ensures { IsRung self.now is_dismissed };
 }

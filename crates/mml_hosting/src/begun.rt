@@ -1,8 +1,8 @@
 //! A house that goes on from events that came before, and from what was recorded.
 use mml_window::{Brand, House};
 
-/// Names one house, for contracts alone, with the events that came before it was opened, and what the recorders of its
-/// seats had kept.
+/// Names one house (one run of a lab) for contracts. Such a house may go on from an earlier one: it has the events that
+/// came before it was opened, and what the recorders of its seats had kept by then.
 pub trait Begun: House {
     ghost use Rattle.std.specs.Prelude.{ℕ, List, Option};
     ghost use Rattle.mml_session.specs.Records.{Kept};

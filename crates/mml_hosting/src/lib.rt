@@ -1,5 +1,5 @@
-//! A house whose connections come and go: each window serves one after another, until the teacher says
-//! bye at the desk.
+//! A house (one run of a lab) whose connections come and go. Each window serves one connection after another, until the
+//! teacher says bye at the desk.
 #![tactic(auto)]
 
 mod accepting;

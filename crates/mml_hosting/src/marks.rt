@@ -1,42 +1,44 @@
-//! Marks, which say of seats whether their threads have ended.
+//! Marks: flags that the threads of a port share, one for each seat. A set mark says that the seat's thread has ended.
 ghost use Rattle.std.specs.Prelude.{IfSome, slice_get};
 ghost use Rattle.mml_hosting.specs.Marks.{Says};
 
 use std::sync::atomic::{AtomicU64, Ordering};
 
-/// A mark of a thread: it is set if the thread has ended.
+/// The mark of a seat: a flag which is set once the seat's thread has ended.
 pub(crate) trait Mark {
     ghost use Rattle.std.specs.Prelude.{Bool};
 
-    // The receipt that it was asked whether it is set, with its answer. Of a type parameter, only `is_set` gives it.
+    // The statement that the mark was asked whether it is set, with its answer. For an unknown type, only a call of
+    // `is_set` can prove it.
     ghost Answers: { Self → Bool → Type 0 } = { λ _ _. Unit {0} };
 
-    // The receipt that it was set, or reset. Of a type parameter, only `put` gives it.
+    // The statement that the mark was set or reset. For an unknown type, only a call of `put` can prove it.
     ghost IsPut: { Self → Bool → Type 0 } = { λ _ _. Unit {0} };
 
-    /// Returns whether it is set.
+    /// Returns whether the mark is set.
     fn is_set(&self) -> bool
         ensures { Answers self.now result };
 
-    /// Sets it if `has_ended`, or else resets it.
+    /// Sets the mark if `has_ended`, and resets it otherwise.
     fn put(&self, has_ended: bool)
         ensures { IsPut self.now has_ended };
 }
 
-/// The mark is 1 if it is set, or else 0.
+/// The mark is a number: 1 if it is set, and 0 otherwise.
 impl Mark for AtomicU64 {
     // Returns whether the number is 1.
     fn is_set(&self) -> bool {
         self.load(Ordering::SeqCst) == 1
     }
 
-    // Stores 1 or 0.
+    // Stores 1 if `has_ended`, and 0 otherwise.
     fn put(&self, has_ended: bool) {
         self.store(u64::from(has_ended), Ordering::SeqCst);
     }
 }
 
-/// Returns whether the mark of the seat with this number is set. If there is no such mark, returns `false`.
+/// Returns whether the mark of the seat with this number is set, that is, whether the seat's thread has ended. Returns
+/// `false` if there is no such mark.
 pub(crate) fn is_marked<M: Mark>(marks: &[M], number: u8) -> bool
     ensures { Says M.Answers marks.now number result }
 {
@@ -46,8 +48,8 @@ pub(crate) fn is_marked<M: Mark>(marks: &[M], number: u8) -> bool
     }
 }
 
-/// Sets the mark of the seat with this number if `has_ended`, which says that the seat's thread has ended, and else
-/// resets it. Does nothing if there is no such mark.
+/// Sets the mark of the seat with this number if the seat's thread has ended (`has_ended`), and resets it otherwise.
+/// Does nothing if there is no such mark.
 pub(crate) fn set_mark<M: Mark>(marks: &[M], number: u8, has_ended: bool)
     ensures { IfSome (slice_get marks.now number) (λ mark. M.IsPut mark has_ended) }
 {

@@ -29,7 +29,7 @@ use std::thread::{Promise, PromisedHandle, Scope, Threads};
 /// The line that is sent to a connection for which no seat is free.
 pub const BUSY: &[u8] = b"{\"refuse\":\"busy\"}\n";
 
-// A thread's promise that the connection was served in the seat.
+// What a thread promises about its result: this connection was served in this seat.
 #[derive(Drop)]
 struct SeatPledge<H: Begun, K: Drop, C: Drop, R: Drop, W: Drop>(
     Snapshot<Seat<H, K, C>>,
@@ -44,7 +44,7 @@ impl<H: Begun, K: Keep<R, W> + Drop, C: Recorder + Drop, R: Read + Drop, W: Writ
     ghost kept_by = { λ pledge s. ServesIn (terms H.lab H.begun H.given R.remaining W.contents C.kept K.shows) pledge.0.value pledge.1.value s };
 }
 
-// A seat in which a connection is served.
+// A seat in which a thread serves a connection.
 #[derive(Drop)]
 struct Busy<
     H: Begun,
@@ -55,7 +55,7 @@ struct Busy<
     U: Drop,
 > {
     number: u8,
-    // The cut-off that ends the connection from this thread.
+    // The means to end the connection from the port's thread.
     cut_off: U,
     handle: PromisedHandle<Seat<H, K, C>, SeatPledge<H, K, C, R, W>>,
 }
@@ -68,8 +68,8 @@ impl<
     W: Write + Drop,
     U: CutOff + Drop,
 > Busy<H, K, C, R, W, U> {
-    // Returns the index of the first busy seat whose thread has ended according to the marks, or `None` if there is
-    // none.
+    // Returns the index of the first busy seat whose thread has ended, as the marks say. Returns `None` if all threads
+    // are still running.
     fn first_done<M: Mark>(busy: &Vec<Self>, marks: &[M]) -> Option<usize>
         ensures within { IfSome result (λ index. index < vec_len busy.now) }
         ensures first { IfSome result (IsFirstMarked M.Answers marks.now busy.now.items) }
@@ -83,8 +83,8 @@ impl<
         None
     }
 
-    // Drops the cut-off of the busy seat at this index, waits for the seat's thread, and returns the seat, which is no
-    // longer busy.
+    // Removes the busy seat at this index from the list, drops its cut-off, waits until its thread has ended, and
+    // returns the seat, in which another connection can now be served.
     fn join_one<Rt: Threads>(rt: &Rt, busy: &mut Vec<Self>, index: usize) -> Seat<H, K, C>
         requires { index < vec_len busy.old }
         ensures seat { IsSeat (terms H.lab H.begun H.given R.remaining W.contents C.kept K.shows) result }
@@ -103,8 +103,8 @@ impl<
         seat
     }
 
-    // Returns the index of the busy seat to wait for next: the first whose thread has ended according to the marks, or
-    // the first of all if there are no marks. Returns `None` if there is no such seat.
+    // Returns the index of the busy seat to wait for next. With marks, this is the first one whose thread has ended, or
+    // `None` if all are still running. Without marks, it is the first of all, or `None` if the list is empty.
     fn next_to_join<M: Mark>(busy: &Vec<Self>, marks: Option<&[M]>) -> Option<usize>
         ensures some { IfSome result (λ index. index < vec_len busy.now) }
         ensures none { IfNone result (IfNone marks.entry (busy.now.items ≡ [])) }
@@ -118,8 +118,8 @@ impl<
         }
     }
 
-    // Takes back the seats whose threads have ended according to the marks. Without marks, waits for all threads, whose
-    // connections were cut off, and takes back all seats.
+    // Moves the seats whose threads have ended from `busy` to `free`. Without marks, all connections must have been cut
+    // off: then waits for all threads, and moves all seats.
     fn gather<Rt: Threads, M: Mark>(
         rt: &Rt,
         free: &mut Vec<Seat<H, K, C>>,
@@ -143,8 +143,9 @@ impl<
     }
 }
 
-// Removes the last of the free seats and returns it, with room for the record of one more session. Returns `None` if no
-// seat is free. Returns `None`, too, and the seat stays free, if that seat is dismissed, or memory runs out.
+// Takes the last of the free seats, with memory for the record of one more session, and returns it. Returns `None` if
+// no seat is free. Also returns `None`, and leaves the seat in the list, if the teacher's bye has ended its service, or
+// memory runs out.
 fn next_free<H: Begun, K: Keep<R, W> + Drop, C: Recorder + Drop, R: Read + Drop, W: Write + Drop>(
     free: &mut Vec<Seat<H, K, C>>,
 ) -> Option<Seat<H, K, C>>
@@ -167,8 +168,8 @@ fn next_free<H: Begun, K: Keep<R, W> + Drop, C: Recorder + Drop, R: Read + Drop,
     Some(seat)
 }
 
-// Reserves room in the seat for the record of one more session, and returns whether that session may be served there:
-// `false` if the seat is dismissed, for which nothing is reserved, or if memory runs out.
+// Makes a seat ready for one more session: reserves memory for that session's record. Returns whether the session may
+// be served there. Returns `false` if the teacher's bye has ended the seat's service, or memory runs out.
 fn make_ready<H: Begun, K: Keep<R, W> + Drop, C: Recorder + Drop, R: Read + Drop, W: Write + Drop>(
     seat: &mut Seat<H, K, C>,
 ) -> bool
@@ -181,7 +182,8 @@ fn make_ready<H: Begun, K: Keep<R, W> + Drop, C: Recorder + Drop, R: Read + Drop
     !seat.is_dismissed && seat.record.sessions.reserve(1).is_ok()
 }
 
-// Sends `BUSY` to a connection that has no seat, and hangs up. Returns `WriteFault` if the line wasn't written whole.
+// Sends the line `BUSY` to a connection for which no seat is free, and closes it. Returns `WriteFault` if the line
+// wasn't written whole.
 #[tactic(auto, unfolding(crate::specs::Away::busy_line))]
 fn turn_away<R: Drop, W: Write + HangUp + Drop>(ends: (R, W)) -> Result<(), WriteFault>
     ensures { TurnsAway W.contents W.IsHungUp busy_line ends result }
@@ -192,7 +194,7 @@ fn turn_away<R: Drop, W: Write + HangUp + Drop>(ends: (R, W)) -> Result<(), Writ
     told
 }
 
-// Ends the connections of all busy seats.
+// Cuts off the connections of all busy seats, so that their sessions end.
 fn cut_off_all<
     H: Begun,
     K: Keep<R, W> + Drop,
@@ -208,7 +210,7 @@ fn cut_off_all<
     }
 }
 
-// Returns 256 marks, one for each number that a seat may have, none of which is set. Returns `Memory` if memory runs
+// Returns 256 marks, one for each number that a seat can have, none of which is set. Returns `Memory` if memory runs
 // out.
 fn new_marks(alloc: Global) -> Result<Vec<AtomicU64>, Memory>
     ensures { IfOk result (λ marks. vec_len marks ≡ 2 ^ 8) }
@@ -222,7 +224,7 @@ fn new_marks(alloc: Global) -> Result<Vec<AtomicU64>, Memory>
     Ok(marks)
 }
 
-// The data that the threads of a port share.
+// What the threads of a port share.
 #[derive(Drop)]
 struct Shared<'s, Rt, S: Sink, H: Begun, G, B> {
     rt: &'s Rt,
@@ -230,7 +232,7 @@ struct Shared<'s, Rt, S: Sink, H: Begun, G, B> {
     desk: &'s Desk<S, H>,
     gate: &'s G,
     bell: &'s B,
-    // By the number of a seat, whether its thread has ended.
+    // One mark for each number of a seat: it is set once the seat's thread has ended.
     marks: &'s [AtomicU64],
 }
 
@@ -242,9 +244,9 @@ impl<
     G: Gate + Sync + 's,
     B: Bell + Sync + 's,
 > Shared<'s, Rt, S, H, G, B> {
-    // Serves a connection in a seat, in a thread of its own, and returns the thread's handle. The thread rings the bell
-    // when the session has ended. If no thread can be made, serves the connection here, and returns the seat as an
-    // error. One that isn't at the desk is ended by `cut_off` before that, so that later connections needn't wait for
+    // Starts a thread that serves a connection (`ends`) in a seat, and returns the thread's handle. The thread rings
+    // the bell when the session has ended. If no thread can be made, serves the connection in this thread, and returns
+    // the seat as an error. Away from the desk, it is cut off before that, so that later connections needn't wait for
     // it.
     fn serve_apart<
         E,
@@ -299,8 +301,9 @@ impl<
         }
     }
 
-    // Takes back the seats whose threads have ended, and serves a connection in the seat that `next_free` returns then,
-    // or turns it away if it returns none. `cut_off` ends the connection from another thread than its own.
+    // Takes back the seats whose threads have ended. Then serves a connection (`ends`) in the free seat that
+    // `next_free` returns, in a thread of its own. Turns the connection away if there is none. `cut_off` is the means
+    // to end the connection from the port's thread.
     fn take_in<
         E,
         K: Keep<R, W> + Send + Drop + 's,
@@ -343,8 +346,9 @@ impl<
         }
     }
 
-    // Serves the connections that come until no more are to be served. Then ends those that are still served, waits for
-    // their threads, and returns all seats. Returns `Memory`, and serves nobody, if memory runs out at the beginning.
+    // Accepts and serves connections until no more are to be served. Then cuts off those that are still served, waits
+    // for their threads, and returns all seats. Returns `Memory`, and serves nobody, if memory runs out at the
+    // beginning.
     fn serve_until_over<
         E,
         K: Keep<R, W> + Send + Drop + 's,
@@ -379,7 +383,7 @@ impl<
                 Accepted::Over => break,
             }
         }
-        // The connections that wait at the port are dropped before the sessions are waited for.
+        // The connections that still wait at the port are dropped before the threads are waited for.
         drop(arrivals);
         cut_off_all(&busy);
         Busy::gather(self.rt, &mut free, &mut busy, None::<&[AtomicU64]>);
@@ -387,10 +391,10 @@ impl<
     }
 }
 
-/// Accepts connections as they come, serves each in a thread of its own in a free seat, and turns away those for which
-/// there is none. At the end, ends all that are still served, and returns the seats when all threads have ended. If no
-/// thread can be made for a connection, ends it before anything is read, but at the desk serves it at once. Returns
-/// `Memory`, and serves nobody, if memory runs out at the beginning.
+/// Serves a port: accepts connections as they come, serves each in a thread of its own in a free seat, and turns away
+/// those for which no seat is free. When no more are to be served, cuts off those that are still served, waits for
+/// their threads, and returns the seats. If no thread can be made for a connection, ends it before anything is read,
+/// but at the desk serves it at once. Returns `Memory`, and serves nobody, if memory runs out at the beginning.
 pub fn serve_port<
     Rt: Threads + Wait + Sync,
     S: Sink + Send + Drop,

@@ -7,7 +7,7 @@ use std::io::Write;
 
 /// An observer of the replies of one connection.
 pub trait ReplyObserver {
-    /// Notes a reply, whose bytes aren't written yet.
+    /// Is called with each reply to the connection, before the reply's bytes are written.
     fn note_reply(&mut self, reply: &Reply);
 }
 
@@ -16,13 +16,13 @@ pub trait ReplyObserver {
 pub struct NoReplies;
 
 impl ReplyObserver for NoReplies {
-    // Notes nothing.
+    // Does nothing.
     fn note_reply(&mut self, _reply: &Reply) {}
 }
 
 /// An observer, or none.
 impl<E: ReplyObserver> ReplyObserver for Option<E> {
-    // Notes the reply in the observer, if there is one.
+    // Passes the reply to the observer, if there is one.
     fn note_reply(&mut self, reply: &Reply) {
         if let Some(observer) = self {
             observer.note_reply(reply);
@@ -35,12 +35,12 @@ pub trait Observed: Write {
     /// The observer of the replies.
     type Replies: ReplyObserver + Send + Drop;
 
-    /// Returns the observer of the replies, for the connection's one session.
+    /// Returns an observer for the replies of the connection's one session.
     fn reply_observer(&mut self) -> Self::Replies
         ensures contents { Self.contents self.new ≡ Self.contents self.old };
 }
 
-/// An observer of a seat's sessions, and that of the replies of its connection, combined into one.
+/// An observer of a seat's sessions and an observer of the replies of one connection, combined into one.
 #[derive(Drop)]
 pub(crate) struct Both<O: Drop, E: Drop> {
     pub(crate) observer: O,
@@ -50,23 +50,23 @@ pub(crate) struct Both<O: Drop, E: Drop> {
 impl<O: Observer + Drop, E: ReplyObserver + Drop> Observer for Both<O, E> {
     ghost kept = { λ b. O.kept b.observer };
 
-    // Notes in the seat's observer that a line came.
+    // Tells the seat's observer that a line came.
     fn came(&mut self, number: u8, line: &[u8]) {
         self.observer.came(number, line);
     }
 
-    // Notes the reply in both observers, in that of the seat with its line.
+    // Passes the reply to both observers; the seat's observer also gets the line and the reply's line.
     fn answered(&mut self, number: u8, seen: u64, line: &[u8], reply: &Reply, out: &[u8]) {
         self.observer.answered(number, seen, line, reply, out);
         self.replies.note_reply(reply);
     }
 
-    // Notes in the seat's observer how many replies were written.
+    // Tells the seat's observer how many replies were written.
     fn wrote(&mut self, number: u8, replies: u32) {
         self.observer.wrote(number, replies);
     }
 
-    // Notes in the seat's observer that a session has ended.
+    // Tells the seat's observer that a session has ended.
     fn left(&mut self, number: u8, ending: &Ending, seen: u64) {
         self.observer.left(number, ending, seen);
     }

@@ -1,4 +1,4 @@
-//! A window through which one connection after another is served.
+//! Seats: windows through which one connection after another is served.
 ghost use Rattle.std.specs.Prelude.{◌≡◌, ◌&&◌};
 ghost use Rattle.mml_hosting.specs.Seats.{IsReady, ServesIn, is_teachers_bye, terms};
 
@@ -24,14 +24,14 @@ pub struct ServedSession<R: Drop, W: Drop> {
     pub writer: W,
 }
 
-/// The part of a session that is kept after its end.
+/// What a seat keeps of a session after its end.
 pub trait Keep<R: Drop, W: Drop>: Sized {
     ghost use Rattle.mml_hosting.specs.declared.seat.ServedSession.{ServedSession};
 
-    // The session.
+    // The whole session of which this was kept.
     ghost shows: { Self → ServedSession R W };
 
-    /// Returns the part of a session that is kept, and drops the rest.
+    /// Returns what is to be kept of a session, and drops the rest.
     fn keep(session: ServedSession<R, W>) -> Self
         ensures { shows result ≡ session };
 }
@@ -60,21 +60,21 @@ impl<R: Drop, W: Drop> Keep<R, W> for Snapshot<ServedSession<R, W>> {
     }
 }
 
-/// The record of a seat.
+/// What is known of a seat's service: its number, its sessions, and their recorder.
 #[derive(Drop)]
 pub struct SeatRecord<K: Drop, C: Drop> {
     pub number: u8,
-    /// The kept parts of the sessions that were served in it, in order.
+    /// What was kept of each session that was served in the seat, in order.
     pub sessions: Vec<K>,
     /// The recorder of the sessions.
     pub recorder: C,
 }
 
-/// A window through which connections are served, with the record of its seat: the number by which a gate and a record
-/// know it, the kept parts of the sessions, and their recorder.
+/// A window through which one connection after another is served, and the record of its service. A gate and a recorder
+/// know the seat by its number.
 #[derive(Drop)]
 pub struct Seat<H: Begun, K: Drop, C: Drop> {
-    /// Whether the teacher's bye ends its service.
+    /// Whether it is the seat of the desk, where the teacher's bye ends the service.
     pub is_desk: bool,
     pub window: Window<H>,
     pub record: SeatRecord<K, C>,
@@ -82,8 +82,9 @@ pub struct Seat<H: Begun, K: Drop, C: Drop> {
     pub is_dismissed: bool,
 }
 
-/// Serves a connection in a seat, hangs up, and sets the seat's mark, since its thread is then at its end. Returns the
-/// seat, with the kept part of the session, and with whether the teacher's bye ended it at the desk.
+/// Serves a connection in a seat, and closes its writing end. Then sets the seat's mark, since the thread won't wait
+/// for anything any more. Returns the seat, with what is kept of the session, and with whether the teacher's bye ended
+/// the session at the desk.
 pub fn serve_in<
     Rt: Wait,
     S: Sink + Drop,
@@ -135,7 +136,7 @@ pub fn serve_in<
     } = observer;
     let Gated { gate: _, recorder } = observer;
     writer.hang_up();
-    // From here on the thread waits for nobody, and so the thread that joins it doesn't either.
+    // From here on this thread waits for nobody, so the thread that joins it doesn't have to wait either.
     set_mark(marks, number, true);
     let is_dismissed = is_dismissed_by(&ending, is_desk);
     let session = ServedSession {
@@ -157,7 +158,8 @@ pub fn serve_in<
     }
 }
 
-// Returns whether the seat is that of the desk, and the session was ended by the teacher's bye.
+// Returns whether a session that ended like this ends the house: it was at the desk, and its last line was the
+// teacher's bye.
 fn is_dismissed_by(ending: &Ending, is_desk: bool) -> bool
     ensures { result ≡ (is_desk && is_teachers_bye ending.now) }
 {

@@ -22,13 +22,13 @@ pub record WentAstray (lab : LabValue) (windows : List WindowValue) : Type 0 whe
   pub few : length events ≤ lab.events
   pub places : ¬ (IsEachOnce (length events) (told_of windows))
 
--- these windows leave no log, since memory ran out or they went astray
+-- why no log is left: memory ran out, or the places of these windows went astray
 abbrev pub EndsWithout : LabValue → List WindowValue → ServeFault → Type 0
 EndsWithout lab windows fault.Memory = Unit {0}
 EndsWithout lab windows fault.Astray = WentAstray lab windows
 EndsWithout lab windows _ = ⊥
 
--- the connections were served, and the windows went astray
+-- the connections were served, and the windows' places went astray
 pub record EndsAstray {R W : Type 0} (lab : LabValue) (remaining : R → Option (List ℕ)) (contents : W → Option (List ℕ)) (to_come : Option (List (R × W)))
     (count : ℕ) : Type 0 where
   pub sessions : List (EndedSession R W)
@@ -36,7 +36,8 @@ pub record EndsAstray {R W : Type 0} (lab : LabValue) (remaining : R → Option 
   pub serves : ServesWindows lab remaining contents to_come count sessions windows
   pub astray : WentAstray lab windows
 
--- why there is no log: memory ran out or a connection couldn't be accepted; or all connections were served, and the windows went astray
+-- why there is no log: memory ran out, or a connection couldn't be accepted; or all connections were served, and the
+-- places of the windows went astray
 abbrev pub EndsEarly : {R W : Type 0} → LabValue → (R → Option (List ℕ)) → (W → Option (List ℕ)) → Option (List (R × W)) → ℕ → ServeFault → Type 0
 EndsEarly lab remaining contents to_come count fault.Memory = Unit {0}
 EndsEarly lab remaining contents to_come count fault.Accept = Unit {0}
@@ -51,7 +52,7 @@ pub record EndsLogged {S R W : Type 0} (lab : LabValue) (sink : S → Option (Li
   pub serves : ServesHouse lab sink remaining contents to_come count sessions log
   pub holds : Holds log
 
--- the output of a failed house: nothing is written but the front of its last line, if the writer failed at it
+-- what a failed house has written: nothing, but for a beginning of its last line if the writer failed at that
 abbrev pub EndsBadly : {S R W : Type 0} → LabValue → (S → Option (List ℕ)) → (R → Option (List ℕ)) → (W → Option (List ℕ)) → Option (List (R × W)) → ℕ
     → Option (List ℕ) → Option (List ℕ) → ServeFault → Type 0
 EndsBadly lab sink remaining contents to_come count wrote wrote' fault.Memory = Appends wrote wrote' []
@@ -64,8 +65,8 @@ EndsBadly lab sink remaining contents to_come count wrote wrote' fault.Write =
     EndsLogged lab sink remaining contents to_come count (λ log. (log.halted ≡ false)
     × IsCutShort wrote wrote' (done_line (length log.events) (world_in lab log.events).number) fault.Write)
 
--- the connections of a listener were served, the house left a log that isn't halted, the last line is that of its events, and neither a session nor a
--- socket ran out of memory; of the bytes of a socket nothing is known
+-- the connections of a listener were served, and the house left a log that isn't halted. The last line is that of its
+-- events. Neither a session nor a socket ran out of memory. Nothing is known of a socket's bytes
 pub record ServesWithMemory {S : Type 0} (lab : LabValue) (sink : S → Option (List ℕ)) (count : ℕ) (wrote wrote' : Option (List ℕ)) : Type 0 where
   pub sessions : List (EndedSession Socket Socket)
   pub log : Log S

@@ -5,6 +5,6 @@ use Rattle.std.specs.Prelude.{◌≡◌, ◌<◌, ◌≤◌, ℕ, List, Option, 
 abbrev pub Spells : ℕ → List ℕ → ℕ → Type 0
 Spells most text n = (0 < n) × (n ≤ most) × (text ≡ decimal n)
 
--- what is read is the number that the text spells, and none only if it spells none
+-- the result is the number that the text spells, from 1 to the most; it is `None` only if the text spells none
 abbrev pub Reads : {N : Type 0} → (N → ℕ) → ℕ → List ℕ → Option N → Type 0
 Reads value most text r = MatchOption r ((n : ℕ) → Spells most text n → ⊥) (λ x. Spells most text (value x))

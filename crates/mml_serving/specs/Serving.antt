@@ -18,7 +18,7 @@ Each P [] [] [] = Unit {0}
 Each P (x ∷ xs) (y ∷ ys) (z ∷ zs) = P x y z × Each P xs ys zs
 Each P _ _ _ = ⊥
 
--- the connection was served to an end through a window that had seen nothing
+-- the connection was served until its session ended, through a window that had seen nothing
 abbrev pub IsServed : {R W : Type 0} → LabValue → (R → Option (List ℕ)) → (W → Option (List ℕ)) → Connection R W → EndedSession R W → WindowValue → Type 0
 IsServed lab remaining contents c s w =
     (s.connection.number ≡ c.number)
@@ -33,7 +33,8 @@ abbrev pub Numbered : {R W : Type 0} → ℕ → List (Connection R W) → Type 
 Numbered n [] = ⊤
 Numbered n (c ∷ cs) = (c.number ≡ n) × Numbered (n + 1) cs
 
--- the first so many connections to come were numbered from 1, and each was served to an end, through a window that had seen nothing
+-- the first `count` connections to come were numbered from 1, and each was served until its session ended, through a
+-- window that had seen nothing
 pub record ServesAll {R W : Type 0} (lab : LabValue) (remaining : R → Option (List ℕ)) (contents : W → Option (List ℕ))
     (to_come : Option (List (R × W))) (count : ℕ)
     (sessions : List (EndedSession R W)) (windows : List WindowValue) : Type 0 where
@@ -44,8 +45,8 @@ pub record ServesAll {R W : Type 0} (lab : LabValue) (remaining : R → Option (
   pub numbered : Numbered 1 connections
   pub served : Each (IsServed lab remaining contents) connections sessions windows
 
--- the connections were served, as `ServesAll` says, through the first windows of the house; through the others nobody
--- was served, and they have seen nothing; all together are as many as the lab has sessions
+-- the connections were served, as `ServesAll` says, through the first windows of the house. Nobody was served through
+-- the others, and they have seen nothing. Altogether there are as many windows as the lab has sessions
 pub record ServesWindows {R W : Type 0} (lab : LabValue) (remaining : R → Option (List ℕ)) (contents : W → Option (List ℕ))
     (to_come : Option (List (R × W))) (count : ℕ)
     (sessions : List (EndedSession R W)) (windows : List WindowValue) : Type 0 where

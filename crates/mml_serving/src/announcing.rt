@@ -25,8 +25,9 @@ pub fn write_listening<W: Write>(alloc: Global, port: u16, writer: &mut W) -> Re
     write_pieces(alloc, &pieces, writer)
 }
 
-/// Writes a server's last line: how many events there were and which configuration they led to. Returns `Halted` if the
-/// journal was halted, or `Memory` if memory runs out, and writes nothing. Returns `Write` if the writer fails.
+/// Writes a server's last line: the number of events, and the number of the configuration that they led to. Returns
+/// `Halted` if the journal was halted, or `Memory` if memory runs out, and then writes nothing. Returns `Write` if the
+/// writer fails.
 pub fn write_last<S, W: Write>(
     alloc: Global,
     log: &Log<S>,
@@ -45,8 +46,8 @@ pub fn write_last<S, W: Write>(
     write_done(alloc, events, log.board.number(), writer)
 }
 
-// Writes the line that ends a server's output: `events` events, which led to configuration `number`. Returns `Memory`,
-// and writes nothing, if memory runs out, or `Write` if the writer fails.
+// Writes the last line of a server's output, which names the number of events and the number of the configuration.
+// Returns `Memory`, and writes nothing, if memory runs out, or `Write` if the writer fails.
 fn write_done<W: Write>(
     alloc: Global,
     events: u64,
@@ -68,8 +69,8 @@ fn write_done<W: Write>(
     write_pieces(alloc, &pieces, writer)
 }
 
-// Writes the text of these pieces in one go. Returns `Memory`, and writes nothing, if memory runs out, or `Write` if
-// the writer fails.
+// Writes the text that these pieces make, with a single write. Returns `Memory`, and writes nothing, if memory runs
+// out, or `Write` if the writer fails.
 fn write_pieces<W: Write>(alloc: Global, pieces: &[Piece], writer: &mut W) -> Result<(), ServeFault>
     ensures told { OnOk result
         (Appends (W.contents writer.old) (W.contents writer.new) (joined pieces.now)) }

@@ -10,21 +10,22 @@ use std::io::{ErrorKind, Read, Write};
 use std::net::TcpListener;
 use std::vec::IntoIter;
 
-/// A source of connections as they come, each as its two ends.
+/// A source of connections, which it returns as they come, each as a reading and a writing end.
 pub trait Arrivals<R: Read + Drop, W: Write + Drop> {
-    // The connections that are still to come, if they are known.
+    // The connections that are still to come; `None` if contracts can't name them.
     ghost to_come: { Self → Option (List (R × W)) } = { λ _. None };
 
-    /// Returns the reading and the writing end of the next connection, for which it may wait, or why none was accepted.
+    /// Waits for the next connection, and returns its reading and its writing end. Returns an error if none could be
+    /// accepted.
     fn accept_next(&mut self) -> io::Result<(R, W)>
         ensures { MatchResult result
             (λ ends. Takes (to_come self.old) (to_come self.new) (ends ∷ []))
             (λ _. Takes (to_come self.old) (to_come self.new) []) };
 }
 
-/// The reading end of a connection, whose handle can be closed while its value is kept.
+/// The reading end of a connection. Its handle can be closed while the value lives on.
 pub trait LetGo: Read {
-    // That the handle is closed. Bytes in memory have none.
+    // The statement that the handle is closed. Bytes in memory have no handle.
     ghost IsLetGo: { Self → Type 0 } = { λ _. Unit {0} };
 
     /// Closes its handle. Nothing more is read.
@@ -33,9 +34,9 @@ pub trait LetGo: Read {
         ensures closed { IsLetGo self.new };
 }
 
-/// The writing end of a connection, which can signal to the other side that nothing more comes.
+/// The writing end of a connection, which can tell the other side that no more bytes follow.
 pub trait HangUp: Write {
-    // That the connection is ended and the handle closed. Bytes in memory have neither.
+    // The statement that the connection is ended and the handle closed. Bytes in memory have neither.
     ghost IsHungUp: { Self → Type 0 } = { λ _. Unit {0} };
 
     /// Ends the connection and closes its handle. Nothing more is written.
@@ -45,8 +46,8 @@ pub trait HangUp: Write {
 }
 
 impl Arrivals<Socket, Socket> for TcpListener {
-    // Returns the two ends of the next connection, for which it waits: handles of one socket, which sends each write at
-    // once. Returns an error if no connection was accepted, or no second handle could be made.
+    // Waits for the next connection and returns its two ends: two handles of one socket, which is set to send each
+    // write at once. Returns an error if no connection was accepted, or no second handle could be made.
     fn accept_next(&mut self) -> io::Result<(Socket, Socket)> {
         let (stream, _) = self.accept()?;
         // If the system refuses to send each write at once, replies are still sent, only later.
@@ -60,7 +61,7 @@ impl Arrivals<Socket, Socket> for TcpListener {
 impl<R: Read + Drop, W: Write + Drop> Arrivals<R, W> for IntoIter<(R, W)> {
     ghost to_come = { λ ends. Some (into_iter_items ends) };
 
-    // Returns the two ends of the next connection that has come. Returns the error `NotConnected` after the last one.
+    // Returns the next connection of the list, as its two ends. Returns the error `NotConnected` after the last one.
     fn accept_next(&mut self) -> io::Result<(R, W)>
         ensures { MatchResult result
             (λ ends. Takes (Some (into_iter_items self.old)) (Some (into_iter_items self.new))

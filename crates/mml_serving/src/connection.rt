@@ -20,16 +20,16 @@ pub struct EndedSession<R: Drop, W: Drop> {
     pub connection: Connection<R, W>,
 }
 
-/// Returns whether none of these sessions ended because memory ran out, and no read or write of their sockets failed
-/// for that reason.
+/// Returns whether memory sufficed for all these sessions: none ended because memory ran out, and no read or write of
+/// their sockets failed for that reason.
 pub(crate) fn all_had_memory(sessions: &[EndedSession<Socket, Socket>]) -> bool
     ensures { result ≡ list_all had_memory sessions.now }
 {
     sessions.iter().all(|session| had_memory(session))
 }
 
-// Returns whether a session didn't end because memory ran out, and no read or write of its socket failed for that
-// reason.
+// Returns whether memory sufficed for a session: it didn't end because memory ran out, and no read or write of its
+// socket failed for that reason.
 fn had_memory(session: &EndedSession<Socket, Socket>) -> bool
     ensures { result ≡ had_memory session.now }
 {

@@ -33,9 +33,10 @@ struct Seated<H: House, R: Drop, W: Drop> {
     connection: Connection<R, W>,
 }
 
-/// Serves the next `connections` connections. Returns their windows, and how their sessions ended, both in the order in
-/// which they came. Returns an error if one couldn't be accepted, no thread could be made, or memory runs out. All
-/// threads have ended when it returns, even after an error.
+/// Serves the next `connections` connections, each in a thread of its own and through one of `windows`. Returns the
+/// used windows, and how the sessions ended, both in the order in which the connections came. Returns an error if one
+/// couldn't be accepted, no thread could be made, or memory runs out. All threads have ended when it returns, even
+/// after an error.
 pub(crate) fn serve_all<
     Rt: Threads + Wait + Sync,
     S: Sink + Send + Drop,
@@ -96,7 +97,8 @@ pub(crate) fn serve_all<
     )
 }
 
-// A thread's promise that the connection was served to its end, through a window that had seen nothing.
+// What a thread promises about its result: the connection was served to its end, through a window that had seen
+// nothing.
 #[derive(Drop)]
 struct ConnectionPledge<R: Drop, W: Drop>(Snapshot<Connection<R, W>>);
 
@@ -107,8 +109,8 @@ impl<H: House, R: Read + Drop, W: Write + Drop> Promise<(Window<H>, EndedSession
     ghost kept_by = { λ pledge t. IsServed H.lab R.remaining W.contents pledge.0.value t.1 t.0 };
 }
 
-// Accepts the next connection, and returns it, with this number, and a window for it, which is removed from the list.
-// Returns why none could be accepted.
+// Accepts the next connection, and takes a window for it from the list. Returns both, with the connection's `number`.
+// Returns an error if no connection could be accepted.
 fn next_seat<H: House, R: Read + Drop, W: Write + Drop, A: Arrivals<R, W>>(
     arrivals: &mut A,
     windows: &mut Vec<Window<H>>,
@@ -137,7 +139,7 @@ fn next_seat<H: House, R: Read + Drop, W: Write + Drop, A: Arrivals<R, W>>(
     }
 }
 
-// Accepts the next connection, and returns its reading and its writing end. Returns why none could be accepted.
+// Accepts the next connection, and returns its reading and its writing end, or the reason why none could be accepted.
 fn accept<R: Read + Drop, W: Write + Drop, A: Arrivals<R, W>>(
     arrivals: &mut A,
 ) -> Result<(R, W), SeatingFault>
@@ -161,8 +163,8 @@ fn accept_fault(kind: ErrorKind) -> SeatingFault
     }
 }
 
-// Serves the connection of a seat and closes it, so that neither the other side nor the system waits until other
-// connections have ended. Returns the seat's window, and how the session ended with the connection's two ends.
+// Serves the connection of a seat and closes it at once, so that neither its other side nor the system has to wait for
+// other sessions. Returns the seat's window, and how the session ended with the connection's two ends.
 fn serve_seated<Rt: Wait, S: Sink + Drop, H: House, R: LetGo + Drop, W: HangUp + Drop, G: Gate>(
     rt: &Rt,
     alloc: Global,
@@ -204,8 +206,8 @@ fn serve_seated<Rt: Wait, S: Sink + Drop, H: House, R: LetGo + Drop, W: HangUp +
     (window, EndedSession { end, connection })
 }
 
-// Waits for all threads. Returns their windows and their sessions, both in the order of the threads. Returns `Memory`,
-// without waiting, if memory for the two lists runs out.
+// Waits until all threads have ended. Returns their windows and their sessions, both in the order of the threads.
+// Returns `Memory`, without waiting, if memory for the two lists runs out.
 fn join_all<Rt: Threads, H: House, R: Read + Drop, W: Write + Drop>(
     rt: &Rt,
     alloc: Global,

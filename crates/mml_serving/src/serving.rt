@@ -1,4 +1,5 @@
-//! A server from the opening of its house to its last line.
+//! A server that serves a fixed number of connections: from the opening of its house (one run of a lab) to its last
+//! line.
 ghost use Rattle.std.specs.Prelude.{◌≡◌, ◌<◌, ◌≤◌, ◌+◌, ◌-◌, ◌^◌, ◌++◌, Err, false, length, IfOk, IfErr, OnOk};
 ghost use Rattle.std.specs.Io.KnownBytes.{Appends};
 ghost use Rattle.mml_journal.specs.Taken.{IsFresh};
@@ -24,7 +25,7 @@ use std::net::TcpListener;
 use std::sync::Wait;
 use std::thread::Threads;
 
-/// The result of a house whose sessions have all ended.
+/// The result of a house (one run of a lab) whose sessions have all ended.
 #[derive(Drop)]
 pub struct ServedHouse<S: Drop, R: Drop, W: Drop> {
     pub log: Log<S>,
@@ -37,11 +38,11 @@ pub struct ServedHouse<S: Drop, R: Drop, W: Drop> {
 pub enum ServeFault {
     /// Memory ran out, or no thread could be made.
     Memory,
-    /// There was no reader's slot for a window. This doesn't happen: slots are taken when a house is started.
+    /// There was no reader's slot for a window. This doesn't happen: the slots are reserved when a house is started.
     Place,
     /// A connection couldn't be accepted.
     Accept,
-    /// The windows' places aren't those of the events, each once.
+    /// A check at the end failed: the places that the windows were given aren't those of the events, each once.
     Astray,
     /// The journal is halted.
     Halted,
@@ -49,10 +50,10 @@ pub enum ServeFault {
     Write,
 }
 
-/// Serves the next `connections` connections of a listener in a house of the lab, and then writes the last line: how
-/// many events there were and which configuration they led to. Those that came before an error of accepting are still
-/// served to their ends. If memory ran out in a session or a socket, the fault is `Memory`, though the last line was
-/// written. `serve_arrivals` says what the connections are answered; but no contract knows the bytes of a socket.
+/// Serves the next `connections` connections of a listener in a new house of the lab. Then writes the last line: the
+/// number of events, and the configuration that they led to. If accepting fails, the connections that had come are
+/// still served to their ends. If memory ran out in a session or a socket, returns `Memory`, though the last line was
+/// written. The contract can't speak of a socket's bytes; see `serve_arrivals`.
 pub fn serve_on<Rt: Threads + Wait + Sync, S: Sink + Send + Drop, G: Gate + Sync, W: Write>(
     rt: &Rt,
     alloc: Global,
@@ -79,10 +80,10 @@ pub fn serve_on<Rt: Threads + Wait + Sync, S: Sink + Send + Drop, G: Gate + Sync
     }
 }
 
-/// Serves the first `connections` connections that arrive, each as it comes, in a thread of its own and through a
-/// window of its own, from the opening of a house to its end, and then writes the last line. Without a fault there is
-/// one legal list of events, of which each reply shows a beginning. The places that the replies name are those of its
-/// events, each once, and the last line says how many they are and which configuration they led to.
+/// Serves the first `connections` connections that arrive, each in a thread and through a window of its own. Opens a
+/// house for them, ends it when all sessions have ended, and then writes the last line. Without a fault there is one
+/// legal list of events, and each reply shows a beginning of it. The places that the replies name are those of its
+/// events, each once.
 pub fn serve_arrivals<
     Rt: Threads + Wait + Sync,
     S: Sink + Send + Drop,
@@ -135,8 +136,8 @@ pub fn serve_arrivals<
     }
 }
 
-// Serves the next `connections` connections in the house that H names, and ends it. Returns its result, or why the
-// house failed.
+// Serves the next `connections` connections in the new house `blank`, and ends the house. Returns its log and the ended
+// sessions, or why the house failed.
 fn serve_in_house<
     H: House + Send + Sync,
     Rt: Threads + Wait + Sync,
@@ -181,8 +182,8 @@ fn serve_in_house<
     }
 }
 
-/// Ends a failed house, and returns this fault as the error. Drops the result of `finish`, so that no other fault is
-/// reported.
+/// Ends a house that has failed, and returns `fault` as the error. Ignores the result of ending it, so that no other
+/// fault is reported.
 pub fn end_for<Rt: Wait, S: Sink + Drop, H: House, T, F>(
     fault: F,
     rt: &Rt,
@@ -195,9 +196,8 @@ pub fn end_for<Rt: Wait, S: Sink + Drop, H: House, T, F>(
     Err(fault)
 }
 
-// Ends a house with all its windows: those through which connections were served, and the unused ones after them.
-// Returns its log, `Memory` if memory runs out, or `Astray` if the windows' places aren't those of the events, each
-// once.
+// Ends a house. `windows` are those through which connections were served, and `unused` the others. Returns the house's
+// log. Returns `Memory` if memory runs out, or `Astray` if the windows' places aren't those of the events, each once.
 fn end_house<Rt: Wait, S: Sink + Drop, H: House>(
     rt: &Rt,
     alloc: Global,

@@ -9,16 +9,16 @@ use std::net::{Shutdown, TcpStream};
 use std::sync::atomic::{AtomicBool, Ordering};
 use std::time::Duration;
 
-// The most turns of `linger`, in each of which it waits for bytes that still come, and reads them.
+// The most turns of `linger`. In each it waits for bytes that still come, and reads them.
 const TURNS: u32 = 64;
 
-// The most milliseconds of a turn of `linger`, so that all together are less than a second.
+// The most milliseconds that a turn of `linger` takes, so that all of them together take less than a second.
 const TURN: u64 = 15;
 
 // The most bytes that a turn of `linger` reads, so that all together read at most 64 kB.
 const TURN_SIZE: usize = 1024;
 
-/// A handle of a connected socket, until it is closed. Then each read and each write fails.
+/// A handle of a connected socket. When it was closed, each read and each write fails.
 #[derive(Drop)]
 pub struct Socket {
     pub(crate) end: Retrying<Handle>,
@@ -64,8 +64,8 @@ impl LetGo for Socket {
 impl HangUp for Socket {
     ghost IsHungUp = { λ socket. socket.end.inner.0 ≡ None };
 
-    // Shuts down the writing side, and closes the handle once the other side has ended too, or after the last turn of
-    // `linger`, which isn't hurried here.
+    // Shuts down the writing side, then waits until the other side has ended too, for at most the turns of `linger`,
+    // and closes the handle.
     fn hang_up(&mut self) {
         if let Some(stream) = self.end.inner.0.take() {
             linger(stream, &AtomicBool::new(false));
@@ -73,9 +73,10 @@ impl HangUp for Socket {
     }
 }
 
-/// Shuts down the writing side, and reads what the other side still sends, in at most 64 turns of 15 milliseconds and
-/// 1024 bytes: a socket that is closed with unread bytes discards what it has still to send. Then closes the handle. No
-/// further turn begins if the other side has ended or is gone, or once `is_hurried` is set.
+/// Ends a connection without losing what was written to it. Shuts down the writing side, and then reads and drops what
+/// the other side still sends, in at most 64 turns of 15 milliseconds and 1024 bytes: closing a socket with unread
+/// bytes would discard what it has still to send. Stops early if the other side has ended or is gone, or once
+/// `is_hurried` is set. Then closes the handle.
 pub fn linger(stream: TcpStream, is_hurried: &AtomicBool) {
     let mut stream = stream;
     let turn = Some(Duration::from_millis(TURN));
@@ -100,8 +101,8 @@ pub fn linger(stream: TcpStream, is_hurried: &AtomicBool) {
     }
 }
 
-// Returns whether the next turn may find more after a read that failed this way: the turn's time is over, or a signal
-// came.
+// Returns whether a read that failed this way may be tried again in the next turn: it timed out, or a signal
+// interrupted it.
 fn is_transient(kind: ErrorKind) -> bool
     ensures timeout { kind ≡ ErrorKind.WouldBlock → result ≡ true }
     ensures interrupted { kind ≡ ErrorKind.Interrupted → result ≡ true }

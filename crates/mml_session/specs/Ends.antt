@@ -26,16 +26,16 @@ pub record IsView (st : Standing) (line : List ℕ) : Type 0 where
   pub asked : request_in line ≡ Ok (requests.Do command)
   pub view : is_act command ≡ false
 
--- all lines that were taken from the input were answered, the window is in the state that they lead to, and their
--- replies are written
+-- all lines that were taken from the input were answered, their replies are written, and the window is in the state
+-- after the last of them
 pub record AllAnswered (lab : LabValue) (old new : WindowValue) (input left wrote wrote' : Option (List ℕ)) : Type 0 where
   pub talk : Talk lab (nobody_known old)
   pub stands : talk.end.window ≡ new
   pub consumed : Consumes input left (bytes_read talk)
   pub appended : Appends wrote wrote' (bytes_written talk)
 
--- the lines that were taken from the input were answered, the last of which is listed apart; of the bytes of all their
--- replies' lines those that `sent` selects are written
+-- the lines that were taken from the input were answered, the last of which is listed apart. Of the bytes of all their
+-- replies, those that `sent` selects are written
 pub record LastAnswered (sent : List ℕ → List ℕ) (lab : LabValue) (old new : WindowValue) (input left wrote wrote' : Option (List ℕ)) : Type 0 where
   pub talk : Talk lab (nobody_known old)
   pub after : Standing
@@ -44,8 +44,8 @@ pub record LastAnswered (sent : List ℕ → List ℕ) (lab : LabValue) (old new
   pub consumed : Consumes input left (bytes_read talk ++ line_read last)
   pub appended : Appends wrote wrote' (sent (bytes_written talk ++ line_written last))
 
--- all lines that were taken from the input were answered, their replies are written, and one line more was taken, a
--- view, which has no reply
+-- all lines that were taken from the input were answered, and their replies are written. One more line was taken: it
+-- asks for a view, and has no reply
 pub record LastUnanswered (lab : LabValue) (old new : WindowValue) (input left wrote wrote' : Option (List ℕ)) : Type 0 where
   pub talk : Talk lab (nobody_known old)
   pub line : List ℕ
@@ -55,9 +55,9 @@ pub record LastUnanswered (lab : LabValue) (old new : WindowValue) (input left w
   pub consumed : Consumes input left (bytes_read talk ++ ended line)
   pub appended : Appends wrote wrote' (bytes_written talk)
 
--- what was answered, by how the session ended. The input after it is what was held, and then what the reader has left:
--- after a bye, a failed write and a window that is closed no more than one read brought in, at the end of the input the
--- front of a line and nothing else, after a failed read such a front, and else bytes that are too many for a line
+-- what was answered and written, by how the session ended. `held` are the bytes that were read and not used: after a
+-- bye, a failed write or a closed window fewer than one read brings; at the end of the input or after a failed read the
+-- beginning of a line; else bytes that are too many for a line
 abbrev pub Ended : SessionEnd → LabValue → WindowValue → WindowValue → Option (List ℕ) → Option (List ℕ) → Option (List ℕ) → Option (List ℕ) → Type 0
 Ended end.Bye lab old new input left wrote wrote' =
     (held : List ℕ) × (a : LastAnswered (λ line. line) lab old new input (prepend_known held left) wrote wrote')
@@ -75,7 +75,7 @@ Ended end.Closed lab old new input left wrote wrote' =
     (held : List ℕ) × LastUnanswered lab old new input (prepend_known held left) wrote wrote' × (length held < READ_SIZE)
 Ended end.Memory lab old new input left wrote wrote' = (new ≡ old) × Consumes input left [] × Appends wrote wrote' []
 
--- who was known at the end of a session: before its last line, if it ended by one
+-- who was known at the end of a session. If it ended by its last line, this is who was known before that line
 abbrev pub Knew : (end : SessionEnd) (who : Option Who) (lab : LabValue) (old new : WindowValue) (input left wrote wrote' : Option (List ℕ))
     → Ended end lab old new input left wrote wrote' → Type 0
 Knew end.Bye who lab old new input left wrote wrote' e = e.1.talk.end.known ≡ who

@@ -6,6 +6,6 @@ use Rattle.mml_codec.specs.declared.reply.Reply.{Reply}
 use Rattle.mml_window.specs.Windows.{WindowValue}
 use Rattle.mml_session.specs.Turns.{Told}
 
--- the window's reply, whatever it is asked with
+-- the reply to a command is that of the window, and the engine itself plays no part
 abbrev pub OverWindow : {E : Type 0} → LabValue → E → WindowValue → Who → Command → Reply → E → WindowValue → Type 0
 OverWindow lab e v who c r e' v' = Told lab v who c r v'

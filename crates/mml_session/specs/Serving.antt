@@ -22,27 +22,28 @@ use Rattle.mml_session.specs.Ends.{IsView}
 use Rattle.mml_session.specs.Holding.{IsHeldOrOut, BreaksOff}
 use Rattle.mml_session.specs.Records.{Kept, Records, entry_for, line_entries}
 
--- what was held and the line of a reply after it are all held or all written; with a bye's they are written; if a write
--- failed, a front is written, and nothing is held
+-- what happened to a reply whose line is `whole`, after the buffered bytes `unsent`: all are buffered or all written;
+-- if it is the reply to a bye, all are written; if a write failed, only a beginning is written, and the buffer is empty
 abbrev pub SendsReply : Sent → Reply → List ℕ → List ℕ → List ℕ → Option (List ℕ) → Option (List ℕ) → Type 0
 SendsReply sent.Told r whole unsent unsent' wrote wrote' = (is_bye r ≡ false) × IsHeldOrOut wrote wrote' (unsent ++ whole) unsent'
 SendsReply sent.Bye r whole unsent unsent' wrote wrote' = (is_bye r ≡ true) × (unsent' ≡ []) × Appends wrote wrote' (unsent ++ whole)
 SendsReply (sent.Unwritten n) r whole unsent unsent' wrote wrote' =
     (n < length (unsent ++ whole)) × (unsent' ≡ []) × Appends wrote wrote' (take n (unsent ++ whole))
 
--- the result of a reply, by what happened to its bytes, and by whether it is a bye's
+-- what happened to a reply, by the result of writing or buffering it, and by whether it is the reply to a bye
 abbrev pub sent_of : Result ⊤ WriteFault → Bool → Sent
 sent_of (Ok done) false = sent.Told
 sent_of (Ok done) true = sent.Bye
 sent_of (Err fault) last = sent.Unwritten fault.written
 
--- the line of a reply, or of the refusal `memory` instead of one that isn't short, was sent and is recorded
+-- the reply was sent and recorded, or in its place the refusal `memory`, if it isn't short
 abbrev pub Tells : Sent → ℕ → LabValue → ℕ → List ℕ → Reply → List ℕ → List ℕ → Option (List ℕ) → Option (List ℕ) → Option Kept → Option Kept → Type 0
 Tells said number lab seen line r unsent unsent' wrote wrote' given given' =
     (told : Reply) × TellsFor r told × SendsReply said told (reply_line lab.ids lab.roster told) unsent unsent' wrote wrote'
     × Records number given given' (entry_for seen line told (reply_line lab.ids lab.roster told))
 
--- the line had its turn, and its reply was sent, or it has no reply
+-- the line was answered, and its reply was sent and recorded; or it asks for a view of a closed window, and has no
+-- reply
 abbrev pub ServesLine : Result Sent Closed → ℕ → LabValue → Standing → Standing → List ℕ → List ℕ → List ℕ → Option (List ℕ) → Option (List ℕ)
     → Option Kept → Option Kept → Type 0
 ServesLine (Ok said) number lab st after line unsent unsent' wrote wrote' given given' =
@@ -59,8 +60,9 @@ next_after (Ok sent.Bye) = next.Ended end.Bye
 next_after (Ok (sent.Unwritten n)) = next.Ended end.WriteFault
 next_after (Err closed) = next.Ended end.Closed
 
--- the outcome of the next line: the session's state, the bytes to come, of which those held are first, the replies that
--- aren't written and the bytes that are. If replies aren't written at an end, nothing was read since they were held
+-- the outcome of the next line, by what followed it: the session's state, the bytes to come (`held` are those that were
+-- read already), the buffered replies before and after, and the bytes that are written. Nothing is read while replies
+-- are buffered
 abbrev pub ServesNext : Next → ℕ → LabValue → Standing → Standing → Option (List ℕ) → List ℕ → Option (List ℕ) → List ℕ → List ℕ → Option (List ℕ)
     → Option (List ℕ) → Option Kept → Option Kept → Type 0
 ServesNext next.Served number lab st after input held left unsent unsent' wrote wrote' given given' =

@@ -70,7 +70,8 @@ pub record Told (lab : LabValue) (old : WindowValue) (who : Who) (c : Command) (
   pub says : Plainly lab list old.places (ruling_at lab (world_in lab list) who c) r new
       ⊎ Refuses list old.places (ruling_at lab (world_in lab list) who c) r new
 
--- the result of a request: its greeting has the reply, and the window stays, or the window replies to its command
+-- the effect of a request: if the greeting decides it, that reply, and the window stays as it is; otherwise the
+-- window's reply to its command
 abbrev pub Settles : LabValue → Standing → Greeting → Reply → Standing → Type 0
 Settles lab st (Answered r x) r' next = (r' ≡ r) × (next ≡ standing x st.window)
 Settles lab st (LeftToJudge who c) r' next = (next.known ≡ st.known) × Told lab st.window who c r' next.window
@@ -80,11 +81,11 @@ abbrev pub Asked : LabValue → Standing → Result Request LineFault → Reply 
 Asked lab st (Err fault) r next = (r ≡ reply.Refuse (refusal_of fault)) × (next ≡ st)
 Asked lab st (Ok request) r next = Settles lab st (greeting lab.roster st.known request) r next
 
--- memory ran out while the line was read, and nothing else happens
+-- memory ran out while the line was read: the reply is the refusal `memory`, and nothing changes
 abbrev pub Unread : Standing → Reply → Standing → Type 0
 Unread st r next = (r ≡ reply.Refuse refused.Memory) × (next ≡ st)
 
--- the turn of a line: the result of what it asks, or of memory that ran out while it was read
+-- the effect of a line: the one of what it asks, or the refusal `memory` if memory ran out while it was read
 abbrev pub Turn : LabValue → Standing → List ℕ → Reply → Standing → Type 0
 Turn lab st line r next = Asked lab st (request_in line) r next ⊎ Unread st r next
 

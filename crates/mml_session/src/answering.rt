@@ -17,9 +17,9 @@ use mml_window::{Answer, Closed, House, SightFault, Window};
 use std::alloc::Global;
 use std::sync::Wait;
 
-/// Answers a line of a connection, and puts the reply into `reply`, since a reply is large to return. `known` is who
-/// has greeted, if anybody has, and is set to who is known after the line. Returns `Closed`, and puts no reply, if a
-/// known participant asks for a view of a window that shows nothing any more.
+/// Answers one line of a connection. Puts the answer into `reply`, since a reply is large to return. `known` is the
+/// participant who has said hello on this connection, if anybody has; it is updated if the line changes that. Returns
+/// `Closed`, and puts no reply, if a known participant asks for a view of a window that shows nothing any more.
 pub(crate) fn answer_into<Rt: Wait, S: Sink + Drop, H: House>(
     setting: &Setting<'_, Rt, S, H>,
     window: &mut Window<H>,
@@ -69,13 +69,13 @@ impl<'a, Rt: Wait, S: Sink + Drop, H: House> Engine for Setting<'a, Rt, S, H> {
 
     ghost may_close = { Unit {0} };
 
-    // Returns the roster of the house.
+    // Returns the roster of the lab, through the session's window `at`.
     fn roster<'r>(&'r self, at: &'r Window<H>) -> &'r Roster {
         at.roster()
     }
 
-    // Puts the window's reply to a view into `reply`. The window reads what is published, without the lock. Returns
-    // `Closed` if the window shows nothing any more.
+    // Puts the reply to a view (a `see`, `look` or `report`) into `reply`. The window answers it from the published
+    // events, without the desk's lock. Returns `Closed` if the window shows nothing any more.
     fn view(
         &mut self,
         at: &mut Window<H>,
@@ -90,7 +90,7 @@ impl<'a, Rt: Wait, S: Sink + Drop, H: House> Engine for Setting<'a, Rt, S, H> {
         }
     }
 
-    // Asks the desk for an act, and puts its answer into `reply`.
+    // Passes an act (a command that asks for an event) to the desk, and puts the desk's answer into `reply`.
     fn act(
         &mut self,
         at: &mut Window<H>,
@@ -112,8 +112,8 @@ impl<'a, Rt: Wait, S: Sink + Drop, H: House> Engine for Setting<'a, Rt, S, H> {
     }
 }
 
-// Puts the window's reply to a view into `reply`: see, look or report. Returns `Closed`, and puts no reply, if the
-// window shows nothing any more. The function is never called with another command.
+// Puts the window's reply to a view into `reply`: a `see`, `look` or `report`. Returns `Closed`, and puts no reply, if
+// the window shows nothing any more. The function is never called with another command.
 #[inline(always)]
 fn show<H: House>(
     alloc: Global,

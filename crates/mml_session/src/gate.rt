@@ -1,23 +1,24 @@
-/// A point at which a session may be held.
+/// A point at which a gate may pause a session.
 #[derive(Clone, Copy, Debug, PartialEq, Eq)]
 pub enum Point {
-    /// A line was read and isn't judged yet.
+    /// A line was read, and isn't answered yet.
     Line,
-    /// The reply to a line is written.
+    /// The reply to a line was written.
     Told,
 }
 
-/// An object that may hold a session at its points, for as long as it likes: no lock is held there.
+/// An object that can pause a session at each `Point`, for any length of time. The session holds no lock there. Tests
+/// pause sessions to choose the order of their steps.
 pub trait Gate {
-    /// Waits until the session of this connection may go on from `point`.
+    /// Returns when the session of this connection may go on from `point`. Until then it blocks.
     fn pass(&self, connection: u8, point: Point);
 }
 
-/// A gate that holds no session.
+/// A gate that pauses no session.
 #[derive(Clone, Copy, Debug)]
 pub struct NoGate;
 
 impl Gate for NoGate {
-    // Returns at once.
+    // Returns at once, so that no session is paused.
     fn pass(&self, _connection: u8, _point: Point) {}
 }

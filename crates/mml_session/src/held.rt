@@ -9,14 +9,14 @@ use mml_lines::{WriteFault, put_all, put_both};
 use std::alloc::Global;
 use std::io::Write;
 
-// The most bytes that stay in the buffer from one reply to the next. If there are more, all are written.
+// The most bytes that stay in the buffer from one reply to the next. If there are more, the whole buffer is written.
 const HELD_BYTES: usize = 8192;
 
-// The lines of replies that aren't written yet, buffered so that one write takes many.
+// The lines of replies that were buffered and aren't written yet, so that one write can send many.
 #[derive(Drop)]
 pub(crate) struct Held {
     pub(crate) bytes: Vec<u8>,
-    // How many replies, held or written, still have to pass the session's gate.
+    // How many replies, buffered or written, the observer hasn't been called for yet.
     pub(crate) replies: u32,
 }
 
@@ -31,9 +31,9 @@ impl Held {
         })
     }
 
-    // Appends a line to the buffer. If there is no room for it, or `at_once` is set, writes all and empties the
-    // buffer. If a write fails, empties the buffer, and returns how many bytes of the held lines and of this one were
-    // written.
+    // Appends a reply's line to the buffer. If there is no room for it, or `at_once` is set, writes the buffer and the
+    // line, and empties the buffer. If a write fails, empties the buffer, and returns how many bytes of the buffered
+    // lines and of this one were written.
     pub(crate) fn put<W: Write>(
         &mut self,
         line: &[u8],
@@ -60,8 +60,8 @@ impl Held {
         came
     }
 
-    // Writes all held lines and empties the buffer, if `at_once` is set or more than `HELD_BYTES` are held. If a write
-    // fails, empties the buffer, and returns how many bytes were written.
+    // Writes all buffered lines and empties the buffer, if `at_once` is set or there are more than `HELD_BYTES`. If a
+    // write fails, empties the buffer, and returns how many bytes were written.
     pub(crate) fn let_out_when_due<W: Write>(
         &mut self,
         at_once: bool,
@@ -84,7 +84,7 @@ impl Held {
         Ok(())
     }
 
-    // Writes all held lines and empties the buffer. If a write fails, empties the buffer too, and returns how many
+    // Writes all buffered lines and empties the buffer. If a write fails, empties the buffer too, and returns how many
     // bytes were written.
     pub(crate) fn let_out<W: Write>(&mut self, writer: &mut W) -> Result<(), WriteFault>
         ensures none { self.new.bytes.items ≡ [] }
@@ -101,7 +101,7 @@ impl Held {
         came
     }
 
-    // Appends a line to the buffer if it then has no more than `HELD_BYTES`. Returns whether the line was appended.
+    // Appends a line to the buffer if the buffer then has at most `HELD_BYTES`. Returns whether the line was appended.
     fn hold(&mut self, line: &[u8]) -> bool
         ensures { self.new.bytes.items
             ≡ (if result then self.old.bytes.items ++ line.now else self.old.bytes.items) }

@@ -7,7 +7,8 @@ ghost use Rattle.mml_lines.specs.LinesOf.{lines_of};
 ghost use Rattle.mml_session.specs.Turns.{Standing, places_in};
 ghost use Rattle.mml_session.specs.Talks.{Talk, LineTurn, bytes_read};
 
-/// A window's list of places grows by those that the replies name, in order, and by no others.
+/// The list of places (numbers of granted events) that a window keeps grows by those that the replies name, in order,
+/// and by no others.
 pub fn places_are_those_told()
     ensures turn { (lab : LabValue) (st after : Standing) (t : LineTurn lab st after) →
         after.window.places ≡ st.window.places ++ places_in t.reply }
@@ -29,7 +30,8 @@ pub fn one_reply_each()
         length t.replies ≡ length t.lines }
 {}
 
-/// The lines of a talk are the first of the input, and all if no line comes after them.
+/// If lines were answered and other bytes follow, the lines of the whole input begin with the answered ones. If no
+/// newline follows, they are all.
 pub fn lines_of_a_talk()
     ensures first { (lab : LabValue) (st : Standing) (t : Talk lab st) (rest : List ℕ) →
         lines_of (bytes_read t ++ rest) ≡ t.lines ++ lines_of rest }

@@ -6,33 +6,35 @@ use crate::recorder::Recorder;
 use crate::session::Ending;
 use mml_codec::Reply;
 
-/// An observer of the sessions of a seat, in which one session follows another. It is called for each line that came,
-/// for each reply as a value and as its line, and for each end. Its calls return nothing: a session goes on whatever
-/// they do.
+/// An observer of the sessions of a seat, in which one session follows another. It is called when a line has come, when
+/// it was answered, when replies were written, and when a session ended. Its calls return nothing, so they can't end a
+/// session.
 pub trait Observer {
-    // The bytes that it has kept of these calls, and whether these are all of them, if contracts can name them.
+    // The bytes that it has kept of these calls, and whether these are all of them; `None` if contracts can't name
+    // them.
     ghost kept: { Self → Option Kept };
 
-    /// Notes that a line came in the seat with this number. The line isn't judged yet.
+    /// Is called when a line has come in the seat with this number, before the line is answered.
     fn came(&mut self, number: u8, line: &[u8])
         ensures { kept self.new ≡ kept self.old };
 
-    /// Notes that a line, without its newline, is answered by a reply. The reply's line, with its newline, isn't
-    /// written yet. The window has seen `seen` events.
+    /// Is called when a line was answered by `reply`, before the reply is written. `line` has no newline. `out` is the
+    /// line of the reply, with its newline. The session's window has seen `seen` events.
     fn answered(&mut self, number: u8, seen: u64, line: &[u8], reply: &Reply, out: &[u8])
         ensures { Records number (kept self.old) (kept self.new)
             (entry_for seen line.now reply.now out.now) };
 
-    /// Notes how many replies were written since the last call.
+    /// Is called when replies were written to the connection: `replies` of them since the last call.
     fn wrote(&mut self, number: u8, replies: u32)
         ensures { kept self.new ≡ kept self.old };
 
-    /// Notes that a session in the seat with this number has ended. Its window had seen `seen` events.
+    /// Is called when a session in the seat with this number has ended, as `ending` says. Its window had seen `seen`
+    /// events.
     fn left(&mut self, number: u8, ending: &Ending, seen: u64)
         ensures { Records number (kept self.old) (kept self.new) (left seen) };
 }
 
-/// A gate, which may hold a session, and a recorder, combined into one observer.
+/// A gate, which may pause a session, and a recorder, combined into one observer.
 #[derive(Drop)]
 pub struct Gated<'a, G, K: Drop> {
     pub gate: &'a G,
@@ -42,32 +44,32 @@ pub struct Gated<'a, G, K: Drop> {
 impl<'a, G: Gate, K: Recorder + Drop> Observer for Gated<'a, G, K> {
     ghost kept = { λ o. K.kept o.recorder };
 
-    // Holds the session at its gate until it may go on.
+    // Waits at the gate until the session may go on, before its line is answered.
     fn came(&mut self, number: u8, _line: &[u8]) {
         self.gate.pass(number, Point::Line);
     }
 
-    // Passes the line, the reply and the reply's line to the recorder, unless the reply is that to a view.
+    // Passes the line, the reply and the reply's line to the recorder. A reply that shows a view isn't recorded.
     fn answered(&mut self, number: u8, seen: u64, line: &[u8], reply: &Reply, out: &[u8]) {
         record(&mut self.recorder, number, seen, line, reply, out);
     }
 
-    // Holds the session at its gate once for each reply.
+    // Waits at the gate once for each reply that was written.
     fn wrote(&mut self, number: u8, replies: u32) {
         for _ in 0..replies {
             self.gate.pass(number, Point::Told);
         }
     }
 
-    // Notes in the recorder that the session has ended.
+    // Tells the recorder that the session has ended, after its window had seen `seen` events.
     fn left(&mut self, number: u8, _ending: &Ending, seen: u64) {
         self.recorder.left(number, seen);
     }
 }
 
-// Records a line, its reply and `out`, the reply's line, in a recorder, unless the reply shows a view. The window has
-// seen `seen` events after the line. A line whose reply names the place of an event was judged before that event was
-// seen.
+// Records a line, its reply and `out`, the reply's line, in a recorder, unless the reply shows a view. `seen` is how
+// many events the window has seen after the line. Recorded is how many it had seen when the line was judged: one less
+// if the line was granted, since that made an event.
 fn record<K: Recorder>(
     recorder: &mut K,
     number: u8,

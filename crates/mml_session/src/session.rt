@@ -46,7 +46,8 @@ pub enum SessionEnd {
     Memory,
 }
 
-/// How a session ended, and who was known then: before its last line, if that was a bye or its reply wasn't written.
+/// How a session ended, and who had said hello in it, if anybody had. If the session ended by its last line (a bye, or
+/// a line whose reply couldn't be written), `who` is who was known before that line.
 #[derive(Clone, Copy, Debug, PartialEq, Eq)]
 pub struct Ending {
     pub end: SessionEnd,
@@ -54,8 +55,8 @@ pub struct Ending {
 }
 
 /// Answers the lines of a reader one by one through a window, and returns how the session ended. Replies are buffered,
-/// so that one write takes many: all are written before the reader is read again. A granted event stands even if its
-/// reply can't be written. `gate` may hold the session, which it knows by the number `connection`.
+/// and all are written before the reader is read again. A granted event stays granted even if its reply can't be
+/// written. `gate` may pause the session, and is called with its number `connection`.
 pub fn serve_one<Rt: Wait, S: Sink + Drop, H: House, R: Read, W: Write, G: Gate>(
     rt: &Rt,
     alloc: Global,
@@ -80,9 +81,9 @@ pub fn serve_one<Rt: Wait, S: Sink + Drop, H: House, R: Read, W: Write, G: Gate>
     serve_observed(&setting, window, reader, writer, connection, &mut observer).end
 }
 
-/// Answers the lines of a reader one by one, as `serve_one` does. Calls an observer for each line that came, for each
-/// reply before and after it is written, and at last for the session's end, unless the session had no memory to begin.
-/// Returns how the session ended, and who was known then.
+/// Answers the lines of a reader one by one, as `serve_one` does. Calls `observer` when a line has come, when it is
+/// answered, when replies are written, and at the session's end. It isn't called if memory runs out before the session
+/// begins. Returns how the session ended, and who was known then.
 pub fn serve_observed<Rt: Wait, S: Sink + Drop, H: House, R: Read, W: Write, O: Observer>(
     setting: &Setting<'_, Rt, S, H>,
     window: &mut Window<H>,
@@ -121,8 +122,8 @@ pub fn serve_observed<Rt: Wait, S: Sink + Drop, H: House, R: Read, W: Write, O: 
     }
 }
 
-// The state of a session: who is known on its connection, the lines that come, room for reading one and for its reply,
-// and the replies that aren't written.
+// The state of a session: the number of its connection, who is known on it, its line reader, memory for reading a line
+// and for a long reply, and the buffered replies.
 #[derive(Drop)]
 struct Session {
     connection: u8,
@@ -134,7 +135,7 @@ struct Session {
 }
 
 impl Session {
-    // Returns a session in which nobody is known and no reply is held, with the memory for its lines and short
+    // Returns a session in which nobody is known and no reply is buffered, with the memory for its lines and short
     // replies. Returns `Memory` if memory runs out.
     fn new(alloc: Global, connection: u8) -> Result<Session, Memory>
         ensures number { IfOk result (λ session. session.connection ≡ connection) }
@@ -154,7 +155,7 @@ impl Session {
     }
 }
 
-// What follows a line.
+// What happens after a line was read, or couldn't be.
 #[derive(Clone, Copy)]
 enum Next {
     // It was answered, and the session goes on.
@@ -163,8 +164,8 @@ enum Next {
     Ended(SessionEnd),
 }
 
-// Reads the next line and answers it. The reader is read only if no reply is held. Returns whether the session goes
-// on, or how it ended.
+// Reads the next line and answers it. If the reader has to be read for it, all replies were written before. Returns
+// `Served` if the session goes on, or how it ended.
 fn serve_next<Rt: Wait, S: Sink + Drop, H: House, R: Read, W: Write, O: Observer>(
     setting: &Setting<'_, Rt, S, H>,
     session: &mut Session,
@@ -178,7 +179,7 @@ fn serve_next<Rt: Wait, S: Sink + Drop, H: House, R: Read, W: Write, O: Observer
     requires room { REPLY_ROOM ≤ vec_capacity session.old.reply }
     requires principal { IfSome session.old.known (IsPrincipal H.lab.roster) }
     requires few { length session.old.lines.unread < READ_SIZE }
-    // Nothing is held at a read.
+    // No reply is buffered when the reader is read.
     requires out { IsWithinLimit session.old.lines.limit session.old.lines.unread
         → session.old.held.bytes.items ≡ [] }
     ensures few { result ≡ Next.Served → length session.new.lines.unread < READ_SIZE }
@@ -213,8 +214,8 @@ fn serve_next<Rt: Wait, S: Sink + Drop, H: House, R: Read, W: Write, O: Observer
     }
 }
 
-// Returns whether the session goes on after the line that was just served, or how it ended. Counts the line's reply if
-// that is written or held, and notes in the observer how many replies are written if none is held.
+// Returns whether the session goes on after a line whose reply was handled as `said` says, or how it ended. Counts the
+// reply if it is written or buffered. Calls the observer with the number of written replies if none is buffered.
 fn go_on<O: Observer>(
     said: Result<Sent, Closed>,
     held: &mut Held,
@@ -242,7 +243,8 @@ fn go_on<O: Observer>(
     }
 }
 
-// Counts a reply that is written or held. If no reply is held any longer, notes in the observer how many were counted.
+// Counts one more reply that is written or buffered. If none is buffered any longer, calls the observer with how many
+// were counted.
 fn count_told<O: Observer>(held: &mut Held, observer: &mut O, connection: u8)
     ensures held { held.new.bytes.items ≡ held.old.bytes.items }
     ensures kept { O.kept observer.new ≡ O.kept observer.old }
@@ -251,8 +253,8 @@ fn count_told<O: Observer>(held: &mut Held, observer: &mut O, connection: u8)
     pass_told(held, observer, connection);
 }
 
-// Notes in the observer how many replies were counted since the last time, if no reply is held any longer: then all of
-// them are written.
+// Calls the observer with how many replies were counted since the last call, if the buffer is empty, which means that
+// all of them are written.
 fn pass_told<O: Observer>(held: &mut Held, observer: &mut O, connection: u8)
     ensures held { held.new.bytes.items ≡ held.old.bytes.items }
     ensures kept { O.kept observer.new ≡ O.kept observer.old }
@@ -263,9 +265,9 @@ fn pass_told<O: Observer>(held: &mut Held, observer: &mut O, connection: u8)
     }
 }
 
-// Writes what is held at the end of a session, notes the written replies in the observer, and returns `ending`. If the
-// write fails, returns instead that the session ended by this fault, with `before`, who was known before the line that
-// was answered last.
+// Writes the buffered replies at the end of a session, calls the observer with the number of written replies, and
+// returns `ending`. If the write fails, returns instead an end by `WriteFault`, with `before`, who was known before the
+// line that was answered last.
 fn let_out<W: Write, O: Observer>(
     session: &mut Session,
     ending: Ending,
@@ -289,18 +291,18 @@ fn let_out<W: Write, O: Observer>(
     }
 }
 
-// What happened to a reply.
+// What happened to the line of a reply.
 #[derive(Clone, Copy)]
 enum Sent {
-    // Its line is written, or held.
+    // It is written, or buffered.
     Told,
-    // Its line is written, and it is the reply to a bye.
+    // It is written, and it is the reply to a bye.
     Bye,
-    // A write failed after this many bytes of what was held and of its line.
+    // A write failed after this many bytes of the buffered replies and of this one.
     Unwritten(usize),
 }
 
-// Answers the line that was read last, and writes or holds its reply. Returns what happened to the reply. Returns
+// Answers the line that was read last, and writes or buffers its reply. Returns what happened to the reply. Returns
 // `Closed` if the line asks for a view of a window that shows nothing any more, and so has no reply.
 fn serve_line<Rt: Wait, S: Sink + Drop, H: House, W: Write, O: Observer>(
     setting: &Setting<'_, Rt, S, H>,
@@ -363,13 +365,14 @@ struct Judged<'a> {
     seen: u64,
     /// The line, without its newline.
     line: &'a [u8],
-    // Whether the reader has to be read for the next line, so that all replies must be written.
+    // Whether the next line isn't complete yet, so that the reader must be read, and all replies must be written
+    // before.
     is_next_unknown: bool,
 }
 
-// Calls the observer with a line and its reply, and writes the reply or holds it. A short reply is appended to the
-// buffer. Any other is put into `out` first, or `memory` in its place if memory runs out. Returns what happened to the
-// reply.
+// Calls the observer with a line and its reply, and writes the reply or buffers it. A short reply is built in the
+// buffer. A long one is built in `out`; if memory runs out for it, the refusal `memory` is sent instead. Returns what
+// happened to the reply.
 fn tell<H: House, W: Write, O: Observer>(
     alloc: Global,
     window: &Window<H>,
@@ -400,8 +403,8 @@ fn tell<H: House, W: Write, O: Observer>(
     send(&told, out, held, judged.is_next_unknown, writer)
 }
 
-// Appends the line of a reply to the held ones. Writes all if `at_once` is set, after a `bye`, or if the buffer has no
-// room for the line. Returns what happened to the reply.
+// Appends the line of a reply to the buffered ones. Writes all if `at_once` is set, after a `bye`, or if the buffer has
+// no room for the line. Returns what happened to the reply.
 fn send<W: Write>(
     reply: &Reply,
     line: &[u8],
@@ -418,8 +421,8 @@ fn send<W: Write>(
     sent_of(held.put(line, at_once || is_last, writer), is_last)
 }
 
-// Writes the held replies, of which this is the last, if `at_once` is set, after a `bye`, or when the buffer is full.
-// Returns what happened to the reply.
+// Writes the buffered replies, of which `reply` is the last, if `at_once` is set, after a `bye`, or when the buffer is
+// full. Returns what happened to the reply.
 fn send_held<W: Write>(reply: &Reply, held: &mut Held, at_once: bool, writer: &mut W) -> Sent
     ensures sends { SendsReply result reply.now held.old.bytes.items
         [] held.new.bytes.items
@@ -430,8 +433,8 @@ fn send_held<W: Write>(reply: &Reply, held: &mut Held, at_once: bool, writer: &m
     sent_of(held.let_out_when_due(at_once || is_last, writer), is_last)
 }
 
-// Returns what happened to a reply, by `came`, the result of writing or holding it and what was held before it.
-// `is_last` says whether it is the reply to a bye.
+// Returns what happened to a reply. `came` is the result of writing or buffering it. `is_last` is whether it is the
+// reply to a bye.
 fn sent_of(came: Result<(), WriteFault>, is_last: bool) -> Sent
     ensures { result ≡ sent_of came is_last }
 {
@@ -441,14 +444,14 @@ fn sent_of(came: Result<(), WriteFault>, is_last: bool) -> Sent
     }
 }
 
-/// Returns whether a reply is that to a hello that is granted: it says who is known from then on.
+/// Returns whether a reply grants a hello: it names who is known from then on.
 pub fn is_hello(reply: &Reply) -> bool
     ensures { result ≡ is_hello reply.now }
 {
     matches!(reply, Reply::Hello(_))
 }
 
-/// Returns whether a reply is that to a bye, which is the last of its session.
+/// Returns whether a reply is the one to a bye, which is the last of its session.
 pub fn is_bye(reply: &Reply) -> bool
     ensures { result ≡ is_bye reply.now }
 {
