@@ -1,5 +1,5 @@
--- What the lines of a record asked, and which clause denied each, or why it was refused, found in the lines and the bytes
--- of their replies.
+-- What the lines of a record asked, and which clause denied each, or why it was refused. This is found in the lines and
+-- in the bytes of their replies.
 use Rattle.std.specs.Prelude.{◌≡◌, ℕ, ◌-◌, List, [], ◌∷◌, ◌++◌, codes, length, take, bytes_eq, Option, None, Some, Result, Ok, Err, if◌then◌else◌}
 use Rattle.std.specs.List.{slice_get}
 use Rattle.mml_rules.specs.declared.rule.Kind.{Kind}
@@ -61,7 +61,7 @@ line_of_request (requests.Hello name key) = lines.Other
 line_of_request requests.Bye = lines.Other
 line_of_request (requests.Do c) = line_of_command c
 
--- what a line is whose reading gives this: a move, another request, or none
+-- the class of a line that was read as this: a move, another request, or no request
 abbrev pub line_of : Result Request LineFault → Line
 line_of (Ok request) = line_of_request request
 line_of (Err fault) = lines.Malformed
@@ -105,7 +105,8 @@ memory_text = codes "{\"refuse\":\"memory\"}"
 
 -- ---- who is known after a line
 
--- who is known after a line with this greeting: a command that is left to judge changes nothing
+-- who is known after a line, by what the rules of greeting say of it: a command that is left to the policy changes
+-- nothing
 abbrev pub known_by : Option Who → Greeting → Option Who
 known_by known (Answered r x) = x
 known_by known (LeftToJudge who c) = known
@@ -131,7 +132,8 @@ abbrev pub student_of : Option Who → Option ℕ
 student_of None = None
 student_of (Some w) = student_in w
 
--- what a line asked, by whom, the clause and the denial by which it was denied, and why it was refused
+-- what the tally counts of a line: by whom it was asked, what it asks, the clause and the name of its denial, and the
+-- reason of its refusal
 abbrev pub ask_of : Option Who → List ℕ → List ℕ → Ask
 ask_of known line out = record {
   who = student_of known;
@@ -141,7 +143,7 @@ ask_of known line out = record {
   refused = reason_told (unended out);
 }
 
--- what an entry asks: one thing, if it is a line that was answered
+-- what the tally counts of an entry: one item for a line that was answered, and nothing otherwise
 abbrev pub asks_at : Option Who → Entry → List Ask
 asks_at known (entry.Said p line out) = ask_of known line out ∷ []
 asks_at known _ = []
@@ -153,12 +155,12 @@ known_behind roster known (entry.Left p) = None
 known_behind roster known (entry.Unrecorded p) = None
 known_behind roster known _ = known
 
--- what entries ask, in order, from a state in which someone, or nobody, is known
+-- what the tally counts of these entries, in order, if `known` is known before them
 abbrev pub asks_from : RosterValue → Option Who → List Entry → List Ask
 asks_from roster known [] = []
 asks_from roster known (e ∷ es) = asks_at known e ++ asks_from roster (known_behind roster known e) es
 
--- what the entries of a record ask
+-- what the tally counts of the entries of a record
 abbrev pub asks_in : RosterValue → List Entry → List Ask
 asks_in roster es = asks_from roster None es
 
@@ -169,7 +171,7 @@ abbrev pub clause_in : Reply → Option ℕ
 clause_in (reply.Deny d) = Some (clause_of d)
 clause_in _ = None
 
--- what the line asked of which this was known, and which has this reply
+-- what the tally should count of a line before which `known` was known, and whose reply is `r`
 abbrev pub asked_with : Option Who → List ℕ → Reply → Ask
 asked_with known line r = record {
   who = student_of known;
@@ -179,8 +181,8 @@ asked_with known line r = record {
   refused = reason_in r;
 }
 
--- beside each line that was answered stands who was known by the rules, what the line is, and the clause and the denial,
--- or the reason, of the reply of the rules
+-- for each line that was answered there is one item, with who was known by the rules, what the line asks, and the
+-- clause, the denial or the reason in the rules' reply
 abbrev pub AreAskedOf : LabValue → List Event → Option Who → List Entry → List Ask → Type 0
 AreAskedOf lab l known [] asks = asks ≡ []
 AreAskedOf lab l known (entry.Said p line out ∷ es) asks =

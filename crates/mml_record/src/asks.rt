@@ -24,7 +24,7 @@ use mml_rules::Kind;
 use mml_tally::{Ask, Line, push_ask};
 use std::alloc::Global;
 
-// Returns the kind of a rule that was asked for.
+// Returns the kind of the rule that a `move` asks for, without the node that a marriage names.
 fn kind_asked(rule: Asked) -> Kind
     ensures { result ≡ kind_asked rule }
 {
@@ -36,7 +36,7 @@ fn kind_asked(rule: Asked) -> Kind
     }
 }
 
-// Returns the kind of line that the tally counts for this command: `Move`, with its node and the kind of its rule, or
+// Returns how the tally classes a line with this command: as `Move`, with its node and the kind of its rule, or as
 // `Other` for any other command.
 fn line_of_command(command: &Command) -> Line
     ensures { result ≡ line_of_command command.now }
@@ -50,8 +50,8 @@ fn line_of_command(command: &Command) -> Line
     }
 }
 
-// Returns the kind of line that the tally counts for this request: that of its command, or `Other` for a hello or a
-// bye, which ask for no move.
+// Returns how the tally classes a line with this request: by its command, or as `Other` for a hello or a bye, which ask
+// for no move.
 fn line_of_request(request: &Request) -> Line
     ensures { result ≡ line_of_request request.now }
 {
@@ -61,8 +61,8 @@ fn line_of_request(request: &Request) -> Line
     }
 }
 
-// Returns the value of the digit at the front of `rest`. For another byte, returns how far it is above the byte `0`,
-// or 0. Returns `None` if there is no `rest`, or it is empty.
+// Reads a digit from the front of `rest`, and returns its value. For a byte that is no digit, returns how far it is
+// above the byte `0`, or 0. Returns `None` if `rest` is `None` or empty.
 fn digit_first(rest: Option<&[u8]>) -> Option<u8>
     ensures { result ≡ digit_first (seen rest.entry) }
 {
@@ -121,15 +121,16 @@ fn clause_told(text: &[u8]) -> Option<u8>
     clause_member(members)
 }
 
-// Returns whether `text` is that of the reply that memory ran out.
+// Returns whether the reply `text` is the refusal for memory.
 fn is_memory(text: &[u8]) -> bool
     ensures { result ≡ bytes_eq text.now memory_text }
 {
     text == b"{\"refuse\":\"memory\"}".as_slice()
 }
 
-// Returns who is known after a line that has this greeting, if `known` was known before it. A greeting that is
-// answered at once says who; one that leaves a command to judge changes nothing.
+// Returns who is known after a line, if `known` was known before it. `greeting` is what the rules of greeting say of
+// the line. They may give a reply at once, and then say who is known. Or they leave a command to the policy, which
+// doesn't change who is known.
 fn known_by(known: Option<Who>, greeting: Greeting) -> Option<Who>
     ensures { result ≡ known_by known greeting }
 {
@@ -145,8 +146,8 @@ fn known_by(known: Option<Who>, greeting: Greeting) -> Option<Who>
     }
 }
 
-// Reads a line. Returns the kind of line that the tally counts for it (a move, another request, or no request), and
-// who is known after it, if `known` was known before it. Returns `Memory` if memory runs out.
+// Reads a line. Returns how the tally classes it (a move, another request, or no request), and who is known after it,
+// if `known` was known before it. Returns `Memory` if memory runs out.
 fn line_and_known(
     alloc: Global,
     roster: &Roster,
@@ -190,9 +191,10 @@ fn student_of(known: Option<Who>) -> Option<Student>
     }
 }
 
-// Reads a line and its reply, `text`. Returns what the tally counts of them: the student who was known before the
-// line, what the line asks, and the clause, the denial or the reason in the reply. Also returns who is known after the
-// line: still `known` if the reply is the refusal for memory. Returns `Memory` if memory runs out in this call.
+// Reads a line and its reply `text`. Returns what the tally counts of them: the student who was known before the line,
+// what the line asks, and the clause and the name of the denial in the reply, or the reason of the refusal. Also
+// returns who is known after the line: `known` as before if the reply is the refusal for memory. Returns `Memory` if
+// memory runs out in this call.
 #[tactic(auto, unfolding(crate::specs::Asks::known_after))]
 fn ask_and_known(
     alloc: Global,
@@ -226,9 +228,9 @@ fn ask_and_known(
     }
 }
 
-// Appends to `asks` what the tally counts of an entry, and returns who is known after it, if `known` was known before
-// it. Only the entry of a line is counted. Nobody is known after a session's end, nor after a mark that anything may
-// be missing. Returns `Memory` if memory runs out in this call.
+// Appends to `asks` what the tally counts of an entry: one item for the entry of a line, and nothing for others.
+// Returns who is known after the entry, if `known` was known before it. Nobody is known after a session's end, nor
+// after an entry which says that anything may be missing. Returns `Memory` if memory runs out in this call.
 fn read_ask(
     alloc: Global,
     lab: &Lab,
@@ -254,10 +256,10 @@ fn read_ask(
     }
 }
 
-/// Appends to `asks` what each line of the seat with this number asked, which student was known then, which clause and
-/// denial denied it, and why it was refused, if these exist. The text is that of a record beside the events of a
-/// journal of the lab; `events` is only for the contract. Any other text is read up to the first bytes that are no
-/// entry. Returns `Memory` if memory runs out.
+/// Reads the record `text` of the seat with this number. For each line in it, appends to `asks` the student who was
+/// known, what the line asked, and how its reply denied or refused it, if it did. The text must be a record beside the
+/// events of a journal of the lab; any other is read up to the first bytes that are no entry. Only the contract uses
+/// `events`. Returns `Memory` if memory runs out.
 pub fn read_asks(
     alloc: Global,
     lab: &Lab,

@@ -7,44 +7,44 @@ use mml_codec::Reply;
 /// Whether the text of an entry may be written.
 #[derive(Clone, Copy, Debug, PartialEq, Eq, Drop)]
 pub enum Taking {
-    /// It may.
+    /// It may be written.
     Taken,
-    /// It may, beyond the budget: it is the entry of a hello, and recording pauses after it.
+    /// It may be written, though the budget is used up: it is the entry of a hello. Recording pauses after it.
     Last,
-    /// It may not.
+    /// It may not be written.
     Refused,
 }
 
-/// A budget of a record: it limits how much is recorded of whoever is known in a seat. A session goes on whether or not
-/// it is recorded.
+/// A budget of a record. It limits how many bytes are recorded of each participant who is known in a seat. A session
+/// goes on whether or not it is recorded.
 pub trait Budget {
-    // Whether somebody is known, by the replies that were noted.
+    // Whether somebody is known, after the replies that were noted.
     ghost known: { Self → Bool };
 
-    // Whether the last reply that was noted grants a hello.
+    // Whether the last of the noted replies grants a hello.
     ghost greeted: { Self → Bool };
 
-    /// Notes that a line was answered with this reply. One that grants a hello says who is known from then on.
+    /// Is called with the reply to each line. A reply that grants a hello says who is known from then on.
     fn note_answered(&mut self, reply: &Reply)
         ensures known { known self.new ≡ (is_hello reply.now || known self.old) }
         ensures greeted { greeted self.new ≡ is_hello reply.now };
 
-    /// Returns whether somebody is known, by the replies that were noted.
+    /// Returns whether somebody is known, after the replies that were noted.
     fn is_known(&self) -> bool
         ensures { result ≡ known self.now };
 
-    /// Returns whether the text of an entry, of this many `bytes`, may be written. If so, it is charged to whoever is
-    /// known, or to those who aren't known. Returns `Last` only for a hello, and once for each account: so the record
-    /// says, for each account of which something is refused, that recording paused while it was known.
+    /// Returns whether the text of an entry, of this many `bytes`, may be written. If so, charges it to the account of
+    /// whoever is known, or to the common account of those who aren't known. Returns `Last` only for a hello, and once
+    /// for each account. So the record says of each account that exceeds its budget that recording paused.
     fn takes_entry(&mut self, bytes: u64) -> Taking
         ensures known { known self.new ≡ known self.old }
         ensures greeted { greeted self.new ≡ greeted self.old };
 
-    /// Returns whether the text of a session's end, of this many `bytes`, may be written. If so, it is charged to
-    /// whoever is known, or to all together who aren't.
+    /// Returns whether the text of a session's end, of this many `bytes`, may be written. If so, charges it to the
+    /// account of whoever is known, or to the common account of those who aren't known.
     fn takes_end(&mut self, bytes: u64) -> bool;
 
-    /// Notes that a session has ended, so that nobody is known.
+    /// Is called at the end of a session, after which nobody is known.
     fn forget(&mut self)
         ensures known { known self.new ≡ false }
         ensures greeted { greeted self.new ≡ false };

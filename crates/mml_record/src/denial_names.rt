@@ -1,12 +1,13 @@
-//! Which denial of a student's the lines of a record had. Names are read as clauses are (`asks`): after the first member
-//! of a reply, or the second if `at` is the first.
+//! Finds the names of denials in the replies of a record, for those denials that a known student can get. In a reply
+//! the name follows the number of the clause, which is the first member, or the second after `at` (see `asks`).
 ghost use Rattle.std.specs.Prelude.{◌≡◌};
 ghost use Rattle.mml_record.specs.DenialNames.{denial_word, denial_after, denial_first, denial_second, denial_member, denial_told};
 
 use mml_journal::split_at_byte;
 use mml_tally::StudentDenial;
 
-// Returns the denial that a member of a reply names. Returns `None` for another member, or another denial.
+// Returns the denial that a member of a reply names, such as `"deny":"stale"`. Returns `None` for any other member, and
+// for a denial that isn't listed here.
 #[tactic(auto, unfolding(crate::specs::DenialNames::denial_word))]
 fn denial_word(member: &[u8]) -> Option<StudentDenial>
     ensures { result ≡ denial_word member.now }
@@ -30,8 +31,8 @@ fn denial_word(member: &[u8]) -> Option<StudentDenial>
     }
 }
 
-// Returns the denial that the member after the first comma names. Returns `None` if there is no comma, or the member
-// names none of these denials.
+// Returns the denial that the second of these members names. Returns `None` if there is no comma, or the second member
+// names none of the listed denials.
 #[tactic(auto, unfolding(crate::specs::DenialNames::denial_after))]
 fn denial_after(members: &[u8]) -> Option<StudentDenial>
     ensures { result ≡ denial_after members.now }
@@ -42,8 +43,8 @@ fn denial_after(members: &[u8]) -> Option<StudentDenial>
     denial_word(member)
 }
 
-// Returns the denial that the second member of a reply names, if `clause` is the first, and else `None`. `members` is
-// the reply's text after the `{`.
+// Returns the denial that the second member of a reply names, if the first one is `clause`, and otherwise `None`.
+// `members` is the reply's text after the `{`.
 #[tactic(auto, unfolding(crate::specs::DenialNames::denial_first))]
 fn denial_first(members: &[u8]) -> Option<StudentDenial>
     ensures { result ≡ denial_first members.now }
@@ -56,8 +57,8 @@ fn denial_first(members: &[u8]) -> Option<StudentDenial>
     }
 }
 
-// Returns the denial that the third member of a reply names, if `clause` is the second, and else `None`. `members` is
-// the reply's text after the `{`.
+// Returns the denial that the third member of a reply names, if the second one is `clause`, and otherwise `None`.
+// `members` is the reply's text after the `{`.
 #[tactic(auto, unfolding(crate::specs::DenialNames::denial_second))]
 fn denial_second(members: &[u8]) -> Option<StudentDenial>
     ensures { result ≡ denial_second members.now }
@@ -67,8 +68,8 @@ fn denial_second(members: &[u8]) -> Option<StudentDenial>
     denial_first(rest)
 }
 
-// Returns the denial that the member after `clause` names, if `clause` is the first member of a reply, or the second,
-// after `at`. Returns `None` if it is neither. `members` is the reply's text after the `{`.
+// Returns the denial in a reply. Its name follows the member `clause`, which is the first one, or the second after
+// `at`. Returns `None` if neither is so. `members` is the reply's text after the `{`.
 #[tactic(auto, unfolding(crate::specs::DenialNames::denial_member))]
 fn denial_member(members: &[u8]) -> Option<StudentDenial>
     ensures { result ≡ denial_member members.now }
@@ -81,8 +82,8 @@ fn denial_member(members: &[u8]) -> Option<StudentDenial>
     }
 }
 
-// Returns the denial in a reply's text. Returns `None` if the reply is no denial, or one that no student who is known
-// can get.
+// Returns the denial in a reply's text. Returns `None` if the reply is no denial, or is one that a known student can't
+// get.
 #[tactic(auto, unfolding(crate::specs::DenialNames::denial_told))]
 pub(crate) fn denial_told(text: &[u8]) -> Option<StudentDenial>
     ensures { result ≡ denial_told text.now }

@@ -1,11 +1,11 @@
-//! Why the lines of a record were refused.
+//! Finds the reasons of refusals in the replies of a record.
 ghost use Rattle.std.specs.Prelude.{◌≡◌};
 ghost use Rattle.mml_record.specs.Refusals.{reason_told};
 
 use mml_policy::Refusal;
 
-/// Returns the reason in a reply's text, if the reply is the refusal for `journal`, `memory` or `full`. Returns `None`
-/// for any other text, also for the refusal of a line that is no request.
+/// Returns the reason of a refusal, if `text` is the reply that refuses for `journal`, `memory` or `full`. Returns
+/// `None` for any other text, such as the refusal of a malformed line.
 #[tactic(auto, unfolding(crate::specs::Refusals::reason_told))]
 pub(crate) fn reason_told(text: &[u8]) -> Option<Refusal>
     ensures { result ≡ reason_told text.now }

@@ -1,23 +1,23 @@
-//! The verdict on a record.
+//! The verdict of the check of a record.
 use mml_tally::Findings;
 
-/// The verdict on a text.
+/// The verdict on a text that should be a record.
 #[derive(Clone, Copy, Debug, Drop)]
 pub enum Verdict {
     /// It is a record, with this summary.
     Passed(Findings),
-    /// It is no record, because of this entry.
+    /// It isn't a record, because of this entry.
     Refused(BadEntry),
 }
 
 /// The first bad entry of a text.
 #[derive(Clone, Copy, Debug, PartialEq, Eq, Drop)]
 pub struct BadEntry {
-    /// How many bytes stand before it: the longest front that is a record.
+    /// How many bytes come before it. They are the longest beginning of the text that is a record.
     pub front: u64,
-    /// The number of its line, from 1.
+    /// The number of its first line in the text, from 1.
     pub line: u64,
-    /// How many events it says had been seen, or 0 if no entry can be read.
+    /// How many events had been seen, as it says, or 0 if it can't be read.
     pub place: u64,
     /// Why it is bad.
     pub why: Why,
@@ -28,7 +28,7 @@ pub struct BadEntry {
 pub enum Why {
     /// The text breaks off within it.
     Torn,
-    /// It isn't spelled as an entry, or is of another seat.
+    /// It isn't spelled like an entry, or is of another seat.
     NoEntry,
     /// It says that fewer events had been seen than the entries before it lead to.
     GoesBack,
@@ -36,14 +36,14 @@ pub enum Why {
     PastEnd,
     /// It says that more events had been seen than the entries before it lead to, though nothing was asked or shown.
     GoesAhead,
-    /// A line comes after a bye, or after a mark that lines aren't recorded.
+    /// A line comes after a bye, or after an entry which says that lines aren't recorded.
     NoEnd,
     /// Recording resumes at a line that is no granted hello.
     NoHello,
     /// Recording resumes though it hasn't paused.
     NoPause,
-    /// The reply names an event that the rules grant there, but that isn't the next of the journal.
+    /// The reply grants an event as the rules do there, but the journal's next event is another one.
     OtherEvent,
-    /// The rules have another reply there, or show something, or the line is longer than a request may be.
+    /// The rules have another reply there, or one that shows a view, or the line is longer than a request may be.
     OtherReply,
 }
