@@ -8,28 +8,28 @@ use Rattle.mml_hall.specs.Transcripts.{Transcript}
 use Rattle.mml_hidden.specs.Twins.{BeginAlike, is_hers}
 use Rattle.mml_hidden.specs.Scripted.{replies_by, end_by}
 
--- a line of a script, and what befell its turn
+-- a line of a script, and what went wrong in its turn
 pub record BefallenLine : Type 0 where
   pub line : RequestLine
   pub mishap : Mishap
 
--- the turn of a line by what befell it
+-- the turn of a line, with what went wrong in it
 abbrev pub turn_with : LabValue → State → BefallenLine → Outcome
 turn_with lab st b = turn b.mishap lab st b.line.connection b.line.request
 
--- the lines without what befell them
+-- the lines without what went wrong
 abbrev pub lines_in : List BefallenLine → List RequestLine
 lines_in bs = map (λ b. b.line) bs
 
--- the replies of the turns of lines by what befell them
+-- the replies to lines, with what went wrong in their turns
 abbrev pub replies_with : LabValue → State → List BefallenLine → List Reply
 replies_with lab st bs = replies_by (turn_with lab) st bs
 
--- the state to which the turns of lines lead by what befell them
+-- the state after lines, with what went wrong in their turns
 abbrev pub end_with : LabValue → State → List BefallenLine → State
 end_with lab st bs = end_by (turn_with lab) st bs
 
--- after each line of another's the worlds of the two runs are alike for student s, and halted the same
+-- after each line of somebody else the worlds of the two runs are alike for student s, and halted the same
 abbrev pub StayAlikeWith : LabValue → LabValue → ℕ → State → State → List BefallenLine → Type 0
 StayAlikeWith lab other s st su [] = Unit {0}
 StayAlikeWith lab other s st su (b ∷ bs) =
@@ -44,20 +44,20 @@ AreHersThroughout lab s some st [] = Unit {0}
 AreHersThroughout lab s some st (b ∷ bs) =
     (some b.line.connection ≡ true → is_hers s (known_on st b.line.connection) ≡ true) × AreHersThroughout lab s some (turn_with lab st b).state bs
 
--- something befell each of the lines, so that their turns have these replies and lead to that end
+-- for some choice of what went wrong in each line, their turns have these replies and lead to that end
 pub record Befalls (lab : LabValue) (st : State) (lines : List RequestLine) (rs : List Reply) (end : State) : Type 0 where
   pub befallen : List BefallenLine
   pub lines_are : lines_in befallen ≡ lines
   pub replies_are : rs ≡ replies_with lab st befallen
   pub end_is : end ≡ end_with lab st befallen
 
--- the transcript's lines and replies are those of turns by what befell the lines
+-- the transcript's lines and replies are those of turns in which this went wrong
 pub record Befell (lab : LabValue) (t : Transcript lab) (bs : List BefallenLine) : Type 0 where
   pub lines_are : lines_in bs ≡ t.lines
   pub replies_are : t.replies ≡ replies_with lab (opening lab) bs
 
--- two runs of one script in labs that begin alike for student s: the same mishaps befall the same lines, the worlds
--- stay alike and are halted the same at each line of another's, and some connections are hers throughout
+-- two runs of one script in labs that begin alike for student s: the same goes wrong in the same lines, the worlds stay
+-- alike and are halted the same at each line of somebody else, and some connections are hers throughout
 pub record RunAlikeWith (lab other : LabValue) (s : ℕ) (some : ℕ → Bool) (t : Transcript lab) (u : Transcript other) (bs : List BefallenLine) : Type 0 where
   pub labs : BeginAlike lab other s
   pub first : Befell lab t bs

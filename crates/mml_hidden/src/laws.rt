@@ -1,4 +1,5 @@
-//! Laws of what a student can't learn. Each is the contract of a function that does nothing.
+//! Laws about what a student can't learn. Each is the contract of a function that does nothing. Two worlds are alike
+//! for a student if they agree in all that the student may see, and in the numbers of events and configurations.
 ghost use Rattle.std.specs.Prelude.{◌≡◌, ◌↔◌, ◌<◌, ℕ, Bool, List, true, false, length, map};
 ghost use Rattle.mml_rules.specs.declared.regs.Regs.{Regs};
 ghost use Rattle.mml_rules.specs.Network.{Network, IsNetwork, configuration_of, with_registers, with_link};
@@ -28,8 +29,8 @@ ghost use Rattle.mml_hidden.specs.Sight.{ShowsTheSame, MoveAlike, IsUntouched, I
 ghost use Rattle.mml_hidden.specs.Twins.{AreTwins, BeginAlike, StatesAlike, is_hers};
 ghost use Rattle.mml_hidden.specs.Coalitions.{AlikeFor, StatesAlikeFor, StayAlikeFor, AreTheirsThroughout, BeginAlikeFor, RunAlikeFor, is_theirs};
 
-/// In worlds that are alike for a student each of her commands has the same reply, so the same bytes, and the worlds
-/// afterwards are alike again.
+/// If two worlds are alike for a student, each command of hers has the same reply in both, with the same bytes. The
+/// worlds after the command are alike again.
 pub fn hidden_values_change_no_reply_line()
     ensures reply { (ids : List ℕ) (r : RosterValue) (limit : ℕ) (is_halted : Bool) (w v : World)
         (s : ℕ) (c : Command) → IsWorldOf ids w → IsWorldOf ids v → Alike r s w v →
@@ -45,8 +46,9 @@ pub fn hidden_values_change_no_reply_line()
         (world_left ids r limit is_halted v (who.Student s) c) }
 {}
 
-/// In two states that are alike for a student, the turns of a line on a connection that is known as her, or as nobody
-/// yet, have the same reply line, and the states after them are alike again, if the same mishap befell both turns.
+/// If two states are alike for a student, a line on a connection that is known as hers, or as nobody's yet, gets the
+/// same reply line in both. The states afterwards are alike again. The same mishap (memory that ran out or a failed
+/// write) must befall both turns.
 pub fn hidden_values_change_no_turn()
     ensures line { (lab other : LabValue) (s : ℕ) (st su : State) (mishap : Mishap) (k : ℕ)
         (line : List ℕ) → AreTwins lab other → StatesAlike lab s st su →
@@ -59,8 +61,8 @@ pub fn hidden_values_change_no_turn()
         StatesAlike lab s (turn mishap lab st k line).state (turn mishap other su k line).state }
 {}
 
-/// Two states that are alike for a student are still alike after the plain turns of a line on any connection, if their
-/// worlds are alike for her after these turns.
+/// If two states are alike for a student, a line on any connection leaves the states alike if it leaves the worlds
+/// alike. This is about plain turns, in which no mishap happens.
 pub fn lines_of_others_keep_states_alike()
     ensures { (lab other : LabValue) (s : ℕ) (st su : State) (k : ℕ) (line : List ℕ) →
         AreTwins lab other → StatesAlike lab s st su →
@@ -69,8 +71,8 @@ pub fn lines_of_others_keep_states_alike()
         StatesAlike lab s (plain_turn lab st k line).state (plain_turn other su k line).state }
 {}
 
-/// The turns of a line in two worlds that are alike for a student leave them alike if neither makes an event, and only
-/// if both make one or neither does.
+/// If two worlds are alike for a student, a line keeps them alike if it makes an event in neither of them. It keeps
+/// them alike only if it makes an event in both or in neither.
 pub fn turns_that_keep_worlds_alike_grant_alike()
     ensures neither { (lab other : LabValue) (s : ℕ) (st su : State) (k : ℕ) (line : List ℕ)
         (one two : Outcome) → Turn lab st k line one → Turn other su k line two →
@@ -83,9 +85,9 @@ pub fn turns_that_keep_worlds_alike_grant_alike()
         is_grant one.reply ≡ is_grant two.reply }
 {}
 
-/// Two runs of one script, by plain turns, from states that are alike for a student, whose worlds stay alike for her
-/// at each line of another's: what is written on connections while they are hers, or nobody's yet, is the same,
-/// and all on a connection that is hers, or nobody's yet, throughout; and the states at the end are alike.
+/// Two runs of one script, by plain turns, begin in states that are alike for a student, and each line of somebody else
+/// keeps the worlds alike for her. Then the same is written to connections while they are known as hers, or as nobody's
+/// yet. On a connection of which this is so throughout, all output is the same. The states at the end are alike.
 pub fn hidden_values_change_no_script()
     ensures written { (lab other : LabValue) (s : ℕ) (st su : State) (lines : List RequestLine) →
         AreTwins lab other → StatesAlike lab s st su → StayAlike lab other s st su lines →
@@ -103,9 +105,9 @@ pub fn hidden_values_change_no_script()
         StatesAlike lab s (end_of lab st lines) (end_of other su lines) }
 {}
 
-/// Two runs of one script from states that are alike for a student, in which the same mishaps befall the same lines,
-/// and whose worlds stay alike for her, and are halted the same, at each line of another's: all that is written on
-/// connections that are hers, or nobody's yet, throughout, is the same, and the states at the end are alike.
+/// The same with mishaps: in two runs of one script the same mishaps befall the same lines, and each line of somebody
+/// else keeps the worlds alike for a student, and both journals halted or neither. Then all output is the same on
+/// connections that are hers, or nobody's yet, throughout. The states at the end are alike.
 pub fn hidden_values_change_no_script_with_mishaps()
     ensures connections { (lab other : LabValue) (s : ℕ) (st su : State) (some : ℕ → Bool)
         (bs : List BefallenLine) → AreTwins lab other → StatesAlike lab s st su →
@@ -120,15 +122,16 @@ pub fn hidden_values_change_no_script_with_mishaps()
         StatesAlike lab s (end_with lab st bs) (end_with other su bs) }
 {}
 
-/// Each run of a hall is that of the turns of its lines by some list of mishaps, one for each line. `nothing` counts as
-/// a mishap.
+/// Each run of a hall is the run of its lines' turns with some list of mishaps, one for each line. The mishap `nothing`
+/// means that all went well.
 pub fn something_befell_each_line()
     ensures { (lab : LabValue) (st : State) (lines : List RequestLine) (rs : List Reply)
         (end : State) → Run lab st lines rs end → Befalls lab st lines rs end }
 {}
 
-/// Two runs of one script, by plain turns, from states that are alike for a student, if nobody but she is known and
-/// each hello with a participant's name and key has hers: all replies are the same, and so all bytes.
+/// Two runs of one script, by plain turns, begin in states that are alike for a student. If nobody else is known, and
+/// each valid hello in the script is hers, all replies are the same, and all bytes. So a student who is alone can't
+/// tell the two labs apart.
 pub fn one_who_is_alone_can_not_tell()
     ensures replies { (lab other : LabValue) (s : ℕ) (st su : State) (lines : List RequestLine) →
         AreTwins lab other → StatesAlike lab s st su → OnlySheIsKnown s st →
@@ -142,7 +145,7 @@ pub fn one_who_is_alone_can_not_tell()
         AreUnhindered u.replies → bytes_written t ≡ bytes_written u }
 {}
 
-/// The states in which runs of two labs begin are alike for a student if the labs begin alike for her. In such a state
+/// If two labs begin alike for a student, the first states of their runs are alike for her. In the first state of a run
 /// nobody is known on any connection.
 pub fn runs_begin_alike()
     ensures states { (lab other : LabValue) (s : ℕ) → BeginAlike lab other s →
@@ -150,15 +153,16 @@ pub fn runs_begin_alike()
     ensures known { (lab : LabValue) (s : ℕ) → OnlySheIsKnown s (opening lab) }
 {}
 
-/// A run in which no reply is the refusal for memory or for the journal is that of the plain turns.
+/// A run in which no reply is the refusal for memory or for the journal is the run of plain turns.
 pub fn unhindered_runs_are_plain()
     ensures { (lab : LabValue) (st : State) (lines : List RequestLine) (rs : List Reply)
         (end : State) → Run lab st lines rs end → AreUnhindered rs →
         (rs ≡ replies_to lab st lines) × (end ≡ end_of lab st lines) }
 {}
 
-/// An event in only one of two worlds that are alike for a student shows by the place. Two events, one in each, of
-/// which one makes a configuration and the other none, show by the number. The worlds aren't alike afterwards.
+/// If an event happens in only one of two worlds that are alike for a student, the worlds aren't alike any more: their
+/// places differ. If an event happens in each, of which one makes a configuration and the other doesn't, the numbers of
+/// their configurations differ.
 pub fn events_are_told_by_place_and_number()
     ensures first { (r : RosterValue) (s : ℕ) (w v : World) (e : Event) → Alike r s w v →
         ¬ Alike r s (after w e) v }
@@ -168,9 +172,9 @@ pub fn events_are_told_by_place_and_number()
         Alike r s (after w e) (after v f) → makes_configuration e ≡ makes_configuration f }
 {}
 
-/// One event that happens in two worlds that are alike for a student keeps them alike exactly if it shows her the same.
-/// Only a link to a node of hers and a close may show her something else. A close doesn't if the same moves are chosen
-/// for the neighbours of her nodes, and their rules read the same.
+/// If one event happens in two worlds that are alike for a student, they stay alike exactly if the event shows her the
+/// same in both. Only a link to a node of hers and a close can show her different things. A close doesn't if the same
+/// moves are chosen for the neighbours of her nodes, and their rules read the same values.
 pub fn one_event_keeps_worlds_alike()
     ensures event { (ids : List ℕ) (r : RosterValue) (s : ℕ) (w v : World) (e : Event) →
         IsWorldOf ids w → IsWorldOf ids v → Alike r s w v → is_possible w e ≡ true →
@@ -180,9 +184,9 @@ pub fn one_event_keeps_worlds_alike()
         ShowsTheSame r s w v event.Close }
 {}
 
-/// Two events, one in each of two worlds that are alike for a student, keep the worlds alike if both make a
-/// configuration or neither does, and each leaves untouched what she may read, except for number and place, and for the
-/// chosen moves, which a new configuration drops. An event out of her sight leaves it untouched.
+/// If an event happens in each of two worlds that are alike for a student, they stay alike if both events make a
+/// configuration or neither does, and each leaves untouched what she may see. The number, the place, and the chosen
+/// moves that a new configuration drops are left out of this. An event out of her sight leaves all of it untouched.
 pub fn events_out_of_sight_keep_worlds_alike()
     ensures untouched { (r : RosterValue) (s : ℕ) (w v : World) (e f : Event) → Alike r s w v →
         IsUntouched r s w e → IsUntouched r s v f →
@@ -191,7 +195,7 @@ pub fn events_out_of_sight_keep_worlds_alike()
         is_possible w e ≡ true → IsOutOfSight r s w e → IsUntouched r s w e }
 {}
 
-/// Two networks are alike at the beginning for a student if they differ only in the registers of a node that isn't
+/// Two networks are alike for a student at the beginning if they differ only in the registers of one node that isn't
 /// visible to her, or only in a link between two nodes that she doesn't own.
 pub fn labs_may_differ_out_of_sight()
     ensures registers { (n : Network) (r : RosterValue) (s i : ℕ) (regs : Regs) → IsNetwork n →
@@ -203,9 +207,9 @@ pub fn labs_may_differ_out_of_sight()
         Alike r s (opening_of n) (opening_of (with_link n a b)) }
 {}
 
-/// Two sessions of a student's, through windows of two houses: if the lists that she has seen, cut to those at which
-/// the replies were made, leave worlds that are alike for her, and nothing hindered a reply, the same lines have the
-/// same replies, and the same bytes.
+/// Two sessions of a student, through windows of two houses, get the same replies to the same lines, with the same
+/// bytes. For this, the events that each reply is based on must leave worlds that are alike for her, and no reply may
+/// be the refusal for memory or for the journal.
 pub fn hidden_values_change_no_session()
     ensures replies { (lab other : LabValue) (s : ℕ) (st su : Standing) (lines : List (List ℕ))
         (rs qs : List Reply) (end fin : Standing) (one : SessionRun lab st lines rs end)
@@ -219,10 +223,10 @@ pub fn hidden_values_change_no_session()
         map (reply_line lab.ids lab.roster) rs ≡ map (reply_line other.ids other.roster) qs }
 {}
 
-/// Students who put together what they are shown learn nothing that none of them may see. In worlds that are alike for
-/// each member of a coalition a command of a member has the same reply, and the worlds afterwards are alike for each member.
-/// So it is with each turn on a connection that is a member's, or nobody's yet, and with all that is written on such
-/// connections, whatever mishaps befall the lines. A coalition has a member.
+/// Students who put together what they are shown (a coalition) learn nothing that none of them may see. If two worlds
+/// are alike for each member, a command of a member has the same reply in both, and the worlds afterwards are alike for
+/// each. The same holds for each turn on a connection that is a member's, or nobody's yet, and for all output on such
+/// connections, whatever mishaps befall the lines. A coalition has at least one member.
 pub fn coalitions_learn_nothing_hidden()
     ensures reply { (ids : List ℕ) (r : RosterValue) (limit : ℕ) (is_halted : Bool) (w v : World)
         (members : ℕ → Bool) (s : ℕ) (c : Command) → IsWorldOf ids w → IsWorldOf ids v →
@@ -254,8 +258,8 @@ pub fn coalitions_learn_nothing_hidden()
         written_on_any lab some t.lines t.replies ≡ written_on_any other some u.lines u.replies }
 {}
 
-/// Two networks begin alike for each member of a coalition if they differ only in the registers of a node that is visible to
-/// none of them, or only in a link between two nodes that none of them owns.
+/// Two networks are alike for each member of a coalition at the beginning if they differ only in the registers of one
+/// node that is visible to none of them, or only in a link between two nodes that none of them owns.
 pub fn labs_may_differ_out_of_a_coalitions_sight()
     ensures registers { (n : Network) (r : RosterValue) (members : ℕ → Bool) (i : ℕ)
         (regs : Regs) → IsNetwork n →

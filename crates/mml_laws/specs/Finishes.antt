@@ -39,8 +39,8 @@ is_granted (reply.Hello who) = true
 is_granted reply.Bye = true
 is_granted r = is_grant r
 
--- a script that asks for at most n grants and closes from the state on: it may read each of its lines, none is denied or
--- refused, all events happen, and no node is privileged at the end
+-- a script that asks for at most n grants and closes from this state on: each of its lines may be in a script, none is
+-- denied or refused, all the events happen, and no node is privileged at the end
 pub record FinishesByAsking (lab : LabValue) (st : State) (n : ℕ) (es : List Event) (rs : List Reply) (end : State) : Type 0 where
   pub few : length es ≤ n
   pub forward : list_all is_grant_or_close es ≡ true

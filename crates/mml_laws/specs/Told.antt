@@ -21,7 +21,7 @@ use Rattle.mml_board.specs.Lists.{world_in}
 use Rattle.mml_journal.specs.JournalText.{text_in}
 use Rattle.mml_window.specs.Rulings.{ruling_at}
 
--- event p of the list is the one that x is granted for the command after the events before it, line p of the list's
+-- event p of the list is the one that the command of x is granted after the events before it, line p of the list's
 -- journal is the event's line, and the reply has the event's effect, its place, and the number of the configuration
 -- after it
 pub record IsToldAt (lab : LabValue) (l : List Event) (p : ℕ) (x : Who) (command : Command) (r : Reply) : Type 0 where

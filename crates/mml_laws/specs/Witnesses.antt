@@ -8,6 +8,6 @@ use Rattle.mml_rules.specs.Rules.{enabled_kind}
 abbrev pub EndsIn : Configuration → ℕ → Kind → Type 0
 EndsIn c x kind = (enabled_kind c x ≡ Some kind) × (kind ≢ Kind.Seduction)
 
--- no rule is enabled at the node, or a seduction
+-- no rule is enabled at the node, or only a seduction
 abbrev pub IsIdle : Configuration → ℕ → Type 0
 IsIdle c x = (kind : Kind) → enabled_kind c x ≡ Some kind → kind ≡ Kind.Seduction

@@ -1,4 +1,4 @@
-//! Laws of the chain that a class would cite, each read alone.
+//! The laws of the project that a class would cite. Each can be read alone.
 #![tactic(auto)]
 
 pub mod laws;

@@ -1,4 +1,4 @@
-//! How much is recorded of each account.
+//! Limits on how many bytes are recorded of each participant.
 ghost use Rattle.std.specs.Prelude.{◌≡◌, is_some};
 
 use mml_codec::Reply;
@@ -9,37 +9,36 @@ use std::alloc::Global;
 use std::sync::Arc;
 use std::sync::atomic::{AtomicBool, AtomicU64, Ordering};
 
-/// How many bytes of entries may be recorded of each account while a class runs, in the files of all seats, and how
-/// many of all together who aren't known.
+/// How many bytes of entries may be recorded of each participant while a class runs, in the files of all seats
+/// together. The same limit holds for all connections together on which nobody is known.
 pub const BUDGET: u64 = 8 << 20;
 
 /// How many bytes of entries may be recorded of one connection while nobody is known there.
 pub const STRANGER: u64 = 64 << 10;
 
-// How many more bytes than `BUDGET` the ends of sessions may bring an account to.
+// How many bytes beyond `BUDGET` may be spent on the ends of sessions.
 const ENDS: u64 = 64 << 10;
 
-// How many bytes were recorded of one account, and whether something of it was refused: then recording has paused, or
-// is about to, in a session in which it is known.
+// How many bytes were recorded of one participant, and whether an entry of them was refused already: then recording has
+// paused, or is about to, in each session in which they are known.
 #[derive(Drop)]
 struct Spending {
-    /// How many bytes were recorded of the account.
+    /// How many bytes were recorded of the participant.
     spent: AtomicU64,
-    /// Whether something of it was refused.
+    /// Whether an entry of the participant was refused already.
     is_refused: AtomicBool,
 }
 
-/// How many bytes were recorded of each account, and of those who aren't known.
+/// How many bytes were recorded of each participant, and of connections on which nobody is known.
 #[derive(Drop)]
 pub struct Budgets {
-    // The teacher's, and then the students' in the roster's order.
+    // The teacher's account first, and then the students' in the roster's order.
     accounts: Vec<Spending>,
     unknown: AtomicU64,
 }
 
 impl Budgets {
-    /// Returns the budgets of a class of the lab, of which nothing was recorded yet. Returns `FileFault` if memory runs
-    /// out.
+    /// Returns the budgets of a class of the lab, before anything was recorded. Returns an error if memory runs out.
     pub fn new(alloc: Global, lab: &Lab) -> Result<Budgets, FileFault> {
         let mut accounts = Vec::new(alloc);
         accounts.push(Spending::new())?;
@@ -52,8 +51,8 @@ impl Budgets {
         })
     }
 
-    // Returns the counter of the bytes that were recorded of the account with this index, or, for `None`, of all who
-    // aren't known.
+    // Returns the counter of the bytes that were recorded of the participant with this account. For `None`, returns the
+    // counter of all connections on which nobody is known.
     fn spent_by(&self, account: Option<usize>) -> &AtomicU64 {
         match account {
             Some(index) => match self.accounts.get(index) {
@@ -66,7 +65,7 @@ impl Budgets {
 }
 
 impl Spending {
-    // Returns the spending of an account of which nothing was recorded or refused yet.
+    // Returns the account of a participant of whom nothing was recorded yet.
     fn new() -> Spending {
         Spending {
             spent: AtomicU64::new(0),
@@ -84,19 +83,19 @@ fn index_of(who: Who) -> usize {
     }
 }
 
-/// The budgets as a seat sees them: the replies of the seat say who is known there and charged.
+/// The budgets as one seat uses them: the replies in the seat say who is known there and is charged.
 #[derive(Drop)]
 pub struct SeatBudget {
     budgets: Arc<Budgets, Global>,
     account: Option<usize>,
     // Whether the last reply that was noted grants a hello.
     is_greeted: bool,
-    // How many bytes of entries were recorded in the session while nobody was known.
+    // How many bytes of entries were recorded in this session while nobody was known.
     unknown_here: u64,
 }
 
 impl SeatBudget {
-    /// Returns the budget of a seat at which nobody is known yet.
+    /// Returns the budget of a seat in which nobody is known yet.
     pub fn new(budgets: Arc<Budgets, Global>) -> SeatBudget {
         SeatBudget {
             budgets,
@@ -106,8 +105,8 @@ impl SeatBudget {
         }
     }
 
-    // Adds this many `bytes` to the count of whoever is known, or else of all who aren't, and returns `true`. If the
-    // count would then exceed `most`, adds nothing, and returns `false`.
+    // Charges this many `bytes` to whoever is known, or to the common counter if nobody is, and returns `true`. If the
+    // counter would then exceed `most`, charges nothing, and returns `false`.
     fn charge(&self, bytes: u64, most: u64) -> bool {
         let spent = self.budgets.spent_by(self.account);
         spent
@@ -119,8 +118,7 @@ impl SeatBudget {
     }
 
     // Returns whether an entry of this many `bytes` may be written while nobody is known, and charges it if so. It may
-    // if this connection then has no more than `STRANGER` bytes, and all who aren't known no more than `BUDGET`
-    // together.
+    // if this connection then has at most `STRANGER` such bytes, and all connections together at most `BUDGET`.
     fn takes_unknown(&mut self, bytes: u64) -> bool
         ensures known { self.new.account ≡ self.old.account }
         ensures greeted { self.new.is_greeted ≡ self.old.is_greeted }
@@ -133,9 +131,9 @@ impl SeatBudget {
         true
     }
 
-    // Returns what happens to an entry that the budget of the account with this index doesn't take, and notes that
-    // something of the account was refused. The entry of a hello is still written (`Last`) if it is the first that is
-    // refused: recording pauses after it. Any other entry is `Refused`.
+    // Returns what happens to an entry that exceeds the budget of the account `index`, and notes that one of its
+    // entries was refused. The entry of a hello is still written (`Last`) if it is the first that is refused; recording
+    // pauses after it. Any other entry is `Refused`.
     fn refuse(&self, index: usize) -> Taking {
         match self.budgets.accounts.get(index) {
             Some(account) => {
@@ -156,7 +154,7 @@ impl Budget for SeatBudget {
 
     ghost greeted = { λ b. b.is_greeted };
 
-    // Notes whom to charge from now on, if the reply grants a hello. Another reply doesn't change that.
+    // Notes whom to charge from now on, if the reply grants a hello. Any other reply doesn't change that.
     fn note_answered(&mut self, reply: &Reply) {
         match reply {
             Reply::Hello(who) => {
@@ -167,14 +165,14 @@ impl Budget for SeatBudget {
         }
     }
 
-    // Returns whether a hello was granted in the session.
+    // Returns whether somebody has said hello in the session, so that their account is charged.
     fn is_known(&self) -> bool {
         self.account.is_some()
     }
 
-    // Charges an entry to whoever is known, and returns `Taken`, if the account then has no more than `BUDGET` bytes.
-    // While nobody is known, the connection may have no more than `STRANGER`, and all who aren't known no more than
-    // `BUDGET`. Otherwise returns `Refused`, or what `refuse` decides for a known account.
+    // Returns whether an entry of this many `bytes` may be written, and charges it if so. Whoever is known may have at
+    // most `BUDGET` bytes. Beyond this, `refuse` decides. If nobody is known, `takes_unknown` decides, and the answer
+    // is `Taken` or `Refused`.
     fn takes_entry(&mut self, bytes: u64) -> Taking {
         match self.account {
             Some(index) => {
@@ -194,13 +192,14 @@ impl Budget for SeatBudget {
         }
     }
 
-    // Charges a session's end, and returns whether it may be written. It may go `ENDS` bytes beyond `BUDGET`, so that
-    // it is still written if entries no longer are.
+    // Returns whether the entry of a session's end may be written, and charges it if so. It may exceed `BUDGET` by up
+    // to `ENDS` bytes, so that ends are still written when other entries no longer are.
     fn takes_end(&mut self, bytes: u64) -> bool {
         self.charge(bytes, BUDGET + ENDS)
     }
 
-    // Forgets who was known, so that what is recorded from now on is charged to those who aren't known.
+    // Is called at the end of a session: what is recorded from now on is charged to the common counter, until somebody
+    // says hello.
     fn forget(&mut self) {
         self.account = None;
         self.is_greeted = false;

@@ -1,4 +1,4 @@
-//! The folder in which a class is recorded: a file for each seat, and the files that are needed to read them.
+//! The folder in which a class is recorded: one file for each seat, and the files that one needs to read them.
 #![tactic(auto)]
 
 mod budgets;

@@ -1,4 +1,4 @@
-//! What is chosen at a node. Each law is the contract of a function that does nothing.
+//! Which moves are chosen. Each law is the contract of a function that does nothing.
 ghost use Rattle.std.specs.Prelude.{◌≡◌, ◌↔◌, ℕ, true, Some, List};
 ghost use Rattle.mml_rules.specs.declared.rule.Rule.{Rule};
 ghost use Rattle.mml_lab.specs.Labs.{LabValue, IsLab};
@@ -7,8 +7,8 @@ ghost use Rattle.mml_board.specs.World.{opening_of, chosen_at};
 ghost use Rattle.mml_board.specs.Runs.{is_legal_list, world_of};
 ghost use Rattle.mml_laws.specs.Choices.{IsGrantedLast};
 
-/// After a legal list of a lab's events a rule is chosen for a node exactly if it was granted there, and no release of
-/// the node, close, fault, link or cut came later.
+/// After a legal list of a lab's events, a rule is chosen at a node exactly if the last relevant event granted it
+/// there: no release of the node, and no close, fault, link or cut came after that grant.
 pub fn chosen_moves_were_granted_last()
     ensures { (lab : LabValue) (es : List Event) (i : ℕ) (q : Rule) → IsLab lab →
         is_legal_list lab.roster (opening_of lab.network) es ≡ true →

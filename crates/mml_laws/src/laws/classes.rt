@@ -1,4 +1,5 @@
-//! Classes as houses. Each law is the contract of a function that does nothing.
+//! What holds for a house (one run of a lab) holds for a class. Each law is the contract of a function that does
+//! nothing.
 ghost use Rattle.std.specs.Prelude.{◌≡◌, ◌<◌, ◌≤◌, ◌++◌, ℕ, List, length, Option, Some};
 ghost use Rattle.std.specs.List.{AllByRecursion, AllZip};
 ghost use Rattle.mml_lab.specs.Labs.{LabValue};
@@ -16,9 +17,9 @@ ghost use Rattle.mml_record.specs.RecordedSeats.{IsResumedSeat, IsRecordText, fr
 ghost use Rattle.mml_laws.specs.Classes.{seats_of};
 ghost use Rattle.mml_laws.specs.Served.{AreServed, named_by};
 
-/// A class is a house. What `serve_host` says of a class, and `resume_class` of one that goes on, gives what the laws on
-/// houses begin with: sessions that led each window, the desk's first, from the events before the class, and the log of
-/// one list. So each event of the class is named by exactly one reply.
+/// The contracts of `serve_host` and of `resume_class` give what the laws about houses assume: sessions that led each
+/// window from the events before the class to its end, with the desk's window first, and the log of one list of events.
+/// So each event of the class is named by exactly one reply.
 pub fn a_class_is_a_house<S, K, C, R, W>()
     ensures hosted { (begun : List Event) (given : ℕ → Option Kept) (lab : LabValue)
         (sink : S → Option (List ℕ)) (remaining : R → Option (List ℕ)) (contents : W → Option (List ℕ))
@@ -39,10 +40,10 @@ pub fn a_class_is_a_house<S, K, C, R, W>()
         × IsEachOnceFrom (length r.begun) (length house.log.events) (named_by sessions) }
 {}
 
-/// A class whose recorders have kept nothing before has recorded seats: each seat's sessions led its window from the
-/// events before the class, and its recorder from nothing, to what they are at the end. So what each recorder has kept is
-/// the text of a record beside the one list, or a beginning of that. The recorders that a class begins with have kept
-/// nothing before if each of them is empty.
+/// If the recorders of a class were empty at the beginning, each seat's sessions led its window from the events before
+/// the class to its last state, and its recorder from nothing. So what each recorder has kept is the text of a record
+/// beside the class's one list of events, or a beginning of that text. The last clause says that the assumption holds
+/// if each recorder that the class is given is empty.
 pub fn a_class_has_recorded_seats<S, K, C, R, W>()
     ensures seats { (begun : List Event) (given : ℕ → Option Kept) (lab : LabValue)
         (sink : S → Option (List ℕ)) (remaining : R → Option (List ℕ)) (contents : W → Option (List ℕ))

@@ -1,4 +1,4 @@
-//! What the columns of a tally say. Each law is the clause of a function that does nothing.
+//! The columns of a tally. Each law is the contract of a function that does nothing.
 ghost use Rattle.std.specs.Prelude.{◌≡◌, ◌==◌, ◌++◌, ◌∷◌, [], ℕ, List, codes};
 ghost use Rattle.mml_board.specs.World.{World, configuration, privileged_count};
 ghost use Rattle.mml_tally.specs.declared.bounds.Bounds.{Bounds};
@@ -11,10 +11,10 @@ ghost use Rattle.mml_tally.specs.Refusals.{refused_line};
 ghost use Rattle.mml_tally.specs.declared.student_denials.NamedDenials.{NamedDenials};
 ghost use Rattle.mml_tally.specs.StudentDenials.{denials_line};
 
-/// The columns of a tally's lines, in their order. A student's line has the granted moves by rule, the applied moves by
-/// rule, the closes that applied one, the places of the first and the last grant, and the applied moves at shared
-/// nodes. The line of what was refused to a student has the refusals `journal`, `memory` and `full`. The line of what
-/// was denied by name has the denials of clause 1, and then those of clause 2, 3 and 4.
+/// The lines of a tally have these columns, in this order. A student's line has the granted moves by rule, the applied
+/// moves by rule, the number of closes that applied one, the places of the first and the last grant, and the applied
+/// moves at shared nodes. The line of a student's refusals has those for `journal`, `memory` and `full`. The line of a
+/// student's denials by name has those of clause 1, then of clauses 2, 3 and 4.
 pub fn tallies_have_these_columns()
     ensures student { (name : List ℕ) (m : Marks) → student_line name m ≡ codes "student " ++ (name
         ++ ((numbers_text (m.granted.update ∷ m.granted.marriage ∷ m.granted.seduction ∷ m.granted.abandonment ∷ [])

@@ -5,8 +5,8 @@ ghost use Rattle.mml_lab_file.specs.Reading.{lab_fault};
 ghost use Rattle.mml_lab_file.specs.Shape.{RawSpec};
 ghost use Rattle.mml_lab_file.specs.LabErrors.{IsFirstError};
 
-/// The reported error of a lab file that has all keys, each of its kind, is one that the file has, and it has none of a
-/// kind that `order_of` puts earlier: the whole file is searched for each kind before the next.
+/// If a lab file has all keys, each with a value of its kind, the error that is reported is one that the file has. It
+/// has no error of a kind that `order_of` puts earlier, since the whole file is searched for one kind after the other.
 pub fn errors_are_told_in_order()
     ensures { (raw : RawSpec) (f : LabFault) → lab_fault raw ≡ Some f → IsFirstError raw f }
 {}

@@ -17,9 +17,9 @@ ghost use Rattle.mml_hall.specs.Turns as hall;
 ghost use Rattle.mml_session.specs.Turns as session;
 ghost use Rattle.mml_laws.specs.Greeted.{IsTold, IsDenied};
 
-/// On a connection that is known, a hello is denied as `greeted`, whatever its name and key, and the connection stays
-/// known as it was. Its commands are judged as those of the known participant. On a connection that isn't known, a
-/// command is denied as `not-greeted`, and a hello with the name and key of nobody as `unknown`.
+/// The rules of greeting. On a connection that is known as a participant, each hello is denied as `greeted`, and the
+/// connection stays known as it was; commands are judged as those of this participant. On a connection that isn't known
+/// yet, each command is denied as `not-greeted`, and a hello with nobody's name and key as `unknown`.
 pub fn a_connection_is_known_as_one()
     ensures again { (r : RosterValue) (x : Who) (name key : List ℕ) →
         greeting r (Some x) (requests.Hello name key)
@@ -34,8 +34,8 @@ pub fn a_connection_is_known_as_one()
 {}
 
 /// In a hall, a hello on a connection that is known is denied as `greeted`, and a command on one that isn't as
-/// `not-greeted`, or refused as `memory`. Neither changes anything. In a plain turn, a command on a connection that is
-/// known is ruled on as that of the known participant.
+/// `not-greeted`; either may be refused as `memory` instead. Neither changes anything. In a plain turn, a command on a
+/// connection that is known is ruled on as one of the known participant.
 pub fn a_hall_answers_by_who_is_known()
     ensures again { (lab : LabValue) (st : hall.State) (k : ℕ) (line : List ℕ) (out : hall.Outcome)
         (x : Who) (name key : List ℕ) → hall.known_on st k ≡ Some x →
@@ -52,8 +52,8 @@ pub fn a_hall_answers_by_who_is_known()
 {}
 
 /// In a session, a hello on a connection that is known is denied as `greeted`, and a command on one that isn't as
-/// `not-greeted`, or refused as `memory`. Neither changes anything. A command on a connection that is known is answered
-/// as that of its participant, who stays known, or refused as `memory`.
+/// `not-greeted`; either may be refused as `memory` instead. Neither changes anything. A command on a connection that
+/// is known is answered as one of the known participant, who stays known, or is refused as `memory`.
 pub fn a_session_answers_by_who_is_known()
     ensures again { (lab : LabValue) (st next : session.Standing) (line : List ℕ) (r : Reply)
         (x : Who) (name key : List ℕ) → st.known ≡ Some x →

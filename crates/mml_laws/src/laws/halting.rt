@@ -1,4 +1,4 @@
-//! How a house halts. Each law is the contract of a function that does nothing.
+//! How a house (one run of a lab) halts. Each law is the contract of a function that does nothing.
 ghost use Rattle.std.specs.Prelude.{◌≡◌, ◌⊎◌, ◌<◌, ℕ, List, Option, true};
 ghost use Rattle.std.specs.List.{AllByRecursion};
 ghost use Rattle.mml_lab.specs.declared.who.Who.{Who};
@@ -12,9 +12,9 @@ ghost use Rattle.mml_window.specs.Books.{BookValue};
 ghost use Rattle.mml_window.specs.Windows.{WindowValue};
 ghost use Rattle.mml_laws.specs.Halting.{Act, DecidesEach, IsNoGrant};
 
-/// The first refusal `journal` halts a house for good: after it the house's book is halted, whoever asks for whatever
-/// later, the book stays as it is, and nothing is granted. A book that runs halts by such a refusal alone, when a put of
-/// its sink fails.
+/// The first refusal for `journal` halts a house for good: after it the house's book (its list of events and its
+/// journal) is halted, never changes again, and grants nothing. A book halts only by such a refusal, when a put to its
+/// sink fails.
 pub fn a_house_halts_for_good<S>()
     ensures refused { (lab : LabValue) (failures : S → ℕ) (old new last : BookValue S) (who : Who)
         (command : Command) (acts : List Act) (answers : List Answer) →

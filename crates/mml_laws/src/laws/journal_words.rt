@@ -6,8 +6,8 @@ ghost use Rattle.mml_journal.specs.Words.{spaced};
 ghost use Rattle.mml_journal.specs.EventLines.{event_line};
 ghost use Rattle.mml_laws.specs.JournalWords.{words_of};
 
-/// The line of an event is its place, the number of the configuration before it, and the words that `words_of` lists
-/// for the event, with one space between them.
+/// The line of an event has its place, the number of the configuration before it, and the words that `words_of` lists
+/// for the event. One space separates them.
 pub fn journals_have_these_words()
     ensures { (ids : List ℕ) (roster : RosterValue) (place before : ℕ) (e : Event) →
         event_line ids roster place before e

@@ -1,4 +1,4 @@
-//! What is shown. Each law is the contract of a function that does nothing.
+//! What commands show. Each law is the contract of a function that does nothing.
 ghost use Rattle.std.specs.Prelude.{◌≡◌, ◌↔◌, ◌⊎◌, ℕ, Bool, true, Some, List};
 ghost use Rattle.mml_ids.specs.Ids.{rank_in};
 ghost use Rattle.mml_rules.specs.Configuration.{IsLawful};
@@ -16,10 +16,9 @@ ghost use Rattle.mml_policy.specs.Shown.{look_of};
 ghost use Rattle.mml_stable.specs.Reports.{report_of};
 ghost use Rattle.mml_laws.specs.Looks.{IsWholeLook};
 
-/// A look shows a node exactly if one has the identifier that it names and one of that node's owners or the teacher
-/// asks, and it shows all: the node's registers, the number of the configuration, the kind of the move that is chosen
-/// and of the rule that may be applied, if there is one, and exactly the linked nodes with their registers, in rising
-/// order.
+/// A look shows a node exactly if the identifier in it is that node's, and one of the node's owners or the teacher
+/// asks. It shows all of the node: its registers, the number of the configuration, the kind of the chosen move and of
+/// the enabled rule, if there are any, and exactly the linked nodes with their registers, in rising order.
 pub fn a_look_is_whole()
     ensures answered { (ids : List ℕ) (r : RosterValue) (limit : ℕ) (is_halted : Bool) (w : World)
         (x : Who) (id : ℕ) (l : Look) →
@@ -30,8 +29,8 @@ pub fn a_look_is_whole()
         IsWholeLook w i (look_of w i) }
 {}
 
-/// What is shown is of the world in which the command is ruled on: a see shows the node that was asked for and its
-/// registers, a look that node, and a see, a look and a report the number of that world's configuration.
+/// Commands show the world in which they are ruled on. A see shows the node that it names, and that node's registers. A
+/// look shows the node that it names. A see, a look and a report show the number of that world's configuration.
 pub fn what_is_shown_is_of_the_present()
     ensures see { (ids : List ℕ) (r : RosterValue) (limit : ℕ) (is_halted : Bool) (w : World)
         (x : Who) (id : ℕ) (s : See) → IsLawful (configuration w) →

@@ -1,11 +1,12 @@
-//! The marks of students. Each law is the contract of a function that does nothing.
+//! The marks of students, which are the counts in a tally. Each law is the contract of a function that does nothing.
 ghost use Rattle.std.specs.Prelude.{◌≤◌, ℕ, List};
 ghost use Rattle.mml_lab.specs.Rosters.{RosterValue};
 ghost use Rattle.mml_board.specs.declared.event.Event.{Event};
 ghost use Rattle.mml_tally.specs.Marks.{marks_of};
 ghost use Rattle.mml_tally.specs.Runs.{run_of};
 
-/// A student's marks count at most as many closes, those that applied a move of the student's, as the run has.
+/// A student's marks count the closes that applied a move of the student. They are at most as many as the closes of the
+/// run.
 pub fn no_student_has_more_closes_than_the_run()
     ensures { (r : RosterValue) (es : List Event) (s : ℕ) →
         (marks_of r es s).closes ≤ (run_of es).closes }

@@ -1,4 +1,4 @@
-//! The places that replies name. Each law is the contract of a function that does nothing.
+//! The places (numbers of events) in replies. Each law is the contract of a function that does nothing.
 ghost use Rattle.std.specs.Prelude.{◌≡◌, ◌+◌, ◌≤◌, ℕ, true, List, length, flat_map};
 ghost use Rattle.std.specs.List.{range_with_len};
 ghost use mathlib.Core.List.{IsPrefix};
@@ -16,10 +16,10 @@ ghost use Rattle.mml_window.specs.Windows.{WindowValue};
 ghost use Rattle.mml_laws.specs.Served.{AreServed, named_by};
 ghost use Rattle.mml_laws.specs.Told.{EachNamesItsEvent, NamesItsEventIn, EachNamesItsEventIn};
 
-/// In a run of a hall, a reply that names place p is that to a command of the participant who was known on its
-/// connection. Event p of the list at the end is the one that this command is granted after events 1 to p - 1, and line
-/// p of the list's journal is the event's line. The list begins with the events at the beginning of the run, and each
-/// later event has exactly one reply that names it, in order.
+/// In a run of a hall, a reply that names place p replies to a command of the participant who was known on its
+/// connection. The command was granted after events 1 to p - 1 of the final list, and event p is what was granted. Line
+/// p of the journal is the event's line. The final list begins with the events before the run, and each later event has
+/// exactly one reply that names it, in order.
 pub fn replies_of_a_hall_name_their_events()
     ensures told { (lab : LabValue) (st end : hall.State) (lines : List hall.RequestLine)
         (rs : List Reply) (run : hall.Run lab st lines rs end) → IsHall lab st →
@@ -33,10 +33,9 @@ pub fn replies_of_a_hall_name_their_events()
         IsPrefix st.events end.events }
 {}
 
-/// If a reply of a session, or the one to its last line, names place p, a participant was known on the connection, and
-/// event p of the list is the one that their command is granted after events 1 to p - 1. The list is any legal one of
-/// the lab, within its limit of events, that begins with the events that the window has seen at the end; the list of a
-/// house is one.
+/// In a session, a reply that names place p replies to a command of the participant who was known. The command was
+/// granted after events 1 to p - 1 of the list, and event p is what was granted. The list can be any legal one of the
+/// lab, within its limit, that begins with the events that the window has seen at the end; the house's list is one.
 pub fn replies_of_a_session_name_their_events()
     ensures talk { (lab : LabValue) (st : session.Standing) (t : Talk lab st) (l : List Event) →
         IsLab lab → is_legal_in lab l ≡ true → length l ≤ lab.events →
@@ -47,10 +46,10 @@ pub fn replies_of_a_session_name_their_events()
         IsPrefix after.window.seen l → NamesItsEventIn lab l st t.line t.reply }
 {}
 
-/// If each window of a house served one session after another, and the windows were granted the places after the events
-/// with which the house began, up to some last place, each place once, each of these places is named by exactly one
-/// reply, over all sessions of all windows. At the end of each house that has a log the places were granted like this.
-/// If a write failed, the reply may not have been sent.
+/// Suppose that each window of a house served one session after another, and that the windows were granted the places
+/// after the first events, up to some last place, each once. Then each of these places is named by exactly one reply,
+/// over all sessions of all windows. Every house that leaves a log meets this condition. If a write failed, the reply
+/// may not have been sent.
 pub fn each_event_of_a_house_has_one_reply()
     ensures { (lab : LabValue) (begun : List Event) (most : ℕ)
         (sessions : List (List (List Reply))) (windows : List WindowValue) →

@@ -1,4 +1,4 @@
-//! When a run comes to rest. Each law is the contract of a function that does nothing.
+//! How soon a run comes to rest. Each law is the contract of a function that does nothing.
 ghost use Rattle.std.specs.Prelude.{◌≡◌, ℕ, ◌+◌, ◌<◌, ◌≤◌, true, List, length, Ok};
 ghost use Rattle.std.specs.List.{list_all};
 ghost use Rattle.mml_rules.specs.Matching.{IsStable};
@@ -12,10 +12,10 @@ ghost use Rattle.mml_board.specs.Runs.{is_legal_list, world_of};
 ghost use Rattle.mml_convergence.specs.Rest.{EachHasOwner, is_grant_or_close};
 ghost use Rattle.mml_bounds.specs.Most.{events_to_rest};
 
-/// On n nodes with L links, a legal list of only grants and closes has at most 6n + 4 min(L, n²/4) events, n²/4 rounded
-/// down, less one for each move that is chosen when the list begins. So if each node has an owner and as many events
-/// may still follow, a run of grants and closes rests before the limit is reached: until no node is privileged, there
-/// is room for one event more. On at most 256 nodes that is at most 67072 events, and a lab may have 100000.
+/// On n nodes with L links, a legal list of only grants and closes has at most 6n + 4 min(L, n²/4) events, where n²/4
+/// is rounded down, less one for each move that is chosen at its beginning. So if each node has an owner and so many
+/// events are allowed, such a run rests before it reaches the limit: as long as a node is privileged, there is room for
+/// one more event. For at most 256 nodes these are at most 67072 events, and a lab may allow 100000.
 pub fn rest_comes_within_a_limit()
     ensures few { (r : RosterValue) (w : World) (es : List Event) → IsWorld w →
         is_legal_list r w es ≡ true → list_all is_grant_or_close es ≡ true →

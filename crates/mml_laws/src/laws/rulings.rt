@@ -1,4 +1,4 @@
-//! The ruling on a command, by its verdict. Each law is the contract of a function that does nothing.
+//! How a ruling on a command follows from its verdict. Each law is the contract of a function that does nothing.
 ghost use Rattle.std.specs.Prelude.{◌≡◌, ◌↔◌, ◌<◌, ◌≤◌, ℕ, Bool, true, false, List};
 ghost use Rattle.mml_lab.specs.declared.who.Who.{Who};
 ghost use Rattle.mml_lab.specs.Rosters.{RosterValue};
@@ -14,10 +14,10 @@ ghost use Rattle.mml_policy.specs.Rulings.{ruling};
 ghost use Rattle.mml_policy.specs.Verdicts.{verdict};
 ghost use Rattle.mml_laws.specs.Ruled.{IsGrantable, IsShown};
 
-/// The ruling on a command follows its verdict. It is denied exactly if the verdict denies it, for the same cause, and
-/// something is shown exactly if the verdict says so. What the verdict grants is `full` exactly if the place has
-/// reached the limit, `journal` exactly if there is room and the journal is halted, and else happens, with its effect
-/// in that world.
+/// The verdict on a command depends on the world; the ruling depends also on the limit and the journal. A command is
+/// denied exactly if the verdict denies it, for the same reason, and shows something exactly if the verdict says so. If
+/// the verdict grants it, the ruling is `full` if the limit is reached, `journal` if it isn't and the journal is
+/// halted, and otherwise grants it, with its effect in that world.
 pub fn the_ruling_is_the_verdicts()
     ensures denied { (ids : List ℕ) (r : RosterValue) (limit : ℕ) (is_halted : Bool) (w : World)
         (x : Who) (c : Command) (d : Denial) →

@@ -1,5 +1,5 @@
-//! What labs have in common that are the same in all that a journal names. Each law is the clause of a function that
-//! does nothing.
+//! What two labs have in common that agree in everything that a journal names. Each law is the contract of a function
+//! that does nothing.
 ghost use Rattle.std.specs.Prelude.{◌≡◌, ◌<◌, ℕ, List, length};
 ghost use Rattle.mml_lab.specs.declared.who.Who.{Who};
 ghost use Rattle.mml_lab.specs.Rosters.{IsPrincipal, name_of, owns};
@@ -12,9 +12,9 @@ ghost use Rattle.mml_audit.specs.Audit.{audited};
 ghost use Rattle.mml_journal.specs.EventLines.{said_by, event_line, IsEventOf};
 ghost use Rattle.mml_same_lab.specs.Sameness.{IsSameLab};
 
-/// Labs that are the same read each journal alike. A line says the same event in both, or has the same fault, and an
-/// event has the same line. Events lead to the same world. All who take part have the same names, and own the same
-/// nodes.
+/// Labs that are the same read each journal alike. A line means the same event in both, or has the same fault, and an
+/// event has the same line. A list of events leads to the same world. The participants have the same names, and own the
+/// same nodes.
 pub fn same_labs_read_alike()
     ensures read { (a b : LabValue) (bytes : List ℕ) → IsSameLab a b →
         said_by a.ids a.roster bytes ≡ said_by b.ids b.roster bytes }
@@ -29,8 +29,8 @@ pub fn same_labs_read_alike()
         IsPrincipal a.roster who → i < length a.ids → owns a.roster who i ≡ owns b.roster who i }
 {}
 
-/// Labs that are the same, and allow as many events, audit alike: the same bytes pass in both, and leave the same world,
-/// or have the same fault in the same line. An event is legal in both or in neither, in each world.
+/// Labs that are the same, and allow equally many events, audit alike: the same bytes pass in both and lead to the same
+/// world, or have the same fault in the same line. In each world an event is legal in both or in neither.
 pub fn same_labs_audit_alike()
     ensures audit { (a b : LabValue) (bytes : List ℕ) → IsLab a → IsLab b → IsSameLab a b →
         a.events ≡ b.events → audited a bytes ≡ audited b bytes }

@@ -16,7 +16,7 @@ ghost use Rattle.mml_codec.specs.Requests.{request};
 ghost use Rattle.mml_laws.specs.Lists.{HasLists, listed};
 ghost use Rattle.mml_laws.specs.Words.{IsDenial, asked_fields, found_fields, tells_registers, is_view};
 
-/// Each denial has the number of its clause, the name and the text that stand beside it in this list.
+/// Each denial has the clause number, the name and the text that this list has beside it.
 pub fn denials_have_these_words()
     ensures { (at : ℕ) → AllByRecursion IsDenial (
         (denial.NotGreeted, 0, codes "not-greeted", codes "say hello first")
@@ -38,27 +38,29 @@ pub fn denials_have_these_words()
         ∷ []) }
 {}
 
-/// A JSON value spells a request exactly if it has the words and keys that `asked_fields` lists for the request.
+/// A JSON value is read as a request exactly if it has the words and keys that `asked_fields` lists for that request.
 pub fn requests_have_these_words()
     ensures { (d : Data) (r : Request) → (request d ≡ Some r) ↔ HasEach d (asked_fields r) }
 {}
 
-/// A reader of a reply's text as JSON finds under each key what `found_fields` says of that reply: all but lists.
+/// A program that reads a reply's text as JSON finds under each key the value that `found_fields` lists for that reply.
+/// Lists are left out here.
 pub fn replies_are_read_by_these_words()
     ensures { (ids : List ℕ) (roster : RosterValue) (r : Reply) (d : Data) → IsTable ids →
         IsRoster roster → IsAbout ids roster r → AreWritableCounts roster r →
         read (written.text ids roster r) ≡ Some d → HasEach d (found_fields ids roster r) }
 {}
 
-/// Only a see, a look and a report have a key with registers, or with what is computed of registers. These are the
-/// facts that `tells_registers` names.
+/// Only a see, a look and a report have keys with registers, or with values that are computed from registers. The
+/// definition `tells_registers` lists those.
 pub fn only_views_tell_registers()
     ensures { (roster : RosterValue) (r : Reply) → is_view r ≡ false →
         list_any (λ f. tells_registers f.1) (written.fields_of roster r) ≡ false }
 {}
 
-/// A reader finds in a reply the lists that `listed` has, each under its key: in a look the neighbours, in a report the
-/// free nodes, the open links, the pairs and the privileged nodes, and in a close the nodes that moved.
+/// A program that reads a reply's text as JSON finds the lists that `listed` has, each under its key. A look has the
+/// neighbours; a report has the free nodes, the open links, the pairs and the privileged nodes; and a close has the
+/// nodes that moved.
 pub fn replies_have_these_lists()
     ensures { (ids : List ℕ) (roster : RosterValue) (r : Reply) (d : Data) →
         IsTable ids → IsRoster roster → IsAbout ids roster r → AreWritableCounts roster r →
