@@ -25,7 +25,7 @@ use Rattle.mml_class.specs.Granting.{AreGranted, IsFound}
 
 -- ---- the seats' texts
 
--- what says how many events came before has these bytes, and the record of each seat has these
+-- the text with the number of events before the record has these bytes, and the record of each seat has these
 abbrev pub Tell : Option (List ℕ) → (ℕ → Option (List ℕ)) → List ℕ → (ℕ → List ℕ) → Type 0
 Tell begun text start texts = (begun ≡ Some start) × ((n : ℕ) → text n ≡ Some (texts n))
 
@@ -89,7 +89,7 @@ pub record AreMisgranted (lab : LabValue) (l : List Event) (start : List ℕ) (t
   pub records : AreRecordsOf lab l texts 1 entries places
   pub found : IsFound begun (length l) (list_all are_whole entries) places (Some amiss)
 
--- why the texts are no record of a class; of what couldn't be read nothing is said
+-- why the texts are no record of a class; about texts that couldn't be read nothing is stated
 abbrev pub IsClassRefused : LabValue → List Event → List ℕ → (ℕ → List ℕ) → ClassFault → Type 0
 IsClassRefused lab l start texts (fault.Entry seat bad) = IsBadSeat lab l texts seat bad
 IsClassRefused lab l start texts (fault.Places amiss) = AreMisgranted lab l start texts amiss

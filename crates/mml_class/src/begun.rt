@@ -1,9 +1,9 @@
-//! How many events came before a record, as its file says it.
+//! The number of events that came before a record, as the file `begun` in the record's folder states it.
 ghost use Rattle.std.specs.Prelude.{◌≡◌, ◌≤◌, ◌<◌, All, length, true};
 ghost use Rattle.std.specs.List.{list_all};
 ghost use Rattle.mml_class.specs.Begun.{begun_in, decimal_in, is_digit, unended, value_from};
 
-/// Returns the number that a text has in 1 to 19 decimal digits, with or without a newline after them. Returns `None`
+/// Returns the number that a text states: 1 to 19 decimal digits, with or without a newline after them. Returns `None`
 /// for any other text.
 #[tactic(auto, unfolding(crate::specs::Begun::begun_in))]
 pub fn begun_in(text: &[u8]) -> Option<u64>
@@ -24,15 +24,15 @@ fn unended(text: &[u8]) -> &[u8]
     }
 }
 
-// Returns whether the byte is that of a decimal digit.
+// Returns whether the byte is the code of a decimal digit.
 fn is_digit(byte: u8) -> bool
     ensures { result ≡ is_digit byte }
 {
     b'0' <= byte && byte <= b'9'
 }
 
-// Returns the number that 1 to 19 decimal digits spell, or `None` for other bytes. Each such number has at most 64
-// bits.
+// Returns the number that these 1 to 19 decimal digits make, or `None` for other bytes. A number of 19 digits has at
+// most 64 bits.
 fn decimal_in(digits: &[u8]) -> Option<u64>
     ensures { result ≡ decimal_in digits.now }
 {
@@ -43,14 +43,14 @@ fn decimal_in(digits: &[u8]) -> Option<u64>
     }
 }
 
-// Returns whether each byte is that of a decimal digit.
+// Returns whether each byte is the code of a decimal digit.
 fn are_digits(bytes: &[u8]) -> bool
     ensures { result ≡ list_all is_digit bytes.now }
 {
     bytes.iter().all(|byte| is_digit(*byte))
 }
 
-// Returns the number that the decimal digits spell, or 0 if there are none.
+// Returns the number that these decimal digits make, or 0 if there are none.
 fn value_of(digits: &[u8]) -> u64
     requires few { length digits.now ≤ 19 }
     requires digits { list_all is_digit digits.now ≡ true }

@@ -1,4 +1,4 @@
-//! The record of a class: the texts of all its seats.
+//! The record of a class: the texts of all seats, one each.
 ghost use Rattle.std.specs.Prelude.{◌≡◌, ℕ, List, Option, Some, true, IfOk, IfErr, IfSome, OnOk};
 ghost use Rattle.mml_board.specs.Lists.{is_legal_in};
 ghost use Rattle.mml_class.specs.Begun.{begun_in};
@@ -22,26 +22,26 @@ use std::io::Read;
 /// The most bytes of a seat's record.
 pub const MAX_RECORD: u32 = 1_073_741_824;
 
-// The most bytes of the text that says how many events came before.
+// The most bytes of the text with the number of events before the record.
 const MAX_BEGUN: u32 = 20;
 
-/// The result of reading the record of a class that passes.
+/// What was found in the record of a class that is correct.
 #[derive(Debug, Drop)]
 pub struct ClassRecord {
-    /// How many events came before the record.
+    /// How many events came before the record began.
     pub begun: u64,
-    /// The findings of the texts of all seats together.
+    /// A summary of the texts of all seats together.
     pub findings: Findings,
-    /// What the lines asked, in the order of seats, or nothing if that wasn't asked for.
+    /// What each line asked, seat by seat. Empty if the caller didn't want this.
     pub asks: Vec<Ask>,
 }
 
-/// Why texts are no record of a class, or couldn't be read.
+/// Why the texts aren't the record of a class, or couldn't be read.
 #[derive(Clone, Copy, Debug)]
 pub enum ClassFault {
-    /// The text of this seat has a bad entry, of which this is the first.
+    /// The text of this seat isn't a record, because of this entry, which is its first bad one.
     Entry { seat: u8, bad: BadEntry },
-    /// The places that the texts grant have this fault.
+    /// The texts don't grant the right events, each once: this is the first fault.
     Places(Misgranted),
     /// A text couldn't be read.
     Unread(SeatFault),
@@ -52,15 +52,16 @@ impl From<SeatFault> for ClassFault {
 
     ghost from_gives = { λ why e. e ≡ Unread why };
 
-    // Returns the fault of a text that couldn't be read.
+    // Wraps the reason why a text couldn't be read.
     fn from(why: SeatFault) -> ClassFault {
         ClassFault::Unread(why)
     }
 }
 
-/// Reads the texts of all seats as the record of a class, beside the list of events of a journal of the lab: first how
-/// many events came before, then seat by seat, and last whether the events are granted once. Returns the first fault
-/// that is found. If `with_asks` is set, also returns what the lines asked, and holds each text as a whole for that.
+/// Checks the texts of all seats as the record of a class, beside the list of events of a journal of the lab. Reads
+/// first how many events came before, then seat by seat, and at last checks that the events are granted once each.
+/// Returns the first fault that is found. If `with_asks` is set, also returns what each line asked; each text is then
+/// read into memory as a whole.
 pub fn read_class<R: Read + Drop, S: Seats<R>>(
     alloc: Global,
     lab: &Lab,
@@ -122,8 +123,8 @@ fn find_amiss(
     }
 }
 
-// Reads how many events came before the record, and returns it. Returns `Read` if the text can't be read, or isn't
-// such a number, and `Memory` if memory runs out.
+// Reads the number of events that came before the record, and returns it. Returns `Read` if the text can't be read, or
+// states no number, and `Memory` if memory runs out.
 fn read_begun<R: Read + Drop, S: Seats<R>>(alloc: Global, seats: &S) -> Result<u64, SeatFault>
     ensures { (start : List ℕ) → S.begun seats.now ≡ Some start →
         IfOk result (λ begun. begun_in start ≡ Some begun) }
@@ -136,9 +137,9 @@ fn read_begun<R: Read + Drop, S: Seats<R>>(alloc: Global, seats: &S) -> Result<u
     }
 }
 
-// Reads the record of one more seat, and adds its findings to `findings`. Appends the places that it grants to
-// `granted`, and what its lines asked to `asks` if `with_asks` is set. Returns its first bad entry, or why it can't be
-// read, if there is such a fault.
+// Checks the record of one seat. Adds its summary to `findings`, appends the places that it grants to `granted`, and,
+// if `with_asks` is set, appends what its lines asked to `asks`. Returns the record's first bad entry, or why it can't
+// be read.
 fn read_seat<R: Read + Drop, S: Seats<R>>(
     alloc: Global,
     lab: &Lab,
@@ -168,9 +169,9 @@ fn read_seat<R: Read + Drop, S: Seats<R>>(
     }
 }
 
-// Reads a seat's text as a record, and returns the verdict on it. If `with_asks` is set, reads the text as a whole,
-// and appends what its lines asked to `asks` if it passes; else reads it piece by piece. Appends the places that it
-// grants to `granted`.
+// Checks a seat's text as a record, and returns the verdict. If `with_asks` is set, reads the text as a whole, and
+// appends what its lines asked to `asks` if it is a record; otherwise reads it piece by piece. Appends the places that
+// it grants to `granted`.
 fn read_text<R: Read + Drop>(
     alloc: Global,
     lab: &Lab,
@@ -194,8 +195,8 @@ fn read_text<R: Read + Drop>(
     }
 }
 
-// Reads a seat's text as a record, and returns the verdict on it. Appends the places that it grants to `granted`, and,
-// if it passes, what its lines asked to `asks`.
+// Checks a seat's text, which is in memory, as a record, and returns the verdict. Appends the places that it grants to
+// `granted`, and, if it is a record, what its lines asked to `asks`.
 fn read_asked(
     alloc: Global,
     lab: &Lab,
@@ -218,9 +219,9 @@ fn read_asked(
     }
 }
 
-// Reads a reader's bytes as a record of a seat, piece by piece, and returns the verdict on it. Appends the places that
-// it grants to `granted`. Returns `Read` if a read fails, or the text or an entry is too long, and `Memory` if memory
-// runs out.
+// Checks the bytes of a reader as a seat's record, piece by piece, and returns the verdict. Appends the places that it
+// grants to `granted`. Returns `Read` if a read fails, or the text or an entry is too long, and `Memory` if memory runs
+// out.
 fn read_pieces<R: Read + Drop>(
     alloc: Global,
     lab: &Lab,
@@ -241,8 +242,8 @@ fn read_pieces<R: Read + Drop>(
     }
 }
 
-// Returns all bytes of a reader. Returns `Read` if a read fails, or there are more than `limit`, and `Memory` if
-// memory runs out.
+// Returns all bytes of a reader. Returns `Read` if a read fails, or there are more than `limit`, and `Memory` if memory
+// runs out.
 fn read_all<R: Read + Drop>(alloc: Global, reader: R, limit: u32) -> Result<Vec<u8>, SeatFault>
     ensures { IfOk result (λ bytes. IfSome (R.remaining reader) (λ text. bytes.items ≡ text)) }
 {

@@ -1,4 +1,4 @@
-//! What the parts of a record come to together.
+//! The summary of several records together.
 ghost use Rattle.std.specs.Prelude.{◌≡◌, ◌+◌, ◌&&◌, ◌||◌, ℕ};
 ghost use Rattle.std.specs.FinSet as set;
 ghost use Rattle.mml_lab.specs.declared.who.Who.{Who};
@@ -9,7 +9,7 @@ ghost use Rattle.mml_class.specs.inside.Seats.{no_findings};
 use mml_ids::NodeSet;
 use mml_tally::Findings;
 
-/// Returns the findings of a record without entries: no session, no line, and nothing left out.
+/// Returns the findings (the summary) of a record without entries: no session, no line, and nothing left out.
 pub(crate) fn no_findings() -> Findings
     ensures { result ≡ no_findings }
 {
@@ -23,7 +23,7 @@ pub(crate) fn no_findings() -> Findings
     }
 }
 
-/// Returns the findings of two parts of a record as those of one. Sums stop at the greatest number of 64 bits.
+/// Returns the findings of two records together. The sums of sessions and lines stop at the greatest number of 64 bits.
 pub(crate) fn together(a: &Findings, b: &Findings) -> Findings
     ensures sessions { result.sessions ≡ counted (a.now.sessions + b.now.sessions) }
     ensures lines { result.lines ≡ counted (a.now.lines + b.now.lines) }
@@ -41,7 +41,7 @@ pub(crate) fn together(a: &Findings, b: &Findings) -> Findings
     }
 }
 
-// Returns the union of two sets of ranks.
+// Returns the union of two sets of ranks (the numbers of students in the roster).
 fn union(a: NodeSet, b: NodeSet) -> NodeSet
     ensures { (q : ℕ) → set.contains result q ≡ (set.contains a q || set.contains b q) }
 {

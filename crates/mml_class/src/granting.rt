@@ -1,4 +1,4 @@
-//! Whether the records of all seats grant each event once.
+//! The check that the records of all seats grant each event once.
 ghost use Rattle.std.specs.Prelude.{◌≡◌, ◌+◌, ℕ, IfOk, length, suc};
 ghost use Rattle.mml_class.specs.Granting.{IsFound};
 ghost use Rattle.mml_class.specs.inside.Marking.{IsMarked, IsUnmarked, marked};
@@ -6,18 +6,19 @@ ghost use Rattle.mml_class.specs.inside.Marking.{IsMarked, IsUnmarked, marked};
 use mml_ids::Memory;
 use std::alloc::Global;
 
-/// What is amiss with the places that records grant.
+/// What is wrong with the places that records grant.
 #[derive(Clone, Copy, Debug, PartialEq, Eq, Drop)]
 pub enum Misgranted {
-    /// The event at this place happened before the record began; or there is no event at this place.
+    /// No event of the record has this place: it happened before the record began, or never.
     Early(u64),
-    /// The event at this place is granted again.
+    /// The event at this place is granted twice.
     Twice(u64),
-    /// The event at this place is granted nowhere.
+    /// The event at this place is granted in no record.
     Nowhere(u64),
 }
 
-// Returns a mark for each place from 0 to `count`, none of which is set. Returns `Memory` if memory runs out.
+// Returns a list of flags, one for each place from 0 to `count`, none of which is set. Returns `Memory` if memory runs
+// out.
 fn no_marks(alloc: Global, count: u64) -> Result<Vec<bool>, Memory>
     ensures length { IfOk result (λ marks. length marks.items ≡ count + 1) }
     ensures unset { IfOk result (λ marks. (p : ℕ) → marked marks.items p ≡ 0) }
@@ -30,8 +31,8 @@ fn no_marks(alloc: Global, count: u64) -> Result<Vec<bool>, Memory>
     Ok(marks)
 }
 
-// Sets the mark of a place. Returns `None` if the place is after `begun`, has a mark, and the mark wasn't set.
-// Otherwise changes nothing, and returns what is wrong with the place.
+// Sets the flag of a place that a record grants. The place must be above `begun` and have a flag, which isn't set yet;
+// returns `None` then. Otherwise sets nothing, and returns what is wrong with the place.
 fn mark(marks: &mut Vec<bool>, begun: u64, place: u64) -> Option<Misgranted>
     ensures { IsMarked begun place marks.old.items marks.new.items result }
 {
@@ -46,7 +47,8 @@ fn mark(marks: &mut Vec<bool>, begun: u64, place: u64) -> Option<Misgranted>
     None
 }
 
-// Returns the first place after `begun` whose mark isn't set, since it is granted nowhere, or `None` if each is set.
+// Returns the first place above `begun` whose flag isn't set, as one that is granted nowhere. Returns `None` if all are
+// set.
 fn first_unmarked(marks: &[bool], begun: u64) -> Option<Misgranted>
     ensures { IsUnmarked begun marks.now result }
 {
@@ -59,9 +61,9 @@ fn first_unmarked(marks: &[bool], begun: u64) -> Option<Misgranted>
     None
 }
 
-/// Returns the first fault in the places that records grant, or `None` if there is none. Each of `places` must be one
-/// from `begun` + 1 to `count`, and none may be there twice. If the records are `whole`, each number from `begun` + 1
-/// to `count` must be there. Returns `Memory` if memory runs out.
+/// Checks the places that records grant, and returns the first fault, or `None` if there is none. Each of `places` must
+/// be from `begun` + 1 to `count`, and none may be there twice. If the records are `whole`, all these numbers must be
+/// there. Returns `Memory` if memory runs out.
 pub fn find_misgranted(
     alloc: Global,
     places: &[u64],

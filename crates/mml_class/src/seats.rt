@@ -6,29 +6,29 @@ use std::io::Read;
 /// Why a text of a class's record couldn't be read.
 #[derive(Clone, Copy, Debug, PartialEq, Eq)]
 pub enum SeatFault {
-    /// It can't be opened, a read failed, it is too long, or it doesn't say how many events came before.
+    /// It can't be opened, a read failed, it is too long, or it doesn't state how many events came before.
     Read,
     /// Memory ran out.
     Memory,
 }
 
 impl From<Memory> for SeatFault {
-    // Returns the fault for a failed allocation.
+    // Returns the fault for memory that ran out.
     fn from(_memory: Memory) -> SeatFault {
         SeatFault::Memory
     }
 }
 
-/// The texts of a class's record, which can be opened.
+/// A source of the texts of a class's record.
 pub trait Seats<R: Read> {
-    // The bytes that say how many events came before, if they are known.
+    // The bytes of the text with the number of events before the record; `None` if contracts can't name them.
     ghost begun: { Self → Option (List ℕ) };
 
-    // The bytes of the record of the seat with a number, if they are known.
+    // The bytes of the record of the seat with a number; `None` if contracts can't name them.
     ghost text: { Self → ℕ → Option (List ℕ) };
 
-    /// Opens the text that says how many events came before. Returns a reader at its beginning, or why it can't be
-    /// opened.
+    /// Opens the text with the number of events before the record. Returns a reader at its beginning, or why it can't
+    /// be opened.
     fn open_begun(&self) -> Result<R, SeatFault>
         ensures { IfOk result (λ reader. IfSome (begun self.now) (λ bytes. R.remaining reader ≡ Some bytes)) };
 

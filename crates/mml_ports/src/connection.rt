@@ -7,8 +7,8 @@ use std::alloc::Global;
 use std::io;
 use std::sync::{Arc, Wait};
 
-/// The data that a connection's reader, its writer and its cut-off share: their host, the crowd at its port, and its
-/// socket.
+/// What the parts of a connection (its reader, its writer and its cut-off) share: the host's state, the crowd at its
+/// port, and its socket.
 #[derive(Drop)]
 pub struct SharedConnection<'a, Rt> {
     pub rt: &'a Rt,
@@ -20,7 +20,7 @@ pub struct SharedConnection<'a, Rt> {
 }
 
 impl<'a, Rt> SharedConnection<'a, Rt> {
-    /// Returns another value of this connection, over the same socket, for one more of its parts. Returns an error if
+    /// Returns another handle of this connection, over the same socket, for one more of its parts. Returns an error if
     /// memory runs out.
     pub fn share(&self) -> io::Result<SharedConnection<'a, Rt>> {
         let socket = Arc::try_clone(&self.socket)?;
@@ -29,7 +29,8 @@ impl<'a, Rt> SharedConnection<'a, Rt> {
 }
 
 impl<'a, Rt: Wait> SharedConnection<'a, Rt> {
-    /// Keeps why the connection is ended, to send it to the other side, unless a reason is kept already.
+    /// Keeps the reason why the connection is ended, to send it to the other side. Does nothing if there is a reason
+    /// already.
     pub fn note_end_reason(&self, why: EndReason) {
         self.socket.note_end_reason(self.rt, why);
     }

@@ -1,4 +1,4 @@
-//! The connections that are served at a port, and which of them leaves for a newcomer.
+//! The connections that are served at a port, and which of them has to leave if a new one needs a seat.
 ghost use Rattle.std.specs.Prelude.{◌<◌, IfSome, vec_len};
 
 use crate::end_reason::EndReason;
@@ -11,38 +11,38 @@ use std::sync::atomic::{AtomicBool, Ordering};
 use std::sync::{Arc, Mutex, Wait};
 use std::time::{Clock, Duration, Instant};
 
-// One in this many seats is for strangers.
+// Strangers may hold one in this many seats.
 const STRANGERS: usize = 3;
 
-// How many seats a name may have if others wait for one.
+// How many seats connections of one participant may hold while others wait for a seat.
 const SEATS_OF_A_NAME: usize = 4;
 
-// After newcomers have waited for this many milliseconds, a name that has more than `SEATS_OF_A_NAME` gives a seat up:
-// a seat that is being freed is free sooner.
+// After new connections have waited for this many milliseconds, a participant with more than `SEATS_OF_A_NAME` seats
+// loses one. The delay is for seats that are just becoming free.
 const MOMENT: u64 = 250;
 
-// How many milliseconds a connection that hasn't greeted, and has had no answer, may stay if others wait.
+// How many milliseconds a connection may stay without having sent a hello and got an answer, if others wait.
 const GRACE: u64 = 100;
 
-// A connection that is served.
+// A guest: a connection that is served in a seat.
 #[derive(Drop)]
 struct Guest {
     socket: Arc<SharedSocket, Global>,
     since: Instant,
-    // The one who has greeted here, once a hello is granted; at the desk only the teacher.
+    // The participant whose hello was granted here, if one was. At the desk only the teacher's counts.
     greeting: Option<Who>,
     is_leaving: bool,
 }
 
 impl Guest {
-    // Returns whether the guest is a stranger: one that hasn't greeted, at the desk not as the teacher, and isn't
-    // leaving.
+    // Returns whether the guest is a stranger. A stranger's hello wasn't granted (at the desk, only the teacher's
+    // counts), and it isn't leaving.
     fn is_stranger(&self) -> bool {
         self.greeting.is_none() && !self.is_leaving
     }
 
-    // Returns whether the guest is a stranger that has had its time: it was answered or denied, or has been here for
-    // `GRACE` milliseconds. One that waits for the turn of a denial needs no seat for that.
+    // Returns whether the guest is a stranger who may be sent away: it was answered or denied, or has been here for
+    // `GRACE` milliseconds. It needs no seat to wait for the delayed reply that denies its hello.
     fn may_go(&self, now: Instant) -> bool {
         self.is_stranger()
             && (self.socket.is_answered.load(Ordering::SeqCst)
@@ -50,7 +50,7 @@ impl Guest {
                 || now.duration_since(self.since) >= Duration::from_millis(GRACE))
     }
 
-    // Returns whether this guest and the other have greeted by the same name, and this one isn't leaving.
+    // Returns whether both guests are known as the same participant, and this one isn't leaving.
     fn has_name_of(&self, other: &Guest) -> bool {
         match (self.greeting, other.greeting) {
             (Some(own), Some(its)) => own == its && !self.is_leaving,
@@ -58,27 +58,27 @@ impl Guest {
         }
     }
 
-    // Ends the guest's connection, so that its seat becomes free for a newcomer.
+    // Ends the guest's connection with the reason `Busy`, so that its seat becomes free for another.
     fn send_away<Rt: Wait>(&mut self, rt: &Rt) {
         self.is_leaving = true;
         self.socket.end_with(rt, EndReason::Busy);
     }
 }
 
-/// The connections that are served at a port, in the order in which they came. A stranger is one that hasn't greeted,
-/// at the desk not as the teacher, and isn't leaving.
+/// The crowd of a port: its guests, which are the connections that are served there, in the order in which they came.
+/// Some of them are strangers, who may have to leave if a new connection needs a seat.
 #[derive(Drop)]
 pub struct Crowd {
     guests: Mutex<Vec<Guest>>,
-    // How many may be served at a time.
+    // How many connections may be served at a time.
     seats: usize,
-    // Whether a newcomer waits for a seat.
+    // Whether a new connection waits for a seat.
     pub(crate) is_wanted: AtomicBool,
     pub(crate) partings: Partings,
 }
 
 impl Crowd {
-    /// Returns the crowd of a port with this many seats, in which nobody is served yet.
+    /// Returns the crowd of a port with this many seats, before anybody is served there.
     pub fn new(alloc: Global, seats: usize) -> Crowd {
         Crowd {
             guests: Mutex::new(Vec::new(alloc)),
@@ -88,8 +88,8 @@ impl Crowd {
         }
     }
 
-    /// Notes that a connection is served from the instant `since` on. Returns `Memory`, and doesn't count the
-    /// connection, if memory runs out.
+    /// Adds a connection to the guests, which is served from the instant `since` on. Returns `Memory`, and doesn't add
+    /// it, if memory runs out.
     pub fn note_served<Rt: Wait>(
         &self,
         rt: &Rt,
@@ -108,7 +108,8 @@ impl Crowd {
         }
     }
 
-    /// Notes that the hello of the connection with this number was granted to `who`.
+    /// Notes that the hello of the connection with this number was granted to `who`, so that it is no stranger any
+    /// more.
     pub fn note_greeting<Rt: Wait>(&self, rt: &Rt, number: u64, who: Who) {
         let mut guests = self.guests.lock(rt);
         if let Some(at) = index_of_guest(&guests, number)
@@ -118,7 +119,7 @@ impl Crowd {
         }
     }
 
-    /// Notes that the connection with this number has left, so that its seat is free again.
+    /// Removes the connection with this number from the guests, so that its seat is free again.
     pub fn note_left<Rt: Wait>(&self, rt: &Rt, number: u64) {
         let mut guests = self.guests.lock(rt);
         if let Some(at) = index_of_guest(&guests, number) {
@@ -126,18 +127,19 @@ impl Crowd {
         }
     }
 
-    /// Notes whether a newcomer waits for a seat.
+    /// Notes whether a new connection waits for a seat.
     pub fn note_wanted(&self, is_wanted: bool) {
         self.is_wanted.store(is_wanted, Ordering::SeqCst);
     }
 
-    /// Returns whether a newcomer waits for a seat.
+    /// Returns whether a new connection waits for a seat.
     pub fn is_wanted(&self) -> bool {
         self.is_wanted.load(Ordering::SeqCst)
     }
 
-    /// If a newcomer waits for a seat, sends away a stranger as `let_stranger_go` does. A connection that was just
-    /// answered, or is being denied, calls this, so that its seat is free at once. Does nothing if the clock fails.
+    /// If a new connection waits for a seat, sends away a stranger, if `let_stranger_go` finds one. Is called after a
+    /// connection was answered, or when its hello is denied, since it may be the one that can leave. Does nothing if
+    /// the clock fails.
     pub fn make_room<Rt: Wait + Clock>(&self, rt: &Rt) {
         if self.is_wanted()
             && let Ok(now) = Instant::now(rt)
@@ -147,14 +149,14 @@ impl Crowd {
         }
     }
 
-    // Returns whether strangers hold all the seats that they may: a third of the port's, but at least one.
+    // Returns whether strangers hold all the seats that they may: a third of the port's, and at least one.
     fn is_share_taken(&self, guests: &Vec<Guest>) -> bool {
         count_strangers(guests) >= (self.seats / STRANGERS).max(1)
     }
 
-    // Sends away the first stranger that has had its time, if strangers hold all the seats that they may, or if no seat
-    // is free and nobody is leaving one. The second case is for a few strangers who hold the last seats: without it
-    // they would keep these until their deadlines.
+    // Sends away the first stranger that `may_go`, if strangers hold all the seats that they may, or if no seat is free
+    // and nobody is leaving. The second case concerns few strangers who hold the last seats: otherwise they would keep
+    // these until their deadlines.
     fn let_stranger_go<Rt: Wait>(&self, rt: &Rt, guests: &mut Vec<Guest>, now: Instant) {
         let is_full = guests.len() >= self.seats && !is_one_leaving(guests);
         if (is_full || self.is_share_taken(guests))
@@ -168,14 +170,15 @@ impl Crowd {
     /// Returns whether a guest is leaving, or a connection that has left isn't closed yet.
     pub fn is_parting<Rt: Wait>(&self, rt: &Rt) -> bool {
         let is_leaving = is_one_leaving(&self.guests.lock(rt));
-        // The guests are checked first: one that is owed a denial joins the partings before it stops being a guest.
+        // The guests are checked first: one whose denial is sent later joins the partings before it stops being a
+        // guest.
         is_leaving || !self.partings.is_empty(rt)
     }
 
-    /// Returns whether there is a seat for a newcomer: one is free, and strangers don't hold all that they may. If not,
-    /// sends away a stranger as `let_stranger_go` does. If strangers don't hold all that they may, newcomers have
-    /// waited for `MOMENT` or longer (`wanted`) and nobody is leaving, sends away the last guest whose name has too
-    /// many seats.
+    /// Returns whether there is a seat for a new connection: one is free, and strangers don't hold all that they may.
+    /// If not, tries to free one: sends away a stranger, if `let_stranger_go` finds one. If there aren't too many
+    /// strangers, new connections have waited for `MOMENT` or longer (`wanted`), and nobody is leaving, also sends away
+    /// the last guest whose participant has too many seats.
     pub fn finds_room<Rt: Wait>(&self, rt: &Rt, now: Instant, wanted: Duration) -> bool {
         let mut guests = self.guests.lock(rt);
         let is_share_taken = self.is_share_taken(&guests);
@@ -195,7 +198,7 @@ impl Crowd {
     }
 }
 
-// Returns the index of the connection with this number among the guests, or `None` if it isn't there.
+// Returns the index of the guest whose connection has this number, or `None` if there is no such guest.
 fn index_of_guest(guests: &Vec<Guest>, number: u64) -> Option<usize>
     ensures { IfSome result (λ index. index < vec_len guests.now) }
 {
@@ -207,7 +210,7 @@ fn index_of_guest(guests: &Vec<Guest>, number: u64) -> Option<usize>
     None
 }
 
-// Returns how many guests are strangers.
+// Returns how many of the guests are strangers.
 fn count_strangers(guests: &Vec<Guest>) -> usize {
     let mut count = 0usize;
     for index in 0..guests.len() {
@@ -218,7 +221,7 @@ fn count_strangers(guests: &Vec<Guest>) -> usize {
     count
 }
 
-// Returns the index of the first stranger that has had its time, or `None` if there is no such guest.
+// Returns the index of the first stranger who may be sent away, or `None` if there is no such guest.
 fn first_who_may_go(guests: &Vec<Guest>, now: Instant) -> Option<usize> {
     for index in 0..guests.len() {
         if guests[index].may_go(now) {
@@ -228,7 +231,7 @@ fn first_who_may_go(guests: &Vec<Guest>, now: Instant) -> Option<usize> {
     None
 }
 
-// Returns whether one of the guests is leaving.
+// Returns whether one of the guests is leaving its seat.
 fn is_one_leaving(guests: &Vec<Guest>) -> bool {
     for index in 0..guests.len() {
         if guests[index].is_leaving {
@@ -238,8 +241,8 @@ fn is_one_leaving(guests: &Vec<Guest>) -> bool {
     false
 }
 
-// Returns the index of the last guest whose name has more than `SEATS_OF_A_NAME` seats, those that are being left not
-// counted, or `None` if no name has so many.
+// Returns the index of the last guest whose participant has more than `SEATS_OF_A_NAME` seats, or `None` if no
+// participant has so many. Seats of guests who are leaving aren't counted.
 fn one_too_many(guests: &Vec<Guest>) -> Option<usize> {
     let mut found = None;
     for index in 0..guests.len() {

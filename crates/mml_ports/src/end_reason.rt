@@ -1,12 +1,12 @@
-//! The messages to a connection at its end, outside the replies of its session.
+//! The lines that tell the other side why its connection is ended. They aren't replies of a session.
 use mml_hosting::BUSY;
 
-/// Why a connection is ended by the host.
+/// Why the host ends a connection.
 #[derive(Clone, Copy, Debug, PartialEq, Eq)]
 pub enum EndReason {
     /// There is no seat for it.
     Busy,
-    /// A line, or a granted hello, didn't come in time.
+    /// A line didn't come in time, or no hello was granted in time.
     Late,
     /// A line was longer than a request may be.
     Long,
@@ -15,7 +15,7 @@ pub enum EndReason {
 }
 
 impl EndReason {
-    /// Returns the line that is sent to the other side for this reason.
+    /// Returns the line that tells the other side this reason.
     pub fn line(self) -> &'static [u8] {
         match self {
             EndReason::Busy => BUSY,

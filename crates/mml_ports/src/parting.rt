@@ -1,4 +1,4 @@
-//! Connections that have left a port and aren't closed yet.
+//! Connections that have left their seats (or never had one) and aren't closed yet.
 use crate::end_reason::EndReason;
 use std::alloc::Global;
 use std::collections::VecDeque;
@@ -12,30 +12,31 @@ use std::time::{Clock, Duration, Instant};
 pub(crate) const UNKNOWN: &[u8] =
     b"{\"clause\":2,\"deny\":\"unknown\",\"text\":\"name and key do not match\"}\n";
 
-/// How many milliseconds the other side has to read what was sent to it.
+/// How many milliseconds the other side has to read what was sent, before its connection is closed.
 pub(crate) const PARTING: u64 = 20;
 
-// The most bytes that are read of what the other side sent before its connection is closed.
+// The most bytes of what the other side sent that are read before its connection is closed.
 const PARTING_SIZE: usize = 4096;
 
-// How many connections are kept here before the oldest that was sent all is closed early, so that a flood of
-// connections doesn't use up the descriptors.
+// If so many connections are waiting to be closed, the oldest that was sent everything is closed early, so that a flood
+// of connections doesn't use up the descriptors.
 const MANY_PARTINGS: usize = 64;
 
-// A connection that has left its seat, or never had one.
+// A connection that has left its seat, or never had one, and is to be closed.
 #[derive(Drop)]
 struct Parting {
     stream: TcpStream,
-    // The time at which it is sent what it is owed or, if it was sent all, is closed.
+    // When the next step is due: sending its denial, or, if everything was sent, closing it.
     next: Instant,
-    // Whether it was sent all, so that it only has to be closed.
+    // Whether everything was sent, so that it only has to be closed.
     is_told: bool,
 }
 
 impl Parting {
-    // Returns the connection unchanged if its time hasn't come. After that, closes one that was sent all, and returns
-    // `None`. Sends any other the denial that it is owed and that there is no seat for it, and shuts down its writing
-    // side. Returns it then, to be closed later, or `None` if `closing` closed it at once.
+    // Does the next step for the connection if it is due. Before that time, returns the connection unchanged. If
+    // everything was sent, closes it, and returns `None`. Otherwise sends the denial of its hello and the line of
+    // `Busy`, and shuts down its writing side. Then returns it, to be closed later, or `None` if `closing` has closed
+    // it already.
     fn step(self, now: Instant) -> Option<Parting> {
         if now < self.next {
             return Some(self);
@@ -51,9 +52,9 @@ impl Parting {
     }
 }
 
-// Shuts down the writing side of a stream that doesn't wait, and drops what the other side sent. Returns the
-// connection, which is to be closed `PARTING` milliseconds after `now`. If the other side has ended or is gone, or the
-// clock can't name that time, closes the stream at once and returns `None`.
+// Shuts down the writing side of a non-blocking stream, and drops what the other side sent. Returns the connection,
+// which is to be closed `PARTING` milliseconds after `now`. Closes the stream at once, and returns `None`, if the other
+// side has ended or is gone, or the clock can't represent that time.
 fn closing(stream: TcpStream, now: Instant) -> Option<Parting> {
     // This fails if the other side is gone.
     if stream.shutdown(Shutdown::Write).is_err() || !take_unwanted(&stream) {
@@ -67,7 +68,7 @@ fn closing(stream: TcpStream, now: Instant) -> Option<Parting> {
     })
 }
 
-// Returns the index of the first connection that was sent all, or `None` if there is no such connection.
+// Returns the index of the first connection to which everything was sent, or `None` if there is no such connection.
 fn first_told(all: &VecDeque<Parting>) -> Option<usize> {
     for index in 0..all.len() {
         if let Some(parting) = all.get(index)
@@ -79,15 +80,15 @@ fn first_told(all: &VecDeque<Parting>) -> Option<usize> {
     None
 }
 
-/// Writes a line, or as much of it as the other side takes within the stream's own time limit. Ignores errors.
+/// Writes a line, or as much of it as the other side takes within the stream's write timeout. Ignores errors.
 pub(crate) fn tell(stream: &TcpStream, line: &[u8]) {
     let mut stream = stream;
     let _ = stream.write(line);
 }
 
-/// Reads and drops what the other side sent, up to 4096 bytes in one read, which waits as long as the stream's own time
-/// limit allows: a socket that is closed with unread bytes discards what it has still to send. Returns whether the
-/// other side may send more: `false` if it has ended, or is gone.
+/// Reads and drops up to 4096 bytes of what the other side sent. Without this, closing the socket would discard what it
+/// has still to send. Waits for at most the stream's read timeout. Returns whether the other side may send more:
+/// `false` if it has ended or is gone.
 pub(crate) fn take_unwanted(stream: &TcpStream) -> bool {
     let mut stream = stream;
     let mut unwanted = [0; PARTING_SIZE];
@@ -97,28 +98,28 @@ pub(crate) fn take_unwanted(stream: &TcpStream) -> bool {
     }
 }
 
-/// The connections that have left a port and aren't closed yet: those that are still owed the denial of their hello,
-/// and those that were sent all and have a moment to read it. Nothing here waits for the other side.
+/// The connections that have left a port and aren't closed yet. To some, the denial of their hello is still to be sent.
+/// The others were sent everything, and get some milliseconds to read it. Nothing here waits for the other side.
 #[derive(Drop)]
 pub struct Partings {
     all: Mutex<VecDeque<Parting>>,
 }
 
 impl Partings {
-    /// Returns the list of a port that nobody has left yet.
+    /// Returns an empty list, for a port that nobody has left yet.
     pub fn new(alloc: Global) -> Partings {
         Partings {
             all: Mutex::new(VecDeque::new(alloc)),
         }
     }
 
-    /// Returns whether no connection is left here.
+    /// Returns whether all connections that have left are closed.
     pub fn is_empty<Rt: Wait>(&self, rt: &Rt) -> bool {
         self.all.lock(rt).is_empty()
     }
 
-    /// Keeps the stream of a connection that has left until the denial that it is owed is sent, at this turn. If memory
-    /// runs out, or the system doesn't allow non-blocking use, closes the stream without sending the denial.
+    /// Adds a connection that has left its seat, to send it the denial of its hello at the time `turn`. Closes it
+    /// without that if memory runs out, or the system refuses non-blocking use.
     pub fn add_owed<Rt: Wait>(&self, rt: &Rt, stream: TcpStream, turn: Instant) {
         if stream.set_nonblocking(true).is_err() {
             return;
@@ -131,9 +132,9 @@ impl Partings {
         let _ = self.all.lock(rt).push_back(parting);
     }
 
-    /// Sends a connection why it ends, if a reason is given and its line fits at once, shuts down the writing side, and
-    /// keeps the stream until the other side had time to read that. If memory runs out, the clock fails, or the system
-    /// doesn't allow non-blocking use, closes the stream at once.
+    /// Sends a connection the reason why it ends, if one is given and its line fits at once. Shuts down the writing
+    /// side, and adds the connection to the list, so that the other side has time to read. Closes it at once if memory
+    /// runs out, the clock fails, or the system refuses non-blocking use.
     pub fn add_ending<Rt: Wait + Clock>(&self, rt: &Rt, stream: TcpStream, why: Option<EndReason>) {
         if stream.set_nonblocking(true).is_err() {
             return;
@@ -148,8 +149,8 @@ impl Partings {
         }
     }
 
-    // Keeps a connection that was sent all until its time has come. If `MANY_PARTINGS` or more are kept already, first
-    // closes the first of them that was sent all. If memory runs out, closes the new one at once.
+    // Adds a connection to which everything was sent, until it is due to be closed. If there are `MANY_PARTINGS` or
+    // more already, first closes the oldest of those. If memory runs out, closes the new one at once.
     fn keep<Rt: Wait>(&self, rt: &Rt, parting: Parting) {
         let mut all = self.all.lock(rt);
         if all.len() >= MANY_PARTINGS
@@ -160,8 +161,8 @@ impl Partings {
         let _ = all.push_back(parting);
     }
 
-    /// Sends the denial to those whose turn has come, and closes those that had time to read what was sent. Waits for
-    /// nobody, and does nothing if the clock fails.
+    /// Sends the denials that are due, and closes the connections that had time to read. Doesn't wait, and does nothing
+    /// if the clock fails.
     pub fn tell_due<Rt: Wait + Clock>(&self, rt: &Rt) {
         let mut all = self.all.lock(rt);
         if all.is_empty() {
@@ -174,13 +175,13 @@ impl Partings {
             if let Some(first) = all.pop_front()
                 && let Some(parting) = first.step(now)
             {
-                // It has the room that it had.
+                // The list has room for it, since it was in the list before.
                 let _ = all.push_back(parting);
             }
         }
     }
 
-    /// Closes at once, before their time, all connections that were sent all, so that their descriptors are free.
+    /// Closes all connections to which everything was sent, before they are due, to free their descriptors.
     pub fn close_told<Rt: Wait>(&self, rt: &Rt) {
         let mut all = self.all.lock(rt);
         for _ in 0..all.len() {
@@ -188,15 +189,15 @@ impl Partings {
                 if first.is_told {
                     let _may_send = take_unwanted(&first.stream);
                 } else {
-                    // It has the room that it had.
+                    // The list has room for it, since it was in the list before.
                     let _ = all.push_back(first);
                 }
             }
         }
     }
 
-    /// Closes all connections, because the host is over. Sends those that are still owed a denial that the class has
-    /// ended instead. All have `PARTING` milliseconds to read what was sent before they are closed.
+    /// Closes all connections, because the host is over. Sends the line of `Over` to those that still wait for a
+    /// denial. Waits for `PARTING` milliseconds before closing, so that all have time to read.
     pub fn close_all<Rt: Wait + Clock>(&self, rt: &Rt) {
         let mut all = self.all.lock(rt);
         if all.is_empty() {

@@ -1,4 +1,5 @@
-//! A host's ports. No contract knows the bytes of their connections.
+//! A host's port, which accepts connections and chooses the next to be served. Contracts can't name the bytes of
+//! sockets.
 use crate::connection::SharedConnection;
 use crate::crowd::Crowd;
 use crate::end_reason::EndReason;
@@ -17,22 +18,22 @@ use std::sync::{Arc, Mutex, Wait};
 use std::time::{Clock, Duration, Instant};
 use std::{io, thread};
 
-// How many milliseconds a newcomer waits for a seat.
+// How many milliseconds a new connection waits for a seat.
 const PLACE: u64 = 500;
 
-// How many newcomers may wait at a time.
+// How many new connections may wait at a time.
 const WAITING: usize = 16;
 
-// How many milliseconds a newcomer may take until its first line has come, before it counts as silent.
+// How many milliseconds a new connection has to send its first line, before it counts as silent.
 const SILENCE: u64 = 5;
 
-// How often the host connects to a port that doesn't answer.
+// How often the host tries to connect to its own port, to wake the accept there.
 const CALLS: u32 = 50;
 
-// How many milliseconds it waits for an answer to that.
+// How many milliseconds it waits for each of these.
 const CALL: u64 = 100;
 
-// A connection that has come, and isn't served yet.
+// A newcomer: a connection that was accepted, and waits for a seat.
 #[derive(Drop)]
 struct Newcomer<'a, Rt> {
     reader: Incoming<'a, Rt>,
@@ -40,22 +41,22 @@ struct Newcomer<'a, Rt> {
     cut_off: SocketCutOff<'a, Rt>,
     connection: SharedConnection<'a, Rt>,
     since: Instant,
-    // Whether reads of its socket don't wait, as from the first check on.
+    // Whether its socket's reads were set not to wait, which the first check does.
     is_looked_at: bool,
-    // What was seen to have come.
+    // What the checks have found of what it sent.
     heard: Heard,
 }
 
 impl<'a, Rt: Clock + Wait + Eprint> Newcomer<'a, Rt> {
-    // Hangs up on the newcomer and sends it the reason: `why`, unless one is kept already.
+    // Closes the newcomer's connection, after sending the reason: `why`, or the one that was kept before.
     fn turn_away(self, why: EndReason) {
         let mut newcomer = self;
         newcomer.connection.note_end_reason(why);
         newcomer.writer.hang_up();
     }
 
-    // Returns what has come from the newcomer, without reading it. Checks the socket only if no line was seen before.
-    // Sets its reads not to wait at the first check.
+    // Returns what the newcomer has sent, without reading it. Checks the socket only until a line is found. The first
+    // check sets its reads not to wait.
     fn hear(&mut self) -> Heard {
         let SharedConnection {
             rt,
@@ -72,15 +73,15 @@ impl<'a, Rt: Clock + Wait + Eprint> Newcomer<'a, Rt> {
         self.heard
     }
 
-    // Returns whether the newcomer came `SILENCE` milliseconds ago or earlier, so that it had time to send its first
+    // Returns whether the newcomer came at least `SILENCE` milliseconds ago, so that it had time to send its first
     // line.
     fn had_time(&self, now: Instant) -> bool {
         now.duration_since(self.since) >= Duration::from_millis(SILENCE)
     }
 }
 
-/// A port at which connections are accepted until the host is over. A connection for which there is no seat waits for
-/// one for a moment, while others are accepted.
+/// A port, which accepts connections until the host is over. A connection for which there is no seat waits for one for
+/// half a second, while others are accepted.
 #[derive(Drop)]
 pub struct Port<'a, Rt> {
     rt: &'a Rt,
@@ -91,15 +92,15 @@ pub struct Port<'a, Rt> {
     listener: TcpListener,
     // A connection that was accepted before the port was served.
     first: Option<TcpStream>,
-    // The newcomers that wait for a seat, in the order in which they came.
+    // The newcomers, in the order in which they came.
     waiting: VecDeque<Newcomer<'a, Rt>>,
-    // Since when somebody has waited for a seat without a break, or `None` while nobody waits.
+    // Since when newcomers have waited for a seat without a break, or `None` if none waits.
     wanted_since: Option<Instant>,
-    // How many connections have come.
+    // How many connections were accepted.
     count: u64,
 }
 
-// The result of an accept: a connection with its reader, its writer and its cut-off, or none.
+// The result of an accept: a connection with its reader, its writer and its cut-off; or none; or the end.
 type Brought<'a, Rt> = Accepted<Incoming<'a, Rt>, ReplyWriter<'a, Rt>, SocketCutOff<'a, Rt>>;
 
 impl<'a, Rt: Clock + Wait + Eprint> Port<'a, Rt> {
@@ -126,17 +127,18 @@ impl<'a, Rt: Clock + Wait + Eprint> Port<'a, Rt> {
         }
     }
 
-    // Returns whether somebody waits for a seat, is leaving one, or has left and isn't closed yet: then no accept may
-    // wait.
+    // Returns whether a blocking accept would delay other work: a newcomer waits, a guest is leaving, or a connection
+    // that has left isn't closed yet.
     fn is_hurried(&self) -> bool {
         !self.waiting.is_empty() || self.crowd.is_parting(self.rt)
     }
 
-    // Accepts the next connection, which isn't queued yet. While the port is hurried, doesn't wait: returns the error
-    // `WouldBlock` if none has come. Any other error is the system's, or out of memory.
+    // Accepts the next connection, and returns it as a newcomer, which isn't in the queue yet. If the port
+    // `is_hurried`, doesn't wait, and returns the error `WouldBlock` if none has come. Any other error is the system's,
+    // or that memory ran out.
     fn accept(&mut self) -> io::Result<Newcomer<'a, Rt>> {
         let stream = self.next_stream()?;
-        // If the system refuses this, replies are still sent, only later.
+        // If the system refuses to send each write at once, replies are still sent, only later.
         let _ = stream.set_nodelay(true);
         stream.set_write_timeout(Some(Duration::from_secs(WRITE_LIMIT)))?;
         self.count = self.count.wrapping_add(1);
@@ -167,8 +169,8 @@ impl<'a, Rt: Clock + Wait + Eprint> Port<'a, Rt> {
         })
     }
 
-    // Returns the stream of the next connection: the one that was accepted before, or one that comes. Doesn't wait for
-    // it while the port is hurried.
+    // Returns the stream of the next connection: the one that was accepted before the port was served, or one that
+    // comes. Doesn't wait for that if the port `is_hurried`.
     fn next_stream(&mut self) -> io::Result<TcpStream> {
         match self.first.take() {
             Some(stream) => Ok(stream),
@@ -180,8 +182,8 @@ impl<'a, Rt: Clock + Wait + Eprint> Port<'a, Rt> {
         }
     }
 
-    // Adds a newcomer at the end of the queue for a seat. If `WAITING` newcomers wait already, first turns away the one
-    // that `first_to_drop` chooses. If memory runs out, notes that, and turns away the new one.
+    // Adds a newcomer at the end of the queue for seats. If `WAITING` newcomers wait already, first turns away the one
+    // that `first_to_drop` chooses. If memory runs out, notes that in the host's state, and turns away the new one.
     fn queue(&mut self, newcomer: Newcomer<'a, Rt>) {
         if self.waiting.len() >= WAITING {
             let index = self.first_to_drop(newcomer.since);
@@ -195,10 +197,10 @@ impl<'a, Rt: Clock + Wait + Eprint> Port<'a, Rt> {
         }
     }
 
-    // Returns the next newcomer to serve if there is a seat. If not, returns `None`, has the crowd send a guest away
-    // that has to leave, and turns away the first newcomer once it has waited for half a second. Notes in the crowd
-    // whether one waits for a seat. Returns `None`, too, if nobody waits, or, with nothing else done, if the clock
-    // fails.
+    // Returns the next newcomer to serve, if there is a seat. If there is none, has the crowd send a guest away, if one
+    // must leave; turns away the first newcomer if it has waited for half a second; and returns `None`. Tells the crowd
+    // whether a newcomer waits for a seat. Also returns `None` if there are no newcomers, or if the clock fails, when
+    // nothing else is done.
     fn let_in(&mut self) -> Option<Brought<'a, Rt>> {
         let Some(first) = self.waiting.front() else {
             self.wanted_since = None;
@@ -226,8 +228,8 @@ impl<'a, Rt: Clock + Wait + Eprint> Port<'a, Rt> {
         None
     }
 
-    // Returns the index of the waiting newcomer to turn away: the first that has sent no line though it had time for
-    // one, or else the first that hasn't sent a hello, or else the first of all.
+    // Returns the index of the newcomer to turn away if too many wait: the first that has sent no line though it had
+    // time for one; or else the first that hasn't sent a hello; or else the first of all.
     fn first_to_drop(&mut self, now: Instant) -> usize {
         let mut first_without_hello = None;
         for index in 0..self.waiting.len() {
@@ -244,8 +246,8 @@ impl<'a, Rt: Clock + Wait + Eprint> Port<'a, Rt> {
         first_without_hello.unwrap_or(0)
     }
 
-    // Returns the index of the waiting newcomer to serve next: the first that has sent a hello, or else the first that
-    // has sent another line, or else the first of all.
+    // Returns the index of the newcomer to serve next: the first that has sent a hello, or else the first that has sent
+    // another line, or else the first of all.
     fn first_to_speak(&mut self) -> usize {
         let mut first_with_line = None;
         for index in 0..self.waiting.len() {
@@ -262,11 +264,11 @@ impl<'a, Rt: Clock + Wait + Eprint> Port<'a, Rt> {
         first_with_line.unwrap_or(0)
     }
 
-    // Removes the newcomer that `first_to_speak` chooses from the queue, and returns it, to be served from `now` on.
-    // Returns `None` if nobody waits. If memory runs out, notes that: the newcomer is served, but not counted in the
-    // crowd.
+    // Takes the newcomer that `first_to_speak` chooses from the queue, adds it to the crowd's guests, and returns it,
+    // to be served from `now` on. Returns `None` if there are no newcomers. If memory runs out, notes that in the
+    // host's state: the newcomer is served, but isn't counted as a guest.
     fn bring(&mut self, now: Instant) -> Option<Brought<'a, Rt>> {
-        // One that waits alone isn't checked.
+        // If only one waits, it needs no check.
         let index = if self.waiting.len() > 1 {
             self.first_to_speak()
         } else {
@@ -306,10 +308,10 @@ impl<'a, Rt: Clock + Wait + Eprint> Port<'a, Rt> {
         Accepted::Over
     }
 
-    // Prepares the next accept after one that failed. Notes if memory ran out. If the system refused it otherwise,
-    // frees descriptors: closes connections that were sent all, and turns the first newcomer away. Unless a signal or
-    // the other side broke the accept off, waits for at most a tenth of a second until more than `ended` sessions have
-    // ended.
+    // Prepares the next accept after one that failed with this kind of error. If memory ran out, notes that. If the
+    // system refused the accept, frees descriptors: closes connections that were sent everything, and turns the first
+    // newcomer away. Unless a signal or the other side broke off the accept, waits for at most a tenth of a second
+    // until more than `ended` sessions have ended.
     fn put_off(&mut self, kind: ErrorKind, ended: u64) {
         match kind {
             ErrorKind::OutOfMemory => self.state.note_memory(self.rt),
@@ -332,9 +334,9 @@ impl<'a, Rt: Clock + Wait + Eprint> Accept<
     ReplyWriter<'a, Rt>,
     SocketCutOff<'a, Rt>,
 > for Port<'a, Rt> {
-    // Sends the denials whose turn has come, and returns the next newcomer to serve, if there is a seat. If nobody can
-    // be served at once, first accepts one more connection and adds it to the queue. Returns `Nobody` if there is still
-    // no seat, or the accept fails, and `Over` once the host is over.
+    // Sends the denials that are due, and returns the next newcomer to serve, if there is a seat. If nobody can be
+    // served at once, first accepts one more connection and adds it to the queue. Returns `Nobody` if there is still no
+    // seat, or the accept fails, and `Over` once the host is over.
     fn accept_next(&mut self) -> Brought<'a, Rt> {
         let ended = self.state.ended_count(self.rt);
         if self.state.is_over(self.rt) {
@@ -364,21 +366,21 @@ impl<'a, Rt: Clock + Wait + Eprint> Accept<
     }
 }
 
-/// The signal that a session has ended. Notes it in the host's state. If the host is over by that, or since a port
-/// couldn't be served, wakes the accepts that wait, each by a connection to its port.
+/// The signal that a session has ended. It counts the session in the host's state. If the host ends with it, it also
+/// wakes the threads that wait in an accept, by a connection to each port.
 #[derive(Drop)]
 pub struct EndBell<'a, Rt> {
     pub rt: &'a Rt,
     pub state: &'a HostState,
     pub ports: [SocketAddr; 2],
-    /// A descriptor that is closed at the end, so that one is free for the connection that wakes an accept.
+    /// A spare descriptor. It is closed at the end, so that one is free for the connection that wakes an accept.
     pub spare: Mutex<Option<TcpListener>>,
 }
 
 impl<'a, Rt: Net<Listener = TcpListener, Stream = TcpStream> + Clock + Wait> Bell
     for EndBell<'a, Rt> {
-    // Notes that a session has ended. If `is_dismissed`, by the teacher's bye or since a port couldn't be served, notes
-    // that the host is over, closes the spare descriptor, and wakes the accepts at both ports.
+    // Counts a session that has ended. If `is_dismissed` (by the teacher's bye, or since a port couldn't be served),
+    // notes that the host is over, closes the spare descriptor, and wakes the accepts at both ports.
     fn ring(&self, is_dismissed: bool) {
         self.state.note_end(self.rt, is_dismissed);
         if is_dismissed {
@@ -390,8 +392,8 @@ impl<'a, Rt: Net<Listener = TcpListener, Stream = TcpStream> + Clock + Wait> Bel
     }
 }
 
-// Connects to a port, to wake the accept that waits there. Tries up to 50 times, and stops once a connection is made,
-// or if nobody listens there any more.
+// Connects to a port of this host, to wake the accept that waits there. Tries up to 50 times, and stops when a
+// connection is made, or nobody listens there any more.
 fn wake<Rt: Net<Listener = TcpListener, Stream = TcpStream> + Clock>(rt: &Rt, port: SocketAddr) {
     let call = Duration::from_millis(CALL);
     for _ in 0..CALLS {

@@ -1,4 +1,4 @@
-//! A connection's socket: one descriptor, which its reader, its writer and its cut-off share.
+//! A connection's socket: one descriptor, which the connection's reader, its writer and its cut-off share.
 use crate::end_reason::EndReason;
 use mml_codec::{Request, read_request};
 use std::alloc::Global;
@@ -7,57 +7,58 @@ use std::sync::atomic::{AtomicBool, AtomicU64, Ordering};
 use std::sync::{Condvar, CondvarTimeouts, Mutex, RwLock, Wait};
 use std::time::{Clock, Duration};
 
-// How many hellos of a connection may be denied before it is ended.
+// How many hellos of a connection may be denied before the connection is ended.
 const DENIALS: u64 = 3;
 
-// How many bytes are checked of what a newcomer has sent.
+// How many bytes are checked of what a newcomer (a connection that waits for a seat) has sent.
 const GLANCE: usize = 512;
 
-/// What has come from a newcomer.
+/// What a newcomer has sent so far.
 #[derive(Clone, Copy, PartialEq, Eq)]
 pub(crate) enum Heard {
     /// No whole line.
     Nothing,
-    /// A line that is no hello.
+    /// A line that isn't a hello.
     Line,
-    /// A hello, whose name and key nobody has looked at.
+    /// A hello, whose name and key weren't checked yet.
     Hello,
 }
 
-/// The socket of a connection, with what the threads that share it note of the connection. When the connection is hung
-/// up its stream is taken out, and from then on each read and each write fails.
+/// The socket of a connection, and what the threads that share it have noted. When the connection is closed, its stream
+/// is taken out, and from then on each read and each write fails.
 #[derive(Drop)]
 pub struct SharedSocket {
     /// Its number among the connections of its port.
     pub number: u64,
     pub(crate) stream: RwLock<Option<TcpStream>>,
-    // Whether its session has begun to read.
+    // Whether its session has begun to read, so that the connection is served.
     pub(crate) is_served: AtomicBool,
     // Whether a hello was granted.
     pub(crate) is_greeted: AtomicBool,
-    // Whether the teacher has greeted here, at the desk.
+    // Whether the teacher's hello was granted here, and here is the desk.
     pub(crate) is_teachers: AtomicBool,
-    // Whether the connection may stay: a hello was granted, at the desk the teacher's.
+    // Whether the connection is no stranger any more: a hello was granted, and at the desk the teacher's.
     pub(crate) may_stay: AtomicBool,
-    // Whether the reply to the teacher's bye at the desk is the last one that is written.
+    // Whether the teacher's bye at the desk was answered, so that the next bytes to write end with the class's last
+    // reply.
     pub(crate) is_farewell: AtomicBool,
     // Whether a reply was sent.
     pub(crate) is_answered: AtomicBool,
     // How many of its hellos were denied.
     denied: AtomicU64,
-    // Whether the next reply that is written is such a denial.
+    // Whether the next reply to write is the denial of a hello.
     is_denial_next: AtomicBool,
-    // Whether its thread is writing: a thread that ends the connection then doesn't wait for that.
+    // Whether its thread is writing. If so, a thread that ends the connection breaks off the write.
     is_writing: AtomicBool,
-    // Whether another thread ends the connection.
+    // Whether another thread is ending the connection.
     is_ending: AtomicBool,
     end_reason: Mutex<Option<EndReason>>,
-    // The condition on which a thread waits until another ends the connection.
+    // A thread that delays a denial waits here until another thread ends the connection.
     ending: Condvar,
 }
 
 impl SharedSocket {
-    /// Returns a shared socket over this stream, from which nobody has read.
+    /// Returns a shared socket over this stream, before anything was read. `number` is that of its connection.
     pub fn new(stream: TcpStream, number: u64) -> SharedSocket {
         SharedSocket {
             number,
@@ -77,7 +78,7 @@ impl SharedSocket {
         }
     }
 
-    /// Keeps why the connection is ended, unless a reason is kept already.
+    /// Keeps the reason why the connection is ended. Does nothing if there is a reason already.
     pub(crate) fn note_end_reason<Rt: Wait>(&self, rt: &Rt, why: EndReason) {
         let mut reason = self.end_reason.lock(rt);
         if reason.is_none() {
@@ -85,13 +86,13 @@ impl SharedSocket {
         }
     }
 
-    /// Returns why the connection is ended, if that is known already.
+    /// Returns the reason why the connection is ended, if there is one already.
     pub(crate) fn end_reason<Rt: Wait>(&self, rt: &Rt) -> Option<EndReason> {
         *self.end_reason.lock(rt)
     }
 
-    /// Sets whether reads and writes of the socket wait. Returns `false` if its stream was taken out, or the system
-    /// refuses this. Is called only before the connection is served: `hear` needs reads that don't wait.
+    /// Sets whether reads and writes of the socket wait. Returns `false` if the stream was taken out, or the system
+    /// refuses. Is called only before the connection is served: `hear` needs reads that don't wait.
     pub(crate) fn set_waiting<Rt: Wait>(&self, rt: &Rt, is_waiting: bool) -> bool {
         let stream = self.stream.read(rt);
         match &*stream {
@@ -100,8 +101,8 @@ impl SharedSocket {
         }
     }
 
-    /// Returns what has come from the other side, by the first 512 bytes, which are left to be read. Returns `Nothing`
-    /// if the stream was taken out, or can't be checked. Reads must be set not to wait.
+    /// Returns what the other side has sent, judged by the first 512 bytes, which stay unread. Returns `Nothing` if the
+    /// stream was taken out, or can't be checked. Reads must be set not to wait.
     pub(crate) fn hear<Rt: Wait>(&self, rt: &Rt, alloc: Global) -> Heard {
         let stream = self.stream.read(rt);
         match &*stream {
@@ -110,13 +111,13 @@ impl SharedSocket {
         }
     }
 
-    /// Returns whether the connection is ended because there is no seat.
+    /// Returns whether the connection is ended because there is no seat for it.
     pub(crate) fn is_turned_away<Rt: Wait>(&self, rt: &Rt) -> bool {
         matches!(self.end_reason(rt), Some(EndReason::Busy))
     }
 
-    /// Ends the connection from another thread than its own, for this reason unless one is kept already: nothing more
-    /// is read, no reply begins to be written, and a write that is under way is broken off.
+    /// Ends the connection from another thread than its own. `why` becomes the reason unless there is one already.
+    /// Nothing more is read, no reply begins to be written, and a write that is under way is broken off.
     pub(crate) fn end_with<Rt: Wait>(&self, rt: &Rt, why: EndReason) {
         self.begin_end(rt, why);
         let how = if self.is_writing.load(Ordering::SeqCst) {
@@ -131,9 +132,8 @@ impl SharedSocket {
         }
     }
 
-    // Keeps the reason, unless one is kept already, notes that the connection is being ended, and wakes the thread that
-    // waits for that. All of this happens under the lock of the reason, so that no thread wakes before the reason is
-    // kept.
+    // Keeps the reason, unless there is one already, notes that the connection is being ended, and wakes the thread
+    // that waits for that. The lock on the reason is held all the time, so that the woken thread finds the reason.
     fn begin_end<Rt: Wait>(&self, rt: &Rt, why: EndReason) {
         let mut reason = self.end_reason.lock(rt);
         if reason.is_none() {
@@ -143,7 +143,7 @@ impl SharedSocket {
         self.ending.notify_all();
     }
 
-    /// Waits until another thread ends the connection, for at most `time`.
+    /// Waits until another thread ends the connection, but for no longer than `time`.
     pub(crate) fn wait_for_end<Rt: Wait + Clock>(&self, rt: &Rt, time: Duration) {
         let _ended = self
             .ending
@@ -152,25 +152,25 @@ impl SharedSocket {
             });
     }
 
-    /// Notes that a write begins. Returns whether it may: `false` if another thread ends the connection.
+    /// Notes that a write begins, and returns whether it may: `false` if another thread is ending the connection.
     pub(crate) fn begin_write(&self) -> bool {
         self.is_writing.store(true, Ordering::SeqCst);
         !self.is_ending.load(Ordering::SeqCst)
     }
 
-    /// Notes that no write is under way: it has ended, or might not begin.
+    /// Notes that no write is under way: it has ended, or wasn't allowed to begin.
     pub(crate) fn end_write(&self) {
         self.is_writing.store(false, Ordering::SeqCst);
     }
 
-    /// Notes that a hello of the connection was denied. The denial isn't written yet.
+    /// Counts a hello of the connection that was denied. Its denial is the next reply to write.
     pub(crate) fn note_denial(&self) {
         self.denied.fetch_add(1, Ordering::SeqCst);
         self.is_denial_next.store(true, Ordering::SeqCst);
     }
 
-    /// Returns whether the next reply that is written is the denial of a hello, and clears that note, so that each
-    /// denial is found once.
+    /// Returns whether the next reply to write is the denial of a hello, and clears that note, so that each denial is
+    /// delayed once.
     pub(crate) fn take_denial(&self) -> bool {
         self.is_denial_next.swap(false, Ordering::SeqCst)
     }
@@ -180,14 +180,16 @@ impl SharedSocket {
         self.denied.load(Ordering::SeqCst) > 0
     }
 
-    /// Returns whether nothing more is to be read: another thread ends the connection, or too many hellos were denied.
+    /// Returns whether nothing more is to be read: another thread is ending the connection, or too many hellos were
+    /// denied.
     pub(crate) fn is_done(&self) -> bool {
         self.is_ending.load(Ordering::SeqCst) || self.denied.load(Ordering::SeqCst) >= DENIALS
     }
 }
 
-// Returns what has come at a socket whose reads don't wait, by the first 512 bytes, which are left to be read. Returns
-// `Nothing` if they have no whole line, or the system refuses the check. If memory runs out, a hello counts as a line.
+// Returns what has come at a socket whose reads don't wait, judged by the first 512 bytes, which stay unread. Returns
+// `Nothing` if they contain no whole line, or the system refuses the check. If memory runs out, a hello counts as any
+// other line.
 fn heard_at(stream: &TcpStream, alloc: Global) -> Heard {
     let mut seen = [0; GLANCE];
     let Ok(count) = stream.peek(&mut seen) else {

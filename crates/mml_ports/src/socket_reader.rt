@@ -1,4 +1,4 @@
-//! The end of a connection from which lines are read, each with its deadline.
+//! The reading end of a connection, which has a deadline for each line.
 ghost use Rattle.std.specs.Prelude.{◌≤◌, length};
 ghost use Rattle.std.specs.Io.{ReadsAtMost};
 
@@ -12,17 +12,17 @@ use std::sync::Wait;
 use std::sync::atomic::Ordering;
 use std::time::{Clock, Duration, Instant};
 
-/// How many seconds a connection has at the students' port until its hello is granted.
+/// The seconds from the beginning of a connection at the students' port until its hello must be granted.
 pub const GREETING: u64 = 10;
 
-/// How many seconds a connection has at the desk until the teacher's hello is granted there.
+/// The seconds from the beginning of a connection at the desk until the teacher's hello must be granted.
 pub const DESK_GREETING: u64 = 5;
 
-/// How many seconds each line of a student's connection may take after the one before. At the desk it may
-/// take any time.
+/// The seconds that each line of a student's connection may take after the one before it. At the desk there is no such
+/// deadline.
 pub const NEXT_LINE: u64 = 600;
 
-// The beginning of the first line: that of a JSON object, another, or none yet.
+// How the first line of a connection begins: like a JSON object, otherwise, or not yet.
 #[derive(Clone, Copy, PartialEq, Eq)]
 enum FirstLine {
     Awaited,
@@ -30,34 +30,34 @@ enum FirstLine {
     Other,
 }
 
-/// The end from which lines are read. A read fails if a line takes too long, however its bytes come. Until a hello is
-/// granted, at the desk the teacher's, a read returns at most one line, and fails after ten seconds, at the desk five,
-/// whatever is sent.
+/// The reading end of a connection. A read fails if the line takes too long, even if single bytes of it come. Until a
+/// hello is granted (at the desk the teacher's), a read returns at most one line, and fails ten seconds after the
+/// beginning, at the desk five, whatever is sent.
 #[derive(Drop)]
 pub struct SocketReader<'a, Rt> {
     pub(crate) connection: SharedConnection<'a, Rt>,
-    // The deadline of the hello, and then that of the line that is being read.
+    // The deadline of the hello, and later of the line that is being read.
     deadline: Option<Instant>,
-    // How long each line after the hello may take, if it has a deadline.
+    // How long each line after the hello may take, or `None` if it may take any time.
     patience: Option<Duration>,
-    // Whether the connection may stay, as the last read found it.
+    // Whether the connection is no stranger any more, as the last read has seen it.
     may_stay: bool,
-    // The beginning of the first line.
+    // How the first line begins.
     first: FirstLine,
     // Whether the first line was read to its end.
     is_first_line_read: bool,
-    // How many bytes of the line that is being read have come.
+    // How many bytes of the current line have come.
     size: usize,
-    // The socket's read timeout.
+    // The read timeout that the socket has now.
     limit: Option<Duration>,
 }
 
-/// A reader that retries after a signal.
+/// The reading end, with retries after signals.
 pub type Incoming<'a, Rt> = Retrying<SocketReader<'a, Rt>>;
 
 impl<'a, Rt: Clock + Wait> SocketReader<'a, Rt> {
-    /// Returns a reader of the connection's socket, and starts the deadline of its hello. Returns an error if the clock
-    /// fails.
+    /// Returns a reader of the connection's socket, whose deadline for the hello begins now. Returns an error if the
+    /// clock fails.
     pub fn new(connection: SharedConnection<'a, Rt>) -> io::Result<Incoming<'a, Rt>> {
         let now = Instant::now(connection.rt)?;
         let (greeting, patience) = if connection.is_desk {
@@ -77,8 +77,8 @@ impl<'a, Rt: Clock + Wait> SocketReader<'a, Rt> {
         }))
     }
 
-    // Returns how long a read may still wait, or `None` if it may wait for ever. Once the connection may stay, a line
-    // that isn't begun has its whole time. Returns an error if the deadline is over, or the clock fails.
+    // Returns how long a read may still wait, or `None` if it may wait for ever. After the hello, a line that hasn't
+    // begun has its whole time. Returns the error `TimedOut` if the deadline has passed, or another if the clock fails.
     fn time_left(&self) -> io::Result<Option<Duration>> {
         if self.may_stay && self.size == 0 {
             return Ok(self.patience);
@@ -93,7 +93,7 @@ impl<'a, Rt: Clock + Wait> SocketReader<'a, Rt> {
         Ok(Some(left))
     }
 
-    // Restarts the deadline of the next line, if it has one. Returns an error if the clock fails.
+    // Restarts the deadline of the next line, if lines have one. Returns an error if the clock fails.
     fn restart_deadline(&mut self) -> io::Result<()> {
         self.deadline = match self.patience {
             Some(patience) => Instant::now(self.connection.rt)?.checked_add(patience),
@@ -102,8 +102,8 @@ impl<'a, Rt: Clock + Wait> SocketReader<'a, Rt> {
         Ok(())
     }
 
-    // Reads what has come, or comes before the deadline, and returns how many bytes. Sets the socket's timeout only if
-    // it differs from the last one.
+    // Reads bytes that have come, or come before the deadline, and returns how many. Sets the socket's read timeout
+    // only if it changes.
     fn read_in_time(&mut self, buf: &mut [u8]) -> io::Result<usize>
         ensures { ReadsAtMost result buf.new }
     {
@@ -123,8 +123,8 @@ impl<'a, Rt: Clock + Wait> SocketReader<'a, Rt> {
         }
     }
 
-    // Reads what has come, or comes before the deadline, up to the end of a line, and returns how many bytes: before
-    // the connection may stay, nothing after that line is read.
+    // Reads bytes that have come, or come before the deadline, but none after the end of the line, and returns how
+    // many. This is used before the hello is granted, so that what follows it is read later.
     fn read_line_in_time(&mut self, buf: &mut [u8]) -> io::Result<usize>
         ensures { ReadsAtMost result buf.new }
     {
@@ -142,8 +142,8 @@ impl<'a, Rt: Clock + Wait> SocketReader<'a, Rt> {
         }
     }
 
-    // Notes bytes that were read. Counts those of the current line, and keeps `Long` as the reason of the end if a
-    // request can't have so many. Notes how the first line begins. If a line ends and the connection may stay, restarts
+    // Notes the bytes that were read. Counts those of the current line; if a request can't have so many, keeps `Long`
+    // as the reason of the end. Notes how the first line begins. If a line ended after the hello was granted, restarts
     // the deadline. Returns an error if the clock fails.
     fn note_bytes(&mut self, bytes: &[u8]) -> io::Result<()> {
         let mut has_line = false;
@@ -167,7 +167,7 @@ impl<'a, Rt: Clock + Wait> SocketReader<'a, Rt> {
         Ok(())
     }
 
-    // Notes a byte, if it is one of the first line: that line's beginning, and whether it is read to its end.
+    // Notes one byte of the first line: how that line begins, and whether it has ended. Ignores bytes of later lines.
     fn note_first_line(&mut self, byte: u8) {
         if self.is_first_line_read {
             return;
@@ -185,12 +185,13 @@ impl<'a, Rt: Clock + Wait> SocketReader<'a, Rt> {
 }
 
 impl<'a, Rt: Clock + Wait> Read for SocketReader<'a, Rt> {
-    // Reads before the deadline of the hello or of the line, and returns how many bytes. If the deadline is over, keeps
-    // that as the reason of the end. Returns no bytes if nothing more is to be read, or the class is dismissed.
+    // Reads bytes before the deadline of the hello or of the line, and returns how many. If the deadline passes, keeps
+    // `Late` as the reason of the end. Returns 0 if nothing more is to be read: the connection is being ended, or the
+    // class is dismissed.
     fn read(&mut self, buf: &mut [u8]) -> io::Result<usize> {
         let socket = &self.connection.socket;
         socket.is_served.store(true, Ordering::SeqCst);
-        // Nothing more is read if the first line, which was answered, was no JSON object.
+        // The first line was answered. If it wasn't a JSON object, nothing more is read.
         if socket.is_done() || self.is_first_line_read && self.first == FirstLine::Other {
             return Ok(0);
         }
@@ -204,7 +205,7 @@ impl<'a, Rt: Clock + Wait> Read for SocketReader<'a, Rt> {
             self.read_line_in_time(buf)
         };
         match read {
-            // What comes after the reply to the teacher's bye isn't answered.
+            // Lines that come after the reply to the teacher's bye aren't answered.
             Ok(_) if self.connection.state.is_dismissed(self.connection.rt) => {
                 self.connection.note_end_reason(EndReason::Over);
                 Ok(0)
@@ -223,7 +224,7 @@ impl<'a, Rt: Clock + Wait> Read for SocketReader<'a, Rt> {
     }
 }
 
-// Returns how many of the first `count` bytes the first line has, with its newline: all of them if no line ends there.
+// Returns how many of the first `count` bytes belong to the first line, with its newline: all if no line ends there.
 fn end_of_line(bytes: &[u8], count: usize) -> usize
     ensures { result ≤ length bytes.now }
 {

@@ -1,4 +1,4 @@
-//! What the replies of a connection say of it.
+//! What the replies to a connection say about it: whether a hello was granted or denied, and the teacher's bye.
 use crate::connection::SharedConnection;
 use mml_board::Denial;
 use mml_codec::Reply;
@@ -7,21 +7,21 @@ use mml_lab::Who;
 use std::sync::Wait;
 use std::sync::atomic::Ordering;
 
-/// The observer of a connection's replies. For the connection's writer and its crowd, it notes whose hello was granted,
-/// denials of a name and key, and the teacher's bye.
+/// The observer of the replies to a connection. For the connection's writer and the port's crowd, it notes whose hello
+/// was granted, which hellos were denied, and the teacher's bye.
 #[derive(Drop)]
 pub struct SocketReplies<'a, Rt> {
     connection: SharedConnection<'a, Rt>,
 }
 
 impl<'a, Rt: Wait> SocketReplies<'a, Rt> {
-    /// Returns the observer of this connection, which has noted nothing yet.
+    /// Returns the observer of this connection's replies, which hasn't seen any yet.
     pub fn new(connection: SharedConnection<'a, Rt>) -> SocketReplies<'a, Rt> {
         SocketReplies { connection }
     }
 
-    // Notes whose hello was granted. The connection may stay then, but at the desk only if it is the teacher's: anyone
-    // else stays a stranger there.
+    // Notes that the hello of `who` was granted. The connection is then no stranger any more, except at the desk, where
+    // only the teacher's hello counts.
     fn note_greeting(&self, who: Who) {
         let SharedConnection {
             rt,
@@ -43,9 +43,9 @@ impl<'a, Rt: Wait> SocketReplies<'a, Rt> {
 }
 
 impl<'a, Rt: Wait> ReplyObserver for SocketReplies<'a, Rt> {
-    // Notes what a reply means for the connection. The first granted hello may let it stay, as `note_greeting` decides.
-    // A denial of a name and key before that is counted, and will be sent only at its turn. A bye, if the teacher has
-    // greeted at the desk, is noted as the one that dismisses the class. Ignores any other reply.
+    // Notes what a reply means for the connection. The first granted hello is handled by `note_greeting`. A denial of a
+    // hello's name and key before that is counted, and the writer will delay it. The reply to the teacher's bye at the
+    // desk is noted as the one that dismisses the class. Any other reply is ignored.
     fn note_reply(&mut self, reply: &Reply) {
         let socket = &self.connection.socket;
         let is_greeted = socket.is_greeted.load(Ordering::SeqCst);

@@ -1,4 +1,4 @@
-//! The end of a connection to which replies are written, and which hangs up.
+//! The writing end of a connection. It delays denials of hellos, and tells the other side why its connection ends.
 ghost use Rattle.std.specs.Prelude.{◌≡◌};
 ghost use Rattle.std.specs.Io.{WritesAtMost};
 
@@ -22,27 +22,28 @@ use std::{io, thread};
 /// How many seconds a write may wait until the other side takes a byte.
 pub const WRITE_LIMIT: u64 = 10;
 
-// In this many milliseconds before the turn of its denial, a connection that is being ended doesn't wait for it.
+// The last milliseconds of the delay of a denial, in which a connection that is being ended doesn't wait any longer.
 const NEAR: u64 = 500;
 
-/// The end to which replies are written. It delays denials of a name and key.
+/// The writing end of a connection. It delays each denial of a hello's name and key until its turn, which the host's
+/// state gives, so that nobody can try many keys quickly.
 #[derive(Drop)]
 pub struct SocketWriter<'a, Rt> {
     connection: SharedConnection<'a, Rt>,
-    // Whether a line begins with the next byte that is written.
+    // Whether the next byte begins a line.
     is_at_line: bool,
-    // Whether the other side has taken nothing for too long.
+    // Whether the other side has taken nothing for too long, so that no more is written to it.
     is_deaf: bool,
-    // The turn of the denial that is being written, of which no byte was sent yet.
+    // The turn of the denial that is being written, as long as no byte of it was sent.
     turn: Option<Instant>,
-    // The turn of the denial that it is owed when it has left.
+    // The turn of the denial that must still be sent after the connection has left its seat.
     owed: Option<Instant>,
 }
 
 impl<'a, Rt: Clock + Wait + Eprint> SocketWriter<'a, Rt> {
     // Counts a denial of a name and key before it is sent, and prints the count on standard error if
-    // `HostState::note_denial` returns it. Makes room for a newcomer, waits for the denial's turn as `wait_for_turn`
-    // does, and returns that turn. Returns an error if the clock fails.
+    // `HostState::note_denial` returns it. Makes room for a new connection, waits until the denial's turn as
+    // `wait_for_turn` does, and returns that turn. Returns an error if the clock fails.
     fn delay_denial(&self) -> io::Result<Instant> {
         let SharedConnection {
             rt,
@@ -62,7 +63,8 @@ impl<'a, Rt: Clock + Wait + Eprint> SocketWriter<'a, Rt> {
         Ok(turn)
     }
 
-    // Notes that a reply was sent. A connection that may not stay then leaves at once, if a newcomer needs the seat.
+    // Notes that a reply was sent. If the connection is a stranger, it may now have to leave, if a new one needs its
+    // seat.
     fn note_answered(&self) {
         let SharedConnection {
             rt,
@@ -76,7 +78,7 @@ impl<'a, Rt: Clock + Wait + Eprint> SocketWriter<'a, Rt> {
         }
     }
 
-    // Waits for the turn of a denial. In the last half second before the turn, returns early if another thread ends the
+    // Waits until the turn of a denial. In the last half second before it, returns early if another thread ends the
     // connection. Returns an error if the clock fails.
     fn wait_for_turn(&self, turn: Instant) -> io::Result<()> {
         let rt = self.connection.rt;
@@ -87,9 +89,9 @@ impl<'a, Rt: Clock + Wait + Eprint> SocketWriter<'a, Rt> {
         Ok(())
     }
 
-    // Writes what the other side takes within `WRITE_LIMIT`, and returns how many bytes. Returns an error if the socket
-    // was closed, or refuses the write. If the other side takes less than all within the limit, no more is written to
-    // it from then on.
+    // Writes as many bytes as the other side takes within `WRITE_LIMIT`, and returns how many. Returns an error if the
+    // socket was closed, or refuses the write. If the other side took fewer than all within the limit, later writes
+    // fail.
     fn write_now(&mut self, buf: &[u8]) -> io::Result<usize>
         ensures { WritesAtMost result buf.now }
     {
@@ -108,9 +110,9 @@ impl<'a, Rt: Clock + Wait + Eprint> SocketWriter<'a, Rt> {
         }
     }
 
-    // Puts off a denial if the connection is being ended because there is no seat: keeps its turn, at which it is sent
-    // after the connection has left, and returns all bytes of `buf` as written. Returns `BrokenPipe` for any other
-    // reply, or if the end has another reason.
+    // Postpones a denial if the connection is being ended because there is no seat: keeps the denial's turn, so that
+    // the port sends it then, and returns all bytes of `buf` as written. Returns `BrokenPipe` for any other reply, or
+    // if there is another reason for the end.
     fn leave_owed(&mut self, buf: &[u8]) -> io::Result<usize>
         ensures { WritesAtMost result buf.now }
     {
@@ -122,9 +124,9 @@ impl<'a, Rt: Clock + Wait + Eprint> SocketWriter<'a, Rt> {
         Ok(buf.len())
     }
 
-    // Writes bytes that end with the reply to the teacher's bye, which ends the class, and returns how many were sent.
-    // It does so under the lock, so that a reader that has read something meanwhile waits until it is known whether the
-    // reply is sent.
+    // Writes bytes that end with the reply to the teacher's bye, which dismisses the class, and returns how many were
+    // sent. A lock is held meanwhile: a reader that has read something waits for it, to know whether the class is
+    // dismissed.
     fn write_farewell(&mut self, buf: &[u8]) -> io::Result<usize>
         ensures { WritesAtMost result buf.now }
     {
@@ -135,9 +137,10 @@ impl<'a, Rt: Clock + Wait + Eprint> SocketWriter<'a, Rt> {
         Ok(taken)
     }
 
-    // Hangs up on the connection of this stream. If it is owed a denial, the port sends that at its turn. If it leaves
-    // for a newcomer, or was never served, sends it the reason, if there is one, and the port closes the stream. Sends
-    // any other the reason, and lingers here for a moment, so that the other side can read what was sent.
+    // Closes a connection, whose stream this is, or passes it to the port to be closed. If a denial is still to be
+    // sent, the port does that at its turn. If the connection leaves for a new one, or was never served, the port sends
+    // it the reason, if there is one. Otherwise sends the reason here, and lingers, so that the other side can read
+    // what was sent.
     fn part_from(&self, stream: TcpStream) {
         let SharedConnection {
             rt,
@@ -150,7 +153,7 @@ impl<'a, Rt: Clock + Wait + Eprint> SocketWriter<'a, Rt> {
             crowd.partings.add_owed(rt, stream, turn);
             return;
         }
-        // A reason within a reply that is cut would be no line.
+        // After a part of a reply, the reason would not be a line of its own.
         let why = if self.is_at_line {
             socket.end_reason(rt)
         } else {
@@ -163,15 +166,15 @@ impl<'a, Rt: Clock + Wait + Eprint> SocketWriter<'a, Rt> {
         if let Some(why) = why {
             say(&stream, why);
         }
-        // Doesn't wait long if a newcomer waits for the seat.
+        // Lingers only briefly if a new connection waits for the seat.
         linger(stream, &crowd.is_wanted);
     }
 }
 
 impl<'a, Rt: Clock + Wait + Eprint> Write for SocketWriter<'a, Rt> {
-    // Delays a denial of a name and key until its turn, and returns how many bytes were sent. The reply to the
-    // teacher's bye, even after other replies or in pieces, dismisses the class. Fails if the other side took nothing
-    // for too long, or the connection is being ended, except for a denial that is sent later.
+    // Writes bytes, and returns how many were sent. Delays a denial of a name and key until its turn. If the bytes end
+    // with the reply to the teacher's bye, that dismisses the class. Fails if the other side took nothing for too long,
+    // or the connection is being ended, unless the bytes are a denial that the port sends later.
     fn write(&mut self, buf: &[u8]) -> io::Result<usize> {
         if self.is_deaf {
             return Err(Error::from(ErrorKind::TimedOut));
@@ -204,17 +207,17 @@ impl<'a, Rt: Clock + Wait + Eprint> Write for SocketWriter<'a, Rt> {
     }
 }
 
-/// A writer that retries after a signal, and shuts down the writing side at the end.
+/// The writing end of a connection, with retries after signals. It shuts down the writing side at the end.
 #[derive(Drop)]
 pub struct ReplyWriter<'a, Rt> {
     end: Retrying<SocketWriter<'a, Rt>>,
-    // The observer of the replies, until the session has it.
+    // The observer of the replies, until the session takes it.
     replies: Option<SocketReplies<'a, Rt>>,
 }
 
 impl<'a, Rt: Clock + Wait + Eprint> ReplyWriter<'a, Rt> {
-    /// Returns a writer to the connection's socket, to which nothing was written yet, with the observer of the
-    /// connection's replies.
+    /// Returns a writer to the connection's socket, before anything was written, with the observer of the replies to
+    /// the connection.
     pub fn new(
         connection: SharedConnection<'a, Rt>,
         replies: SocketReplies<'a, Rt>,
@@ -245,18 +248,18 @@ impl<'a, Rt: Clock + Wait + Eprint> Write for ReplyWriter<'a, Rt> {
 }
 
 impl<'a, Rt: Clock + Wait + Eprint + Sync> Observed for ReplyWriter<'a, Rt> {
-    /// The observer of the replies, or `None` if the session has it already.
+    /// The observer of the replies, or `None` if the session has taken it already.
     type Replies = Option<SocketReplies<'a, Rt>>;
 
-    // Returns the observer of the replies the first time that it is called.
+    // Returns the observer of the replies at the first call, and `None` at later ones.
     fn reply_observer(&mut self) -> Option<SocketReplies<'a, Rt>> {
         self.replies.take()
     }
 }
 
 impl<'a, Rt: Clock + Wait + Eprint> HangUp for ReplyWriter<'a, Rt> {
-    // Closes the socket, and hangs up on the connection, once. A connection that was never served leaves the crowd
-    // here.
+    // Closes the connection as `part_from` does, if it isn't closed yet. A connection that was never served also leaves
+    // the crowd here.
     fn hang_up(&mut self) {
         let writer = &self.end.inner;
         let SharedConnection {
@@ -270,15 +273,15 @@ impl<'a, Rt: Clock + Wait + Eprint> HangUp for ReplyWriter<'a, Rt> {
         if let Some(stream) = stream {
             writer.part_from(stream);
         }
-        // A connection that was served leaves its seat when that may be used again, in `SocketSession::keep`.
+        // A connection that was served leaves the crowd in `SocketSession::keep`, when its seat can be used again.
         if !socket.is_served.load(Ordering::SeqCst) {
             crowd.note_left(rt, socket.number);
         }
     }
 }
 
-// Sends why the connection is ended, and waits for at most `PARTING` milliseconds until the other side takes it. Sends
-// nothing if the system refuses that time limit.
+// Sends the reason why the connection is ended, and waits for at most `PARTING` milliseconds until the other side takes
+// it. Sends nothing if the system refuses that timeout.
 fn say(stream: &TcpStream, why: EndReason) {
     if stream
         .set_write_timeout(Some(Duration::from_millis(PARTING)))
@@ -288,22 +291,22 @@ fn say(stream: &TcpStream, why: EndReason) {
     }
 }
 
-/// Ends the connection from another thread.
+/// The means by which another thread ends a connection.
 #[derive(Drop)]
 pub struct SocketCutOff<'a, Rt> {
     connection: SharedConnection<'a, Rt>,
 }
 
 impl<'a, Rt: Wait> SocketCutOff<'a, Rt> {
-    /// Returns the cut-off of this connection, for another thread.
+    /// Returns the means by which another thread ends this connection.
     pub fn new(connection: SharedConnection<'a, Rt>) -> SocketCutOff<'a, Rt> {
         SocketCutOff { connection }
     }
 }
 
 impl<'a, Rt: Wait> CutOff for SocketCutOff<'a, Rt> {
-    // Ends the connection: the reason, unless one is kept already, is that the class is over, or else that there is no
-    // seat.
+    // Ends the connection. The reason, unless there is one already, is that the class is over, or otherwise that there
+    // is no seat.
     fn cut_off(&self) {
         let SharedConnection {
             rt,
@@ -320,8 +323,7 @@ impl<'a, Rt: Wait> CutOff for SocketCutOff<'a, Rt> {
     }
 }
 
-/// A session over a socket that has ended: only a snapshot of it, which contracts alone can read. Its seat is free
-/// again, and running out of memory was noted in the host's state.
+/// What is kept of a session over a socket: only a snapshot of it, which contracts alone can read.
 #[derive(Drop)]
 pub struct SocketSession<'a, Rt>(Snapshot<ServedSession<Incoming<'a, Rt>, ReplyWriter<'a, Rt>>>);
 
@@ -329,8 +331,8 @@ impl<'a, Rt: Clock + Wait + Eprint> Keep<Incoming<'a, Rt>, ReplyWriter<'a, Rt>>
     for SocketSession<'a, Rt> {
     ghost shows = { λ kept. kept.0.value };
 
-    // Frees the seat of a session that has ended, and notes in the host's state if it ran out of memory. Drops the
-    // session, and returns a snapshot of it, which only contracts can read.
+    // Drops a session that has ended. Its connection leaves the crowd, so that its seat is free, and if it ran out of
+    // memory, that is noted in the host's state. Returns a snapshot of the session, which contracts alone can read.
     fn keep(session: ServedSession<Incoming<'a, Rt>, ReplyWriter<'a, Rt>>) -> SocketSession<'a, Rt>
         ensures { result.0.value ≡ session.entry }
     {

@@ -6,35 +6,35 @@ use std::io;
 use std::sync::{Condvar, CondvarTimeouts, Mutex, RwLock, Wait};
 use std::time::{Clock, Duration, Instant};
 
-// How many milliseconds the wait for the end of a session takes at most.
+// The most milliseconds that `wait_past` waits.
 const PAUSE: u64 = 100;
 
-// How many milliseconds the wait for the end of a session takes at most while newcomers wait.
+// The most milliseconds that `wait_past` waits if it is hurried.
 const SHORT_PAUSE: u64 = 5;
 
-// How many milliseconds lie between two denials of a name and key, at both ports together.
+// How many milliseconds lie between the turns of two denials of a name and key, at both ports together.
 const DENIAL: u64 = 12;
 
-// How many denials of a name and key there are when that is first reported.
+// The number of denials of a name and key at which they are first reported.
 const MANY: u64 = 30;
 
-// What the threads noted so far.
+// What the threads of the host have noted so far.
 #[derive(Drop)]
 struct News {
     // How many sessions have ended.
     ended: u64,
     is_over: bool,
     lacked_memory: bool,
-    // When the next name and key may be denied.
+    // The earliest turn for the next denial of a name and key.
     next_denial: Option<Instant>,
-    // How many names and keys were denied.
+    // How many hellos were denied because of their name and key.
     denials: u64,
-    // At which number of denials the host next reports how many there were.
+    // The number of denials at which they are reported next.
     told: u64,
 }
 
-/// How many sessions have ended, whether no more are to be served, whether one ran out of memory, and who is served at
-/// each port.
+/// The state of a host, which its threads share: how many sessions have ended, whether the host is over, whether memory
+/// ran out, when denials are due, and who is served at each port.
 #[derive(Drop)]
 pub struct HostState {
     news: Mutex<News>,
@@ -46,7 +46,7 @@ pub struct HostState {
 }
 
 impl HostState {
-    /// Returns the state of a host of the lab, in which nothing was noted yet. One of the lab's sessions is the desk's.
+    /// Returns the state of a host of the lab, before anything was noted. One of the lab's sessions is for the desk.
     pub fn new(alloc: Global, lab: &Lab) -> HostState {
         HostState {
             news: Mutex::new(News {
@@ -64,7 +64,7 @@ impl HostState {
         }
     }
 
-    /// Returns the crowd at the desk if `is_desk`, and else that at the other port.
+    /// Returns the crowd at the desk if `is_desk` is set, and otherwise the one at the students' port.
     pub fn crowd(&self, is_desk: bool) -> &Crowd {
         if is_desk {
             &self.at_desk
@@ -73,12 +73,13 @@ impl HostState {
         }
     }
 
-    /// Returns whether the reply to the teacher's bye at the desk was sent: what is read from then on isn't answered.
+    /// Returns whether the reply to the teacher's bye at the desk was sent. What is read after it isn't answered.
     pub fn is_dismissed<Rt: Wait>(&self, rt: &Rt) -> bool {
         *self.is_dismissed.read(rt)
     }
 
-    /// Notes that a session has ended, and the host with it if `is_over`, and wakes the threads that wait for that.
+    /// Counts a session that has ended. If `is_over`, notes that the host is over. Wakes the threads that wait for
+    /// this.
     pub fn note_end<Rt: Wait>(&self, rt: &Rt, is_over: bool) {
         let mut news = self.news.lock(rt);
         news.ended = news.ended.wrapping_add(1);
@@ -103,12 +104,12 @@ impl HostState {
         self.news.lock(rt).is_over
     }
 
-    /// Returns whether memory ran out.
+    /// Returns whether memory ran out, as a thread has noted.
     pub fn lacked_memory<Rt: Wait>(&self, rt: &Rt) -> bool {
         self.news.lock(rt).lacked_memory
     }
 
-    /// Waits until the number of ended sessions is no longer `count`, for at most a tenth of a second, or 5
+    /// Waits until the number of ended sessions isn't `count` any more, for at most a tenth of a second, or 5
     /// milliseconds if `is_hurried` is set.
     pub fn wait_past<Rt: Wait + Clock>(&self, rt: &Rt, count: u64, is_hurried: bool) {
         let pause = Duration::from_millis(if is_hurried { SHORT_PAUSE } else { PAUSE });
@@ -117,8 +118,9 @@ impl HostState {
             .wait_timeout_while(rt, self.news.lock(rt), pause, |news| news.ended == count);
     }
 
-    /// Returns the turn of the next denial of a name and key, before which it isn't sent: now, or 12 milliseconds after
-    /// the last turn at either port, if that is later. Returns an error if the clock fails.
+    /// Returns the turn of the next denial of a name and key: the time before which it isn't sent. This is now, or 12
+    /// milliseconds after the turn before, if that is later; the turns of both ports are counted together. Returns an
+    /// error if the clock fails.
     pub fn turn_of_denial<Rt: Wait + Clock>(&self, rt: &Rt) -> io::Result<Instant> {
         let now = Instant::now(rt)?;
         let mut news = self.news.lock(rt);
@@ -130,8 +132,8 @@ impl HostState {
         Ok(turn)
     }
 
-    /// Counts a denial of a name and key. Returns the count if the host is to report it: at the 30th denial, the 300th,
-    /// the 3000th, and so on. Returns `None` at any other.
+    /// Counts a denial of a name and key. Returns the count if it is to be reported: at the 30th denial, the 300th, the
+    /// 3000th, and so on. Returns `None` otherwise.
     pub fn note_denial<Rt: Wait>(&self, rt: &Rt) -> Option<u64> {
         let mut news = self.news.lock(rt);
         news.denials = news.denials.saturating_add(1);

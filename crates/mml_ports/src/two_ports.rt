@@ -1,4 +1,4 @@
-//! The two ports of a class, which are taken before its journal is begun.
+//! The two ports of a class, on which the host listens before the journal is begun.
 use crate::port::{EndBell, Port};
 use crate::state::HostState;
 use libc::net::listen;
@@ -9,27 +9,27 @@ use std::sync::{Mutex, Wait};
 use std::time::{Clock, Duration};
 use std::{io, thread};
 
-// How many connections may have come to a port and not be accepted yet: as many as the system allows, if that is fewer.
-// A library's own 128 are full after a tenth of a second of a flood.
+// How many connections may wait at a port to be accepted; the system may allow fewer. The library's default of 128 is
+// used up by a flood of connections within a tenth of a second.
 const BACKLOG: i32 = 4096;
 
-// How many times it is checked, at most, whether a first connection has come to the desk.
+// How many times at most it is checked whether a first connection has come to the desk.
 const LOOKS: u32 = 1000;
 
-// How many milliseconds pass between two checks.
+// How many milliseconds pass between two of these checks.
 const LOOK: u64 = 1;
 
-/// Why a port can't be listened on.
+/// Why the host can't listen on a port.
 #[derive(Clone, Copy, Debug, PartialEq, Eq)]
 pub enum ListenFault {
-    /// The system refuses it, or another listens there.
+    /// The system refuses it, or another program listens there.
     Refused,
     /// Memory ran out.
     Memory,
 }
 
 impl From<io::Error> for ListenFault {
-    // Turns running out of memory into `Memory`, and any other error of the system into `Refused`.
+    // Turns an error that says that memory ran out into `Memory`, and any other error of the system into `Refused`.
     fn from(error: io::Error) -> ListenFault {
         match error.kind() {
             io::ErrorKind::OutOfMemory => ListenFault::Memory,
@@ -38,21 +38,21 @@ impl From<io::Error> for ListenFault {
     }
 }
 
-/// Two ports that were taken, with their numbers.
+/// Two ports on which the host listens, with their numbers.
 #[derive(Drop)]
 pub struct Ports {
     pub listener: TcpListener,
     pub desk_listener: TcpListener,
-    /// The first connection to the desk, if one came before the students' port was taken.
+    /// The first connection to the desk, if one came before the host listened on the students' port.
     pub first: Option<TcpStream>,
     pub port: u16,
     pub desk: u16,
 }
 
-/// Listens on the desk's port and then on the students', for connections of this machine only. If 0 is asked for, the
-/// system chooses the number. If the desk's number was asked for, waits for at most a second until a first connection
-/// has come there: so the teacher's program is there before a student can know that a class begins. Returns a
-/// `ListenFault` if one of them can't be listened on.
+/// Listens on the desk's port and then on the students', for connections of this machine only. For the number 0, the
+/// system chooses a port. If the desk's number was given, waits for at most a second for a first connection there, so
+/// that the teacher's program is connected before a student can see that the class begins. Returns an error if the host
+/// can't listen on one of them.
 pub fn listen_at<R: Clock + Net<Listener = TcpListener, Stream = TcpStream>>(
     rt: &R,
     port: u16,
@@ -77,7 +77,7 @@ pub fn listen_at<R: Clock + Net<Listener = TcpListener, Stream = TcpStream>>(
 }
 
 // Waits for at most a second for the first connection to a listener and returns it, or `None` if none has come, or it
-// couldn't be accepted. Returns an error if the listener can't be used without waiting.
+// couldn't be accepted. Returns an error if the listener can't be set not to wait.
 fn first_within<R: Clock>(rt: &R, listener: &TcpListener) -> io::Result<Option<TcpStream>> {
     listener.set_nonblocking(true)?;
     for _ in 0..LOOKS {
@@ -92,7 +92,7 @@ fn first_within<R: Clock>(rt: &R, listener: &TcpListener) -> io::Result<Option<T
     Ok(None)
 }
 
-// Returns whether the next accept may succeed after one that failed this way.
+// Returns whether an accept that failed this way may succeed if it is tried again.
 fn is_transient(kind: io::ErrorKind) -> bool {
     matches!(
         kind,
@@ -100,8 +100,8 @@ fn is_transient(kind: io::ErrorKind) -> bool {
     )
 }
 
-// Listens on a port of this machine with a backlog of `BACKLOG`, or with the library's own if the system refuses that.
-// Returns an error if the port can't be listened on.
+// Listens on a port of this machine, with a backlog of `BACKLOG`, or the library's default if the system refuses that.
+// Returns an error if that port can't be used.
 fn listen_on<R: Net<Listener = TcpListener, Stream = TcpStream>>(
     rt: &R,
     port: u16,
@@ -111,13 +111,13 @@ fn listen_on<R: Net<Listener = TcpListener, Stream = TcpStream>>(
     Ok(listener)
 }
 
-// Returns the address of a port that only this machine reaches.
+// Returns the address of a port that can be reached only from this machine.
 fn on_this_machine(port: u16) -> SocketAddr {
     SocketAddr::from((Ipv4Addr::LOCALHOST, port))
 }
 
-/// Returns the bell that wakes the accepts at both ports once the host is over. It holds a spare descriptor until then,
-/// a copy of the desk's listener. Returns an error if the system refuses the copy, or memory runs out.
+/// Returns the bell that wakes the accepts at both ports when the host is over. It holds a spare descriptor, a copy of
+/// the desk's listener. Returns an error if the system refuses the copy, or memory runs out.
 pub fn bell_of<'a, R>(
     rt: &'a R,
     state: &'a HostState,
@@ -139,7 +139,7 @@ pub struct TwoPorts<A: Drop> {
     pub elsewhere: A,
 }
 
-/// Returns the two ports that accept connections on these listening sockets, the desk's and the students'.
+/// Returns the two ports, the desk's and the students', which accept connections at these listeners.
 pub fn open_ports<'a, R: Clock + Wait + Eprint>(
     rt: &'a R,
     alloc: Global,

@@ -18,11 +18,11 @@ use Rattle.mml_record.specs.Asks.{asks_in}
 use Rattle.mml_record.specs.Verdicts.{ComesTo, IsFirstBad}
 use Rattle.mml_class.specs.Classes.{counted, AreRecordsOf, ComeTo, all_asks}
 
--- what is found of no records
+-- the findings of a record without entries
 abbrev pub no_findings : Findings
 no_findings = record { sessions = 0; lines = 0; whole = true; is_cut = false; lacks_teacher = false; lacking = set.empty }
 
--- two findings come to this together
+-- the findings of two records together
 abbrev pub IsTogether : Findings → Findings → Findings → Type 0
 IsTogether a b c =
     (c.sessions ≡ counted (a.sessions + b.sessions)) × (c.lines ≡ counted (a.lines + b.lines)) × (c.whole ≡ (a.whole && b.whole))
@@ -36,7 +36,7 @@ IsSeatRead lab l number with_asks text granted granted' asks asks' (Passed f) =
     × (granted' ≡ granted ++ own) × (with_asks ≡ true → asks' ≡ asks ++ asks_in lab.roster es)
 IsSeatRead lab l number with_asks text granted granted' asks asks' (Refused bad) = IsFirstBad lab l number text bad
 
--- the text of a seat is that of a record, with which the findings come to these
+-- the text of a seat is a record, and the findings grow by those of this record
 pub record AddsSeat (lab : LabValue) (l : List Event) (number : ℕ) (with_asks : Bool) (text granted granted' : List ℕ) (asks asks' : List Ask) (old new : Findings) : Type 0 where
   pub found : Findings
   pub read : IsSeatRead lab l number with_asks text granted granted' asks asks' (Passed found)
