@@ -24,8 +24,8 @@ abbrev pub of_record : FileFault → Fault
 of_record file.Refused = fault.Unrecorded
 of_record file.Memory = fault.Common program.Memory
 
--- the host's error for an error of going on: a file that can't be cut becomes one that can't be made; the error of a
--- journal that the audit refuses isn't said here
+-- the host's error for the reason why a class didn't go on: a journal that can't be cut becomes a journal fault; which
+-- error a refused journal becomes isn't stated here
 abbrev pub IsToldAs : ResumeFault → Fault → Type 0
 IsToldAs (resuming.Refused why) told = Unit {0}
 IsToldAs resuming.Memory told = told ≡ fault.Common program.Memory

@@ -14,14 +14,15 @@ use Rattle.mml_resuming.specs.Resuming.{whole_of, resumed_line}
 abbrev pub ports_line : ℕ → ℕ → List ℕ
 ports_line port desk = concat (codes "listening on port " ∷ decimal port ∷ codes ", desk on port " ∷ decimal desk ∷ codes "\n" ∷ [])
 
--- first the ports, and then how many events a legal list of the lab has, and the number that it leads to
+-- what a class writes: first its ports, and at last the number of events in some legal list of the lab, and the number
+-- of the configuration that they lead to
 pub record TellsClass (lab : LabValue) (port desk : ℕ) (wrote wrote' : Option (List ℕ)) : Type 0 where
   pub between : Option (List ℕ)
   pub first : Appends wrote between (ports_line port desk)
   pub last : Closes lab between wrote'
 
--- first the ports and the state after the old journal's lines, and then how many events a legal list has that begins
--- with theirs, and the number that it leads to
+-- what a class that goes on writes: first its ports and the state after the old journal's lines; at last the number of
+-- events in some legal list that begins with theirs, and the number of the configuration that they lead to
 pub record TellsResumed (lab : LabValue) (old : List ℕ) (port desk : ℕ) (wrote wrote' : Option (List ℕ)) : Type 0 where
   pub begun : List Event
   pub events : List Event

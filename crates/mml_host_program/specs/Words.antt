@@ -1,10 +1,10 @@
 -- Numbers of ports in words.
 use Rattle.std.specs.Prelude.{◌≡◌, ◌≤◌, ◌^◌, ◌-◌, ℕ, List, decimal}
 
--- the text is the decimal one of this number, which is a port or 0
+-- the text is this number in decimal, which is a port or 0
 abbrev pub Names : List ℕ → ℕ → Type 0
 Names text port = (port ≤ 2 ^ 16 - 1) × (text ≡ decimal port)
 
--- the text is the decimal one of no port, nor of 0
+-- the text isn't a port in decimal, nor 0
 abbrev pub NamesNone : List ℕ → Type 0
 NamesNone text = (port : ℕ) → Names text port → ⊥

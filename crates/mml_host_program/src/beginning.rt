@@ -1,4 +1,4 @@
-//! A class from its beginning to its last line.
+//! A class that begins: from its first line of output to its last.
 ghost use Rattle.std.specs.Prelude.{◌≡◌, ◌<◌, ◌+◌, ◌-◌, ◌^◌, IsOk, OnOk, length};
 ghost use Rattle.std.specs.Io.KnownBytes.{Appends};
 ghost use Rattle.mml_journal.specs.Taken.{IsFresh};
@@ -20,8 +20,8 @@ use std::net::{Net, TcpListener, TcpStream};
 use std::sync::Wait;
 
 impl<C: Recorder + Send + Drop> Ready<C> {
-    /// Serves a class from its beginning: writes the first line, serves the connections, and writes the last line.
-    /// Returns why the class doesn't begin, or fails.
+    /// Serves a new class: writes the first line, serves the connections, and writes the last line. Granted events go
+    /// to the journal's `sink`. Returns the reason if the class can't begin, or fails.
     pub(crate) fn begin<
         R: System + Net<Listener = TcpListener, Stream = TcpStream> + Sync,
         S: Sink + Send + Drop,
@@ -37,8 +37,8 @@ impl<C: Recorder + Send + Drop> Ready<C> {
         self.serve_with_state(rt, sink, writer)
     }
 
-    // Serves the connections with a new state, and writes the last line. If a session ran out of memory, returns that
-    // error after the last line.
+    // Serves the connections with a new host state, and writes the last line. If a session ran out of memory, returns
+    // that error after the last line.
     fn serve_with_state<
         R: System + Net<Listener = TcpListener, Stream = TcpStream> + Sync,
         S: Sink + Send + Drop,
@@ -54,8 +54,8 @@ impl<C: Recorder + Send + Drop> Ready<C> {
         told_memory(rt, &state)
     }
 
-    // Serves the connections with this state until the class is over, and writes the last line. If a session ran out of
-    // memory, that is noted in the state, and is no error here.
+    // Serves the connections with this host state until the class is over, and writes the last line. If a session ran
+    // out of memory, that is only noted in the state.
     fn serve_to_the_end<
         R: System + Net<Listener = TcpListener, Stream = TcpStream> + Sync,
         S: Sink + Send + Drop,
@@ -84,7 +84,8 @@ impl<C: Recorder + Send + Drop> Ready<C> {
     }
 }
 
-// Returns the host's error if a class failed. Otherwise drops the result of its house, and returns `Ok`.
+// Returns the host's error if serving the class failed. Otherwise drops the result of its house (its run), and returns
+// `Ok`.
 fn end_of_class<S: Drop, K: Drop, C: Drop>(
     served: Result<Hosted<S, K, C>, HostFault>,
 ) -> Result<(), Fault>
@@ -99,7 +100,7 @@ fn end_of_class<S: Drop, K: Drop, C: Drop>(
     }
 }
 
-/// Returns the error `Memory` if the state notes that memory ran out, and else `Ok`.
+/// Returns the error `Memory` if the host's state notes that memory ran out, and otherwise `Ok`.
 pub(crate) fn told_memory<R: Wait>(rt: &R, state: &HostState) -> Result<(), Fault> {
     if state.lacked_memory(rt) {
         Err(Fault::Common(ProgramFault::Memory))
@@ -108,12 +109,13 @@ pub(crate) fn told_memory<R: Wait>(rt: &R, state: &HostState) -> Result<(), Faul
     }
 }
 
-/// Drops the result of a house whose class has ended.
+/// Drops the result of a house (one run of a lab) whose class has ended.
 pub(crate) fn let_go<S: Drop, K: Drop, C: Drop>(house: Hosted<S, K, C>) {
     drop(house);
 }
 
-/// Writes the first line of a class, which names its ports. Returns an error if the write fails, or memory runs out.
+/// Writes the first line of a class, which names its two ports. Returns an error if the write fails, or memory runs
+/// out.
 pub fn write_listening<W: Write>(
     alloc: Global,
     port: u16,

@@ -1,4 +1,4 @@
-//! A class that is ready, with its journal and its record.
+//! Serving a class whose ports are open, with its journal and its record.
 ghost use Rattle.std.specs.Prelude.{◌≡◌, ◌+◌, length};
 ghost use Rattle.std.specs.Thread.{IsSync, IsSend};
 
@@ -20,7 +20,7 @@ use std::net::{Net, TcpListener, TcpStream};
 use std::rt::Files;
 use std::{io, thread};
 
-/// A journal that was opened, with the bytes that were read in it, and its watch.
+/// The journal of an earlier part of the class: its open file, the bytes that were read from it, and its watch.
 #[derive(Drop)]
 pub(crate) struct Past<'a> {
     pub journal: OldJournal<'a>,
@@ -28,16 +28,16 @@ pub(crate) struct Past<'a> {
     pub watch: &'a JournalWatch<'a>,
 }
 
-/// The journal of a class, which takes the lines of the events that are granted.
+/// The journal of a class, to which the lines of granted events are written.
 #[derive(Drop)]
 pub(crate) enum ClassJournal<'a> {
     /// No journal.
     None,
-    /// A plain file that was begun, and its watch.
+    /// A plain file, begun anew, and its watch.
     Plain(File, &'a JournalWatch<'a>),
-    /// Another kind of file that was begun, as a pipe, which can be neither synced nor watched.
+    /// A file of another kind, such as a pipe, which can be neither synced nor watched.
     Other(File),
-    /// The journal of a class that goes on.
+    /// The journal from which a class goes on.
     Old(Past<'a>),
 }
 
@@ -52,7 +52,7 @@ impl<'a> ClassJournal<'a> {
     }
 }
 
-/// A class that is ready to be served.
+/// A class that is ready to be served: its lab, its ports and its journal.
 #[derive(Drop)]
 pub(crate) struct Class<'a> {
     pub lab: Lab,
@@ -60,7 +60,7 @@ pub(crate) struct Class<'a> {
     pub journal: ClassJournal<'a>,
 }
 
-/// The arguments for serving a class at its ports, whatever its journal is.
+/// What a class needs to be served at its ports, apart from its journal.
 #[derive(Drop)]
 pub(crate) struct Ready<C: Drop> {
     pub lab: Lab,
@@ -68,8 +68,8 @@ pub(crate) struct Ready<C: Drop> {
     pub recorders: Recorders<C>,
 }
 
-/// Serves a class until it is over, records it if there is a folder for that, and watches its journal if that is a
-/// plain file. Returns why the class doesn't begin or go on, fails, isn't wholly recorded, or lost its journal.
+/// Serves a class until it is over. Records it if there is a folder, and watches its journal if that is a plain file.
+/// Returns the reason if the class can't begin or go on, fails, isn't recorded completely, or lost its journal's file.
 pub(crate) fn serve_class<
     R: System + Files<File = File> + Net<Listener = TcpListener, Stream = TcpStream> + Sync,
     L: Look + Sync,
@@ -80,8 +80,8 @@ pub(crate) fn serve_class<
     }
 }
 
-// Serves a class, whose journal is watched by a thread of its own. If none can be started, checks the journal once, at
-// the end. Returns the error of the class, or else a journal fault if the journal's file was lost.
+// Serves a class, while another thread watches the journal's file. If no thread can be started, checks the file once,
+// at the end. Returns the error of the class, or else a journal fault if the file was lost.
 fn serve_watched<
     R: System + Files<File = File> + Net<Listener = TcpListener, Stream = TcpStream> + Sync,
     L: Look + Sync,
@@ -110,7 +110,7 @@ fn serve_watched<
     watch.end()
 }
 
-// Serves a class, and records it if there is a folder for that.
+// Serves a class, and records it if there is a folder.
 fn serve_recorded<
     R: System + Files<File = File> + Net<Listener = TcpListener, Stream = TcpStream> + Sync,
 >(rt: &R, class: Class<'_>, folder: Option<RecordFolder>) -> Result<(), Fault> {
@@ -120,7 +120,7 @@ fn serve_recorded<
     }
 }
 
-// Serves a class, and records nothing.
+// Serves a class without recording it.
 fn serve_unrecorded<
     R: System + Files<File = File> + Net<Listener = TcpListener, Stream = TcpStream> + Sync,
 >(rt: &R, class: Class<'_>) -> Result<(), Fault> {
@@ -128,7 +128,7 @@ fn serve_unrecorded<
     serve_ports(rt, class, recorders)
 }
 
-// Serves a class, and records it in a folder. Returns the error of the class, or else `Unrecorded` if something
+// Serves a class, and records it in this folder. Returns the error of the class, or else `Unrecorded` if something
 // couldn't be recorded.
 fn serve_in_folder<
     R: System + Files<File = File> + Net<Listener = TcpListener, Stream = TcpStream> + Sync,
@@ -148,7 +148,7 @@ fn serve_seats<
     serve_synced(rt, class, recorders, files.as_slice(), state)
 }
 
-// Serves a class, while its record is synced by a thread of its own. If none can be started, syncs the record once, at
+// Serves a class, while another thread syncs the files of its record. If no thread can be started, syncs them once, at
 // the end. Returns the error of the class.
 fn serve_synced<
     R: System + Files<File = File> + Net<Listener = TcpListener, Stream = TcpStream> + Sync,
@@ -179,7 +179,7 @@ fn serve_synced<
     )
 }
 
-// Returns the error `Unrecorded` if a put in a record or a sync of its files has failed, and else `Ok`.
+// Returns the error `Unrecorded` if a write to the record or a sync of its files has failed, and otherwise `Ok`.
 fn told_whole(state: &RecordState) -> Result<(), Fault> {
     if state.has_failed() {
         Err(Fault::Unrecorded)
@@ -188,8 +188,8 @@ fn told_whole(state: &RecordState) -> Result<(), Fault> {
     }
 }
 
-// Serves a class until it is over, and writes the host's lines to standard output: the ports, the state after an old
-// journal, and the end. If a write ran out of memory, returns `Memory`, whatever the error would be else.
+// Serves a class until it is over, and writes the host's lines to standard output: the ports, the state after an
+// earlier journal, and the end. If a write ran out of memory, returns `Memory` instead of any other error.
 fn serve_ports<
     R: System + Files<File = File> + Net<Listener = TcpListener, Stream = TcpStream> + Sync,
     C: Recorder + Send + Drop,
@@ -203,8 +203,8 @@ fn serve_ports<
     }
 }
 
-// Serves a class at its ports. The lines of granted events go to the sink of its journal: none, a file that is synced
-// and watched, or one that can't be. If the journal is an old one, the class goes on from it.
+// Serves a class at its ports with its kind of journal: none, a plain file that is synced and watched, a file that
+// can't be, or the journal from which the class goes on.
 fn serve_journaled<
     R: System + Files<File = File> + Net<Listener = TcpListener, Stream = TcpStream> + Sync,
     C: Recorder + Send + Drop,

@@ -14,16 +14,16 @@ use thiserror::Error;
 /// Why the host ended before its work was done.
 #[derive(Debug, Drop, Error)]
 pub enum Fault {
-    /// An error that `mml_server` reports in the same words: of command line, lab, journal, output and memory.
+    /// An error that `mml_server` reports too, in the same words: of the command line, lab, journal, output or memory.
     #[error("{0}")]
     Common(ProgramFault),
-    /// A port can't be listened on.
+    /// The host can't listen on a port.
     #[error("host: cannot listen")]
     Listen,
-    /// No connection can be accepted any more, and the teacher hadn't said bye.
+    /// No more connections can be accepted, though the teacher hadn't said bye.
     #[error("host: cannot accept")]
     Accept,
-    /// The places that were given aren't those of the events, each once.
+    /// A check at the end failed: the places that were given aren't those of the events, each once.
     #[error("host: the tally does not fit")]
     Astray,
     /// There was no window for the desk's seat. This doesn't happen: a lab has at least one session.
@@ -35,18 +35,18 @@ pub enum Fault {
     /// The system allows the program too few threads for a class.
     #[error("host: too few threads may be started")]
     FewThreads,
-    /// The copy of a lab beside the journal isn't of this lab.
+    /// The copy of the lab beside the journal is of another lab.
     #[error("resume: another lab")]
     AnotherLab,
-    /// The record's folder can't be made, kept or gone on with, or didn't take all of an entry.
+    /// The record's folder can't be made, kept or continued, or an entry wasn't written whole.
     #[error("record fault")]
     Unrecorded,
 }
 
 impl Fault {
-    /// Returns the exit status of the error: 2 if the lab is another, 4 if a port or the record failed, or the places
-    /// that were given don't fit the events, 5 if a window, files or threads are missing. An error that `mml_server`
-    /// has too has the same status as there.
+    /// Returns the exit status of the error: 2 if the lab is another one; 4 if a port or the record failed, or the
+    /// places don't fit the events; 5 if a window, files or threads are missing. An error that `mml_server` has too has
+    /// the same status as there.
     pub fn status(&self) -> u8 {
         match self {
             Fault::Common(fault) => fault.status(),
@@ -62,15 +62,14 @@ impl From<ProgramFault> for Fault {
 
     ghost from_gives = { λ fault e. e ≡ Common fault };
 
-    // Turns an error that `mml_server` has too into one in the same words.
+    // Wraps an error that `mml_server` has too.
     fn from(fault: ProgramFault) -> Fault {
         Fault::Common(fault)
     }
 }
 
 impl From<ListenFault> for Fault {
-    // Turns the fault of a port into the host's error: `Memory` if memory ran out, and else that it can't be listened
-    // on.
+    // Turns the fault of a port into the host's error: `Memory` if memory ran out, and otherwise `Listen`.
     fn from(fault: ListenFault) -> Fault {
         match fault {
             ListenFault::Refused => Fault::Listen,
@@ -79,14 +78,14 @@ impl From<ListenFault> for Fault {
     }
 }
 
-/// Returns the host's error for the fault of a journal's file.
+/// Returns the host's error for the fault of a journal's file: a journal fault, or `Memory`.
 pub(crate) fn of_journal(fault: FileFault) -> Fault
     ensures { result ≡ Fault.Common (of_journal_file fault) }
 {
     Fault::Common(ProgramFault::from(fault))
 }
 
-/// Returns the host's error for the fault of a record's folder, or of a file in it.
+/// Returns the host's error for the fault of a record's folder, or of a file in it: `Unrecorded`, or `Memory`.
 pub(crate) fn of_record(fault: FileFault) -> Fault
     ensures { result ≡ of_record fault }
 {
@@ -97,7 +96,7 @@ pub(crate) fn of_record(fault: FileFault) -> Fault
 }
 
 impl From<Memory> for Fault {
-    // Turns out of memory into the same error as `mml_server`.
+    // Turns memory that ran out into the same error as in `mml_server`.
     fn from(_memory: Memory) -> Fault
         ensures { result ≡ Fault.Common ProgramFault.Memory }
     {
@@ -110,8 +109,8 @@ impl From<ResumeFault> for Fault {
 
     ghost from_gives = { IsToldAs };
 
-    // Turns the reason why a class doesn't go on into the host's error: the audit's error, out of memory, a journal
-    // fault if the journal can't be cut, or the error of the class's host.
+    // Turns the reason why a class didn't go on into the host's error: the audit's error, `Memory`, a journal fault if
+    // the journal couldn't be cut, or the error of serving the class.
     fn from(fault: ResumeFault) -> Fault {
         match fault {
             ResumeFault::Refused(why) => Fault::Common(ProgramFault::from(why)),
@@ -127,8 +126,7 @@ impl From<HostFault> for Fault {
 
     ghost from_gives = { λ fault e. e ≡ of_hosting fault };
 
-    // Turns an error of the house into the host's: a halted journal into a journal fault, and each other into that of
-    // its cause.
+    // Turns the reason why serving a class failed into the host's error. A halted journal becomes a journal fault.
     fn from(fault: HostFault) -> Fault {
         match fault {
             HostFault::Memory => Fault::Common(ProgramFault::Memory),

@@ -1,5 +1,4 @@
-//! The body of the host: the subcommands that serve a class, with their error lines and statuses, and the table of
-//! limits.
+//! The subcommands of `mml_host` that serve a class, with their error lines and exit statuses, and the table of limits.
 #![tactic(auto)]
 
 mod beginning;

@@ -1,4 +1,4 @@
-//! The limits that a class has, for programs to read.
+//! The table of the limits of a class, as lines for other programs.
 ghost use Rattle.std.specs.Prelude.{◌≡◌, ◌++◌, OnOk};
 ghost use Rattle.std.specs.Io.KnownBytes.{Appends};
 ghost use Rattle.mml_host_program.specs.Limits.{limit_line, network_limits, class_limits, text_limits, record_limits, deadlines, limits_text};
@@ -16,7 +16,8 @@ use std::alloc::Global;
 use std::io;
 use std::io::Write;
 
-/// Returns whether the command line is `limits` and nothing more. The first of the words is the program's name.
+/// Returns whether the command line is the subcommand `limits`, with nothing more. The first word is the program's
+/// name.
 pub fn is_for_limits(words: &[String]) -> bool {
     match words.get(1) {
         Some(word) => words.len() == 2 && word.as_str() == "limits",
@@ -48,7 +49,7 @@ pub fn write_limits<W: Write>(alloc: Global, writer: &mut W) -> Result<(), Progr
     }
 }
 
-/// Appends the lines of all limits. Returns `Memory` if memory runs out, as each function below does.
+/// Appends the lines of all limits. Returns `Memory` if memory runs out, as the other functions of this file do.
 fn put_limits(out: &mut Vec<u8>) -> Result<(), Memory>
     ensures { OnOk result (out.new.items ≡ out.old.items ++ limits_text) }
 {
@@ -59,7 +60,7 @@ fn put_limits(out: &mut Vec<u8>) -> Result<(), Memory>
     put_deadlines(out)
 }
 
-/// Appends the limits of a lab's network: its nodes, the greatest identifier, its students, and the owners of one node.
+/// Appends the limits of a lab's network: its nodes, the greatest identifier, its students, and the owners of a node.
 fn put_network_limits(out: &mut Vec<u8>) -> Result<(), Memory>
     ensures { OnOk result (out.new.items ≡ out.old.items ++ network_limits) }
 {
@@ -69,7 +70,7 @@ fn put_network_limits(out: &mut Vec<u8>) -> Result<(), Memory>
     put_limit(out, "owners", MAX_OWNERS, "count")
 }
 
-/// Appends the limits of a lab's class: its sessions, its events, and the characters of a name and of a key.
+/// Appends the limits of a lab's class: its sessions, its events, and the lengths of a name and of a key.
 fn put_class_limits(out: &mut Vec<u8>) -> Result<(), Memory>
     ensures { OnOk result (out.new.items ≡ out.old.items ++ class_limits) }
 {
@@ -79,7 +80,7 @@ fn put_class_limits(out: &mut Vec<u8>) -> Result<(), Memory>
     put_limit(out, "key", MAX_KEY, "characters")
 }
 
-/// Appends the limits, in bytes, of a request's line, of a lab's file and of a journal's.
+/// Appends the limits of texts, in bytes: of a request's line, of a lab file and of a journal.
 fn put_text_limits(out: &mut Vec<u8>) -> Result<(), Memory>
     ensures { OnOk result (out.new.items ≡ out.old.items ++ text_limits) }
 {
@@ -89,7 +90,7 @@ fn put_text_limits(out: &mut Vec<u8>) -> Result<(), Memory>
 }
 
 /// Appends the limits of a record, in bytes: of one entry, of what a host writes to a seat's file, and of what is read
-/// of one.
+/// from one.
 fn put_record_limits(out: &mut Vec<u8>) -> Result<(), Memory>
     ensures { OnOk result (out.new.items ≡ out.old.items ++ record_limits) }
 {
@@ -109,7 +110,7 @@ fn put_deadlines(out: &mut Vec<u8>) -> Result<(), Memory>
     put_limit(out, "write", WRITE_LIMIT, "seconds")
 }
 
-/// Appends the line of one limit: its name, the greatest value `most`, and its unit.
+/// Appends the line of one limit: its name, the greatest value `most` that is allowed, and its unit.
 fn put_limit<'a>(out: &mut Vec<u8>, name: &'a str, most: u64, unit: &'a str) -> Result<(), Memory>
     ensures { OnOk result (out.new.items ≡ out.old.items ++ limit_line name.now most unit.now) }
 {

@@ -1,4 +1,4 @@
-//! The system's limits that a class needs, checked before it begins.
+//! The check of the system's limits before a class begins.
 use crate::fault::Fault;
 use mml_program::Fault as ProgramFault;
 use std::alloc::Global;
@@ -9,17 +9,17 @@ use std::sync::{Mutex, Wait};
 use std::thread::Threads;
 use std::{fs, thread};
 
-// How many more files a class has open at least: the journal, two ports and a spare one, a connection at each port, and
-// one that is turned away.
+// How many more files a class has open at the same time, at least: the journal, two ports and a spare one, a connection
+// at each port, and one that is turned away.
 const FILES: usize = 7;
 
-// How many more threads a class has at least: that of the students' port, that which watches the journal, and one for a
-// connection at each port.
+// How many more threads a class has at the same time, at least: one for the students' port, one that watches the
+// journal, and one for a connection at each port.
 const THREADS: usize = 4;
 
-/// Checks whether the files that a class needs at least may be open at once, and then whether its threads may exist at
-/// once. Closes and ends all of them again. Returns `FewFiles` or `FewThreads` if they may not, or `Memory` if memory
-/// runs out.
+/// Checks whether the system allows the files and threads that a class needs at least. Opens so many files and starts
+/// so many threads, and closes and ends them again. Returns `FewFiles` or `FewThreads` if it allows fewer, or `Memory`
+/// if memory runs out.
 pub fn look_at_limits<R: Files<File = File> + Threads + Wait + Sync>(
     rt: &R,
     alloc: Global,
@@ -46,7 +46,7 @@ pub fn look_at_limits<R: Files<File = File> + Threads + Wait + Sync>(
     }
 }
 
-// Returns whether `THREADS` threads may exist at once. To find out, starts them; none ends before the last is started.
+// Returns whether `THREADS` threads can exist at the same time. Starts them, and lets none end before all are started.
 fn has_threads<R: Threads + Wait + Sync>(rt: &R) -> bool {
     let door = Mutex::new(());
     thread::scope(thread::scope_env(), rt, |scope| -> bool {

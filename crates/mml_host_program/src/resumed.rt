@@ -1,4 +1,4 @@
-//! A class that goes on, from the end of its journal to its last line.
+//! A class that goes on: from the end of its journal to its last line of output.
 ghost use Rattle.std.specs.Prelude.{◌≡◌, ◌+◌, IfOk, OnOk, length};
 ghost use Rattle.mml_host_program.specs.Telling.{ports_line, TellsResumed};
 
@@ -19,8 +19,8 @@ use std::net::{Net, TcpListener, TcpStream};
 use std::rt::Files;
 
 impl<C: Recorder + Send + Drop> Ready<C> {
-    /// Serves a class from the end of its journal: writes the first two lines, serves the connections, and writes the
-    /// last line. Returns why the class doesn't go on, or fails.
+    /// Serves a class that goes on from the journal `past`: writes the first two lines, serves the connections, and
+    /// writes the last line. Returns the reason if the class doesn't go on, or fails.
     pub(crate) fn go_on<
         R: System + Files<File = File> + Net<Listener = TcpListener, Stream = TcpStream> + Sync,
         W: Write,
@@ -47,8 +47,9 @@ impl<C: Recorder + Send + Drop> Ready<C> {
         self.go_on_after(rt, bytes, store, first.as_slice(), &state, writer)
     }
 
-    // Serves a class whose journal has the bytes `old`, which `store` cuts to their whole lines. The line `first`, of
-    // the ports, is written together with the next, which has the state that the old journal leads to.
+    // Serves a class that goes on from a journal with the bytes `old`, which `store` cuts to their whole lines. The
+    // line `first`, which names the ports, is written together with the next line, about the state that the journal
+    // leads to.
     #[tactic(auto, using(crate::proofs::TellingLemmas::told_resumed))]
     fn go_on_after<
         R: System + Net<Listener = TcpListener, Stream = TcpStream> + Sync,
@@ -91,7 +92,7 @@ impl<C: Recorder + Send + Drop> Ready<C> {
     }
 }
 
-// Returns the first line of a class, which names its ports. Returns `Memory` if memory runs out.
+// Returns the first line of a class, which names its two ports. Returns `Memory` if memory runs out.
 fn first_line(alloc: Global, ports: &Ports) -> Result<Vec<u8>, ProgramFault>
     ensures { IfOk result (λ line. line.items ≡ ports_line ports.now.port ports.now.desk) }
 {
@@ -100,8 +101,8 @@ fn first_line(alloc: Global, ports: &Ports) -> Result<Vec<u8>, ProgramFault>
     Ok(line)
 }
 
-// Returns the host's error for a class that doesn't go on or fails: `Memory` if its journal couldn't be cut because
-// memory ran out (`lacked`), and else that of the fault.
+// Returns the host's error for a class that didn't go on, or failed. If the journal couldn't be cut and memory had run
+// out (`lacked`), that is `Memory`, and otherwise the error of the fault.
 fn told_as(fault: ResumeFault, lacked: bool) -> Fault {
     match fault {
         ResumeFault::Store if lacked => Fault::Common(ProgramFault::Memory),

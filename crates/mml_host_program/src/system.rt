@@ -1,9 +1,10 @@
-//! What serving a class needs of the system.
+//! The parts of the system that serving a class needs.
 use std::sync::Wait;
 use std::thread::Threads;
 use std::time::Clock;
 
-/// What serving a class needs of the system, beyond its files and its sockets, whose types are named apart.
+/// The parts of the system that serving a class needs, apart from files and sockets, which are named separately since
+/// their types matter.
 pub trait System: Threads + Wait + Clock + Print + Eprint + AllocGlobal {}
 
 impl<R: Threads + Wait + Clock + Print + Eprint + AllocGlobal> System for R {}

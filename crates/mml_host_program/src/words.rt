@@ -1,4 +1,4 @@
-//! The words of the command line.
+//! Reading the words of the command line.
 ghost use Rattle.std.specs.Prelude.{MatchOption};
 ghost use Rattle.mml_host_program.specs.Words.{Names, NamesNone};
 
@@ -10,14 +10,14 @@ use std::alloc::{AllocError, Global};
 /// The task that the command line asks for.
 #[derive(Drop)]
 pub enum Task<'a> {
-    /// Serves a class from its beginning.
+    /// Serve a new class.
     Host(HostTask<'a>),
-    /// Serves a class that goes on from its journal.
+    /// Serve a class that goes on from its journal.
     Resume(ResumeTask<'a>),
 }
 
-/// A lab's class at two ports, each 0 if the system is to choose. The lines of the granted events go to the journal, if
-/// one is named, and the lines of each seat to the record, if one is named.
+/// A lab and the two ports of its class; for 0, the system chooses a port. If a journal is named, the lines of granted
+/// events are written to it; if a record is named, the lines of each seat are.
 #[derive(Drop)]
 pub struct HostTask<'a> {
     pub lab: &'a str,
@@ -27,8 +27,8 @@ pub struct HostTask<'a> {
     pub record: Option<&'a str>,
 }
 
-/// A lab's class that goes on at two ports: the journal has what was granted before, and takes what is granted
-/// from now on.
+/// A lab and the two ports of its class, which goes on: the journal has what was granted before, and will have what is
+/// granted from now on.
 #[derive(Drop)]
 pub struct ResumeTask<'a> {
     pub lab: &'a str,
@@ -38,7 +38,8 @@ pub struct ResumeTask<'a> {
     pub record: Option<&'a str>,
 }
 
-/// Returns whether the words, of which the first is the program's name, ask to serve a class.
+/// Returns whether the words ask to serve a class, by the subcommand `host` or `resume`. The first word is the
+/// program's name.
 pub fn is_of_class(words: &[String]) -> bool {
     match words.get(1) {
         Some(word) => word.as_str() == "host" || word.as_str() == "resume",
@@ -46,8 +47,8 @@ pub fn is_of_class(words: &[String]) -> bool {
     }
 }
 
-/// Returns the task that the words ask for, of which the first is the program's name. Returns `CommandLine` if they ask
-/// for no class, and `Memory` if memory runs out.
+/// Returns the task that these words ask for; the first word is the program's name. Returns `CommandLine` if they don't
+/// fit any task, and `Memory` if memory runs out.
 pub fn read_words<'a>(alloc: Global, words: &'a [String]) -> Result<Task<'a>, ProgramFault> {
     let matches = match_words(command_line(alloc)?, words)?;
     match matches.subcommand() {
@@ -56,28 +57,31 @@ pub fn read_words<'a>(alloc: Global, words: &'a [String]) -> Result<Task<'a>, Pr
     }
 }
 
-// Returns the whole command line of the two subcommands that serve a class. Returns an error if memory runs out.
+// Returns the description of the command line, with the two subcommands that serve a class. Returns an error if memory
+// runs out.
 fn command_line<'a>(alloc: Global) -> Result<Command<'a>, AllocError> {
     let whole = subcommand_of(alloc, "mml_host", &[])?;
     let whole = whole.subcommand(host_words(alloc)?)?;
     whole.subcommand(resume_words(alloc)?)
 }
 
-// Returns the subcommand `host`, with its values: a lab, two ports, and optionally a journal and a record.
+// Returns the description of the subcommand `host`, with its values: a lab, two ports, and optionally a journal and a
+// record.
 fn host_words<'a>(alloc: Global) -> Result<Command<'a>, AllocError> {
     let command = subcommand_of(alloc, "host", &["lab", "port", "desk"])?;
     let command = with_optional(alloc, command, "journal")?;
     with_optional(alloc, command, "record")
 }
 
-// Returns the subcommand `resume`, with its values: a lab, two ports, a journal, and optionally a record.
+// Returns the description of the subcommand `resume`, with its values: a lab, two ports, a journal, and optionally a
+// record.
 fn resume_words<'a>(alloc: Global) -> Result<Command<'a>, AllocError> {
     let values = ["lab", "port", "desk", "journal"];
     with_optional(alloc, subcommand_of(alloc, "resume", &values)?, "record")
 }
 
-// Returns the task of a subcommand of this name with these values, or `None` if a text names no port, a value is
-// missing, or the program has no such name.
+// Returns the task of the subcommand `name` with these values. Returns `None` if there is no such subcommand, a value
+// is missing, or a text isn't a port.
 fn task_of<'a>(name: &str, values: &ArgMatches<'a>) -> Option<Task<'a>> {
     let lab = values.get_str("lab")?;
     let port = read_port(values.get_str("port")?)?;
@@ -103,8 +107,8 @@ fn task_of<'a>(name: &str, values: &ArgMatches<'a>) -> Option<Task<'a>> {
     }
 }
 
-/// Returns the port in a text, or 0 for one that the system chooses: a number up to 65535 in decimal, without sign or
-/// leading zero. Returns `None` for any other text.
+/// Returns the port that a text names: a number up to 65535 in decimal, without sign or leading zero. For 0 the system
+/// will choose a port. Returns `None` for any other text.
 pub fn read_port(text: &str) -> Option<u16>
     ensures { MatchOption result (NamesNone text.now) (Names text.now) }
 {

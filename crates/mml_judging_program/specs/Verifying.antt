@@ -5,7 +5,7 @@ use Rattle.mml_lab.specs.Labs.{LabValue}
 use Rattle.mml_tally.specs.declared.record_text.Findings.{Findings}
 use Rattle.mml_tally.specs.Lacking.{recorded_line}
 
--- what stands behind the number of events, by whether a record is whole
+-- the end of the line, after the number of events, by whether a record is whole
 abbrev pub end_of : Bool → List ℕ
 end_of true = codes " events\n"
 end_of false = codes " events, not whole\n"
@@ -19,6 +19,6 @@ verified_line found events =
 abbrev pub begun_line : ℕ → List ℕ
 begun_line begun = concat (codes "begun after " ∷ decimal begun ∷ codes " events\n" ∷ [])
 
--- these two lines, and between them the line of those whose lines are all recorded
+-- these two lines, and between them the line about those whose lines are all recorded
 abbrev pub verified_text : LabValue → Findings → ℕ → ℕ → List ℕ
 verified_text lab found events begun = verified_line found events ++ (recorded_line lab found ++ begun_line begun)

@@ -6,9 +6,9 @@ use mml_program::{answer_script, lab_of, memory_if_lacked};
 use std::io;
 use std::rt::Files;
 
-/// Answers the script on standard input over the lab of a file. All replies are written before each read, so that the
-/// writer of a line gets its reply before the next one has to be written. Returns the error of the lab's file, or why
-/// the script ended before its last line.
+/// Answers the script on standard input over the lab in a file. All replies are written before each read, so that a
+/// program can send a line after it has got the reply to the one before. Returns an error if the lab file is refused,
+/// or the script ended early.
 pub fn answer<R: Files + Input + Print + AllocGlobal>(rt: &R, lab: &str) -> Result<(), Fault> {
     let lab = lab_of(rt, lab)?;
     let mut reader = Retrying::new(rt.reader());

@@ -1,16 +1,16 @@
-//! Why nothing is written of a class, or not all.
+//! Why the result of checking a class isn't written.
 use crate::fault::Fault;
 use crate::record_refusal::RecordRefusal;
 use mml_audit::AuditFault;
 use mml_class::{ClassFault, SeatFault};
 use mml_program::Fault as ProgramFault;
 
-/// Why nothing was written of a class, or not all.
+/// Why the result of checking a class wasn't written, or only in part.
 #[derive(Debug)]
 pub enum ClassError {
     /// The journal doesn't pass the audit.
     Audit(AuditFault),
-    /// The seats' texts are no record beside the journal, or can't be read.
+    /// The seats' texts aren't a record beside the journal, or can't be read.
     Record(ClassFault),
     /// Memory ran out before anything was written.
     Memory,
@@ -19,7 +19,7 @@ pub enum ClassError {
 }
 
 impl From<ClassError> for Fault {
-    // Turns the reason why a class wasn't written into the program's error.
+    // Turns the reason why the result wasn't written into the program's error.
     fn from(error: ClassError) -> Fault {
         match error {
             ClassError::Audit(why) => Fault::Common(ProgramFault::from(why)),
@@ -30,7 +30,7 @@ impl From<ClassError> for Fault {
     }
 }
 
-// Returns the program's error for texts that are no record of a class, or can't be read.
+// Returns the program's error for texts that aren't the record of a class, or can't be read.
 fn record_fault(why: ClassFault) -> Fault {
     match why {
         ClassFault::Entry { seat, bad } => Fault::Record(RecordRefusal::of(seat, bad)),

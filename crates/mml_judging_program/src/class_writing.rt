@@ -1,4 +1,4 @@
-//! What `verify` and `tally` share: the audit before, and the write after.
+//! What the subcommands `verify` and `tally` share: the audit at the beginning, and the write at the end.
 ghost use Rattle.std.specs.Prelude.{◌≡◌, ◌<◌, ℕ, true, length, take, IfErr, IfOk, MatchBool, OnOk, Err};
 ghost use Rattle.std.specs.Io.KnownBytes.{Appends};
 ghost use Rattle.mml_board.specs.Lists.{is_legal_in, world_in};
@@ -12,8 +12,8 @@ use mml_lines::put_all;
 use std::alloc::Global;
 use std::io::Write;
 
-/// Audits the text of a journal, and drops it. Returns its events and the board that they lead to, or why the text
-/// doesn't pass.
+/// Audits the text of a journal. Returns its events and the board that they lead to, or the reason why the text doesn't
+/// pass. Frees the text.
 pub(crate) fn audit_class(alloc: Global, lab: &Lab, journal: Vec<u8>) -> Result<Audited, AuditFault>
     ensures journal { IfOk result (λ a. IsJournalOf lab.now a.events.items journal.items) }
     ensures legal { IfOk result (λ a. is_legal_in lab.now a.events.items ≡ true) }
@@ -24,7 +24,7 @@ pub(crate) fn audit_class(alloc: Global, lab: &Lab, journal: Vec<u8>) -> Result<
     audit_events(alloc, lab, &journal)
 }
 
-/// Writes a text. Returns `Write` if a write fails: what was written then is a beginning of the text.
+/// Writes a text. Returns `Write` if a write fails, after which only a beginning of the text may have been written.
 pub(crate) fn write_class<W: Write>(text: &[u8], writer: &mut W) -> Result<(), ClassError>
     ensures all { OnOk result (Appends (W.contents writer.old) (W.contents writer.new) text.now) }
     ensures part { IfErr result (λ error. (error ≡ ClassError.Write) × ((n : ℕ) × (n < length text.now)

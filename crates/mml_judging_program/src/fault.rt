@@ -9,10 +9,11 @@ use thiserror::Error;
 /// Why a subcommand ended before its work was done.
 #[derive(Debug, Drop, Error)]
 pub enum Fault {
-    /// An error that `mml_server` reports in the same words: of command line, lab, journal, script, output and memory.
+    /// An error that `mml_server` reports too, in the same words: of the command line, lab, journal, script, output or
+    /// memory.
     #[error("{0}")]
     Common(ProgramFault),
-    /// The record isn't one of the lab and the journal.
+    /// The record isn't one of this lab and this journal.
     #[error("verify: {0}")]
     Record(RecordRefusal),
     /// A file of the record can't be opened or read, or is too large.
@@ -21,7 +22,7 @@ pub enum Fault {
 }
 
 impl Fault {
-    /// Returns the exit status of the error: 3 if the record is none, and 4 if it can't be read. An error that
+    /// Returns the exit status of the error: 3 if the record is refused, and 4 if it can't be read. An error that
     /// `mml_server` has too has the same status as there.
     pub fn status(&self) -> u8 {
         match self {
@@ -37,14 +38,14 @@ impl From<ProgramFault> for Fault {
 
     ghost from_gives = { λ fault e. e ≡ Common fault };
 
-    // Turns an error that `mml_server` has too into one in the same words.
+    // Wraps an error that `mml_server` has too.
     fn from(fault: ProgramFault) -> Fault {
         Fault::Common(fault)
     }
 }
 
 impl From<Memory> for Fault {
-    // Turns out of memory into the same error as `mml_server`.
+    // Turns memory that ran out into the same error as in `mml_server`.
     fn from(_memory: Memory) -> Fault
         ensures { result ≡ Fault.Common ProgramFault.Memory }
     {

@@ -1,4 +1,4 @@
-//! A record's folder.
+//! The folder of a record.
 use mml_class::{SeatFault, Seats};
 use mml_ids::Memory;
 use mml_program::{Fault as ProgramFault, memory_or};
@@ -7,7 +7,7 @@ use std::fs::File;
 use std::rt::Files;
 use std::{fs, io};
 
-/// A folder with a file for each seat's record, and one that says how many events came before.
+/// A folder with the record of a class: a file for each seat, and the file `begun` with the number of events before it.
 #[derive(Drop)]
 pub struct Folder<'a, R> {
     pub rt: &'a R,
@@ -21,20 +21,20 @@ impl<'a, R: Files<File = File> + AllocGlobal> Seats<File> for Folder<'a, R> {
 
     ghost text = { λ _ _. None };
 
-    // Opens the file `begun`, which says how many events came before the record. Returns an error if that fails.
+    // Opens the file `begun`, which has the number of events before the record. Returns an error if it can't be opened.
     fn open_begun(&self) -> Result<File, SeatFault> {
         let path = begun_path(self.rt.alloc(), self.path)?;
         open_part(self.rt, path.as_str())
     }
 
-    // Opens the file of the record of the seat with this number. Returns an error if that fails.
+    // Opens the file with the record of the seat with this number. Returns an error if it can't be opened.
     fn open_seat(&self, number: u8) -> Result<File, SeatFault> {
         let path = record_path(self.rt.alloc(), self.path, number)?;
         open_part(self.rt, path.as_str())
     }
 }
 
-// Returns the path of the file in a record's folder that says how many events the journal had before the record began.
+// Returns the path of the file `begun` in a record's folder. Returns `Memory` if memory runs out.
 fn begun_path(alloc: Global, folder: &str) -> Result<String, Memory> {
     match format!(in alloc; "{folder}/begun") {
         Ok(path) => Ok(path),
@@ -42,7 +42,7 @@ fn begun_path(alloc: Global, folder: &str) -> Result<String, Memory> {
     }
 }
 
-// Returns the path of the file of a seat's record in a record's folder.
+// Returns the path of a seat's file in a record's folder. Returns `Memory` if memory runs out.
 fn record_path(alloc: Global, folder: &str, seat: u8) -> Result<String, Memory> {
     match format!(in alloc; "{folder}/{seat}.record") {
         Ok(path) => Ok(path),
@@ -50,8 +50,8 @@ fn record_path(alloc: Global, folder: &str, seat: u8) -> Result<String, Memory> 
     }
 }
 
-// Opens a plain file of the record. Returns `Memory` if memory runs out, or `Read` if the file can't be opened, or a
-// folder, a pipe or a device is there.
+// Opens a plain file of the record. Returns `Memory` if memory runs out, or `Read` if the file can't be opened, or
+// there is a folder, a pipe or a device instead.
 fn open_part<R: Files<File = File> + AllocGlobal>(rt: &R, path: &str) -> Result<File, SeatFault> {
     match open_plain(rt, path) {
         Ok(Some(file)) => Ok(file),
@@ -63,8 +63,8 @@ fn open_part<R: Files<File = File> + AllocGlobal>(rt: &R, path: &str) -> Result<
     }
 }
 
-// Opens a plain file. Returns `None` if another kind of file is there. Checks that first, because the opening of a pipe
-// waits for a writer. Returns the system's error if the check or the opening fails.
+// Opens a plain file. Returns `None` if there is another kind of file; this is checked first, because opening a pipe
+// would wait for a writer. Returns the system's error if the check or the opening fails.
 fn open_plain<R: Files<File = File>>(rt: &R, path: &str) -> io::Result<Option<File>> {
     if fs::metadata(rt, path)?.is_file() {
         Ok(Some(fs::open(rt, path)?))

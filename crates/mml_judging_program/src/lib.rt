@@ -1,5 +1,5 @@
-//! The subcommands of the host's program that serve nobody: they judge a class's record and its journal, and answer a
-//! script as its lines come.
+//! The subcommands of `mml_host` that serve no connections: `verify` and `tally` check the record and the journal of a
+//! class, and `answer` answers a script line by line.
 #![tactic(auto)]
 
 mod answering;

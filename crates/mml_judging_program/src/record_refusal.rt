@@ -1,26 +1,26 @@
-//! Why a record is none.
+//! Why a record is refused.
 use mml_class::Misgranted;
 use mml_record::{BadEntry, Why};
 use thiserror::Error;
 
-/// Why a text is no record of a seat, in the words of its error line.
+/// Why a record is refused, in the words of the error line.
 #[derive(Debug, Drop, Error)]
 pub enum RecordRefusal {
-    /// The entry of this seat at this line can't stand there in a record.
+    /// The entry of this seat at this line can't be in a record here.
     #[error("seat {0}, line {1}: {2}")]
     Entry(u8, u64, &'static str),
-    /// The entry of this seat at this line doesn't match this place of the journal.
+    /// The entry of this seat at this line doesn't match the journal at this place.
     #[error("seat {0}, line {1}: not the {2} at place {3}")]
     Place(u8, u64, &'static str, u64),
-    /// The event at this place isn't granted once.
+    /// The event at this place isn't granted exactly once.
     #[error("place {0}: granted {1}")]
     Granted(u64, &'static str),
 }
 
 impl RecordRefusal {
-    /// Returns the refusal of a record for the first bad entry of a seat. If an entry grants another event than the
-    /// journal has, the place is that of the journal's event: one more than how many events the entry says had been
-    /// seen.
+    /// Returns the refusal for the first bad entry of a seat's record. If the entry grants another event than the
+    /// journal has, the error line names the place of the journal's event: one more than the number of events that the
+    /// entry says had been seen.
     pub fn of(seat: u8, bad: BadEntry) -> RecordRefusal {
         let BadEntry { line, place, .. } = bad;
         match bad.why {
@@ -42,7 +42,7 @@ impl RecordRefusal {
         }
     }
 
-    /// Returns the refusal of a record for an error in the places that all seats' records grant.
+    /// Returns the refusal for a fault in the places that the records of all seats grant together.
     pub fn of_places(amiss: Misgranted) -> RecordRefusal {
         match amiss {
             Misgranted::Early(place) => RecordRefusal::Granted(place, "before the record began"),

@@ -1,4 +1,4 @@
-//! The tally of a journal and of the record beside it.
+//! The tally of a journal together with the record of its class.
 ghost use Rattle.std.specs.Prelude.{◌≡◌, ◌++◌, ℕ, List, true, IfErr, IfOk, OnOk};
 ghost use Rattle.mml_board.specs.Lists.{is_legal_in, world_in};
 ghost use Rattle.mml_audit.specs.AuditMeaning.{IsJournalOf};
@@ -25,8 +25,8 @@ use std::io;
 use std::io::{Read, Write};
 use std::rt::Files;
 
-/// Verifies the record beside a journal's file, and prints the tally of both. Returns why lab, journal or record
-/// doesn't pass or can't be read, or that a write failed or memory ran out.
+/// Checks the record of a class beside its journal, and prints the tally of both. Returns an error if the lab, the
+/// journal or the record is refused or can't be read, a write failed, or memory ran out.
 pub fn tally_recorded<R: Files<File = File> + Print + AllocGlobal>(
     rt: &R,
     task: VerifyTask<'_>,
@@ -44,8 +44,8 @@ pub fn tally_recorded<R: Files<File = File> + Print + AllocGlobal>(
     }
 }
 
-/// Audits a journal, reads the seats' texts as the record of its class, and writes the tally of both. If the journal
-/// doesn't pass or the record is none, writes nothing and returns why.
+/// Audits a journal, checks the seats' texts as the record of its class, and writes the tally of both. If the journal
+/// or the record is refused, writes nothing and returns the reason.
 pub fn tally_class<R: Read + Drop, S: Seats<R>, W: Write>(
     alloc: Global,
     lab: &Lab,
@@ -66,7 +66,8 @@ pub fn tally_class<R: Read + Drop, S: Seats<R>, W: Write>(
     write_class(&text, writer)
 }
 
-// Audits a journal and reads the record of its class. Returns the tally of both, or why one of them doesn't pass.
+// Audits a journal and checks the record of its class. Returns the text of the tally of both, or the reason if one is
+// refused.
 fn tallied_text<R: Read + Drop, S: Seats<R>>(
     alloc: Global,
     lab: &Lab,
@@ -86,8 +87,8 @@ fn tallied_text<R: Read + Drop, S: Seats<R>>(
     }
 }
 
-// Reads the record of a class beside the events of its journal, which led to the board. Returns the tally of both, or
-// why the texts are no record or can't be read.
+// Checks the record of a class beside the events of its journal, which lead to `board`. Returns the text of the tally
+// of both, or the reason if the texts are no record or can't be read.
 fn text_beside<R: Read + Drop, S: Seats<R>>(
     alloc: Global,
     lab: &Lab,
@@ -110,8 +111,8 @@ fn text_beside<R: Read + Drop, S: Seats<R>>(
     }
 }
 
-// Returns the tally of events, which led to the board, with the findings of a record and what its lines asked. Returns
-// `Memory` if memory runs out.
+// Returns the text of the tally of these events, which lead to `board`, with the findings of a record and what its
+// lines asked. Returns `Memory` if memory runs out.
 fn text_of(
     alloc: Global,
     lab: &Lab,
@@ -133,8 +134,8 @@ fn text_of(
     }
 }
 
-// Appends the tally of events, which led to the board, with the findings of a record and what its lines asked, and then
-// the line of the rounds. Returns `Memory` if memory runs out.
+// Appends the lines of the tally of these events, which lead to `board`, with the findings of a record and what its
+// lines asked, and then the line about rounds. Returns `Memory` if memory runs out.
 fn put_lines(
     out: &mut Vec<u8>,
     alloc: Global,

@@ -1,4 +1,4 @@
-//! The tally of a journal's run, for a program to read.
+//! The tally of a journal: counts of what happened in a run, as lines for other programs.
 ghost use Rattle.std.specs.Prelude.{◌≡◌, ◌++◌, true, IfOk, OnOk};
 ghost use Rattle.std.specs.Io.KnownBytes.{Appends};
 ghost use Rattle.mml_board.specs.Lists.{is_legal_in};
@@ -19,8 +19,8 @@ use std::io;
 use std::io::Write;
 use std::rt::Files;
 
-/// Prints the tally of a journal's file over the lab of a file. Returns an error if lab or journal doesn't pass or
-/// can't be read, a write fails, or memory runs out.
+/// Prints the tally of the journal in a file over the lab in a file. Returns an error if the lab or the journal is
+/// refused or can't be read, a write fails, or memory runs out.
 pub fn tally<R: Files + Print + AllocGlobal>(
     rt: &R,
     task: TallyTask<'_>,
@@ -34,8 +34,8 @@ pub fn tally<R: Files + Print + AllocGlobal>(
     }
 }
 
-/// Audits a journal, and writes the tally of its events. If it doesn't pass, writes nothing and returns the audit's
-/// error.
+/// Audits a journal, and writes the tally of its events. If the journal doesn't pass, writes nothing and returns the
+/// audit's error.
 pub fn write_tally<W: Write>(
     alloc: Global,
     lab: &Lab,
@@ -49,7 +49,7 @@ pub fn write_tally<W: Write>(
     write_text(&text, writer)
 }
 
-// Returns the text of a journal's tally. If the journal doesn't pass the audit, returns the audit's error.
+// Returns the text of a journal's tally, or the audit's error if the journal doesn't pass.
 fn text_of(alloc: Global, lab: &Lab, journal: &[u8]) -> Result<Vec<u8>, ProgramFault>
     ensures { IfOk result (λ text. IsTally lab.now journal.now text.items) }
 {
@@ -67,8 +67,8 @@ fn text_of(alloc: Global, lab: &Lab, journal: &[u8]) -> Result<Vec<u8>, ProgramF
     }
 }
 
-// Appends the tally of events, which led to the board, and then the line of their rounds. Returns `Memory` if memory
-// runs out.
+// Appends the lines of the tally of these events, which lead to `board`, and then the line about rounds. Returns
+// `Memory` if memory runs out.
 fn put_lines(
     out: &mut Vec<u8>,
     alloc: Global,
@@ -84,7 +84,7 @@ fn put_lines(
     put_rounds(out, alloc, lab, events)
 }
 
-// Writes a text in one go. Returns a write fault if that fails, or `Memory` if memory runs out.
+// Writes a text with a single write. Returns `Write` if the write fails, or `Memory` if memory runs out.
 pub(crate) fn write_text<W: Write>(text: &[u8], writer: &mut W) -> Result<(), ProgramFault>
     ensures { OnOk result (Appends (W.contents writer.old) (W.contents writer.new) text.now) }
 {

@@ -1,4 +1,4 @@
-//! From the command line to the work.
+//! From the command line to the work that it asks for.
 use crate::answering::answer;
 use crate::fault::Fault;
 use crate::recorded::tally_recorded;
@@ -8,7 +8,7 @@ use crate::words::{Task, read_words};
 use std::fs::File;
 use std::rt::Files;
 
-/// Does what the command line asks for. Its first word is the program's name.
+/// Does what the command line asks for. `words` are its words, with the program's name first.
 pub fn run<R: Files<File = File> + Input + Print + AllocGlobal>(
     rt: &R,
     words: &[String],

@@ -1,4 +1,4 @@
-//! Whether the record of a class is one beside its journal.
+//! The check of a class's record beside its journal.
 ghost use Rattle.std.specs.Prelude.{◌≡◌, ◌++◌, ℕ, List, true, IfErr, IfOk, OnOk};
 ghost use Rattle.mml_board.specs.Lists.{is_legal_in};
 ghost use Rattle.mml_audit.specs.AuditMeaning.{IsJournalOf};
@@ -24,8 +24,8 @@ use std::io;
 use std::io::{Read, Write};
 use std::rt::Files;
 
-/// Verifies the record of a class beside its audited journal, and prints what was found. Returns why lab, journal or
-/// record doesn't pass or can't be read, or that a write failed or memory ran out.
+/// Checks the record of a class beside its journal, and prints what was found. Returns an error if the lab, the journal
+/// or the record is refused or can't be read, a write failed, or memory ran out.
 pub fn verify<R: Files<File = File> + Print + AllocGlobal>(
     rt: &R,
     task: VerifyTask<'_>,
@@ -43,8 +43,8 @@ pub fn verify<R: Files<File = File> + Print + AllocGlobal>(
     }
 }
 
-/// Audits a journal, reads the seats' texts as the record of its class, and writes what was found. If the journal
-/// doesn't pass or the record is none, writes nothing and returns why.
+/// Audits a journal, checks the seats' texts as the record of its class, and writes what was found. If the journal or
+/// the record is refused, writes nothing and returns the reason.
 pub fn verify_class<R: Read + Drop, S: Seats<R>, W: Write>(
     alloc: Global,
     lab: &Lab,
@@ -65,8 +65,8 @@ pub fn verify_class<R: Read + Drop, S: Seats<R>, W: Write>(
     write_class(&text, writer)
 }
 
-// Audits a journal and reads the record of its class. Returns the lines that say what was found, or why the journal or
-// the record doesn't pass.
+// Audits a journal and checks the record of its class. Returns the lines about what was found, or the reason if the
+// journal or the record is refused.
 fn verified_text<R: Read + Drop, S: Seats<R>>(
     alloc: Global,
     lab: &Lab,
@@ -86,8 +86,8 @@ fn verified_text<R: Read + Drop, S: Seats<R>>(
     }
 }
 
-// Reads the record of a class beside the events of its journal. Returns the lines that say what was found, or why the
-// texts are no record or can't be read.
+// Checks the record of a class beside the events of its journal. Returns the lines about what was found, or the reason
+// if the texts are no record or can't be read.
 fn text_beside<R: Read + Drop, S: Seats<R>>(
     alloc: Global,
     lab: &Lab,
@@ -108,8 +108,8 @@ fn text_beside<R: Read + Drop, S: Seats<R>>(
     }
 }
 
-// Returns the lines that say what was found in the record of a class whose journal has this many events. Returns
-// `Memory` if memory runs out.
+// Returns the lines about what was found in the record of a class whose journal has this many events. Returns `Memory`
+// if memory runs out.
 fn text_of(
     alloc: Global,
     lab: &Lab,
@@ -127,7 +127,7 @@ fn text_of(
     }
 }
 
-// Appends the line that says how many events came before the record. Returns `Memory` if memory runs out.
+// Appends the line with the number of events before the record. Returns `Memory` if memory runs out.
 fn put_begun(text: &mut Vec<u8>, begun: u64) -> Result<(), Memory>
     ensures { OnOk result (text.new.items ≡ text.old.items ++ begun_line begun) }
 {
@@ -139,8 +139,8 @@ fn put_begun(text: &mut Vec<u8>, begun: u64) -> Result<(), Memory>
     put(text, &pieces)
 }
 
-// Appends the lines of a record that passed: its sessions, lines and events, what was found, and how many events came
-// before it. Returns `Memory` if memory runs out.
+// Appends the lines about a correct record: the numbers of its sessions, lines and events, whose lines are all
+// recorded, and how many events came before it. Returns `Memory` if memory runs out.
 fn put_verified(
     text: &mut Vec<u8>,
     lab: &Lab,
@@ -166,7 +166,8 @@ fn put_verified(
     put_begun(text, begun)
 }
 
-// Returns the end of the first line, after the number of events: it says so if the record isn't whole.
+// Returns the end of the first line, after the number of events. It says `not whole` if something is left out of the
+// record.
 fn end_of(is_whole: bool) -> &'static str
     ensures { result.now ≡ end_of is_whole }
 {

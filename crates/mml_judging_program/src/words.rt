@@ -1,4 +1,4 @@
-//! The words of the command line.
+//! Reading the words of the command line.
 use clap::{ArgMatches, Command};
 use mml_program::{Fault as ProgramFault, match_words, subcommand_of, with_optional};
 use std::alloc::{AllocError, Global};
@@ -6,17 +6,17 @@ use std::alloc::{AllocError, Global};
 /// The task that the command line asks for.
 #[derive(Drop)]
 pub enum Task<'a> {
-    /// Answers the script on standard input over the lab of a file.
+    /// Answer the script on standard input over the lab in a file.
     Answer { lab: &'a str },
-    /// Verifies the record of a class.
+    /// Check the record of a class.
     Verify(VerifyTask<'a>),
-    /// Prints the tally of a journal.
+    /// Print the tally of a journal.
     Tally(TallyTask<'a>),
-    /// Prints the tally of a journal and a record beside it.
+    /// Print the tally of a journal together with a record.
     TallyRecorded(VerifyTask<'a>),
 }
 
-/// The folder of a class's record, beside its lab and its journal.
+/// The folder of a class's record, with its lab and its journal.
 #[derive(Drop)]
 pub struct VerifyTask<'a> {
     pub lab: &'a str,
@@ -24,15 +24,15 @@ pub struct VerifyTask<'a> {
     pub record: &'a str,
 }
 
-/// A lab and a journal of one of its runs.
+/// A lab, and the journal of one of its runs.
 #[derive(Drop)]
 pub struct TallyTask<'a> {
     pub lab: &'a str,
     pub journal: &'a str,
 }
 
-/// Returns the task that the words ask for, of which the first is the program's name. Returns `CommandLine` if they ask
-/// for none, and `Memory` if memory runs out.
+/// Returns the task that these words ask for; the first word is the program's name. Returns `CommandLine` if they don't
+/// fit any task, and `Memory` if memory runs out.
 pub fn read_words<'a>(alloc: Global, words: &'a [String]) -> Result<Task<'a>, ProgramFault> {
     let matches = match_words(command_line(alloc)?, words)?;
     match matches.subcommand() {
@@ -41,7 +41,8 @@ pub fn read_words<'a>(alloc: Global, words: &'a [String]) -> Result<Task<'a>, Pr
     }
 }
 
-// Returns the whole command line of the three subcommands that serve nobody. Returns an error if memory runs out.
+// Returns the description of the command line, with the three subcommands that serve no connections. Returns an error
+// if memory runs out.
 fn command_line<'a>(alloc: Global) -> Result<Command<'a>, AllocError> {
     subcommand_of(alloc, "mml_host", &[])?
         .subcommand(subcommand_of(alloc, "answer", &["lab"])?)?
@@ -53,7 +54,7 @@ fn command_line<'a>(alloc: Global) -> Result<Command<'a>, AllocError> {
         )?)
 }
 
-// Returns the task of a subcommand of this name with these values, or `None` if the program has no such name, or a
+// Returns the task of the subcommand `name` with these values. Returns `None` if there is no such subcommand, or a
 // value is missing.
 fn task_of<'a>(name: &str, values: &ArgMatches<'a>) -> Option<Task<'a>> {
     let lab = values.get_str("lab")?;
@@ -69,7 +70,7 @@ fn task_of<'a>(name: &str, values: &ArgMatches<'a>) -> Option<Task<'a>> {
     }
 }
 
-// Returns the task of a tally: of a journal alone, or, if a record is named, with the record's.
+// Returns the task of printing a tally: of a journal alone, or together with a record if one is named.
 fn tally_of<'a>(lab: &'a str, journal: &'a str, record: Option<&'a str>) -> Task<'a> {
     match record {
         Some(record) => Task::TallyRecorded(VerifyTask {

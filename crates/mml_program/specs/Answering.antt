@@ -8,7 +8,7 @@ use Rattle.mml_hall.specs.Scripts.{Finished, Stopped}
 use Rattle.mml_program.specs.declared.fault.Fault.{Fault}
 use Rattle.mml_program.specs.Faults.{of_script}
 
--- all lines of the input were answered, or those before an error, and the sink was left as `Leaves` says
+-- all lines of the input were answered, or those before an error; the sink's state fits `Leaves`
 abbrev pub AnswersScript : {S : Type 0} → (S → State → Type 0) → Result (HallValue S) Fault → LabValue → Option (List ℕ) → Option (List ℕ) → Option (List ℕ)
     → Option (List ℕ) → Type 0
 AnswersScript Leaves (Ok hall) lab input left wrote wrote' = Finished Leaves hall lab input left wrote wrote'

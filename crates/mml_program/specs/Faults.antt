@@ -8,14 +8,14 @@ use Rattle.mml_files.specs.declared.file_fault.FileFault.TheVariants as file
 use Rattle.mml_program.specs.declared.fault.Fault.{Fault}
 use Rattle.mml_program.specs.declared.fault.Fault.TheVariants as fault
 
--- the program's error for an error of a script: how many bytes of a line were written before a write failed is dropped
+-- the program's error for the error of a script; how many bytes a failed write had written is dropped
 abbrev pub of_script : ScriptFault → Fault
 of_script script.Read = fault.ReadScript
 of_script (script.Write n) = fault.Write
 of_script (script.BadLine k) = fault.BadLine k
 of_script script.Memory = fault.Memory
 
--- the program's error for an error of serving: a halted journal becomes the error of one whose file can't be made
+-- the program's error for the error of a server: a halted journal becomes a journal fault
 abbrev pub of_serving : ServeFault → Fault
 of_serving serving.Memory = fault.Memory
 of_serving serving.Place = fault.Place

@@ -1,4 +1,4 @@
-/// The lab of a call without arguments: three nodes in a row, each of one student.
+/// The lab file of a call without arguments: three nodes in a row, each owned by one student.
 pub const BUILT_IN: &str = r#"events = 100
 sessions = 4
 links = [[1, 2], [2, 3]]

@@ -19,10 +19,10 @@ pub enum Fault {
     /// The command line isn't understood.
     #[error("command line: not understood")]
     CommandLine,
-    /// The lab file spells no lab.
+    /// The lab file doesn't describe a lab.
     #[error("lab: {0}")]
     Lab(LabRefusal),
-    /// The line of the script with this number, from 1, is no script line.
+    /// The line of the script with this number, counted from 1, is no script line.
     #[error("script: line {0}: bad line")]
     BadLine(u64),
     /// The text is no journal of the lab.
@@ -46,16 +46,16 @@ pub enum Fault {
     /// A connection couldn't be accepted.
     #[error("serve: cannot accept")]
     Accept,
-    /// The places that were given aren't those of the events, each once.
+    /// A check at the end failed: the places that were given aren't those of the events, each once.
     #[error("serve: the tally does not fit")]
     Astray,
-    /// There was no reader's slot for a window. This doesn't happen: slots are taken when a house is started.
+    /// There was no reader's slot for a window. This doesn't happen: the slots are reserved when a house is started.
     #[error("serve: no place for a window")]
     Place,
-    /// The journal's file can't be made, locked or kept, or a line of the journal wasn't taken whole.
+    /// The journal's file can't be made, locked or kept, or a line of the journal wasn't written whole.
     #[error("journal fault")]
     Journal,
-    /// Standard output didn't take all.
+    /// Not everything could be written to standard output.
     #[error("write fault")]
     Write,
     /// Memory ran out, anywhere.
@@ -64,9 +64,9 @@ pub enum Fault {
 }
 
 impl Fault {
-    /// Returns the exit status of the error: 1 if the command line isn't understood; 2 if lab, script or number of
-    /// connections is refused; 3 if an audit fails; 4 if a read, a write, the journal or the network failed, or the
-    /// places that were given don't fit the events; 5 if memory ran out or a reader's slot is missing.
+    /// Returns the exit status of the error: 1 if the command line isn't understood; 2 if the lab, the script or the
+    /// number of connections is refused; 3 if an audit fails; 4 if a read, a write, the journal or the network failed,
+    /// or the places don't fit the events; 5 if memory ran out or a reader's slot is missing.
     pub fn status(&self) -> u8 {
         match self {
             Fault::CommandLine => 1,
@@ -85,7 +85,8 @@ impl Fault {
     }
 }
 
-/// Returns `Memory` if the reader or writer ran out of memory (`lacked`), whatever the fault was, and else the fault.
+/// Returns the error `Memory` if a reader or writer ran out of memory (`lacked`), whatever `fault` says, and otherwise
+/// `fault`.
 pub fn memory_if_lacked<F: From<Fault> + Drop>(fault: F, lacked: bool) -> F
     ensures memory { lacked ≡ true → F.from_gives Memory result }
     ensures other { lacked ≡ false → result ≡ fault }
@@ -97,7 +98,7 @@ pub fn memory_if_lacked<F: From<Fault> + Drop>(fault: F, lacked: bool) -> F
     }
 }
 
-/// Returns `Memory` if the error of a read or write says that memory ran out, and else `other`.
+/// Returns `Memory` if the error of a read or write says that memory ran out, and otherwise `other`.
 pub fn memory_or(error: &IoError, other: Fault) -> Fault
     ensures memory { error_kind error.now ≡ ErrorKind.OutOfMemory → result ≡ Fault.Memory }
     ensures either { (result ≡ other) ⊎ (result ≡ Fault.Memory) }
@@ -113,7 +114,7 @@ pub fn memory_or(error: &IoError, other: Fault) -> Fault
 impl From<AllocError> for Fault {
     ghost from_gives = { λ _ e. e ≡ Memory };
 
-    // Turns a failed allocation into the error of the program.
+    // Turns a failed allocation into the program's error `Memory`.
     fn from(_error: AllocError) -> Fault {
         Fault::Memory
     }
@@ -124,7 +125,7 @@ impl From<FileFault> for Fault {
 
     ghost from_gives = { λ fault e. e ≡ of_journal_file fault };
 
-    // Turns the fault of a journal's file into the error of the program: a journal fault, or out of memory.
+    // Turns the fault of a journal's file into the program's error: a journal fault, or `Memory`.
     fn from(fault: FileFault) -> Fault {
         match fault {
             FileFault::Refused => Fault::Journal,
@@ -134,7 +135,7 @@ impl From<FileFault> for Fault {
 }
 
 impl From<LabFault> for Fault {
-    // Turns the fault of a lab file into the error of the program: why the file is refused, or out of memory.
+    // Turns the fault of a lab file into the program's error: the reason why the file is refused, or `Memory`.
     fn from(fault: LabFault) -> Fault {
         match LabRefusal::of(fault) {
             Some(refusal) => Fault::Lab(refusal),
@@ -144,7 +145,7 @@ impl From<LabFault> for Fault {
 }
 
 impl From<AuditFault> for Fault {
-    // Turns the fault of a journal's text into the error of the program: why the text is refused, or out of memory.
+    // Turns the fault of a journal's text into the program's error: the reason why the text is refused, or `Memory`.
     fn from(fault: AuditFault) -> Fault {
         match AuditRefusal::of(fault) {
             Some(refusal) => Fault::Audit(refusal),
@@ -158,8 +159,8 @@ impl From<ScriptFault> for Fault {
 
     ghost from_gives = { λ fault e. e ≡ of_script fault };
 
-    // Turns the reason why a script ended early into the error of its cause. The number of bytes before a failed write
-    // is dropped.
+    // Turns the reason why a script ended early into the program's error. The number of bytes that a failed write had
+    // written isn't kept.
     fn from(fault: ScriptFault) -> Fault {
         match fault {
             ScriptFault::BadLine(line) => Fault::BadLine(line),
@@ -175,8 +176,7 @@ impl From<ServeFault> for Fault {
 
     ghost from_gives = { λ fault e. e ≡ of_serving fault };
 
-    // Turns the reason why a server ended early into an error: a halted journal into a journal fault, and each other
-    // reason into that of its cause.
+    // Turns the reason why a server failed into the program's error. A halted journal becomes a journal fault.
     fn from(fault: ServeFault) -> Fault {
         match fault {
             ServeFault::Memory => Fault::Memory,

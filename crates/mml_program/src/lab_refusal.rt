@@ -4,23 +4,23 @@ use mml_ids::IdFault;
 use mml_lab::{Key, LabFault};
 use thiserror::Error;
 
-/// Why a file spells no lab, in the words of its error line.
+/// Why a file doesn't describe a lab, in the words of the error line.
 #[derive(Debug, Drop, PartialEq, Eq, Error)]
 pub enum LabRefusal {
-    /// The file as a whole.
+    /// The fault is of the file as a whole.
     #[error("{0}")]
     File(&'static str),
-    /// The value of the key with this name.
+    /// The fault is in the value of the key with this name.
     #[error("{0} {1}")]
     Key(&'static str, &'static str),
-    /// A node, a link or a principal, by its number. Nodes and links are numbered from 0, in the order of the file. Of
-    /// the principals the teacher has 0, and the students have the numbers from 1.
+    /// The fault is at a node, a link or a principal (a participant) with this number. Nodes and links are numbered
+    /// from 0, in the order of the file. The teacher is principal 0, and the students are numbered from 1.
     #[error("{0} {1}: {2}")]
     Element(&'static str, usize, &'static str),
 }
 
 impl LabRefusal {
-    /// Returns why an error refuses a lab file, or `None` for out of memory, which refuses no file.
+    /// Returns the reason why a lab file is refused for this fault, or `None` if the fault is that memory ran out.
     pub fn of(fault: LabFault) -> Option<LabRefusal> {
         let refusal = match fault {
             LabFault::NotToml => LabRefusal::File("not a TOML document"),
@@ -46,7 +46,8 @@ impl LabRefusal {
         Some(refusal)
     }
 
-    // Returns why an error of the nodes' identifiers refuses a lab file, or `None` for out of memory.
+    // Returns the reason why a lab file is refused for this fault of its nodes' identifiers, or `None` if the fault is
+    // that memory ran out.
     fn of_identifiers(fault: IdFault) -> Option<LabRefusal> {
         match fault {
             IdFault::Empty => Some(LabRefusal::File("no nodes")),
@@ -57,25 +58,26 @@ impl LabRefusal {
         }
     }
 
-    // Returns the refusal of a lab file for the node with this number, for this reason.
+    // Returns the refusal for a reason that concerns the node with this number.
     fn node(index: usize, reason: &'static str) -> LabRefusal {
         LabRefusal::Element("node", index, reason)
     }
 }
 
-/// Why a text is no journal of a lab. The numbers are those of the first bad line.
+/// Why a text isn't the journal of a lab. The first number is that of the first bad line.
 #[derive(Debug, Drop, PartialEq, Eq, Error)]
 pub enum AuditRefusal {
-    /// The line can't stand in a journal here.
+    /// The line can't be in a journal here, for this reason.
     #[error("line {0}: {1}")]
     Line(u64, &'static str),
-    /// The rules deny the event, by the denial with this name.
+    /// The rules deny the line's event; the text is the denial's name.
     #[error("line {0}: illegal, {1}")]
     Illegal(u64, &'static str),
 }
 
 impl AuditRefusal {
-    /// Returns why an error refuses the text of a journal, or `None` for out of memory, which refuses no text.
+    /// Returns the reason why the text of a journal is refused for this fault, or `None` if the fault is that memory
+    /// ran out.
     pub fn of(fault: AuditFault) -> Option<AuditRefusal> {
         match fault {
             AuditFault::Torn(line) => Some(AuditRefusal::Line(line, "torn")),
@@ -91,7 +93,7 @@ impl AuditRefusal {
     }
 }
 
-// Returns the name that an error line gives to this key of a lab file.
+// Returns the name of a lab file's key, as the error lines have it.
 fn key_name(key: Key) -> &'static str {
     match key {
         Key::Events => "events",

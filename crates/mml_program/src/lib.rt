@@ -1,4 +1,4 @@
-//! The body of the program: its command line, its subcommands, its error lines and statuses.
+//! The body of the program `mml_server`: its command line, its subcommands, its error lines and its exit statuses.
 #![tactic(auto)]
 
 mod built_in;

@@ -1,4 +1,4 @@
-//! The subcommands, over readers and writers.
+//! The work of the subcommands, over any readers and writers.
 ghost use Rattle.std.specs.Prelude.{◌<◌, ◌-◌, ◌^◌, ◌∷◌, [], codes, decimal, OnOk};
 ghost use Rattle.std.specs.List.{concat};
 ghost use Rattle.std.specs.Io.KnownBytes.{Appends};
@@ -18,8 +18,8 @@ use mml_lab::Lab;
 use std::alloc::Global;
 use std::io::{Read, Write};
 
-/// Writes how many nodes, links and students a lab has. Returns `Write` if the write fails, and `Memory` if memory runs
-/// out.
+/// Writes the line with the numbers of a lab's nodes, links and students. Returns `Write` if the write fails, and
+/// `Memory` if memory runs out.
 pub fn write_size<W: Write>(alloc: Global, lab: &Lab, writer: &mut W) -> Result<(), Fault>
     ensures { OnOk result
         (Appends (W.contents writer.old) (W.contents writer.new) (lab_line lab.now)) }
@@ -36,8 +36,8 @@ pub fn write_size<W: Write>(alloc: Global, lab: &Lab, writer: &mut W) -> Result<
     write_pieces(alloc, &pieces, writer)
 }
 
-/// Audits the text of a journal, and writes how many events it has, and the configuration that they lead to. If the
-/// text is no journal of the lab, returns the error and writes nothing.
+/// Audits the text of a journal, and writes the line with the number of its events and the configuration that they lead
+/// to. If the text isn't a journal of the lab, writes nothing, and returns the audit's error.
 pub fn write_audit<W: Write>(
     alloc: Global,
     lab: &Lab,
@@ -51,8 +51,8 @@ pub fn write_audit<W: Write>(
     write_world(alloc, &board, writer)
 }
 
-// Writes the line of a journal that passes: how many events it has, the number of the configuration, and whether that
-// is stable. Returns `Write` if the write fails, and `Memory` if memory runs out.
+// Writes the line about a journal that passed the audit: the number of its events, the number of the configuration, and
+// whether that is stable. Returns `Write` if the write fails, and `Memory` if memory runs out.
 fn write_world<W: Write>(alloc: Global, board: &Board, writer: &mut W) -> Result<(), Fault>
     ensures { OnOk result
         (Appends (W.contents writer.old) (W.contents writer.new) (world_line board.now)) }
@@ -64,8 +64,8 @@ fn write_world<W: Write>(alloc: Global, board: &Board, writer: &mut W) -> Result
     }
 }
 
-// Writes a line: how many events led to the board, the number of its configuration, and then `end`, which ends the
-// line. Returns `Write` if the write fails, and `Memory` if memory runs out.
+// Writes a line with the number of events that led to the board and the number of its configuration. `end` is the rest
+// of the line, with its newline. Returns `Write` if the write fails, and `Memory` if memory runs out.
 fn write_ended<W: Write>(
     alloc: Global,
     board: &Board,
@@ -86,8 +86,8 @@ fn write_ended<W: Write>(
     write_pieces(alloc, &pieces, writer)
 }
 
-/// Writes pieces of text, one after the other, in one go. Returns `Write` if the write fails, and `Memory` if memory
-/// runs out.
+/// Writes the text that these pieces make, one after the other, with a single write. Returns `Write` if the write
+/// fails, and `Memory` if memory runs out.
 pub fn write_pieces<W: Write>(alloc: Global, pieces: &[Piece], writer: &mut W) -> Result<(), Fault>
     ensures { OnOk result
         (Appends (W.contents writer.old) (W.contents writer.new) (joined pieces.now)) }
@@ -102,9 +102,9 @@ pub fn write_pieces<W: Write>(alloc: Global, pieces: &[Piece], writer: &mut W) -
     }
 }
 
-/// Answers the lines of a script, and returns the hall that they lead to. Replies are buffered, and all of them are
-/// written before each read. The lines of the granted events go to the sink. Returns why the script ended if it ended
-/// early.
+/// Answers the lines of a script, and returns the hall (the lab's state) after the last one. Replies are buffered, and
+/// all are written before each read. The journal's lines of granted events are put into the sink. If the script ends
+/// early, returns the reason.
 pub fn answer_script<R: Read, W: Write, S: Sink + Drop>(
     alloc: Global,
     lab: Lab,

@@ -1,4 +1,4 @@
-//! From the command line to the work.
+//! From the command line to the work that it asks for.
 ghost use Rattle.std.specs.Prelude.{◌<◌, ◌≤◌, ◌-◌, ◌^◌};
 ghost use Rattle.mml_journal.specs.Taken.{IsFresh};
 
@@ -24,9 +24,9 @@ use std::sync::Wait;
 use std::thread::Threads;
 use std::{env, io};
 
-/// Does what the command line asks for. First the lab is read, then the journal's file is opened, then the script is
-/// read or the port taken, and only then the journal is begun: the earlier bytes of its file are kept under another
-/// name. If an earlier step fails, the file is as it was.
+/// Does what the command line asks for. The order of the steps protects an existing journal: first the lab is read,
+/// then the journal's file is opened, then the script is read or the port taken, and only then a new journal is begun,
+/// and the earlier bytes kept under another name. If a step before that fails, the file stays as it was.
 pub fn run<
     R: Env
         + Files<File = File>
@@ -48,15 +48,15 @@ pub fn run<
     }
 }
 
-// Checks that a file spells a lab, and prints how many nodes, links and students it has. Returns an error if the file
-// can't be read or spells no lab, the write fails, or memory runs out.
+// Reads the lab in a file, and prints the numbers of its nodes, links and students. Returns an error if the file can't
+// be read or doesn't describe a lab, the write fails, or memory runs out.
 fn check_file<R: Files + Print + AllocGlobal>(rt: &R, path: &str) -> Result<(), Fault> {
     let lab = lab_of(rt, path)?;
     write_size(rt.alloc(), &lab, &mut io::writer(rt))
 }
 
-// Answers the script on standard input over the built-in lab, on standard output. Returns why the script ended early,
-// or `Memory` if a read or a write ran out of memory.
+// Answers the script on standard input over the built-in lab, and writes the replies to standard output. Returns the
+// reason if the script ended early, or `Memory` if a read or a write ran out of memory.
 fn answer_input<R: Input + Print + AllocGlobal>(rt: &R) -> Result<(), Fault> {
     let alloc = rt.alloc();
     let lab = lab_in(alloc, BUILT_IN.as_bytes())?;
@@ -68,8 +68,8 @@ fn answer_input<R: Input + Print + AllocGlobal>(rt: &R) -> Result<(), Fault> {
     }
 }
 
-// Answers the script of a file over the lab of a file, with a journal if one is named. Returns an error if one of the
-// files is refused, the script ended early, or the journal was halted.
+// Answers the script in a file over the lab in a file, and writes a journal if the task names one. Returns an error if
+// one of the files is refused, the script ended early, or the journal was halted.
 fn script_file<R: Files<File = File> + Print + AllocGlobal>(
     rt: &R,
     task: ScriptTask<'_>,
@@ -89,8 +89,8 @@ fn script_file<R: Files<File = File> + Print + AllocGlobal>(
     }
 }
 
-// Answers the lines of a script over a lab, on standard output. Returns why the script ended early, or, at its end,
-// `Journal` if the journal was halted.
+// Answers the lines of a script over a lab, and writes the replies to standard output. The journal's lines go to the
+// sink. Returns the reason if the script ended early, or `Journal` if the journal was halted.
 fn answer_lines<R: Print + AllocGlobal, S: Sink + Drop>(
     rt: &R,
     lab: Lab,
@@ -108,7 +108,7 @@ fn answer_lines<R: Print + AllocGlobal, S: Sink + Drop>(
     }
 }
 
-// Returns the error `Journal` if the journal was halted while a script's lines were answered, and else `Ok`.
+// Returns the error `Journal` if the hall's journal was halted while a script was answered, and otherwise `Ok`.
 fn fault_if_halted<S: Sink>(hall: &Hall<S>) -> Result<(), Fault> {
     if hall.halted() {
         return Err(Fault::Journal);
@@ -116,8 +116,8 @@ fn fault_if_halted<S: Sink>(hall: &Hall<S>) -> Result<(), Fault> {
     Ok(())
 }
 
-// Audits the journal of a file over the lab of a file, and prints how many events it has, which configuration they lead
-// to, and whether that is stable. Returns why one of the files is refused, or that the write failed.
+// Audits the journal in a file over the lab in a file, and prints the number of its events, the configuration that they
+// lead to, and whether that is stable. Returns an error if one of the files is refused, or the write failed.
 fn audit_file<R: Files + Print + AllocGlobal>(
     rt: &R,
     lab: &str,
@@ -128,8 +128,8 @@ fn audit_file<R: Files + Print + AllocGlobal>(
     write_audit(rt.alloc(), &lab, text.as_slice(), &mut io::writer(rt))
 }
 
-// Serves connections over the lab of a file, with a journal if one is named. Returns an error if more are asked for
-// than the lab has sessions.
+// Serves as many connections as the task says over the lab in a file, and writes a journal if the task names one.
+// Returns an error if the lab has fewer sessions, or if something fails.
 fn serve_file<
     R: Files<File = File>
         + Net<Listener = TcpListener, Stream = TcpStream>
@@ -167,7 +167,7 @@ fn serve_file<
     }
 }
 
-// A port that was taken, its number, and how many of the connections that come are served there.
+// A listener, its port, and the number of connections that are served there.
 #[derive(Drop)]
 struct Service {
     listener: TcpListener,
@@ -175,8 +175,8 @@ struct Service {
     connections: u8,
 }
 
-// Prints the port on which it listens, serves as many of the connections that come as the service says, and prints the
-// last line. If a write ran out of memory, returns `Memory`, whatever the error would be else.
+// Prints the line with the port, serves the connections of the service, and prints the last line. The journal's lines
+// go to the sink. If a write ran out of memory, returns `Memory` instead of any other error.
 fn serve_listener<
     R: Net<Listener = TcpListener, Stream = TcpStream>
         + Threads
@@ -198,7 +198,8 @@ fn serve_listener<
     }
 }
 
-// Writes the line with the port, serves the connections, and writes the last line. Returns why the server failed.
+// Writes the line with the port to `writer`, serves the connections, and writes the last line. Returns the reason if
+// the server failed.
 fn serve_lines<R: Threads + Wait + Sync + AllocGlobal, S: Sink + Send + Drop, W: Write>(
     rt: &R,
     lab: Lab,
@@ -221,8 +222,8 @@ fn serve_lines<R: Threads + Wait + Sync + AllocGlobal, S: Sink + Send + Drop, W:
     serve_on(rt, alloc, lab, listener, connections, sink, &NoGate, writer)
 }
 
-// Listens on a port, for connections of this machine only. Returns an error if the port can't be listened on, or memory
-// runs out.
+// Listens on a port of this machine, which can't be reached from others, and returns the listener. Returns an error if
+// the port can't be used, or memory runs out.
 fn listen<R: Net<Listener = TcpListener, Stream = TcpStream>>(
     rt: &R,
     port: u16,
@@ -233,9 +234,9 @@ fn listen<R: Net<Listener = TcpListener, Stream = TcpStream>>(
     }
 }
 
-/// Returns the words of the command line, before a program does anything else. First opens the null device for each
-/// standard stream that is closed, so that no file gets its descriptor, and returns `Write` if that fails. Returns
-/// `Memory` if stacks may be too small, or memory runs out.
+/// Makes the process ready, and returns the words of the command line. Opens the null device for each standard stream
+/// that is closed, so that no other file gets its descriptor; returns `Write` if that fails. Returns `Memory` if the
+/// system's limit of stacks is too small, or memory runs out.
 pub fn begin_program<R: Env + Files<File = File> + AllocGlobal>(
     rt: &R,
 ) -> Result<Vec<String>, Fault> {
@@ -246,20 +247,22 @@ pub fn begin_program<R: Env + Files<File = File> + AllocGlobal>(
     command_words(rt)
 }
 
-/// Returns the words of the command line, the program's name first. Returns `CommandLine` if a word isn't UTF-8, and
-/// `Memory` if memory runs out.
+/// Returns the words of the command line, with the program's name first. Returns `CommandLine` if a word isn't UTF-8,
+/// and `Memory` if memory runs out.
 pub fn command_words<R: Env + AllocGlobal>(rt: &R) -> Result<Vec<String>, Fault> {
     let words = env::args(rt).map_err(|error| memory_or(&error, Fault::CommandLine))?;
     Ok(words.collect(rt.alloc())?)
 }
 
-/// Returns the lab of a file. Returns an error if the file can't be read or spells no lab, or memory runs out.
+/// Reads a lab file, and returns its lab. Returns an error if the file can't be read or doesn't describe a lab, or
+/// memory runs out.
 pub fn lab_of<R: Files + AllocGlobal>(rt: &R, path: &str) -> Result<Lab, Fault> {
     let bytes = read_file(rt, path, Fault::ReadLab)?;
     lab_in(rt.alloc(), bytes.as_slice())
 }
 
-/// Returns the lab that the bytes of a lab file spell. Returns why they spell none, or `Memory` if memory runs out.
+/// Returns the lab that the bytes of a lab file describe. Returns the reason if they describe none, or `Memory` if
+/// memory runs out.
 pub fn lab_in(alloc: Global, bytes: &[u8]) -> Result<Lab, Fault> {
     Ok(read_lab(alloc, bytes)?)
 }

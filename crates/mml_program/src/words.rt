@@ -1,4 +1,4 @@
-//! The words of the command line.
+//! Reading the words of the command line.
 
 use crate::fault::Fault;
 use clap::error::ErrorKind;
@@ -10,19 +10,19 @@ use std::num::{NonZeroU8, NonZeroU16};
 /// The task that the command line asks for.
 #[derive(Debug, Drop)]
 pub enum Task<'a> {
-    /// Answers the script on standard input over the built-in lab.
+    /// Answer the script on standard input over the built-in lab.
     BuiltIn,
-    /// Prints how large the lab of a file is.
+    /// Print how large the lab in a file is.
     Check { lab: &'a str },
-    /// Answers the script of a file over the lab of a file.
+    /// Answer the script in a file over the lab in a file.
     Script(ScriptTask<'a>),
-    /// Audits the text of a file as the journal of a legal run of the lab of a file.
+    /// Audit the text of a file as the journal of a run of the lab in a file.
     Audit { lab: &'a str, journal: &'a str },
-    /// Serves connections over the lab of a file.
+    /// Serve connections over the lab in a file.
     Serve(ServeTask<'a>),
 }
 
-/// The files of a script. The lines of the granted events go to the journal, if one is named.
+/// The files of a script. If a journal is named, the lines of granted events are written to it.
 #[derive(Debug, Drop)]
 pub struct ScriptTask<'a> {
     pub lab: &'a str,
@@ -30,8 +30,8 @@ pub struct ScriptTask<'a> {
     pub journal: Option<&'a str>,
 }
 
-/// A lab's file, a port, and how many connections are served there. The lines of the granted events go to the journal,
-/// if one is named.
+/// A lab file, a port, and the number of connections to serve there. If a journal is named, the lines of granted events
+/// are written to it.
 #[derive(Debug, Drop)]
 pub struct ServeTask<'a> {
     pub lab: &'a str,
@@ -40,8 +40,8 @@ pub struct ServeTask<'a> {
     pub journal: Option<&'a str>,
 }
 
-/// Returns the task that the words ask for, of which the first is the program's name. Returns `CommandLine` if they ask
-/// for none, and `Memory` if memory runs out.
+/// Returns the task that these words ask for; the first word is the program's name. Returns `CommandLine` if they don't
+/// fit any task, and `Memory` if memory runs out.
 pub fn read_words<'a>(alloc: Global, words: &'a [String]) -> Result<Task<'a>, Fault> {
     let matches = match_words(command_line(alloc)?, words)?;
     match matches.subcommand() {
@@ -50,9 +50,8 @@ pub fn read_words<'a>(alloc: Global, words: &'a [String]) -> Result<Task<'a>, Fa
     }
 }
 
-/// Returns the values of a command in the words, of which the first is the program's name. Returns `CommandLine` if the
-/// words don't fit the command. A later word that begins with `-` is refused before clap is called, which would take
-/// `-` and `--`.
+/// Returns the values that the words have for `command`; the first word is the program's name. Returns `CommandLine` if
+/// the words don't fit the command. Words that begin with `-` are refused here, since clap would accept `-` and `--`.
 pub fn match_words<'a>(command: Command<'a>, words: &'a [String]) -> Result<ArgMatches<'a>, Fault> {
     if words.iter().skip(1).any(|word| word.starts_with('-')) {
         return Err(Fault::CommandLine);
@@ -64,8 +63,8 @@ pub fn match_words<'a>(command: Command<'a>, words: &'a [String]) -> Result<ArgM
     }
 }
 
-// Returns the task of a subcommand of this name with these values, or `None` if a number is out of its range, a value
-// is missing, or the program has no such name.
+// Returns the task of the subcommand `name` with these values. Returns `None` if there is no such subcommand, a value
+// is missing, or a number is out of its range.
 fn task_of<'a>(name: &str, values: &ArgMatches<'a>) -> Option<Task<'a>> {
     let lab = values.get_str("lab")?;
     match name {
@@ -89,7 +88,8 @@ fn task_of<'a>(name: &str, values: &ArgMatches<'a>) -> Option<Task<'a>> {
     }
 }
 
-// Returns the whole command line of the program, with its four subcommands. Returns an error if memory runs out.
+// Returns the description of the program's command line, with its four subcommands. Returns an error if memory runs
+// out.
 fn command_line<'a>(alloc: Global) -> Result<Command<'a>, AllocError> {
     command_without_help(alloc, "mml_server")
         .subcommand(subcommand_of(alloc, "check", &["lab"])?)?
@@ -106,8 +106,8 @@ fn command_line<'a>(alloc: Global) -> Result<Command<'a>, AllocError> {
         )?)
 }
 
-/// Returns a command or subcommand of this name, with these values in this order, each of which is required. Returns an
-/// error if memory runs out.
+/// Returns the description of a command or subcommand with this name, which requires these values in this order.
+/// Returns an error if memory runs out.
 pub fn subcommand_of<'a>(
     alloc: Global,
     name: &'a str,
@@ -120,7 +120,8 @@ pub fn subcommand_of<'a>(
     Ok(command)
 }
 
-/// Returns the command with one more value after its others, which is optional. Returns an error if memory runs out.
+/// Returns the command with one more value after the others, which may be left out. Returns an error if memory runs
+/// out.
 pub fn with_optional<'a>(
     alloc: Global,
     command: Command<'a>,
@@ -129,7 +130,8 @@ pub fn with_optional<'a>(
     command.arg(Arg::new(alloc, value).action(ArgAction::Set))
 }
 
-// Returns a command of this name, without the flags for help and version and without a subcommand for help.
+// Returns the description of a command with this name. It has no flags for help and version, and no subcommand for
+// help.
 fn command_without_help<'a>(alloc: Global, name: &'a str) -> Command<'a> {
     Command::new(alloc, name)
         .disable_help_flag(true)
