@@ -1,4 +1,4 @@
-//! Labs whose network is a cycle, of any size.
+//! Lab files whose network is a cycle, of any size.
 use std::alloc::{AllocError, Global};
 use std::fmt::Write;
 
@@ -8,8 +8,8 @@ student = [{ name = "ana", key = "a-key" }, { name = "ben", key = "b-key" }]
 "#;
 
 /// Returns the lab file of a cycle of `nodes` nodes (three or more), numbered from 1, with these limits of events and
-/// sessions. Ana owns the first half of the nodes, rounded down, and ben the others; the teacher is tess. Returns an
-/// error if memory runs out.
+/// sessions. The student ana owns the first half of the nodes, rounded down, and ben the others; the teacher is tess.
+/// Returns an error if memory runs out.
 pub fn cycle(alloc: Global, nodes: u64, events: u64, sessions: u64) -> Result<String, AllocError> {
     let mut text = String::from_str(alloc, PEOPLE)?;
     write!(text, "events = {events}\nsessions = {sessions}\n")?;

@@ -1,23 +1,24 @@
-//! Readers.
+//! Readers for tests.
 use std::io;
 use std::io::{ErrorKind, Read};
 
-/// A reader that returns at most `step` bytes in a read, and an error of `kind` after `good` reads.
+/// A reader that returns at most `step` bytes in a read. After `good` more reads, each read fails with an error of
+/// `kind`.
 #[derive(Drop)]
 pub struct FakeReader<'a> {
-    /// What was not read yet.
+    /// The bytes that weren't read yet.
     pub rest: &'a [u8],
     pub step: usize,
-    /// How many reads will still be good.
+    /// How many more reads will succeed.
     pub good: usize,
     pub kind: ErrorKind,
-    /// How many reads there were, the failed ones too.
+    /// How many reads were made, including failed ones.
     pub reads: usize,
 }
 
 impl<'a> FakeReader<'a> {
-    /// Returns a reader whose first `good` reads each return the next byte of `rest`, or 0 bytes if none is left. Each
-    /// later read fails with the error `Other`.
+    /// Returns a reader of `rest`. Each of its first `good` reads returns one byte, or 0 bytes at the end. Each later
+    /// read fails with the error `Other`.
     pub fn failing_after(good: usize, rest: &'a [u8]) -> FakeReader<'a> {
         FakeReader {
             rest,
@@ -30,7 +31,7 @@ impl<'a> FakeReader<'a> {
 }
 
 impl<'a> Read for FakeReader<'a> {
-    // Counts the read, and returns at most `step` bytes, or an error of `kind` if no good read is left.
+    // Counts the read, and returns at most `step` bytes. Fails with an error of `kind` if no more reads are to succeed.
     fn read(&mut self, buf: &mut [u8]) -> io::Result<usize> {
         self.reads = self.reads.saturating_add(1);
         if self.good == 0 {
@@ -42,8 +43,8 @@ impl<'a> Read for FakeReader<'a> {
     }
 }
 
-/// A reader that returns the first part, in one read if there is room, and then the second in reads of at most `step`
-/// bytes.
+/// A reader that returns the first part, in one read if there is room, and then the second part, in reads of at most
+/// `step` bytes.
 #[derive(Drop)]
 pub struct Parts<'a> {
     pub first: &'a [u8],

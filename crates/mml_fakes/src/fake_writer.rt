@@ -1,38 +1,38 @@
-//! Writers.
+//! Writers for tests.
 use std::alloc::Global;
 use std::io;
 use std::io::{ErrorKind, Write};
 
-/// What comes instead of a write.
+/// What a `FakeWriter` does when it doesn't write any more.
 #[derive(Clone, Copy, Debug, PartialEq, Eq)]
 pub enum Refusal {
-    /// An error of that kind.
+    /// It fails with an error of this kind.
     Fails(ErrorKind),
-    /// Nothing is taken.
+    /// It succeeds, but writes nothing.
     TakesNothing,
 }
 
-/// A writer that takes at most `step` bytes in each of `good` writes and then refuses, and whose flushes fail after
-/// `good_flushes` of them.
+/// A writer that stores at most `step` bytes in each of its next `good` writes, and then refuses to write. Its flushes
+/// fail after `good_flushes` of them.
 #[derive(Drop)]
 pub struct FakeWriter {
     pub taken: Vec<u8>,
     pub step: usize,
-    /// How many writes will still be good.
+    /// How many more writes will succeed.
     pub good: usize,
     pub refusal: Refusal,
-    /// How many flushes will still be good.
+    /// How many more flushes will succeed.
     pub good_flushes: usize,
 }
 
 impl FakeWriter {
-    /// Returns a writer that takes all bytes of each write, and whose flushes succeed.
+    /// Returns a writer that stores all bytes of each write, and whose flushes succeed.
     pub fn patient(alloc: Global) -> FakeWriter {
         FakeWriter::failing_after(usize::MAX, alloc)
     }
 
-    /// Returns a writer that takes all bytes of each of `good` writes, and then fails with the error `Other`. Its
-    /// flushes succeed.
+    /// Returns a writer that stores all bytes of each of its first `good` writes, and then fails with the error
+    /// `Other`. Its flushes succeed.
     pub fn failing_after(good: usize, alloc: Global) -> FakeWriter {
         FakeWriter {
             taken: Vec::new(alloc),
@@ -45,8 +45,8 @@ impl FakeWriter {
 }
 
 impl Write for FakeWriter {
-    // Takes at most `step` bytes and returns how many. If no good write is left, returns 0 bytes or an error, by
-    // `refusal`. Returns an error if memory runs out.
+    // Stores at most `step` bytes, and returns how many. If no more writes are to succeed, returns 0 or an error, as
+    // `refusal` says. Returns an error if memory runs out.
     fn write(&mut self, buf: &[u8]) -> io::Result<usize> {
         if self.good == 0 {
             return match self.refusal {
@@ -60,8 +60,7 @@ impl Write for FakeWriter {
         Ok(len)
     }
 
-    // Succeeds while good flushes are left. Then fails with the error of `refusal`, or with `Other` if that is
-    // `TakesNothing`.
+    // Succeeds `good_flushes` times. Then fails with the error of `refusal`, or with `Other` if that is `TakesNothing`.
     fn flush(&mut self) -> io::Result<()> {
         if self.good_flushes == 0 {
             return match self.refusal {

@@ -1,12 +1,12 @@
-//! Labs that several tests share, as TOML documents, and what is read of a document.
+//! Lab files that several tests share, and labs and boards that are read from them.
 use mml_board::Board;
 use mml_lab::Lab;
 use mml_lab_file::read_lab;
 use std::alloc::{AllocError, Global};
 use std::test::Fail;
 
-/// Returns the lab that a document spells, in a box. A function that holds the box has one thing to drop at each
-/// return, which keeps a test's proof short. Returns an error if the document spells no lab, or memory runs out.
+/// Returns the lab that a lab file describes, in a box. A function that holds the box has one value to drop at each
+/// return, which keeps a test's proof short. Returns an error if the file doesn't describe a lab, or memory runs out.
 pub fn boxed_lab(alloc: Global, document: &str) -> Result<Box<Lab>, Fail> {
     Ok(Box::new(alloc, read_lab(alloc, document.as_bytes())?)?)
 }
@@ -17,9 +17,9 @@ pub fn boxed_board(alloc: Global, lab: &Lab) -> Result<Box<Board>, Fail> {
     Ok(Box::new(alloc, Board::new(alloc, lab)?)?)
 }
 
-/// The file of a lab with at most 100 events and four connections, whose teacher is tess. It is made of the line of the
-/// links (empty if there are none), the students by name and key, and the nodes by identifier, owner and further lines
-/// (empty if there are none).
+/// Makes a lab file with at most 100 events and four sessions, whose teacher is tess. Its arguments are the line with
+/// the links (empty if there are none), the students by name and key, and the nodes by identifier, owner and further
+/// lines (empty if there are none).
 #[macro_export]
 macro_rules! lab {
     ($links:literal, [$(($name:literal, $key:literal)),*], [$(($id:literal, $owner:literal, $more:literal)),*]) => {
@@ -40,7 +40,8 @@ pub const PATH_OF_THREE: &str = lab!(
     [(1, "ana", ""), (2, "ben", ""), (3, "cyd", "")]
 );
 
-/// Nodes 3, 5 and 9 in a row: ana owns 3, ben owns 5 and 9. Nodes 3 and 5 point at each other, and only 3 has m set.
+/// Nodes 3, 5 and 9 in a row: ana owns 3, and ben owns 5 and 9. Nodes 3 and 5 point at each other, and m is set only at
+/// 3.
 pub const PAIR: &str = lab!(
     "links = [[3, 5], [5, 9]]\n",
     [("ana", "a-key"), ("ben", "b-key")],

@@ -1,5 +1,5 @@
-//! For tests only: readers, writers and sinks that fail on demand, threads that wait for each other, numbers that look
-//! drawn, and the labs, lines and scripts that several tests share. Nothing of the program depends on it.
+//! For tests only: readers, writers and sinks that fail when a test wants it, threads that wait for each other, numbers
+//! that look random, and the labs, lines and scripts that several tests share. The programs don't depend on this crate.
 #![tactic(auto)]
 
 pub mod cycles;

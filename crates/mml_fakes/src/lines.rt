@@ -1,11 +1,11 @@
-//! Lines that are sent and answered, each spelled once: tests make their texts of words.
+//! Macros that make the lines of requests and replies, so that each kind of line is spelled only once in the tests.
 
-/// Makes the text of these lines, each with its newline. A line is one of the words below, with its values in
-/// parentheses. A text between the words, such as the number of a script's connection, is taken as it is.
+/// Makes the text of the given lines, each with its newline. A line is named by one of the words below, with its values
+/// in parentheses. A text between the words, such as the number of a script's connection, is copied unchanged.
 ///
-/// Requests are `hello`, `see`, `seduction` (of a node, in configuration 0), `close` and `bye`. Replies are `welcome`,
-/// `seen` (configuration, m, node, p), `granted` (the node of a seduction, and its place), `closed` (the second event,
-/// which applies the move of node 1), `left`, and the denials.
+/// Requests are `hello`, `see`, `seduction` (of a node, in configuration 0), `close` and `bye`. Replies are `welcome`
+/// (to a hello), `seen` (configuration, m, node, p), `granted` (the node of a seduction, and its place), `closed` (as
+/// the second event, which applies the move of node 1), `left` (to a bye), and the denials.
 #[macro_export]
 macro_rules! lines {
     // After `@` come the end of a line and all pieces so far, then the pieces of one more line, then the words that are
@@ -65,7 +65,7 @@ macro_rules! lines {
     ($($line:tt)*) => { $crate::lines!(@ ["\n"], $($line)*) };
 }
 
-/// Makes the text of one line by its word in `lines!`, without the newline.
+/// Makes the text of one line, named as for `lines!`, without the newline.
 #[macro_export]
 macro_rules! line {
     ($($word:tt)*) => { $crate::lines!(@ [""], $($word)*) };

@@ -1,13 +1,13 @@
-//! Numbers that look drawn.
+//! Pseudo-random numbers for tests.
 
-/// Numbers that look drawn, but follow from the first state: the same state leads to the same numbers each time.
+/// Pseudo-random numbers: the same first state leads to the same numbers each time.
 #[derive(Drop)]
 pub struct Numbers {
     pub state: u64,
 }
 
 impl Numbers {
-    /// Returns the next number, which is below the limit, or 0 if the limit is 0.
+    /// Returns the next number, which is less than `limit`, or 0 if `limit` is 0.
     pub fn below(&mut self, limit: u64) -> u64 {
         self.state = self
             .state

@@ -18,10 +18,10 @@ pub fn ended_lines(text: &[u8]) -> usize {
     text.iter().filter(|byte| **byte == b'\n').count()
 }
 
-/// Ana's greeting and a move of node 1, which is hers over `labs::PATH_OF_THREE`, as lines of one connection.
+/// Ana's hello and a move of node 1, which she owns in `labs::PATH_OF_THREE`, as the lines of one connection.
 pub const ANA_MOVES: &str = lines!(hello("ana", "a-key"), seduction(1));
 
-/// The reply to the greeting in `ANA_MOVES`.
+/// The reply to the hello in `ANA_MOVES`.
 pub const ANA_WELCOME: &str = lines!(welcome("ana"));
 
 /// The replies to `ANA_MOVES` if the move is the first event.
@@ -33,19 +33,19 @@ pub const ANA_JOURNAL: &str = "1 0 grant ana 1 seduction\n";
 /// The journal once a close applies the move of `ANA_MOVES`.
 pub const CLOSED_JOURNAL: &str = "1 0 grant ana 1 seduction\n2 0 close\n";
 
-/// The last line of a house whose journal is `CLOSED_JOURNAL`.
+/// The last line of a house (one run of a lab) whose journal is `CLOSED_JOURNAL`.
 pub const ONE_CLOSED: &str = "done: 2 events, configuration 1\n";
 
-/// Ben's greeting, a move of node 2, which is his, and a bye.
+/// Ben's hello, a move of node 2, which he owns, and a bye.
 pub const BEN_MOVES: &str = lines!(hello("ben", "b-key"), seduction(2), bye);
 
-/// The teacher's greeting, a close of the step, and a bye.
+/// The teacher's hello, a close, and a bye.
 pub const TESS_CLOSES: &str = lines!(hello("tess", "chalk"), close, bye);
 
 /// The replies to `TESS_CLOSES` if no node is chosen.
 pub const NOTHING_CLOSED: &str = lines!(welcome("tess"), empty, left);
 
-/// Greetings on two connections, some of them refused, and requests before and after them.
+/// Hellos on two connections, some of which are denied, and requests before and after them.
 pub const GREETING: &str = r#"1 {"do":"see","node":1}
 1 {"do":"hello","key":"a-key","name":"ana"}
 2 {"do":"hello","key":"a-key","name":"zoe"}
@@ -65,7 +65,7 @@ pub const GREETING_REPLIES: &str = r#"1 {"clause":0,"deny":"not-greeted","text":
 1 {"clause":0,"deny":"not-greeted","text":"say hello first"}
 "#;
 
-/// Ana's greeting, and sees of a node that is shown to her and of two that aren't.
+/// Ana's hello, and sees of a node that is shown to her and of two that aren't.
 pub const FIRST_LOOK: &str = r#"1 {"do":"hello","key":"a-key","name":"ana"}
 1 {"do":"see","node":2}
 1 {"do":"see","node":3}
@@ -84,7 +84,7 @@ pub const FIRST_LOOK_REPLIES: &str = lines!(
     hidden
 );
 
-/// The greetings of the three students and the teacher of `labs::PATH_OF_THREE`, on a connection each.
+/// The hellos of the three students and the teacher of `labs::PATH_OF_THREE`, on one connection each.
 pub const GREETINGS: &str = r#"1 {"do":"hello","key":"a-key","name":"ana"}
 2 {"do":"hello","key":"b-key","name":"ben"}
 3 {"do":"hello","key":"c-key","name":"cyd"}
@@ -104,7 +104,7 @@ pub const TEN_ACTS: &str = r#"1 {"at":0,"do":"move","node":1,"rule":"seduction"}
 4 {"do":"close"}
 "#;
 
-/// The journal of `TEN_ACTS` over `labs::PATH_OF_THREE`, at whose end nodes 2 and 3 are a pair.
+/// The journal of `TEN_ACTS` over `labs::PATH_OF_THREE`, after which nodes 2 and 3 are a pair.
 pub const TEN_LINES: &str = r#"1 0 grant ana 1 seduction
 2 0 grant ben 2 seduction
 3 0 close

@@ -1,4 +1,4 @@
-//! The askers, their acts and the results, over the path of three.
+//! Participants, commands and answers over the path of three.
 ghost use Rattle.std.specs.Prelude.{◌≡◌, true};
 ghost use Rattle.mml_policy.specs.Acts.{is_act};
 
@@ -8,12 +8,12 @@ use mml_lab::{Student, Who};
 use mml_policy::{Asked, Command};
 use mml_window::Answer;
 
-/// Returns the student with this index as one who asks. Students are counted from 0 in the order of the lab file.
+/// Returns the student with this index as a participant. Students are counted from 0 in the order of the lab file.
 pub fn student(index: u16) -> Who {
     Who::Student(Student::new(index))
 }
 
-/// Returns the command of a move by Seduction, of the node with this identifier, in configuration `at`.
+/// Returns the command that asks for a move by Seduction at the node with this identifier, in configuration `at`.
 pub fn seduction(node: u64, at: u64) -> Command
     ensures { is_act result ≡ true }
 {

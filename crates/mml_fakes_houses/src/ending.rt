@@ -1,21 +1,21 @@
-//! How houses end.
+//! How a house (one run of a lab) has ended, in a form that tests can compare.
 use mml_journal::{MemorySink, Sink};
 use mml_window::{Astray, Log};
 
-/// How a house ended, in values that a test compares.
+/// How a house has ended, as values that a test can compare.
 #[derive(Clone, Copy, Debug, PartialEq, Eq)]
 pub enum Ending {
-    /// The number of events, the number of the last configuration, and whether the journal was halted.
+    /// It left a log: the number of events, the number of the last configuration, and whether the journal was halted.
     Log {
         events: usize,
         number: u64,
         halted: bool,
     },
-    /// The windows that came back don't have a place for each event, as if one was left out.
+    /// The windows that came back don't have one place for each event, as if a window was missing.
     Astray(Astray),
 }
 
-/// Returns how a house ended: the counts of its log, or its `Astray`.
+/// Returns how a house has ended, by the result of ending it: the counts of its log, or its `Astray`.
 pub fn ending_of<S: Sink>(end: &Result<Log<S>, Astray>) -> Ending {
     match end {
         Ok(log) => Ending::Log {
@@ -27,7 +27,7 @@ pub fn ending_of<S: Sink>(end: &Result<Log<S>, Astray>) -> Ending {
     }
 }
 
-/// Returns whether a house ended with a log, and its sink holds exactly this journal.
+/// Returns whether a house has left a log, and its sink has exactly this journal.
 pub fn has_journal(end: &Result<Log<MemorySink>, Astray>, journal: &str) -> bool {
     match end {
         Ok(log) => log.sink.bytes() == journal.as_bytes(),

@@ -1,5 +1,5 @@
-//! For tests only: seats at a house, visits through them, how houses end, and the acts of a stored run. Nothing of the
-//! program depends on it.
+//! For tests only: opening a house (one run of a lab), using it through two windows, and comparing how it has ended;
+//! also the commands of a stored run. The programs don't depend on this crate.
 #![tactic(auto)]
 
 mod acts;

@@ -1,4 +1,4 @@
-//! Seats at a house: a window with its desk.
+//! A window of a house together with its desk.
 ghost use Rattle.std.specs.Prelude.{◌≡◌, true};
 ghost use Rattle.mml_policy.specs.Acts.{is_act};
 
@@ -11,7 +11,7 @@ use std::alloc::Global;
 use std::io::{Read, Write};
 use std::sync::Wait;
 
-/// A window of a house, and what is needed to ask through it.
+/// A window of a house (one run of a lab), and what is needed to ask for acts through it.
 #[derive(Drop)]
 pub struct Seat<'a, S: Sink, H: House, R: Wait> {
     pub rt: &'a R,
@@ -21,7 +21,7 @@ pub struct Seat<'a, S: Sink, H: House, R: Wait> {
 }
 
 impl<'a, S: Sink + Drop, H: House, R: Wait> Seat<'a, S, H, R> {
-    /// Asks the desk for an act as `who`, through the seat's window, and returns the answer.
+    /// Asks the desk for an act of `who` through the seat's window, and returns the answer.
     pub fn ask(&mut self, who: Who, command: &Command) -> Answer
         requires { is_act command.now ≡ true }
     {
@@ -29,8 +29,8 @@ impl<'a, S: Sink + Drop, H: House, R: Wait> Seat<'a, S, H, R> {
             .ask(self.rt, self.alloc, &mut self.window, who, command)
     }
 
-    /// Serves a session between a reader and a writer through the window, as connection 1 and without a gate. Returns
-    /// how the session ended.
+    /// Serves a session through the window, as connection 1, and without a gate. Reads lines from `reader` and writes
+    /// the replies to `writer`. Returns how the session ended.
     pub fn serve<In: Read, Out: Write>(&mut self, reader: &mut In, writer: &mut Out) -> SessionEnd {
         serve_one(
             self.rt,
@@ -45,7 +45,7 @@ impl<'a, S: Sink + Drop, H: House, R: Wait> Seat<'a, S, H, R> {
     }
 }
 
-/// Two seats at one house.
+/// Two seats of one house.
 #[derive(Drop)]
 pub struct Pair<'a, S: Sink, H: House, R: Wait> {
     pub one: Seat<'a, S, H, R>,
@@ -53,7 +53,7 @@ pub struct Pair<'a, S: Sink, H: House, R: Wait> {
 }
 
 impl<'a, S: Sink + Drop, H: House, R: Wait> Pair<'a, S, H, R> {
-    /// Returns two seats at one desk with these two windows, in their order.
+    /// Returns two seats over one desk, with the first and the second of these windows.
     pub fn new(
         rt: &'a R,
         alloc: Global,
@@ -77,7 +77,7 @@ impl<'a, S: Sink + Drop, H: House, R: Wait> Pair<'a, S, H, R> {
         }
     }
 
-    /// Returns the windows of the first and the second seat, so that the house can end with them.
+    /// Returns the windows of the first and the second seat, which are needed to end the house.
     pub fn into_windows(self) -> (Window<H>, Window<H>) {
         let Pair { one, two } = self;
         let Seat { window: first, .. } = one;

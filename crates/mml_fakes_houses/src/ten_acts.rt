@@ -1,4 +1,4 @@
-//! The ten acts of a stored run over the path of three.
+//! The ten acts (commands that ask for events) of a stored run over the path of three.
 ghost use Rattle.std.specs.Prelude.{◌≡◌, true};
 ghost use Rattle.mml_policy.specs.Acts.{is_act};
 
@@ -9,15 +9,15 @@ use mml_policy::{Asked, Command};
 /// How many acts there are.
 pub const ACTS: u64 = 10;
 
-/// Returns the command of a move by this rule, of the node with this identifier, in configuration `at`.
+/// Returns the command that asks for a move by this rule at the node with this identifier, in configuration `at`.
 fn move_by(node: u64, rule: Asked, at: u64) -> Command
     ensures { is_act result ≡ true }
 {
     Command::Move { node, rule, at }
 }
 
-/// Returns the act that is granted as the event with this place, counted from 1. The journal of all ten is
-/// `scripts::TEN_LINES`. Returns a close if there is no such event.
+/// Returns the command of the stored run that is granted at this place, counted from 1. The journal of all ten is
+/// `scripts::TEN_LINES`. Returns a close if there is no such place.
 pub fn act(place: u64) -> Command
     ensures { is_act result ≡ true }
 {
@@ -32,8 +32,8 @@ pub fn act(place: u64) -> Command
     }
 }
 
-/// Returns who asks for the act that is granted as the event with this place, counted from 1. Returns the teacher if
-/// there is no such event.
+/// Returns the participant who asks for the command that is granted at this place, counted from 1. Returns the teacher
+/// if there is no such place.
 pub fn asker(place: u64) -> Who {
     match place {
         1 | 9 => student(0),
@@ -43,8 +43,8 @@ pub fn asker(place: u64) -> Who {
     }
 }
 
-/// Returns the number of the configuration before the event with this place, counted from 1. After the tenth event it
-/// is 4, the number of the last configuration.
+/// Returns the number of the configuration before the event at this place, counted from 1. For a place after the tenth
+/// event this is 4, the number of the last configuration.
 pub fn number_before(place: u64) -> u64 {
     match place {
         0..=3 => 0,

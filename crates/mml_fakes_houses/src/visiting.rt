@@ -1,4 +1,4 @@
-//! Houses that are opened, visited through two windows, and ended.
+//! Opening a house (one run of a lab), using it through two windows, and ending it.
 ghost use Rattle.std.specs.Prelude.{◌≡◌, ◌-◌, ◌^◌, ◌<◌, ◌≤◌, length};
 ghost use Rattle.mml_journal.specs.Taken.{IsFresh};
 ghost use Rattle.mml_window.specs.Houses.{house_of};
@@ -13,8 +13,8 @@ use std::alloc::Global;
 use std::sync::Wait;
 use std::test::Fail;
 
-/// Returns a house over the path of three that isn't started yet. Its sink fails from the put with the number `fail_at`
-/// on, counted from 1, or never if that is `None`. Returns an error if memory runs out.
+/// Opens a house over the path of three, and returns it; it isn't started yet. Its sink fails from its put number
+/// `fail_at` on, counted from 1, or never if that is `None`. Returns an error if memory runs out.
 pub fn open_path<R: Wait>(
     rt: &R,
     alloc: Global,
@@ -25,18 +25,19 @@ pub fn open_path<R: Wait>(
     Ok(open_house(rt, alloc, lab, sink)?)
 }
 
-/// What a test does at two seats of a house.
+/// A visit: what a test does at two seats of a house.
 pub trait Visit<S: Sink> {
     /// The result of the visit.
     type Told: Drop;
 
-    /// Makes the visit at these two seats of one house, and returns its result.
+    /// Does the test's work at these two seats, and returns its result.
     fn visit<H: House, R: Wait>(self, seats: &mut Pair<'_, S, H, R>) -> Self::Told;
 }
 
-/// Visits a house through the last two of these windows, with the last one at the first seat. Puts both back, the first
-/// seat's before the second's, so that they have changed places. Returns the result of the visit. Returns `None` if
-/// there were fewer windows (none is left then), or memory ran out before both were put back.
+/// Makes a visit through the last two of these windows: the last one belongs to the first seat, and the one before to
+/// the second. Afterwards puts the first seat's window back, and then the second's, so that they have changed places.
+/// Returns the result of the visit. Returns `None` if there were fewer windows (then none is left), or memory ran out
+/// before both were put back.
 pub fn visit_windows<V: Visit<S> + Drop, S: Sink + Drop, H: House, R: Wait>(
     rt: &R,
     alloc: Global,
@@ -53,12 +54,12 @@ pub fn visit_windows<V: Visit<S> + Drop, S: Sink + Drop, H: House, R: Wait>(
     (give_back(windows, two) && is_back).then_some(told)
 }
 
-/// The result of a visit, or `None` if there were no two windows for it, or memory ran out before both were put back.
-/// Then how the house ended: its log, or `Astray` if a window with granted events was missing.
+/// The result of a visit, and how the house has ended. The first is `None` if there were no two windows, or memory ran
+/// out before both were put back. The second is the log, or `Astray` if a window with granted events was missing.
 pub type Visited<T, S> = (Option<T>, Result<Log<S>, Astray>);
 
-/// Starts a house that was opened, visits it through two of its windows, and ends it. Returns the result of the visit,
-/// and how the house ended. Returns an error if memory runs out at the start.
+/// Starts the opened house `blank`, makes a visit through two of its windows, and ends it. Returns the result of the
+/// visit, and how the house has ended. Returns an error if memory runs out at the start.
 pub fn visit_house<V: Visit<S> + Drop, S: Sink + Drop, H: House, R: Wait>(
     rt: &R,
     alloc: Global,
@@ -72,8 +73,8 @@ pub fn visit_house<V: Visit<S> + Drop, S: Sink + Drop, H: House, R: Wait>(
     Ok((told, desk.finish(rt, windows)))
 }
 
-/// Opens a house over the lab that a file spells, visits it, and ends it. Returns the result of the visit, and how the
-/// house ended. Returns an error if the file spells no lab, or memory runs out before the visit.
+/// Opens a house over the lab in `file`, makes a visit, and ends the house. Returns the result of the visit, and how
+/// the house has ended. Returns an error if the file doesn't describe a lab, or memory runs out before the visit.
 pub fn visit_lab<V: Visit<S> + Drop, S: Sink + Drop, R: Wait>(
     rt: &R,
     alloc: Global,
@@ -89,8 +90,8 @@ pub fn visit_lab<V: Visit<S> + Drop, S: Sink + Drop, R: Wait>(
     visit_house::<_, _, Brand, _>(rt, alloc, blank, visit)
 }
 
-/// Opens a house over the path of three, visits it, and ends it. Returns the result of the visit, and how the house
-/// ended. Returns an error if memory runs out before the visit.
+/// Opens a house over the path of three, makes a visit, and ends the house. Returns the result of the visit, and how
+/// the house has ended. Returns an error if memory runs out before the visit.
 pub fn visit_path<V: Visit<S> + Drop, S: Sink + Drop, R: Wait>(
     rt: &R,
     alloc: Global,

@@ -1,10 +1,10 @@
-//! Windows that are taken and given back.
+//! Taking windows from a list, and putting them back.
 ghost use Rattle.std.specs.Prelude.{◌+◌, ◌≤◌, length, IfSome};
 
 use mml_window::{House, Window};
 
-/// Takes the last two of these windows, the last one first. Returns `None` if there are fewer; a single one is dropped
-/// then.
+/// Removes the last two windows from the list, and returns the last one and the one before. Returns `None` if there are
+/// fewer; a single one is dropped then.
 pub fn take_two<H: House>(windows: &mut Vec<Window<H>>) -> Option<(Window<H>, Window<H>)>
     ensures fewer { length windows.new.items ≤ length windows.old.items }
     ensures taken { IfSome result (λ _.
@@ -15,8 +15,8 @@ pub fn take_two<H: House>(windows: &mut Vec<Window<H>>) -> Option<(Window<H>, Wi
     Some((one, two))
 }
 
-/// Puts a window back among those with which the house will end. Returns `false` if memory runs out; the window is
-/// dropped then.
+/// Puts a window back into the list with which the house will be ended. Returns `false`, and drops the window, if
+/// memory runs out.
 pub fn give_back<H: House>(windows: &mut Vec<Window<H>>, window: Window<H>) -> bool
     ensures { length windows.new.items ≤ length windows.old.items + 1 }
 {

@@ -1,4 +1,4 @@
-//! A house whose connections come and go, one after another.
+//! Tests of a house (one run of a lab) that serves one connection after another at two ports.
 use crate::texts::{Count, Left, Texts, Timed, cycle_of_six, sent_to};
 use mml_fakes::lines;
 use mml_fakes::scripts::{CLOSED_JOURNAL, NOTHING_CLOSED, ONE_CLOSED, TESS_CLOSES};
@@ -11,13 +11,14 @@ use std::sync::Wait;
 use std::test::Fail;
 use std::thread::Threads;
 
-/// One connection: whether it comes to the desk, else to the port; what it sends; and the replies that it should get.
+/// One connection of a test: whether it comes to the desk (otherwise to the port), what it sends, and which replies it
+/// should get.
 type Talk = (bool, &'static str, &'static str);
 
-// A greeting, a move of node 1, a see of it, and a bye.
+// Ana's hello, a move of node 1, a see of it, and a bye.
 const ANA_MOVES: &str = lines!(hello("ana", "a-key"), seduction(1), see(1), bye);
 
-/// Ana moves node 1, sees it, and says bye.
+/// Ana moves node 1, sees it, and says bye. She connects to the port.
 const ANA: Talk = (
     false,
     ANA_MOVES,
@@ -29,17 +30,18 @@ const ANA: Talk = (
     ),
 );
 
-/// Ben goes without a bye. The guard of his move doesn't hold, since no neighbour of node 6 has a greater identifier.
+/// Ben leaves without a bye. The guard of his move doesn't hold, since node 6 has no neighbour with a greater
+/// identifier.
 const BEN: Talk = (
     false,
     lines!(hello("ben", "b-key"), see(6), seduction(6)),
     lines!(welcome("ben"), seen(0, false, 6, "null"), guard),
 );
 
-/// A bye at the desk by someone who hasn't said hello. It doesn't end the house.
+/// Somebody who hasn't said hello asks for a close and says bye at the desk. This doesn't end the house.
 const NOBODY: Talk = (true, lines!(close, bye), lines!(not_greeted, left));
 
-/// The teacher's connection closes a step, and then ends within a line.
+/// The teacher's connection closes a step, and then breaks off within a line.
 const FALLEN: Talk = (
     true,
     lines!(hello("tess", "chalk"), close, "{\"do\":\"cl"),
@@ -52,18 +54,19 @@ const ELSEWHERE: Talk = (false, TESS_CLOSES, NOTHING_CLOSED);
 /// The teacher's bye at the desk, which ends the house.
 const TESS: Talk = (true, TESS_CLOSES, NOTHING_CLOSED);
 
-/// Ana comes again with the same lines, in configuration 1.
+/// Ana connects again and sends the same lines, in configuration 1.
 const AGAIN: Talk = (
     false,
     ANA_MOVES,
     lines!(welcome("ana"), stale(1), seen(1, false, 1, 6), left),
 );
 
-/// The talks of one house, in the order in which they come.
+/// The connections of one house, in the order in which they come.
 const TALKS: &[Talk] = &[ANA, BEN, NOBODY, FALLEN, ELSEWHERE, AGAIN, AGAIN, TESS];
 
-/// Returns the connections of these talks that come to the desk if `is_desk`, else those that come to the port. Each
-/// comes once all talks before it have ended. Returns an error if memory runs out.
+/// Returns the connections of these talks that come to the desk, if `is_desk`, or those that come to the port. Each
+/// comes when the connections of all talks before it have ended, as `count` counts them. Returns an error if memory
+/// runs out.
 fn texts_of<'a>(
     alloc: Global,
     talks: &[Talk],
@@ -85,8 +88,8 @@ fn texts_of<'a>(
     Texts::of(alloc, &said, count)
 }
 
-/// Hosts these talks over a cycle of six nodes. Returns the finished house, or the host's fault. Returns an error
-/// (`Fail`) if the test itself goes wrong.
+/// Serves the connections of these talks in a house over a cycle of six nodes. `out` gets what the host prints. Returns
+/// the result of the house, or the host's fault. Returns an error (`Fail`) if the test itself fails to work.
 fn host<R: Threads + Wait + Sync>(
     rt: &R,
     alloc: Global,
@@ -100,8 +103,8 @@ fn host<R: Threads + Wait + Sync>(
     Ok(host_in_memory(rt, alloc, lab, at_desk, at_port, &count, out))
 }
 
-/// Hosts these connections at the desk and at the port over this lab, with a journal in memory and no records. Returns
-/// the finished house, or the host's fault.
+/// Serves these connections at the desk and at the port in a house of this lab, with a journal in memory and no record.
+/// Returns the result of the house, or the host's fault.
 fn host_in_memory<R: Threads + Wait + Sync>(
     rt: &R,
     alloc: Global,
@@ -120,7 +123,7 @@ fn host_in_memory<R: Threads + Wait + Sync>(
     )
 }
 
-/// Returns whether each of these talks was sent exactly its replies.
+/// Returns whether the connection of each of these talks got exactly the replies that it should.
 fn are_answered(left: &Left, talks: &[Talk]) -> bool {
     let mut number = 0u64;
     for (_, _, replies) in talks {
@@ -132,8 +135,9 @@ fn are_answered(left: &Left, talks: &[Talk]) -> bool {
     true
 }
 
-/// Hosts `TALKS`. Returns whether each talk is answered as it says, whether the journal is a move and its close, and
-/// whether the last line counts both. Returns an error if the house ends with a fault.
+/// Serves `TALKS` in a house. Returns three answers: whether each connection gets the right replies, whether the
+/// journal has exactly a move and its close, and whether the last line that is printed counts both. Returns an error if
+/// the house ends with a fault.
 fn told_of_talks<R: Threads + Wait + Sync>(rt: &R, alloc: Global) -> Result<[bool; 3], Fail> {
     let mut out = Vec::new(alloc);
     match host(rt, alloc, TALKS, &mut out)? {
@@ -146,23 +150,24 @@ fn told_of_talks<R: Threads + Wait + Sync>(rt: &R, alloc: Global) -> Result<[boo
     }
 }
 
-/// Fails if a talk of `TALKS` has other replies than it says, or the journal or the last line is another.
+/// Checks a house that serves the connections of `TALKS` one after another: each must get its replies, and the journal
+/// and the last line must be right.
 #[test]
 fn sessions_come_one_after_another(rt: HostRuntime) -> Result<(), Fail> {
     assert_eq!(rt; told_of_talks(&rt, rt.alloc())?, [true; 3]);
     Ok(())
 }
 
-/// Hosts two talks: a bye at the desk by someone who hasn't said hello, and the teacher's bye at the port. Returns
-/// whether the house ends with the fault `Undismissed`, and without a last line.
+/// Serves two connections in a house: one says bye at the desk without a hello, and the teacher says bye at the port.
+/// Returns whether the house ends with the fault `Undismissed`, and without printing a last line.
 fn is_undismissed<R: Threads + Wait + Sync>(rt: &R, alloc: Global) -> Result<bool, Fail> {
     let mut out = Vec::new(alloc);
     let left = host(rt, alloc, &[NOBODY, ELSEWHERE], &mut out)?;
     Ok(matches!(left, Err(HostFault::Undismissed)) && out.is_empty())
 }
 
-/// Fails if a house whose teacher said bye at the students' port alone doesn't end as undismissed, or prints a last
-/// line.
+/// Checks that a house ends with the fault `Undismissed`, without a last line, if the teacher has said bye only at the
+/// students' port.
 #[test]
 fn a_bye_at_the_port_ends_no_house(rt: HostRuntime) -> Result<(), Fail> {
     assert!(rt; is_undismissed(&rt, rt.alloc())?);

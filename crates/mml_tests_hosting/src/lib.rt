@@ -1,5 +1,5 @@
-//! Tests of houses whose connections come and go, of classes that go on from a journal, and of calls to
-//! which memory is refused, by public items alone.
+//! Tests of houses that serve one connection after another, of classes that go on from a journal, and of calls for
+//! which requests of memory are refused. They use only public items.
 #![tactic(auto)]
 
 #[cfg(test)]

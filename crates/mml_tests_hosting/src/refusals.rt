@@ -1,9 +1,10 @@
-//! Each request for memory refused in turn: the answer is the plain one or says so, and nothing is lost.
+//! Tests in which one request for memory after another is refused. The answer must be the usual one, or say so, and
+//! nothing may be lost.
 mod asking;
 mod halting;
 mod library;
 mod replies;
 mod untouched;
 
-/// More requests for memory than any call makes that is tried here.
+/// An upper limit of the requests for memory that one of the tried calls makes.
 const MOST: usize = 100_000;

@@ -1,4 +1,4 @@
-//! Classes that go on from a journal, or don't.
+//! Tests of classes that go on from a journal, or are refused.
 ghost use Rattle.std.specs.Prelude.{◌≡◌, ◌<◌, ◌-◌, ◌^◌, IfSome};
 
 use crate::texts::{Count, Left, Texts, Timed, cycle_of_six, sent_to};
@@ -16,11 +16,11 @@ use std::sync::Wait;
 use std::test::Fail;
 use std::thread::Threads;
 
-/// A journal whose last line is torn: ana's move was granted, and ben's line was being written.
+/// An old journal whose last line is torn: ana's move was granted, and ben's line was being written.
 const OLD: &str = "1 0 grant ana 1 seduction\n2 0 gra";
 
-/// Ana comes again. She asks for the move that is chosen already, for a move in a configuration that is not current,
-/// and for a look at her node.
+/// Ana connects again. She asks for the move that is chosen already, for a move in a configuration that isn't the
+/// current one, and for a look at her node.
 const ANA: &str = lines!(
     hello("ana", "a-key"),
     seduction(1),
@@ -38,31 +38,31 @@ const ANA_IS_TOLD: &str = lines!(
 "#
 );
 
-/// The teacher's greeting, two closes, and a bye.
+/// The teacher's hello, two closes, and a bye.
 const TESS: &str = lines!(hello("tess", "chalk"), close, close, bye);
 
 /// The replies to `TESS`: the first close applies ana's move, and at the second no node is chosen.
 const TESS_IS_TOLD: &str = lines!(welcome("tess"), closed, empty, left);
 
-/// The line that a class prints first.
+/// The text that a class prints first.
 const FIRST: &str = "listening\n";
 
-/// What a class that goes on from `OLD` prints: `FIRST`, and then two lines by hand.
+/// What a class that goes on from `OLD` should print.
 const TOLD: &str = "listening
 resumed at place 1, configuration 0, 1 chosen
 done: 2 events, configuration 1
 ";
 
-/// A journal whose last line is torn and longer than an event's line may be.
+/// A journal whose last line is torn and longer than an event's line can be.
 const LONG: &str = "1 0 grant ana 1 seduction
 2 0 close and more and more and more and more and more and more and more and more and more and more and more.";
 
-/// A store that keeps a journal in memory.
+/// The store of an old journal, for tests: the journal is in memory. It has the allocator.
 #[derive(Drop)]
 struct Shelf(Global);
 
 impl Store<MemorySink> for Shelf {
-    // Returns a new sink that holds these bytes. Returns `None` if memory runs out.
+    // Returns a new sink in memory that has these bytes. Returns `None` if memory runs out.
     fn shorten_to(self, whole: &[u8]) -> Option<MemorySink>
         ensures holds { IfSome result (λ sink. sink.bytes ≡ whole.now) }
         ensures countable { IfSome result (λ sink. sink.failures < 2 ^ 64 - 1) }
@@ -78,9 +78,10 @@ impl Store<MemorySink> for Shelf {
     }
 }
 
-/// Resumes a class from the journal `old` over a cycle of six nodes, with this limit of events. Ana comes to the port
-/// and, once she has gone, the teacher comes to the desk. Returns the finished class, or the fault because of which it
-/// didn't go on. Returns an error (`Fail`) if the test itself goes wrong.
+/// Lets a class go on from the journal `old`, over a cycle of six nodes, with this limit of events. Ana connects to the
+/// port and, when she has left, the teacher connects to the desk. `out` gets what the class prints. Returns the result
+/// of the class, or the fault because of which it didn't go on. Returns an error (`Fail`) if the test itself fails to
+/// work.
 fn resume<R: Threads + Wait + Sync>(
     rt: &R,
     alloc: Global,
@@ -105,8 +106,8 @@ fn resume<R: Threads + Wait + Sync>(
     Ok(resume_in(rt, alloc, lab, old, at_desk, at_port, &count, out))
 }
 
-/// Resumes a class from the journal `old` over this lab, with these connections at the desk and at the port, and no
-/// records. Returns the finished class, or the fault because of which it didn't go on.
+/// Lets a class of this lab go on from the journal `old`, with these connections at the desk and at the port, and no
+/// record. Returns the result of the class, or the fault because of which it didn't go on.
 fn resume_in<R: Threads + Wait + Sync>(
     rt: &R,
     alloc: Global,
@@ -136,8 +137,8 @@ fn resume_in<R: Threads + Wait + Sync>(
     )
 }
 
-/// Resumes a class from the journal `old` with this limit of events. Returns the fault because of which it didn't go
-/// on, or `None` if it did; and whether nothing was printed.
+/// Lets a class go on from the journal `old`, with this limit of events. Returns the fault because of which it didn't
+/// go on, or `None` if it did; and whether nothing was printed.
 fn fault_of_class<R: Threads + Wait + Sync>(
     rt: &R,
     alloc: Global,
@@ -149,8 +150,8 @@ fn fault_of_class<R: Threads + Wait + Sync>(
     Ok((fault, out.is_empty()))
 }
 
-/// Resumes a class from `OLD`. Returns, in this order, whether ana's replies, the teacher's replies, the journal, and
-/// what the class prints are the wanted ones. Returns an error if the class doesn't go on.
+/// Lets a class go on from `OLD`. Returns four answers: whether ana's replies, the teacher's replies, the journal, and
+/// the printed text are right. Returns an error if the class didn't go on.
 fn told_of_a_class<R: Threads + Wait + Sync>(rt: &R, alloc: Global) -> Result<[bool; 4], Fail> {
     let mut out = Vec::new(alloc);
     match resume(rt, alloc, 100, OLD, &mut out)? {
@@ -165,16 +166,16 @@ fn told_of_a_class<R: Threads + Wait + Sync>(rt: &R, alloc: Global) -> Result<[b
     }
 }
 
-/// Fails if a class doesn't go on from a journal with a torn line, or if ana's or the teacher's replies, the journal,
-/// or what the class prints is another.
+/// Checks a class that goes on from a journal with a torn line: the replies, the journal and the printed text must be
+/// right.
 #[test]
 fn a_class_goes_on_where_its_journal_stopped(rt: HostRuntime) -> Result<(), Fail> {
     assert_eq!(rt; told_of_a_class(&rt, rt.alloc())?, [true; 4]);
     Ok(())
 }
 
-/// Returns whether a class with this journal and limit of events is refused for the reason `wanted`, and prints
-/// nothing.
+/// Returns whether a class that should go on from the journal `old`, with this limit of events, is refused for the
+/// reason `wanted`, and prints nothing.
 fn is_refused<R: Threads + Wait + Sync>(
     rt: &R,
     alloc: Global,
@@ -185,8 +186,8 @@ fn is_refused<R: Threads + Wait + Sync>(
     Ok(fault_of_class(rt, alloc, events, old)? == (Some(ResumeFault::Refused(wanted)), true))
 }
 
-/// Returns whether each of three journals is refused for its reason: one with an illegal event, one with more events
-/// than the limit, and one whose last line is torn and longer than a line may be.
+/// Returns three answers: whether each of these journals is refused for the right reason. One has an illegal event, one
+/// has more events than the limit, and one ends with a torn line that is too long.
 fn are_refused<R: Threads + Wait + Sync>(rt: &R, alloc: Global) -> Result<[bool; 3], Fail> {
     let illegal = AuditFault::Illegal(1, Denial::Empty);
     let is_empty = is_refused(rt, alloc, 100, "1 0 close\n", illegal)?;
@@ -195,8 +196,8 @@ fn are_refused<R: Threads + Wait + Sync>(rt: &R, alloc: Global) -> Result<[bool;
     Ok([is_empty, is_long, is_torn])
 }
 
-/// Fails if a class goes on from a journal with an illegal event, with too many events, or with a torn line that is too
-/// long. Fails too if it is refused for another reason, or prints something.
+/// Checks that a class doesn't go on from a journal with an illegal event, with too many events, or with a torn line
+/// that is too long, that it is refused for the right reason, and that it prints nothing.
 #[test]
 fn what_is_no_journal_is_refused(rt: HostRuntime) -> Result<(), Fail> {
     assert_eq!(rt; are_refused(&rt, rt.alloc())?, [true; 3]);

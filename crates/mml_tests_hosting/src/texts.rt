@@ -1,4 +1,4 @@
-//! Connections in memory, which say who is to come.
+//! Connections in memory, which send given texts when given numbers of sessions have ended.
 ghost use Rattle.std.specs.Prelude.{Some};
 ghost use Rattle.std.specs.Vec.Iter.{into_iter_items};
 ghost use Rattle.mml_hosting.specs.Bringing.{Brings};
@@ -19,7 +19,8 @@ use std::sync::atomic::{AtomicU64, Ordering};
 use std::test::Fail;
 use std::vec::IntoIter;
 
-/// A bell that counts how often it was rung: for each session that has ended, and for a port that couldn't be served.
+/// A bell that counts how often it was rung. It is rung for each session that has ended, and for a port that can't be
+/// served.
 #[derive(Drop)]
 pub struct Count(AtomicU64);
 
@@ -31,7 +32,7 @@ impl Count {
 }
 
 impl Bell for Count {
-    // Counts one more ring, whatever it is for: a session that has ended, or a port that couldn't be served.
+    // Counts one more ring, whatever it is for.
     fn ring(&self, _is_dismissed: bool) {
         self.0.fetch_add(1, Ordering::SeqCst);
     }
@@ -47,7 +48,7 @@ pub struct NumberedWriter {
 impl Write for NumberedWriter {
     ghost contents = { λ k. Some k.bytes.items };
 
-    // Appends the bytes, and returns how many there are. Returns an error if memory runs out.
+    // Appends the bytes, and returns how many they are. Returns an error if memory runs out.
     fn write(&mut self, bytes: &[u8]) -> io::Result<usize> {
         self.bytes.write(bytes)
     }
@@ -59,20 +60,20 @@ impl Write for NumberedWriter {
 }
 
 impl HangUp for NumberedWriter {
-    // Does nothing: in memory nobody waits for more, and there is nothing to give back.
+    // Does nothing: a connection in memory has no other side, and no handle.
     fn hang_up(&mut self) {}
 }
 
 impl Observed for NumberedWriter {
     type Replies = NoReplies;
 
-    // Returns an observer that does nothing: in memory nobody has to know who has greeted.
+    // Returns an observer that does nothing: these tests don't need one.
     fn reply_observer(&mut self) -> NoReplies {
         NoReplies
     }
 }
 
-/// A handle that cuts nothing off.
+/// A cut-off that does nothing.
 #[derive(Drop)]
 pub struct Nothing;
 
@@ -81,10 +82,10 @@ impl CutOff for Nothing {
     fn cut_off(&self) {}
 }
 
-/// The two ends of a connection: the bytes that it sends, and the writer that keeps what it is sent.
+/// The two ends of a connection in memory: the bytes that it sends, and the writer that stores what it gets.
 pub type TextEnds = (VecDeque<u8>, NumberedWriter);
 
-/// A text that the connection with this number sends once `after` sessions have ended.
+/// A connection of a test: its number, the text that it sends, and how many sessions must have ended before it comes.
 #[derive(Drop)]
 pub struct Timed<'a> {
     pub after: u64,
@@ -92,7 +93,7 @@ pub struct Timed<'a> {
     pub text: &'a str,
 }
 
-/// Connections in memory that come in their order, each after its number of ended sessions.
+/// Connections in memory. They come in their order, each when its number of sessions has ended.
 #[derive(Drop)]
 pub struct Texts<'a> {
     coming: IntoIter<TextEnds>,
@@ -101,7 +102,7 @@ pub struct Texts<'a> {
 }
 
 impl<'a> Texts<'a> {
-    /// Returns connections that send these texts, in their order. Each comes once `count` has counted as many ended
+    /// Returns connections that send these texts, in their order. Each comes when `count` has counted as many ended
     /// sessions as its `after` says. Returns an error if memory runs out.
     pub fn of(
         alloc: Global,
@@ -122,8 +123,8 @@ impl<'a> Texts<'a> {
     }
 }
 
-/// Returns the two ends of a connection that sends a text: the bytes to read, and a writer with the connection's number
-/// that keeps what it is sent. Returns an error if memory runs out.
+/// Returns the two ends of a connection that sends this text: the bytes to read, and a writer with the connection's
+/// number, which stores what it gets. Returns an error if memory runs out.
 fn ends_of(alloc: Global, timed: &Timed<'_>) -> Result<TextEnds, AllocError> {
     let mut bytes = VecDeque::new(alloc);
     for byte in timed.text.as_bytes() {
@@ -139,8 +140,8 @@ fn ends_of(alloc: Global, timed: &Timed<'_>) -> Result<TextEnds, AllocError> {
 impl<'a> Accept<VecDeque<u8>, NumberedWriter, Nothing> for Texts<'a> {
     ghost to_come = { λ t. Some (into_iter_items t.coming) };
 
-    // Waits until as many sessions have ended as the next connection wants, or gives up after many looks; then returns
-    // that connection. Returns `Over` if none is left.
+    // Waits until as many sessions have ended as the next connection needs (or gives up after many checks), and returns
+    // that connection. Returns `Over` if no connection is left.
     fn accept_next(&mut self) -> Accepted<VecDeque<u8>, NumberedWriter, Nothing>
         ensures { Brings (Some (into_iter_items self.old.coming))
             (Some (into_iter_items self.new.coming)) result }
@@ -161,10 +162,10 @@ pub fn cycle_of_six(alloc: Global, events: u64) -> Result<Lab, Fail> {
     Ok(read_lab(alloc, text.as_bytes())?)
 }
 
-/// The result of a finished house over connections in memory, with a journal in memory and no record.
+/// The result of a house over connections in memory, with a journal in memory and no record.
 pub type Left = Hosted<MemorySink, ServedSession<VecDeque<u8>, NumberedWriter>, NoRecorder>;
 
-/// Returns what the connection with this number was sent, or `None` if it wasn't served.
+/// Returns what the connection with this number got, or `None` if it wasn't served.
 pub fn sent_to(left: &Left, number: u64) -> Option<&[u8]> {
     for record in left.at_desk.iter().chain(left.others.iter()) {
         for session in record.sessions.iter() {

@@ -1,5 +1,4 @@
-//! The acts of a stored run, asked for through a window, each with each of its requests for memory refused
-//! in turn.
+//! Tests that ask for the acts of a stored run through a window, while one request for memory after another is refused.
 use super::MOST;
 use super::library::{is_there, refuse, was_none_refused};
 use mml_fakes_houses::ten_acts::{ACTS, act, asker, number_before};
@@ -10,8 +9,8 @@ use std::alloc::Global;
 use std::sync::Wait;
 use std::test::Fail;
 
-/// Returns `true` if an answer grants an act with this place, and `false` if it says that memory ran out and a request
-/// was indeed refused (`was_none` is false). Returns `None` for any other answer.
+/// Returns `true` if an answer grants an act at this place. Returns `false` if the answer is that memory ran out and a
+/// request for memory was indeed refused (`was_none` is `false`). Returns `None` for any other answer.
 fn granted_or_refused(answer: &Answer, place: u64, was_none: bool) -> Option<bool> {
     match answer {
         Answer::Granted { place: granted, .. } => (*granted == place).then_some(true),
@@ -20,9 +19,9 @@ fn granted_or_refused(answer: &Answer, place: u64, was_none: bool) -> Option<boo
     }
 }
 
-/// Asks for the act with this place while its nth request for memory is refused, if it makes that many. Returns `true`
-/// if the act was granted, and `false` if it was refused for memory and the window's number is as before. Returns
-/// `None` if it was answered otherwise, or the number changed.
+/// Asks for the act of the stored run at this place, while the nth request for memory is refused. Returns `true` if the
+/// act was granted. Returns `false` if it was refused for memory, and the window's configuration is as before. Returns
+/// `None` in any other case. `is_there` says whether the library that refuses requests is loaded.
 fn asked<H: House, R: Wait>(
     seat: &mut Seat<'_, NullSink, H, R>,
     place: u64,
@@ -37,9 +36,9 @@ fn asked<H: House, R: Wait>(
     is_kept.then_some(is_granted)
 }
 
-/// Asks for the act with this place until it is granted: first with its first request for memory refused, then with its
-/// second, and so on. Returns how often the act was refused. Returns `None` if an answer was wrong, or the act still
-/// wasn't granted before try `MOST`.
+/// Asks for the act at this place until it is granted: first with its first request for memory refused, then with the
+/// second, and so on. Returns how often the act was refused. Returns `None` if an answer was wrong, or the act wasn't
+/// granted in `MOST` tries.
 fn refusals_of<H: House, R: Wait>(
     seat: &mut Seat<'_, NullSink, H, R>,
     place: u64,
@@ -53,18 +52,18 @@ fn refusals_of<H: House, R: Wait>(
     None
 }
 
-/// A visit that asks for each of the ten acts until it is granted, with one request for memory after another refused.
-/// `is_there`: whether the library that refuses requests is loaded.
+/// A visit that asks for each of the ten acts until it is granted, while one request for memory after another is
+/// refused. `is_there` says whether the library that refuses requests is loaded.
 #[derive(Clone, Copy)]
 struct Acts {
     is_there: bool,
 }
 
 impl Visit<NullSink> for Acts {
-    /// How many refusals there were in all, or `None` if an act was answered wrongly or never granted.
+    /// How often acts were refused altogether, or `None` if an act was answered wrongly or never granted.
     type Told = Option<usize>;
 
-    // Asks for the ten acts in their order through the first seat, and adds up their refusals.
+    // Asks for the ten acts in their order through the first seat, and returns how often they were refused altogether.
     fn visit<H: House, R: Wait>(self, seats: &mut Pair<'_, NullSink, H, R>) -> Option<usize> {
         let mut refused = 0usize;
         for place in 1..=ACTS {
@@ -75,8 +74,8 @@ impl Visit<NullSink> for Acts {
     }
 }
 
-/// Plays `Acts` over the path of three. Returns how often the ten acts were refused in all. Returns `None` if an act
-/// was answered wrongly, or the house didn't end with ten events in configuration 4.
+/// Makes the visit `Acts` over the path of three. Returns how often the ten acts were refused altogether. Returns
+/// `None` if an act was answered wrongly, or the house didn't end with ten events in configuration 4.
 fn told_of_acts<R: Wait>(rt: &R, alloc: Global, is_there: bool) -> Result<Option<usize>, Fail> {
     let (refused, end) = visit_path(rt, alloc, NullSink::new(), Acts { is_there })?;
     let wanted = Ending::Log {
@@ -87,8 +86,8 @@ fn told_of_acts<R: Wait>(rt: &R, alloc: Global, is_there: bool) -> Result<Option
     Ok(refused.flatten().filter(|_| ending_of(&end) == wanted))
 }
 
-/// A visit that asks for the first act while its nth request for memory is refused, and then for the second act with
-/// none refused. `is_there`: whether the library that refuses requests is loaded.
+/// A visit that asks for the first act while its nth request for memory is refused, and then for the second act while
+/// none is. `is_there` says whether the library that refuses requests is loaded.
 #[derive(Clone, Copy)]
 struct FirstThenSecond {
     nth: usize,
@@ -97,10 +96,11 @@ struct FirstThenSecond {
 
 impl Visit<NullSink> for FirstThenSecond {
     /// Whether the first act was granted; `false` if it was refused for memory. `None` if it was answered otherwise, or
-    /// the second act wasn't granted with the next place.
+    /// the second act wasn't granted at the next place.
     type Told = Option<bool>;
 
-    // Asks for both acts through the first seat. The second act gets place 2 if the first was granted, else place 1.
+    // Asks for both acts through the first seat. The second one must get place 2 if the first was granted, and
+    // otherwise place 1.
     fn visit<H: House, R: Wait>(self, seats: &mut Pair<'_, NullSink, H, R>) -> Option<bool> {
         let seat = &mut seats.one;
         let was_granted = asked(seat, 1, self.nth, self.is_there)?;
@@ -110,8 +110,8 @@ impl Visit<NullSink> for FirstThenSecond {
     }
 }
 
-/// Plays `FirstThenSecond` in a new house over the path of three. Returns whether the first act was granted. Returns
-/// `None` if an act was answered wrongly, or the house didn't end with exactly the granted acts.
+/// Makes the visit `FirstThenSecond` in a new house over the path of three. Returns whether the first act was granted.
+/// Returns `None` if an act was answered wrongly, or the house didn't end with exactly the granted acts.
 fn was_first_granted<R: Wait>(
     rt: &R,
     alloc: Global,
@@ -135,9 +135,9 @@ fn was_first_granted<R: Wait>(
     Ok((ending_of(&end) == wanted).then_some(was_granted))
 }
 
-/// Plays `FirstThenSecond` in one new house after another until the first act is granted: first with its first request
-/// for memory refused, then with its second, and so on. Returns how often the first act was refused, or `None` if a
-/// house went wrong, or the act was never granted.
+/// Makes the visit `FirstThenSecond` in one new house after another until the first act is granted: first with its
+/// first request for memory refused, then with the second, and so on. Returns how often the first act was refused.
+/// Returns `None` if a house went wrong, or the act was never granted.
 fn refusals_of_first<R: Wait>(
     rt: &R,
     alloc: Global,
@@ -153,8 +153,9 @@ fn refusals_of_first<R: Wait>(
     Ok(None)
 }
 
-/// Fails if an act with a refused request for memory is neither granted nor refused for memory, or if a refused act
-/// leaves a trace. Fails too if the library is there and no act is refused, or the other way round.
+/// Checks that an act for which a request for memory is refused is either granted, or refused for memory without
+/// leaving a trace. If the library that refuses requests is loaded, at least one act must be refused, and otherwise
+/// none.
 #[test]
 fn refusals_of_an_act_lose_nothing(rt: HostRuntime) -> Result<(), Fail> {
     let is_there = is_there(rt.alloc());

@@ -1,5 +1,5 @@
-//! A grant over a sink in memory, with each of its requests for memory refused in turn: the sink's own running out of
-//! memory halts, each other one leaves the hall as it was.
+//! Tests of a grant over a sink in memory, while one request for memory after another is refused. If the sink itself
+//! runs out of memory, the journal is halted; otherwise the hall stays as it was.
 use super::MOST;
 use super::library::{is_there, refuse, was_none_refused};
 use mml_codec::{JOURNAL_LINE, MEMORY_LINE, write_reply};
@@ -12,9 +12,9 @@ use mml_lab_file::read_lab;
 use std::alloc::Global;
 use std::test::Fail;
 
-/// Answers a request of connection 1 while the nth request for memory is refused (none for 0). Returns the reply line,
-/// and whether no request for memory was refused. Returns `None` if the lab has no connection, or the line can't be
-/// written.
+/// Answers a request of connection 1, while the nth request for memory is refused (none for 0). Returns the reply line,
+/// and whether no request for memory was refused. Returns `None` if the lab has no session, or the line can't be
+/// written. `is_there` says whether the library that refuses requests is loaded.
 fn answer_with_refusal(
     alloc: Global,
     hall: &mut Hall<MemorySink>,
@@ -34,7 +34,7 @@ fn answer_with_refusal(
     Some((out, was_none))
 }
 
-/// Ana's greeting.
+/// Ana's hello.
 const HELLO: &str = line!(hello("ana", "a-key"));
 
 /// Ana's move of node 1 by Seduction.
@@ -43,19 +43,19 @@ const MOVE: &str = line!(seduction(1));
 /// The reply line that grants `MOVE` as the first event.
 const GRANTED: &str = lines!(granted(1, 1));
 
-/// The outcome of a legal move over a sink in memory.
+/// The outcome of a legal move over a sink in memory, while requests for memory are refused.
 #[derive(Clone, Copy, Debug, PartialEq, Eq)]
 enum Grant {
     /// The move was granted.
     Made,
-    /// Memory ran out elsewhere than in the sink, and the hall is as before.
+    /// Memory ran out elsewhere than in the sink, and the hall is unchanged.
     Refused,
-    /// The sink itself ran out of memory, which halts the journal.
+    /// The sink ran out of memory, which halted the journal.
     Halted,
 }
 
-/// Returns the outcome of the first move by its reply. Returns `None` if the reply is none of the three, or if the
-/// hall's events, its journal, or whether it has halted doesn't fit the outcome.
+/// Returns the outcome of the first move, as its reply shows it. Returns `None` if it is another reply, or the hall's
+/// events or journal, or whether that is halted, don't fit the outcome.
 fn grant_of(hall: &Hall<MemorySink>, reply: &[u8]) -> Option<Grant> {
     let (found, events) = if reply == GRANTED.as_bytes() {
         (Grant::Made, 1)
@@ -73,7 +73,7 @@ fn grant_of(hall: &Hall<MemorySink>, reply: &[u8]) -> Option<Grant> {
     is_so.then_some(found)
 }
 
-/// Asks for the move again with no request for memory refused, and returns whether the reply says that the journal is
+/// Asks for the move again, while no request for memory is refused. Returns whether the reply says that the journal is
 /// halted.
 fn stays_halted(alloc: Global, hall: &mut Hall<MemorySink>, is_there: bool) -> bool {
     match answer_with_refusal(alloc, hall, MOVE, 0, is_there) {
@@ -82,9 +82,9 @@ fn stays_halted(alloc: Global, hall: &mut Hall<MemorySink>, is_there: bool) -> b
     }
 }
 
-/// Greets ana and moves node 1 while the nth request for memory of the move is refused, if it makes that many. Returns
-/// the outcome, and whether no request was refused. Returns `None` if the reply or the hall is wrong, or a halted hall
-/// doesn't stay halted.
+/// Says hello as ana and moves node 1, while the nth request for memory of the move is refused. Returns the outcome,
+/// and whether no request was refused. Returns `None` if the reply or the hall is wrong, or a halted hall doesn't stay
+/// halted. `is_there` says whether the library that refuses requests is loaded.
 fn grant_in(
     alloc: Global,
     hall: &mut Hall<MemorySink>,
@@ -98,7 +98,7 @@ fn grant_in(
     is_so.then_some((found, was_none))
 }
 
-/// Returns the result of `grant_in` in a new hall over the path of three.
+/// Returns the result of `grant_in` for a new hall over the path of three.
 fn grant_in_new_hall(
     alloc: Global,
     nth: usize,
@@ -110,8 +110,8 @@ fn grant_in_new_hall(
 }
 
 /// Moves node 1 in one new hall after another until the move is granted: first with its first request for memory
-/// refused, then with its second, and so on. Returns how many halls refused the move and how many halted, or `None` if
-/// a hall went wrong, or the move was never granted.
+/// refused, then with the second, and so on. Returns in how many halls the move was refused, and how many were halted.
+/// Returns `None` if a hall went wrong, or the move was never granted.
 fn told_of_grants(alloc: Global, is_there: bool) -> Result<Option<(usize, usize)>, Fail> {
     let (mut refused, mut halted) = (0usize, 0usize);
     for nth in 1..MOST {
@@ -125,9 +125,9 @@ fn told_of_grants(alloc: Global, is_there: bool) -> Result<Option<(usize, usize)
     Ok(None)
 }
 
-/// With the library: fails unless exactly one of the move's requests for memory, the sink's own, halts the hall when it
-/// is refused, and at least one other leaves the hall as before. Without the library: fails unless the move is granted
-/// at once.
+/// Checks a move while one request for memory after another is refused. Exactly one refusal, of the sink's own request,
+/// must halt the journal, and at least one other must leave the hall unchanged. Without the library that refuses
+/// requests, the move must be granted at once.
 #[test]
 fn refusals_of_a_sink_halt(rt: HostRuntime) -> Result<(), Fail> {
     let is_there = is_there(rt.alloc());

@@ -1,4 +1,5 @@
-//! Replies over a row of 256 nodes, written into room for a reply while each request for memory is refused.
+//! Tests that replies are written into memory that was reserved before, while each request for memory is refused. The
+//! lab has 256 nodes in a row.
 use super::library::{is_there, refuse, refuse_all};
 use mml_codec::{REPLY_ROOM, write_reply};
 use mml_fakes::line;
@@ -9,7 +10,7 @@ use mml_lab_file::read_lab;
 use std::alloc::{AllocError, Global};
 use std::test::Fail;
 
-/// The limits, the teacher and the one student of the lab of `row_of_256`.
+/// The first lines of the lab file of `row_of_256`: its limits, the teacher and the one student.
 const LIMITS_AND_PEOPLE: &str = r#"events = 261
 sessions = 2
 teacher = { name = "tess", key = "chalk" }
@@ -29,7 +30,7 @@ fn row_of_256(alloc: Global) -> Result<String, AllocError> {
     Ok(text)
 }
 
-// What is asked before the moves: connections, requests and their replies.
+// Requests before the moves: the connection, the request and its reply.
 const BEFORE: &[(u8, &str, &str)] = &[
     (1, line!(see(65280)), line!(not_greeted)),
     (1, line!(hello("ana", "a-key")), line!(welcome("ana"))),
@@ -43,7 +44,7 @@ const BEFORE: &[(u8, &str, &str)] = &[
     (1, "{", r#"{"refuse":"malformed"}"#),
 ];
 
-// What is asked after the close: connections, requests and their replies.
+// Requests after the close: the connection, the request and its reply.
 const AFTER: &[(u8, &str, &str)] = &[
     (
         2,
@@ -78,8 +79,8 @@ const AFTER: &[(u8, &str, &str)] = &[
     (1, line!(bye), line!(left)),
 ];
 
-/// Answers a connection's request, and writes the reply line into `out` while each request for memory is refused.
-/// Returns `Memory` if writing the line needed more memory than `out` has, or the lab has no such connection.
+/// Answers a connection's request, and writes the reply line into `out`, while each request for memory is refused.
+/// Returns `Memory` if the line needs more memory than `out` has, or the lab has no such connection.
 fn written(
     alloc: Global,
     hall: &mut Hall<NullSink>,
@@ -110,8 +111,8 @@ fn is_written(
     told.is_ok() && out.strip_suffix(b"\n") == Some(wanted.as_bytes())
 }
 
-/// Returns whether the request of each row gets the row's reply, written without more memory than `out` has. Stops at
-/// the first row that doesn't.
+/// Returns whether the request of each row gets the row's reply, which is written without more memory than `out` has.
+/// Stops at the first row for which this isn't so.
 fn are_written(
     alloc: Global,
     hall: &mut Hall<NullSink>,
@@ -166,9 +167,9 @@ fn hall_of_256(alloc: Global) -> Result<Box<Hall<NullSink>>, Fail> {
     Ok(Box::new(alloc, hall)?)
 }
 
-/// Plays the requests of `BEFORE`, the moves, the close and the requests of `AFTER` over the row of 256 nodes. Returns
-/// whether each reply is the wanted one, written without more memory; and whether a report of all nodes is written so
-/// too, which needs more room than there is.
+/// Sends the requests of `BEFORE`, the moves, the close and the requests of `AFTER` to a hall over the row of 256
+/// nodes. Returns whether each reply is right, and is written without more memory. Also returns whether a report of all
+/// nodes is written without more memory, though it is too long for that.
 fn told_of_replies(alloc: Global) -> Result<(bool, bool), Fail> {
     let closed = closed(alloc)?;
     let out = &mut Vec::with_capacity(alloc, REPLY_ROOM)?;
@@ -181,8 +182,8 @@ fn told_of_replies(alloc: Global) -> Result<(bool, bool), Fail> {
     Ok((is_before && is_moved && is_closed && is_after, is_reported))
 }
 
-/// Fails if a reply that fits into its room needs memory or is another one. Fails too if a report of all nodes is
-/// written while the library refuses each request, or isn't written without the library.
+/// Checks that each reply that fits into its reserved memory is right, and needs no more. A report of all nodes, which
+/// doesn't fit, must fail if the library that refuses requests is loaded, and be written otherwise.
 #[test]
 fn refusals_do_not_keep_a_reply_from_its_room(rt: HostRuntime) -> Result<(), Fail> {
     let is_there = is_there(rt.alloc());

@@ -1,5 +1,5 @@
-//! Calls that take no memory: a view of a node, the number, and acts that are denied, over the limit of
-//! events, or asked for once the journal is halted.
+//! Tests of calls that request no memory: views, and acts that are denied, exceed the limit of events, or come when the
+//! journal is halted.
 use super::library::{is_there, refuse, was_none_made};
 use mml_fakes::labs::PATH_OF_THREE;
 use mml_fakes_houses::ten_acts::{act, asker};
@@ -11,9 +11,9 @@ use std::alloc::Global;
 use std::sync::Wait;
 use std::test::Fail;
 
-/// Asks through the seat for the act with this place. Returns whether it is refused as `wanted`, or denied if `wanted`
-/// is `None`, and no memory was requested for it. Without the library (`is_there` is false) requests can't be counted,
-/// and only the answer is checked.
+/// Asks through the seat for the act of the stored run at this place. Returns whether it is refused as `wanted` (or
+/// denied, if `wanted` is `None`), and no memory was requested for it. Without the library (`is_there` is `false`)
+/// requests can't be counted, and only the answer is checked.
 fn takes_none<H: House, R: Wait>(
     seat: &mut Seat<'_, MemorySink, H, R>,
     place: u64,
@@ -30,8 +30,8 @@ fn takes_none<H: House, R: Wait>(
     }
 }
 
-/// Returns whether the window shows number 0 and a see of node 2 by the teacher, and neither requested memory. Without
-/// the library (`is_there` is false) requests can't be counted, and only the views are checked.
+/// Returns whether the window shows configuration 0, and a see of node 2 to the teacher, and no memory was requested
+/// for that. Without the library (`is_there` is `false`) requests can't be counted, and only the views are checked.
 fn views_take_none<H: House, R: Wait>(
     seat: &mut Seat<'_, MemorySink, H, R>,
     is_there: bool,
@@ -42,8 +42,8 @@ fn views_take_none<H: House, R: Wait>(
     was_none_made(seat.alloc) == is_there && number == Ok(0) && see.is_ok()
 }
 
-/// A visit that asks for the first two acts, and then for what should take no memory. `wanted` is the refusal of the
-/// second act. `is_there`: whether the library that counts requests for memory is loaded.
+/// A visit that asks for the first two acts, and then makes the calls that should request no memory. `wanted` is the
+/// refusal that the second act should get. `is_there` says whether the library that counts requests is loaded.
 #[derive(Clone, Copy)]
 struct AfterFirst {
     wanted: Refusal,
@@ -51,8 +51,8 @@ struct AfterFirst {
 }
 
 impl Visit<MemorySink> for AfterFirst {
-    /// Whether the first act was granted and the second refused; and whether then, all without memory, the first is
-    /// denied, the second is refused as `wanted`, and the views are answered.
+    /// Whether the first act was granted and the second refused. Then, without memory, the first must be denied, the
+    /// second refused as `wanted`, and the views answered.
     type Told = bool;
 
     // Asks through the first seat for the first act and the second, then for both again, and then for the views.
@@ -69,10 +69,10 @@ impl Visit<MemorySink> for AfterFirst {
     }
 }
 
-/// Plays `AfterFirst` in a house over the path of three. `events` replaces the lab's line with the limit of events, and
-/// the sink fails from its put `fail_at` on, or never if that is `None`. Returns whether the first act is granted, and
-/// all that is asked afterwards is answered as `AfterFirst` says, without memory. Returns `None` if there were fewer
-/// than two windows, or one couldn't be put back. `is_there`: whether the library that counts requests is loaded.
+/// Makes the visit `AfterFirst` in a house over the path of three. The text `events` replaces the line of the lab file
+/// with the limit of events. The sink fails from its put number `fail_at` on, or never if that is `None`. Returns
+/// whether all calls are answered as `AfterFirst` says, without memory. Returns `None` if there were fewer than two
+/// windows, or one couldn't be put back.
 fn takes_none_after_first<R: Wait>(
     rt: &R,
     alloc: Global,
@@ -92,8 +92,8 @@ fn takes_none_after_first<R: Wait>(
     Ok(hold)
 }
 
-/// Fails if a denied act, an act over the limit of events, an act after the journal halted, or a view requests memory
-/// or is answered otherwise.
+/// Checks that a denied act, an act over the limit of events, an act when the journal is halted, and a view are
+/// answered rightly, and request no memory.
 #[test]
 fn refusals_that_take_no_memory(rt: HostRuntime) -> Result<(), Fail> {
     let is_there = is_there(rt.alloc());
