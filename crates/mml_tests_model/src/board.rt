@@ -1,5 +1,5 @@
-//! A board and its copy at the beginning of a run and after each event, also after ones that may not happen; and a look
-//! and a line, which take memory. An error means that memory ran out.
+//! Tests of a board and its copy at the beginning of a run and after each event, also after illegal events, and of a
+//! look and a journal's line. An error means that memory ran out.
 ghost use Rattle.std.specs.Prelude.{◌<◌, length};
 
 use mml_board::{Board, Event};
@@ -13,14 +13,15 @@ use mml_rules::{Regs, Rule, Scene};
 use std::alloc::{AllocError, Global};
 use std::test::Fail;
 
-// Of the two linked nodes, the higher points at the lower.
+// A lab of two linked nodes, of which the higher points at the lower.
 const HIGHER_POINTS: &str = lab!(
     "links = [[3, 5]]\n",
     [("ana", "a-key")],
     [(5, "ana", "p = 3\n"), (3, "ana", "")]
 );
 
-/// Returns the first student's move by a rule, of the node with the rank `index`, or `None` if there is no such rank.
+/// Returns the event in which the first student is granted a move by this rule at the node with the rank `index`.
+/// Returns `None` if there is no such rank.
 fn grant(index: u64, rule: Rule) -> Option<Event> {
     let node = Rank::new(index)?;
     Some(Event::Grant {
@@ -30,7 +31,7 @@ fn grant(index: u64, rule: Rule) -> Option<Event> {
     })
 }
 
-/// Appends to a text a node's registers p (by rank) and m, and the rule that is enabled there.
+/// Appends a node to a text: its registers p (as a rank) and m, and the rule that is enabled there.
 fn push_node(text: &mut String, board: &Board, node: Rank) -> Result<(), AllocError>
     requires { node < length board.now.network.registers }
 {
@@ -40,8 +41,8 @@ fn push_node(text: &mut String, board: &Board, node: Rank) -> Result<(), AllocEr
     write!(text, "; {p:?} {} {kind:?}", regs.m)
 }
 
-/// Appends to a text whether no move is chosen for a node, and then a mark for each node: `-` if the two are linked,
-/// else `.`.
+/// Appends to a text whether no move is chosen at a node, and then one character for each node of the board: `-` if the
+/// two are linked, and `.` if not.
 fn push_links(text: &mut String, board: &Board, node: Rank) -> Result<(), AllocError>
     requires { node < length board.now.network.registers }
 {
@@ -58,8 +59,8 @@ fn push_links(text: &mut String, board: &Board, node: Rank) -> Result<(), AllocE
     Ok(())
 }
 
-/// Returns a board as text: the configuration's number, how many events were granted, how many nodes are privileged,
-/// how many moves are chosen, and then each node by `push_node`; with `with_links` also by `push_links`.
+/// Returns a board as text: the number of the configuration, the number of events, how many nodes are privileged, how
+/// many moves are chosen, and then each node as `push_node` shows it, and with `with_links` also as `push_links` does.
 fn board_text(alloc: Global, board: &Board, with_links: bool) -> Result<String, AllocError> {
     let (number, place) = (board.number(), board.place());
     let (privileged, chosen) = (board.privileged_count(), board.chosen_set().len());
@@ -73,12 +74,12 @@ fn board_text(alloc: Global, board: &Board, with_links: bool) -> Result<String, 
     Ok(text)
 }
 
-// The result of `board_text`, with links, at the beginning of a run over `HIGHER_POINTS`, by hand: Marriage is enabled
-// at node 3, and Abandonment at node 5, which points at a lower node that doesn't point back.
+// The board at the beginning of a run over `HIGHER_POINTS` as text, worked out by hand. Marriage is enabled at node 3,
+// and Abandonment at node 5, which points at a lower node that doesn't point back.
 const OPENING: &str =
     "0 0 2 0; None false Some(Marriage) true .-; Some(0) false Some(Abandonment) true -.";
 
-/// Returns whether a board's text is `OPENING`.
+/// Returns whether a board's text, with links, is `OPENING`.
 fn is_opening(alloc: Global, board: &Board) -> Result<bool, Fail> {
     let told = board_text(alloc, board, true)?;
     Ok(told.as_str() == OPENING)
@@ -95,7 +96,7 @@ fn are_both_opening(alloc: Global, board: &Board) -> Result<bool, Fail> {
     Ok(is_opening(alloc, board)? && is_copy_opening(alloc, board)?)
 }
 
-/// Returns a look at the first node as text, or `no node` if the board has none.
+/// Returns a look at the first node of a board as text, or `no node` if the board has none.
 fn look_at_the_first(alloc: Global, board: &Board) -> Result<String, Fail> {
     let node = Rank::at(0);
     if node.index() >= board.size() {
@@ -105,8 +106,8 @@ fn look_at_the_first(alloc: Global, board: &Board) -> Result<String, Fail> {
     Ok(shown(alloc, &look)?)
 }
 
-/// Returns a look as text: its configuration's number, the node's p, its chosen rule, its enabled rule, and its
-/// neighbours.
+/// Returns a look as text: the number of the configuration, the node's p, the kind of its chosen rule and of its
+/// enabled rule, and its neighbours.
 fn shown(alloc: Global, look: &Look) -> Result<String, AllocError> {
     let (p, chosen, enabled) = (look.regs.p, look.chosen, look.enabled);
     let mut text = format!(in alloc; "{} {p:?} {chosen:?} {enabled:?}", look.at)?;
@@ -114,7 +115,7 @@ fn shown(alloc: Global, look: &Look) -> Result<String, AllocError> {
     Ok(text)
 }
 
-/// Appends a node's neighbours to a text: the rank, p (by rank) and m of each.
+/// Appends a node's neighbours to a text: for each its rank, its p (as a rank) and its m.
 fn push_near(text: &mut String, near: &[(Rank, Regs)]) -> Result<(), AllocError> {
     for (other, regs) in near {
         let (index, p) = (other.index(), regs.p.map(Rank::index));
@@ -123,8 +124,8 @@ fn push_near(text: &mut String, near: &[(Rank, Regs)]) -> Result<(), AllocError>
     Ok(())
 }
 
-/// Returns the journal's line of an abandonment by the second node as the first event. Returns `what stood there` if
-/// that isn't legal on the board, other events came first, or lab and board aren't of one size.
+/// Returns the journal's line of an abandonment by the second node, as the first event. Returns `what stood there`, the
+/// former contents of the buffer, if the event isn't legal, isn't the first, or lab and board differ in size.
 fn first_event_line(alloc: Global, lab: &Lab, board: &Board) -> Result<Vec<u8>, Fail> {
     let mut line = Vec::from_slice(alloc, b"what stood there")?;
     if let Some(event) = &grant(1, Rule::Abandonment) {
@@ -138,8 +139,8 @@ fn first_event_line(alloc: Global, lab: &Lab, board: &Board) -> Result<Vec<u8>, 
     Ok(line)
 }
 
-/// Returns whether the texts of a lab's board and of its copy are `OPENING`; and whether a look at the first node and
-/// the line of the first event are the ones written here.
+/// Returns two answers: whether the texts of a lab's first board and of its copy are `OPENING`; and whether a look at
+/// the first node and the line of the first event are right.
 fn are_told_at_first(alloc: Global, lab: &Lab) -> Result<(bool, bool), Fail> {
     let board = boxed_board(alloc, lab)?;
     let are_opening = are_both_opening(alloc, &board)?;
@@ -156,24 +157,24 @@ fn are_told_where_higher_points(alloc: Global) -> Result<(bool, bool), Fail> {
     are_told_at_first(alloc, &lab)
 }
 
-/// Fails if a new board, its copy, a look, or the first line of a journal isn't what follows from `HIGHER_POINTS`.
+/// Checks the first board of `HIGHER_POINTS`, its copy, a look at its first node, and the first line of a journal.
 #[test]
 fn opening_board(rt: HostRuntime) -> Result<(), Fail> {
     assert_eq!(rt; are_told_where_higher_points(rt.alloc())?, (true, true));
     Ok(())
 }
 
-/// A part of a story: an event, if there is one, and the board's text after it.
+/// A part of a story (a list of events): an event, if there is one, and the board's text that is right after it.
 type Part = (Option<Event>, &'static str);
 
-/// Returns a story in which one close applies two chosen moves. Two events in it may not happen, and change nothing.
+/// Returns a story in which one close applies two chosen moves. Two of its events are illegal, and must change nothing.
 fn story_of_moves() -> [Part; 5] {
     [
         (
             grant(0, Rule::Seduction),
             "0 1 2 1; None false Some(Seduction); None false Some(Seduction); None false None",
         ),
-        // Not if a move is chosen already.
+        // Illegal, since a move is chosen there already.
         (
             grant(0, Rule::Seduction),
             "0 1 2 1; None false Some(Seduction); None false Some(Seduction); None false None",
@@ -182,12 +183,12 @@ fn story_of_moves() -> [Part; 5] {
             grant(1, Rule::Seduction),
             "0 2 2 2; None false Some(Seduction); None false Some(Seduction); None false None",
         ),
-        // Both effects are those of the configuration before.
+        // Both moves have the effects that they have in the configuration before the close.
         (
             Some(Event::Close),
             "1 3 1 0; Some(1) false None; Some(2) false None; None false Some(Marriage)",
         ),
-        // Nothing is chosen.
+        // Illegal, since nothing is chosen.
         (
             Some(Event::Close),
             "1 3 1 0; Some(1) false None; Some(2) false None; None false Some(Marriage)",
@@ -195,8 +196,8 @@ fn story_of_moves() -> [Part; 5] {
     ]
 }
 
-/// Returns the story that follows `story_of_moves`: a move that is chosen, a fault that takes it back, a cut, a link,
-/// and a cut that may not happen.
+/// Returns the story that follows `story_of_moves`: a chosen move, a fault that drops it, a cut, a link, and an illegal
+/// cut, which must change nothing.
 fn story_of_changes() -> [Part; 5] {
     let [a, b, c] = [Rank::at(0), Rank::at(1), Rank::at(2)];
     let fault = Event::Fault {
@@ -223,7 +224,7 @@ fn story_of_changes() -> [Part; 5] {
             Some(Event::Link { a, b: c }),
             "4 7 2 0; Some(1) false None; None false Some(Marriage); None true Some(Update)",
         ),
-        // Not if there is no link.
+        // Illegal, since there is no such link.
         (
             Some(Event::Cut { a: b, b: c }),
             "4 7 2 0; Some(1) false None; None false Some(Marriage); None true Some(Update)",
@@ -231,8 +232,8 @@ fn story_of_changes() -> [Part; 5] {
     ]
 }
 
-/// Applies the events of a story to a board, and returns whether the board's text is the story's after each part. Goes
-/// on after a difference, since another story may follow on the same board.
+/// Applies the events of a story to a board, and returns whether the board's text is right after each. Continues after
+/// a wrong text, since another story may follow on the same board.
 fn is_story_told(alloc: Global, board: &mut Board, story: &[Part]) -> Result<bool, AllocError> {
     let mut is_told = true;
     for (event, expected) in story {
@@ -247,14 +248,14 @@ fn is_story_told(alloc: Global, board: &mut Board, story: &[Part]) -> Result<boo
     Ok(is_told)
 }
 
-/// Applies `story_of_moves` and then `story_of_changes` to a board, and returns the result of `is_story_told` for each.
+/// Applies `story_of_moves` and then `story_of_changes` to a board. Returns for each whether all texts were right.
 fn are_stories_told(alloc: Global, board: &mut Board) -> Result<(bool, bool), Fail> {
     let moved = is_story_told(alloc, board, &story_of_moves())?;
     let changed = is_story_told(alloc, board, &story_of_changes())?;
     Ok((moved, changed))
 }
 
-/// Returns the result of `are_stories_told` for the board at the beginning of a lab's run.
+/// Returns the result of `are_stories_told` for the first board of a lab.
 fn are_stories_of_lab_told(alloc: Global, lab: &Lab) -> Result<(bool, bool), Fail> {
     let mut board = boxed_board(alloc, lab)?;
     are_stories_told(alloc, &mut board)
@@ -266,8 +267,8 @@ fn are_stories_of_path_told(alloc: Global) -> Result<(bool, bool), Fail> {
     are_stories_of_lab_told(alloc, &lab)
 }
 
-/// Fails if a board differs from `story_of_moves` or `story_of_changes`, which are by hand, after an event, or is
-/// changed by an event that may not happen.
+/// Checks that a board is right after each event of `story_of_moves` and `story_of_changes`, whose texts were worked
+/// out by hand, and that illegal events don't change it.
 #[test]
 fn events_in_a_row_of_three(rt: HostRuntime) -> Result<(), Fail> {
     assert_eq!(rt; are_stories_of_path_told(rt.alloc())?, (true, true));

@@ -1,5 +1,5 @@
-//! Events that are drawn, legal or not, over a cycle of 64 nodes and one of 256: which of them are legal, as the plain
-//! model in Python, `model/`, says too. An error means that memory ran out.
+//! Tests with pseudo-random events, legal or not, over a cycle of 64 nodes and one of 256: the board must find those
+//! legal that the plain model in Python, `model/`, does. An error means that memory ran out.
 use mml_board::{Board, Event};
 use mml_fakes::Numbers;
 use mml_fakes::cycles::cycle;
@@ -10,11 +10,11 @@ use mml_rules::{Kind, Regs, Rule, Scene};
 use std::alloc::{AllocError, Global};
 use std::test::Fail;
 
-// How many events are drawn.
+// How many events are drawn (pseudo-randomly).
 const DRAWS: u64 = 5000;
 
-// How many of the drawn events are illegal before each legal one, over the cycle of 64 nodes: a letter for each legal
-// one, from `a` for none to `z` for 25 or more. The plain model says so (`tests/random/tables.py`).
+// How many of the drawn events are illegal before each legal one, over the cycle of 64 nodes: one letter for each legal
+// event, from `a` for none to `z` for 25 or more. The plain model computes them (`tests/random/tables.py`).
 const OF_64: &str = concat!(
     "aabgdaaabdcaaaabcbacbbbccdcdaabacbebbbaafcofdecababaddabcbbdadbacegdjafkaaecaada",
     "baddaaaacabcaaecadbdaababcabccbaabebababehaababacabaaagbabaaafaaccabeccebaaabecb",
@@ -36,8 +36,7 @@ const OF_64: &str = concat!(
     "dddacbabaaehca",
 );
 
-// How many of the drawn events are illegal before each legal one, over the cycle of 256 nodes: a letter for each legal
-// one, from `a` for none to `z` for 25 or more. The plain model says so (`tests/random/tables.py`).
+// The same letters for the cycle of 256 nodes.
 const OF_256: &str = concat!(
     "aaaacaaabbjadafbhaabeaabifebgefhcbabjbdcaacbabefdaabbiclcodcaabhcacbabcdcbbgbace",
     "bbaedgbdabcbboiaadaadfaabebaagaaclfgdjacabeeaiaaaaaaaacaaadbbaafabddbaaabeccgcdf",
@@ -59,14 +58,14 @@ const OF_256: &str = concat!(
     "aaaejb",
 );
 
-/// Returns the node at an index of a cycle of `nodes` nodes, at most 256. Indices past the last node begin again at the
-/// first.
+/// Returns the node at an index of a cycle of `nodes` nodes, at most 256. An index after the last node begins again at
+/// the first.
 fn node_at(nodes: u64, index: u64) -> Rank {
     Rank::at((index % nodes.max(1)).min(255))
 }
 
-/// Returns the rule that is enabled at a node, Marriage always with `partner`. Returns Update if none is enabled, or
-/// the board has no such node.
+/// Returns the rule that is enabled at a node; if it is Marriage, the one with `partner`. Returns Update if none is
+/// enabled, or the board has no such node.
 fn enabled_rule(board: &Board, node: Rank, partner: Rank) -> Rule {
     if node.index() >= board.size() {
         return Rule::Update;
@@ -79,8 +78,8 @@ fn enabled_rule(board: &Board, node: Rank, partner: Rank) -> Rule {
     }
 }
 
-/// Returns a move of a node by the rule that `enabled_rule` returns, mostly by the student who owns the node, at times
-/// by the other one. The move need not be legal.
+/// Returns the event of a move at a node by the rule that `enabled_rule` returns. Usually its student owns the node,
+/// and in one of eight cases doesn't. The event may be illegal.
 fn grant(board: &Board, numbers: &mut Numbers, node: Rank, partner: Rank) -> Event {
     let is_ana = (node.index() < board.size() / 2) != (numbers.below(8) == 0);
     Event::Grant {
@@ -90,7 +89,8 @@ fn grant(board: &Board, numbers: &mut Numbers, node: Rank, partner: Rank) -> Eve
     }
 }
 
-/// Returns a fault with drawn registers: p points at `other`, or at times at none, and m is either.
+/// Returns the event of a fault at a node, with drawn registers: p points at `other`, or in one of four cases nowhere,
+/// and m is either.
 fn fault(numbers: &mut Numbers, node: Rank, other: Rank) -> Event {
     let p = if numbers.below(4) == 0 {
         None
@@ -104,7 +104,7 @@ fn fault(numbers: &mut Numbers, node: Rank, other: Rank) -> Event {
     }
 }
 
-/// Returns the event that is drawn at this index, legal or not; mostly it is a move. Its nodes are near to each other
+/// Returns the event that is drawn at this index; most are moves. It may be illegal. Its nodes are close to each other
 /// in the cycle, and move on by one node every eight events.
 fn drawn(board: &Board, numbers: &mut Numbers, index: u64) -> Event {
     let place = (index / 8).wrapping_add(numbers.below(8));
@@ -123,8 +123,8 @@ fn drawn(board: &Board, numbers: &mut Numbers, index: u64) -> Event {
     }
 }
 
-/// Draws the events over a board, and applies each legal one to it. Returns a letter for each legal one: how many
-/// illegal ones came since the last legal one, from `a` for none to `z` for 25 or more.
+/// Draws `DRAWS` events over a board, and applies each legal one to it. Returns one letter for each legal event: how
+/// many illegal ones came since the legal one before, from `a` for none to `z` for 25 or more.
 fn letters_on(alloc: Global, lab: &Lab, board: &mut Board) -> Result<Vec<u8>, AllocError> {
     let mut numbers = Numbers {
         state: board.size(),
@@ -144,31 +144,32 @@ fn letters_on(alloc: Global, lab: &Lab, board: &mut Board) -> Result<Vec<u8>, Al
     Ok(letters)
 }
 
-/// Returns the result of `letters_on` from the beginning of a lab's run.
+/// Returns the result of `letters_on` for the first board of a lab.
 fn letters_over(alloc: Global, lab: &Lab) -> Result<Vec<u8>, Fail> {
     let mut board = boxed_board(alloc, lab)?;
     Ok(letters_on(alloc, lab, &mut board)?)
 }
 
-/// Returns the lab of a cycle of `nodes` nodes, with 100 events and one connection.
+/// Returns the lab of a cycle of `nodes` nodes, with at most 100 events and one session.
 fn cycle_lab(alloc: Global, nodes: u64) -> Result<Box<Lab>, Fail> {
     let file = cycle(alloc, nodes, 100, 1)?;
     boxed_lab(alloc, file.as_str())
 }
 
-/// Returns whether the result of `letters_over` over a cycle of `nodes` nodes is `wanted`.
+/// Returns whether the letters for a cycle of `nodes` nodes are `wanted`.
 fn are_letters(alloc: Global, nodes: u64, wanted: &str) -> Result<bool, Fail> {
     let lab = cycle_lab(alloc, nodes)?;
     Ok(letters_over(alloc, &lab)?.as_slice() == wanted.as_bytes())
 }
 
-/// Returns the results of `are_letters` for the cycle of 64 nodes and for that of 256, with the plain model's letters.
+/// Returns two answers: whether the letters for the cycle of 64 nodes, and for that of 256, are those of the plain
+/// model.
 fn are_both_letters(alloc: Global) -> Result<(bool, bool), Fail> {
     let of_64 = are_letters(alloc, 64, OF_64)?;
     Ok((of_64, are_letters(alloc, 256, OF_256)?))
 }
 
-/// Fails if a drawn event is legal on the board and illegal by the plain model's letters, or the other way round.
+/// Checks that the drawn events are legal on the board exactly if they are in the plain model.
 #[test]
 fn drawn_events_are_legal_as_in_the_plain_model(rt: HostRuntime) -> Result<(), Fail> {
     assert_eq!(rt; are_both_letters(rt.alloc())?, (true, true));

@@ -1,16 +1,17 @@
-//! Identifiers, ranks, and pieces of text. An error means that memory ran out, or says why a table can't be made.
+//! Tests of identifiers, ranks, and pieces of text. An error means that memory ran out, or says why a table can't be
+//! made.
 use mml_ids::{
     IdFault, IdTable, Items, MAX_NODES, Memory, NodeId, Piece, Rank, Word, make_room, put,
 };
 use std::alloc::{AllocError, Global};
 use std::test::Fail;
 
-/// Returns the rank of an identifier, or `None` if the table doesn't have it.
+/// Returns the rank of an identifier as a number, or `None` if the table doesn't have the identifier.
 fn index_of(table: &IdTable, id: u64) -> Option<u64> {
     Some(table.rank_of(id)?.index())
 }
 
-/// Returns whether the table has an identifier, and the identifier of its rank is the same one.
+/// Returns whether the table has an identifier, and its rank leads back to the same identifier.
 fn comes_back(table: &IdTable, id: u64) -> bool {
     match table.rank_of(id) {
         Some(node) => table.id_of(node) == id,
@@ -28,8 +29,8 @@ const RANKS: [(u64, Option<u64>); 6] = [
     (0, None),
 ];
 
-/// Returns the first identifier of `RANKS` whose rank in the table is another, or doesn't lead back to it. Returns
-/// `None` if there is none.
+/// Returns the first identifier of `RANKS` that has a wrong rank in the table, or whose rank doesn't lead back to it.
+/// Returns `None` if all are right.
 fn first_other_rank(table: &IdTable) -> Option<u64> {
     for (id, index) in RANKS {
         if (index_of(table, id), comes_back(table, id)) != (index, index.is_some()) {
@@ -39,18 +40,19 @@ fn first_other_rank(table: &IdTable) -> Option<u64> {
     None
 }
 
-/// Returns how many identifiers the table of 9, 1, 7 and 4 has, and the result of `first_other_rank` for it.
+/// Returns how many identifiers the table of 9, 1, 7 and 4 has, and the first of `RANKS` that is wrong in it, if one
+/// is.
 fn told_of_ranks(alloc: Global) -> Result<(u64, Option<u64>), IdFault> {
     let table = IdTable::new(alloc, &[9, 1, 7, 4])?;
     Ok((table.len(), first_other_rank(&table)))
 }
 
-/// Returns the number itself if `NodeId` accepts it as an identifier, else `None`.
+/// Returns the number itself if `NodeId` accepts it as an identifier, and otherwise `None`.
 fn identifier(id: u64) -> Option<u64> {
     Some(NodeId::new(id)?.get())
 }
 
-/// Returns the number itself if `Rank` accepts it as a rank, else `None`.
+/// Returns the number itself if `Rank` accepts it as a rank, and otherwise `None`.
 fn rank(index: u64) -> Option<u64> {
     Some(Rank::new(index)?.index())
 }
@@ -66,8 +68,8 @@ const RANGES: [(u64, bool, bool); 7] = [
     (65536, false, false),
 ];
 
-/// Returns the first number of `RANGES` that is wrongly accepted or wrongly rejected as an identifier or a rank, or
-/// `None` if there is none.
+/// Returns the first number of `RANGES` that is wrongly accepted or rejected as an identifier or a rank, or `None` if
+/// all are right.
 fn first_other_range() -> Option<u64> {
     for (number, is_identifier, is_rank) in RANGES {
         let wanted = (is_identifier.then_some(number), is_rank.then_some(number));
@@ -78,8 +80,8 @@ fn first_other_range() -> Option<u64> {
     None
 }
 
-/// Fails if an identifier has a wrong rank in a table of four, a number is wrongly accepted or rejected as an
-/// identifier or a rank, or `MAX_NODES` isn't 256.
+/// Checks the ranks of identifiers in a table of four, which numbers are accepted as identifiers and as ranks, and that
+/// `MAX_NODES` is 256.
 #[test]
 fn identifiers_have_ranks(rt: HostRuntime) {
     assert_eq!(rt;
@@ -88,20 +90,20 @@ fn identifiers_have_ranks(rt: HostRuntime) {
     );
 }
 
-/// Returns whether a list is kept as it was given.
+/// Returns whether `Items` keeps a list as it was given.
 fn keeps_a_list(alloc: Global) -> Result<bool, AllocError> {
     let items = Items::of(vec![in alloc; 3u8, 1, 2]?);
     Ok(items.as_slice() == [3u8, 1, 2].as_slice() && items.into_vec().len() == 3)
 }
 
-/// Returns whether a word is kept as it was given.
+/// Returns whether `Word` keeps a text as it was given.
 fn keeps_a_word(alloc: Global) -> Result<bool, AllocError> {
     let word = Word::of(String::from_str(alloc, "ana")?);
     Ok(word.as_str() == "ana")
 }
 
-/// Puts pieces, the last of them the identifier `id`, which should be 65535, and then makes room for 100 bytes. Returns
-/// whether their text is right, and the vector has room for 100 bytes after it.
+/// Puts pieces of text into a vector, the last of them the identifier `id`, which should be 65535, and then makes room
+/// for 100 more bytes. Returns whether the text is right, and the vector has that room.
 fn are_put(alloc: Global, id: NodeId) -> Result<bool, Memory> {
     let mut out = Vec::new(alloc);
     let text = [
@@ -115,15 +117,15 @@ fn are_put(alloc: Global, id: NodeId) -> Result<bool, Memory> {
     Ok(out.capacity() >= 129 && out.as_slice() == b"at 18446744073709551615,65535".as_slice())
 }
 
-/// Returns whether a list and a word are kept as they were given, and the result of `are_put` with the greatest
-/// identifier.
+/// Returns two answers: whether a list and a word are kept as they were given, and the result of `are_put` with the
+/// greatest identifier.
 fn told_of_texts(alloc: Global) -> Result<(bool, bool), Fail> {
     let id = NodeId::new(65535).ok_or("the greatest identifier")?;
     let are_kept = keeps_a_list(alloc)? && keeps_a_word(alloc)?;
     Ok((are_kept, are_put(alloc, id)?))
 }
 
-/// Fails if a list, a word or the text of pieces isn't what was put in, or there is no room after that text.
+/// Checks that a list, a word and the text of pieces are what was put in, and that there is room after that text.
 #[test]
 fn lists_words_and_pieces(rt: HostRuntime) -> Result<(), Fail> {
     assert_eq!(rt; told_of_texts(rt.alloc())?, (true, true));

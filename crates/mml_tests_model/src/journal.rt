@@ -1,5 +1,5 @@
-//! Lines of a journal that are read and written: of events that need not be legal, and ones that say no event. An error
-//! means that memory ran out.
+//! Tests of reading and writing a journal's lines: those of events that need not be legal, and lines that are no
+//! event's. An error means that memory ran out.
 mod replaced;
 
 use mml_board::Event;
@@ -11,7 +11,7 @@ use mml_rules::{Regs, Rule};
 use std::alloc::Global;
 use std::test::Fail;
 
-/// Returns a move of a node by a rule, as a move of the student with the index `who`, who need not own the node.
+/// Returns the event of a move at a node by this rule, by the student with the index `who`, who needn't own the node.
 fn grant(who: u16, node: Rank, rule: Rule) -> Event {
     Event::Grant {
         who: Student::new(who),
@@ -20,7 +20,7 @@ fn grant(who: u16, node: Rank, rule: Rule) -> Event {
     }
 }
 
-/// Returns why a line spells no event of this lab, or `None` if it spells one.
+/// Returns the reason why a line isn't that of an event of this lab, or `None` if it is.
 fn journal_error_of(lab: &Lab, line: &[u8]) -> Option<JournalFault> {
     match read_event(line, lab.ids(), lab.roster()) {
         Ok(_) => None,
@@ -28,7 +28,7 @@ fn journal_error_of(lab: &Lab, line: &[u8]) -> Option<JournalFault> {
     }
 }
 
-/// Lines that spell no event, the first of them empty.
+/// Lines that don't have the form of an event's line. The first of them is empty.
 const SHAPES: &str = "
 1 0
 01 0 close
@@ -60,7 +60,7 @@ const UNKNOWNS: &str = "1 0 release 0
 1 0 fault 1 9 true
 1 0 cut 1 4";
 
-/// Returns whether none of the lines spells an event of this lab, each with the error `fault`.
+/// Returns whether each of these lines is rejected with the error `fault`.
 fn have_fault(lab: &Lab, lines: &str, fault: JournalFault) -> bool {
     for line in lines.split('\n') {
         if journal_error_of(lab, line.as_bytes()) != Some(fault) {
@@ -71,7 +71,7 @@ fn have_fault(lab: &Lab, lines: &str, fault: JournalFault) -> bool {
 }
 
 /// Lines of the kinds of events that `TEN_LINES` lacks, and of a move by a student who doesn't own the node. The events
-/// need not be legal.
+/// needn't be legal.
 const OTHERS: [&[u8]; 6] = [
     b"18446744073709551615 18446744073709551615 release 3",
     b"0 0 fault 2 - true",
@@ -81,7 +81,7 @@ const OTHERS: [&[u8]; 6] = [
     b"1 0 grant ana 3 update",
 ];
 
-/// Returns the events that the lines of `OTHERS` spell, in their order.
+/// Returns the events of the lines of `OTHERS`, in their order.
 fn other_events() -> [Event; 6] {
     let (first, second, third) = (Rank::at(0), Rank::at(1), Rank::at(2));
     [
@@ -103,8 +103,8 @@ fn other_events() -> [Event; 6] {
     ]
 }
 
-/// Returns the event that a line spells, and whether the event is written as just this line, or `None` if the line
-/// spells none.
+/// Reads the event of a line, and writes its line. Returns the event, and whether that is the same line, or `None` if
+/// the line isn't an event's.
 fn read_and_written(
     alloc: Global,
     lab: &Lab,
@@ -117,12 +117,12 @@ fn read_and_written(
     Ok(Some((found, text.as_slice() == line)))
 }
 
-/// Returns whether a line spells just this event, and the event is written as just this line.
+/// Returns whether a line is read as exactly this event, and the event is written as exactly this line.
 fn is_line_of(alloc: Global, lab: &Lab, line: &[u8], event: &Event) -> Result<bool, Memory> {
     Ok(read_and_written(alloc, lab, line)? == Some((*event, true)))
 }
 
-/// Returns whether each line of `OTHERS` is read as its event of `other_events`, and the event is written as the line.
+/// Returns whether each line of `OTHERS` is read as its event of `other_events`, and the event is written as that line.
 fn are_read_and_written(alloc: Global, lab: &Lab) -> Result<bool, Fail> {
     for (line, event) in OTHERS.iter().zip(other_events().iter()) {
         if !is_line_of(alloc, lab, line, event)? {
@@ -132,16 +132,16 @@ fn are_read_and_written(alloc: Global, lab: &Lab) -> Result<bool, Fail> {
     Ok(true)
 }
 
-/// Returns whether each line of `SHAPES` is rejected as `Shape`, whether each of `UNKNOWNS` is rejected as `Unknown`,
-/// and the result of `are_read_and_written` for `OTHERS`.
+/// Returns three answers: whether each line of `SHAPES` is rejected as `Shape`, whether each of `UNKNOWNS` is as
+/// `Unknown`, and whether those of `OTHERS` are read and written rightly.
 fn are_rows_read(alloc: Global, lab: &Lab) -> Result<(bool, bool, bool), Fail> {
     let shapes = have_fault(lab, SHAPES, JournalFault::Shape);
     let unknowns = have_fault(lab, UNKNOWNS, JournalFault::Unknown);
     Ok((shapes, unknowns, are_read_and_written(alloc, lab)?))
 }
 
-/// Returns, over the path of three, the result of `are_rows_read`, and whether the lines of `TEN_LINES`, each with each
-/// of its bytes replaced, are read as `replaced::REPLACED` marks.
+/// Returns the result of `are_rows_read` for the path of three, and whether the lines of `TEN_LINES` with replaced
+/// bytes are read there as `replaced::REPLACED` says.
 fn are_lines_read(alloc: Global) -> Result<((bool, bool, bool), bool), Fail> {
     let lab = boxed_lab(alloc, PATH_OF_THREE)?;
     Ok((
@@ -150,8 +150,8 @@ fn are_lines_read(alloc: Global) -> Result<((bool, bool, bool), bool), Fail> {
     ))
 }
 
-/// Fails if a line that spells no event is read as one, or is rejected with another error, or if an event's line isn't
-/// read or written as such. The wanted results are by hand; for replaced bytes they are the plain model's.
+/// Checks how lines are read and written, and with which error lines that are no event's are rejected. The right
+/// results were worked out by hand, and for replaced bytes by the plain model.
 #[test]
 fn lines_are_read_and_written(rt: HostRuntime) -> Result<(), Fail> {
     assert_eq!(rt; are_lines_read(rt.alloc())?, ((true, true, true), true));

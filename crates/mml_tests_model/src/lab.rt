@@ -1,4 +1,5 @@
-//! What a document is read as, through the readers of a lab. An error means that memory ran out, or that of a lab file.
+//! Tests that compare a lab file with the lab that is read from it. An error means that memory ran out, or is that of a
+//! lab file.
 ghost use Rattle.std.specs.Prelude.{◌<◌, length};
 
 use mml_fakes::labs::boxed_lab;
@@ -9,7 +10,7 @@ use std::alloc::{AllocError, Global};
 use std::test::Fail;
 
 /// Returns how one node relates to another: `-` if the two are linked, `>` if they are and the node points at the
-/// other, `!` if it points there without a link, `.` if neither.
+/// other, `!` if it points there without a link, and `.` if none of this holds.
 fn mark(lab: &Lab, node: Rank, other: Rank) -> &'static str
     requires { node < length lab.now.ids }
 {
@@ -22,7 +23,7 @@ fn mark(lab: &Lab, node: Rank, other: Rank) -> &'static str
     }
 }
 
-/// Appends the names of a node's owners to a text, with nothing between them, in the order of the lab's students.
+/// Appends the names of a node's owners to a text, without a separator, in the order of the lab's students.
 fn push_owners(text: &mut String, lab: &Lab, node: Rank) -> Result<(), AllocError> {
     let roster = lab.roster();
     for index in 0..roster.student_count() {
@@ -34,7 +35,7 @@ fn push_owners(text: &mut String, lab: &Lab, node: Rank) -> Result<(), AllocErro
     Ok(())
 }
 
-/// Appends to a text the `mark` of a node for each node of the lab, in the order of ranks.
+/// Appends to a text the `mark` of a node with each node of the lab, in the order of ranks.
 fn push_marks(text: &mut String, lab: &Lab, node: Rank) -> Result<(), AllocError>
     requires { node < length lab.now.ids }
 {
@@ -44,7 +45,7 @@ fn push_marks(text: &mut String, lab: &Lab, node: Rank) -> Result<(), AllocError
     Ok(())
 }
 
-/// Appends a node's line to a text: its identifier, m, its owners, and its marks.
+/// Appends a node's line to a text: its identifier, its m, its owners, and its relations to all nodes.
 fn push_node(text: &mut String, lab: &Lab, node: Rank) -> Result<(), AllocError>
     requires { node < length lab.now.ids }
 {
@@ -56,8 +57,8 @@ fn push_node(text: &mut String, lab: &Lab, node: Rank) -> Result<(), AllocError>
     push_marks(text, lab, node)
 }
 
-/// Returns a lab as text: a line with the numbers of its events, connections, nodes, links and students, and then a
-/// line for each node.
+/// Returns a lab as text: a line with the numbers of its events, sessions, nodes, links and students, and then a line
+/// for each node.
 fn shown(alloc: Global, lab: &Lab) -> Result<String, AllocError> {
     let mut text = String::new(alloc);
     for count in [
@@ -75,7 +76,8 @@ fn shown(alloc: Global, lab: &Lab) -> Result<String, AllocError> {
     Ok(text)
 }
 
-// Students in another order than their nodes, two owners, and a pointer from the highest node.
+// A lab file in which the students have another order than their nodes, a node has two owners, and the highest node
+// points at another.
 const DOCUMENT: &str = r#"
 events = 100
 sessions = 4
@@ -94,7 +96,7 @@ node = [
 ]
 "#;
 
-// The result of `shown` for the lab of `DOCUMENT`, by hand.
+// The text of the lab of `DOCUMENT`, worked out by hand.
 const SHOWN: &str =
     "100 4 4 3 3 \n1 false ben .---\n4 false bencyd -...\n7 false ben -...\n65535 true ana >...";
 
@@ -109,7 +111,7 @@ const INDEXES: [(&str, Option<u16>); 7] = [
     ("", None),
 ];
 
-/// Returns the first name of `INDEXES` whose student in a roster has another index, or `None` if there is none.
+/// Returns the first name of `INDEXES` whose student has a wrong index in a roster, or `None` if all are right.
 fn first_other_index(roster: &Roster) -> Option<&'static str> {
     for (name, index) in INDEXES {
         if roster.student_named(name).map(Student::index) != index {
@@ -119,8 +121,8 @@ fn first_other_index(roster: &Roster) -> Option<&'static str> {
     None
 }
 
-/// Returns whether two networks have the same links and registers at a node. Returns `false` too if one of them lacks
-/// the node.
+/// Returns whether two networks have the same links and registers at a node. Returns `false` too if the node is missing
+/// in one of them.
 fn is_same_at(network: &Network, other: &Network, node: Rank) -> bool {
     if node.index() >= network.size() || node.index() >= other.size() {
         return false;
@@ -130,7 +132,7 @@ fn is_same_at(network: &Network, other: &Network, node: Rank) -> bool {
     is_linked_so && network.registers(node) == other.registers(node)
 }
 
-/// Returns whether a copy of a network has the same nodes, links and registers.
+/// Returns whether a copy of a network has the same nodes, links and registers as the network.
 fn is_copied(alloc: Global, network: &Network) -> Result<bool, Memory> {
     let copy = network.try_copy(alloc)?;
     for index in 0..network.size() {
@@ -141,7 +143,8 @@ fn is_copied(alloc: Global, network: &Network) -> Result<bool, Memory> {
     Ok(copy.size() == network.size())
 }
 
-/// Returns a lab as text, whether its network is copied as it is, and the result of `first_other_index` for its roster.
+/// Returns a lab as text, whether its network can be copied exactly, and the result of `first_other_index` for its
+/// roster.
 fn shown_of_lab(alloc: Global, lab: &Lab) -> Result<(String, bool, Option<&'static str>), Fail> {
     let text = shown(alloc, lab)?;
     Ok((
@@ -151,8 +154,8 @@ fn shown_of_lab(alloc: Global, lab: &Lab) -> Result<(String, bool, Option<&'stat
     ))
 }
 
-/// Returns whether the text of a document's lab is `wanted`, whether the lab's network is copied as it is, and the
-/// result of `first_other_index` for its roster.
+/// Returns whether the text of the lab of a lab file is `wanted`, whether the lab's network can be copied exactly, and
+/// the result of `first_other_index` for its roster.
 fn is_document_shown(
     alloc: Global,
     document: &str,
@@ -163,7 +166,8 @@ fn is_document_shown(
     Ok((text.as_str() == wanted, is_copied, other))
 }
 
-/// Fails if a number, link, register, owner or name of `DOCUMENT` is read as another, or its network isn't copied.
+/// Checks that the numbers, links, registers, owners and names of `DOCUMENT` are read rightly, and its network is
+/// copied.
 #[test]
 fn a_document_is_read(rt: HostRuntime) -> Result<(), Fail> {
     assert_eq!(rt;

@@ -1,5 +1,5 @@
-//! Tests of the model and the journal, of what no script, audit or lab file reaches: sets, sinks that fail, and each
-//! public call that can answer running out of memory, with ample memory.
+//! Tests of the model and the journal for what no script, audit or lab file reaches: sets, sinks that fail, and each
+//! public call that can report that memory ran out, if there is enough memory.
 #![tactic(auto)]
 
 #[cfg(test)]

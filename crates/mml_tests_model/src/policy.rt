@@ -1,5 +1,5 @@
-//! What comes of a command if the limit of events is reached, or the journal is halted. An error means that memory ran
-//! out.
+//! Tests of the ruling on a command if the limit of events is reached, or the journal is halted. An error means that
+//! memory ran out.
 use mml_board::Board;
 use mml_fakes::labs::{PATH_OF_THREE, boxed_board, boxed_lab};
 use mml_ids::{Memory, Rank};
@@ -25,8 +25,8 @@ fn ruling_name(ruling: &Ruling) -> &'static str {
 /// The limit of events, whether the journal is halted, and a command.
 type Case = (u64, bool, Command);
 
-/// Returns the name of the ruling on the command of a case, asked for by `who`. Returns `another size` if board and lab
-/// aren't of one size.
+/// Returns the name of the ruling on the command of a case, if `who` asks. Returns `another size` if the board and the
+/// lab differ in size.
 fn ruled(
     alloc: Global,
     lab: &Lab,
@@ -44,8 +44,8 @@ fn ruled(
     Ok(ruling_name(&ruling))
 }
 
-/// Returns the names of the rulings on each case, asked for by ana, with a space after each. A name is `nobody` if the
-/// lab has no ana.
+/// Returns the names of the rulings on these cases, if ana asks, with a space after each. The name is `nobody` if the
+/// lab has no student ana.
 fn rulings(alloc: Global, lab: &Lab, board: &Board, cases: &[Case]) -> Result<String, Fail> {
     let mut text = String::new(alloc);
     for case in cases {
@@ -58,19 +58,19 @@ fn rulings(alloc: Global, lab: &Lab, board: &Board, cases: &[Case]) -> Result<St
     Ok(text)
 }
 
-/// Returns the result of `rulings` at the beginning of a lab's run.
+/// Returns the result of `rulings` for the first board of a lab.
 fn first_rulings(alloc: Global, lab: &Lab, cases: &[Case]) -> Result<String, Fail> {
     let board = boxed_board(alloc, lab)?;
     rulings(alloc, lab, &board, cases)
 }
 
-/// Returns the result of `rulings` at the beginning of a run over the path of three.
+/// Returns the result of `rulings` for the first board of the path of three.
 fn rulings_over_the_path(alloc: Global, cases: &[Case]) -> Result<String, Fail> {
     let lab = boxed_lab(alloc, PATH_OF_THREE)?;
     first_rulings(alloc, &lab, cases)
 }
 
-/// Returns the command of a move by Seduction, of the node with this identifier, in configuration 0.
+/// Returns the command that asks for a move by Seduction at the node with this identifier, in configuration 0.
 fn seduction(node: u64) -> Command {
     Command::Move {
         node,
@@ -79,8 +79,8 @@ fn seduction(node: u64) -> Command {
     }
 }
 
-/// Fails if a legal move isn't granted, isn't answered `journal` if the journal is halted, or `full` if the limit is
-/// reached as well. Fails too if a halted journal changes the answer to a denied command, a see or a look.
+/// Checks the rulings on a legal move: granted; `journal` if the journal is halted; and `full` if the limit is reached,
+/// even if the journal is halted too. A halted journal mustn't change the rulings on a denied command, a see or a look.
 #[test]
 fn a_halted_journal_comes_after_the_limit(rt: HostRuntime) -> Result<(), Fail> {
     let told = rulings_over_the_path(

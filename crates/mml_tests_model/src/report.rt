@@ -1,4 +1,4 @@
-//! The text of a report. An error means that memory ran out, or that of a lab file.
+//! A test of the report. An error means that memory ran out, or is that of a lab file.
 use mml_board::Board;
 use mml_fakes::labs::{boxed_board, boxed_lab};
 use mml_ids::Rank;
@@ -7,14 +7,15 @@ use mml_stable::{OpenLink, Report, report};
 use std::alloc::{AllocError, Global};
 use std::test::Fail;
 
-/// Returns a report as text: its configuration's number, whether it is stable, and its four lists, with nodes as ranks.
+/// Returns a report as text: the number of the configuration, whether it is stable, and the four lists, with nodes as
+/// ranks.
 fn report_text(alloc: Global, report: &Report) -> Result<String, Fail> {
     let mut text = format!(in alloc; "{} {};", report.at, report.stable)?;
     push_lists(&mut text, report)?;
     Ok(text)
 }
 
-/// Appends the lists of a report to a text: its pairs, free nodes, privileged nodes and open links.
+/// Appends the four lists of a report to a text: its pairs, free nodes, privileged nodes and open links.
 fn push_lists(text: &mut String, report: &Report) -> Result<(), AllocError> {
     push_pairs(text, report.pairs.as_slice())?;
     push_free(text, report.free.as_slice())?;
@@ -25,7 +26,7 @@ fn push_lists(text: &mut String, report: &Report) -> Result<(), AllocError> {
     Ok(())
 }
 
-/// Appends a report's pairs to a text, each as its two ranks with `=` between them, and then `;`.
+/// Appends a report's pairs to a text, each as two ranks with `=` between them, and then `;`.
 fn push_pairs(text: &mut String, pairs: &[(Rank, Rank)]) -> Result<(), AllocError> {
     for (lower, greater) in pairs {
         write!(text, " {}={}", lower.index(), greater.index())?;
@@ -33,7 +34,7 @@ fn push_pairs(text: &mut String, pairs: &[(Rank, Rank)]) -> Result<(), AllocErro
     text.push_str(";")
 }
 
-/// Appends the ranks of a report's free nodes, which are in no pair, to a text, and then `;`.
+/// Appends the ranks of a report's free nodes (nodes in no pair) to a text, and then `;`.
 fn push_free(text: &mut String, nodes: &[Rank]) -> Result<(), AllocError> {
     for node in nodes {
         write!(text, " {}", node.index())?;
@@ -49,13 +50,14 @@ fn push_privileged(text: &mut String, nodes: &[(Rank, Kind)]) -> Result<(), Allo
     text.push_str(";")
 }
 
-/// Appends an open link, which joins two free nodes, to a text, with its privileged witness and the rule enabled there.
+/// Appends an open link (between two free nodes) to a text, with its witness, a privileged node, and the rule enabled
+/// there.
 fn push_link(text: &mut String, link: &OpenLink) -> Result<(), AllocError> {
     let [a, b, node] = [link.a.index(), link.b.index(), link.node.index()];
     write!(text, " {a}-{b} {node} {:?}", link.kind)
 }
 
-// Two pairs, in one of which a node has m still false, and a link between two free nodes.
+// A lab file with two pairs, in one of which a node's m is still false, and a link between two free nodes.
 const DOCUMENT: &str = r#"
 events = 100
 sessions = 1
@@ -72,7 +74,7 @@ node = [
 ]
 "#;
 
-// The result of `report_text` at the beginning of a run over `DOCUMENT`, by hand.
+// The report at the beginning of a run over `DOCUMENT` as text, worked out by hand.
 const TOLD: &str = "0 false; 0=1 2=3; 4 5; 3 Update 5 Marriage; 4-5 5 Marriage";
 
 /// Returns the report of a board, as text.
@@ -88,8 +90,7 @@ fn lab_report_text(alloc: Global, document: &str) -> Result<String, Fail> {
     board_report_text(alloc, &board)
 }
 
-/// Fails if the report at the beginning of a run over `DOCUMENT` differs from `TOLD` in its number, its stability, or
-/// one of its four lists.
+/// Checks the report at the beginning of a run over `DOCUMENT`: its number, its stability, and its four lists.
 #[test]
 fn report_of_two_pairs_and_an_open_link(rt: HostRuntime) -> Result<(), Fail> {
     assert_eq!(rt; lab_report_text(rt.alloc(), DOCUMENT)?.as_str(), TOLD);

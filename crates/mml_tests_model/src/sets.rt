@@ -1,7 +1,7 @@
-//! Sets of ranks, beside plain lists.
+//! Tests that compare sets of ranks with plain lists.
 use mml_ids::{MAX_NODES, NodeSet, Rank};
 
-/// Takes the ranks out of a set from the least to the greatest, and returns whether they are just `ranks`, in this
+/// Takes all ranks out of a copy of a set, the least first, and returns whether they are exactly `ranks`, in this
 /// order.
 fn gives_in_order(set: NodeSet, ranks: &[u64]) -> bool {
     let mut left = set;
@@ -18,8 +18,8 @@ fn least_taken(left: &mut NodeSet) -> Option<u64> {
     Some(left.take_least()?.index())
 }
 
-/// Returns whether a set has just `ranks`, given from the least to the greatest. Compares membership, length, the least
-/// and the greatest rank, and the order in which ranks are taken out.
+/// Returns whether a set has exactly `ranks`, which are in rising order. Compares membership, length, the least and the
+/// greatest rank, and the order in which ranks are taken out.
 fn has_only(set: NodeSet, ranks: &[u64]) -> bool {
     ranks.iter().all(|index| has(set, *index))
         && set.len() == ranks.len() as u64
@@ -28,8 +28,8 @@ fn has_only(set: NodeSet, ranks: &[u64]) -> bool {
         && gives_in_order(set, ranks)
 }
 
-/// Returns the index of the first of seven sets that doesn't have just the ranks beside it, or `None` if all have; and
-/// how many ranks are above 63.
+/// Returns the index of the first of seven sets that doesn't have exactly the ranks beside it, or `None` if all have.
+/// Also returns how many ranks are above 63.
 fn told_of_sets() -> (Option<usize>, u64) {
     let none = NodeSet::empty();
     let some = none
@@ -52,14 +52,14 @@ fn told_of_sets() -> (Option<usize>, u64) {
     (other, above.len())
 }
 
-/// Returns whether a rank is in the set drawn by a seed. The set has many ranks in some words (of 64 ranks) and few in
-/// others.
+/// Returns whether a rank is in the pseudo-random set of this seed. In some words (of 64 ranks) such a set has many
+/// ranks, and in others few.
 fn is_drawn(seed: u64, index: u64) -> bool {
     let spread = seed.wrapping_add(index.wrapping_mul(37));
     spread % 16 < 1 + (index / 64).wrapping_mul(seed) % 16
 }
 
-/// Returns the set drawn by a seed.
+/// Returns the pseudo-random set of this seed.
 fn drawn_set(seed: u64) -> NodeSet {
     let mut set = NodeSet::empty();
     for index in 0..MAX_NODES {
@@ -89,8 +89,8 @@ fn greatest_of(set: NodeSet) -> Option<u64> {
     Some(set.greatest()?.index())
 }
 
-/// Returns whether a set has just the ranks whose indices are true in a list of all ranks. Compares membership, length,
-/// and the least and the greatest rank.
+/// Returns whether a set has exactly the ranks at whose index the list is `true`. Compares membership, length, and the
+/// least and the greatest rank.
 fn is_list(set: NodeSet, list: &[bool]) -> bool {
     let (mut count, mut least, mut greatest) = (0u64, None, None);
     for (index, there) in list.iter().enumerate() {
@@ -106,8 +106,8 @@ fn is_list(set: NodeSet, list: &[bool]) -> bool {
     (set.len(), least_of(set), greatest_of(set)) == (count, least, greatest)
 }
 
-/// Returns whether four sets have the same ranks as plain lists: the set drawn by seed `a`, the ranks that it shares
-/// with the set of `b`, those that it has alone, and all ranks above `rank`.
+/// Compares four sets with plain lists, and returns whether all are equal: the set of the seed `a`, the ranks that it
+/// shares with the set of `b`, those that it doesn't, and all ranks above `rank`.
 fn sets_are_lists(a: u64, b: u64, rank: Rank) -> bool {
     let mut first = [false; 256];
     let mut both = [false; 256];
@@ -127,7 +127,7 @@ fn sets_are_lists(a: u64, b: u64, rank: Rank) -> bool {
         && is_list(NodeSet::above(rank), &above)
 }
 
-// Two seeds, and a rank.
+// Two seeds of sets, and a rank.
 const SEEDS: [(u64, u64, u64); 8] = [
     (0, 3, 0),
     (5, 9, 62),
@@ -139,7 +139,7 @@ const SEEDS: [(u64, u64, u64); 8] = [
     (15, 4, 255),
 ];
 
-/// Returns the first row of `SEEDS` for which `sets_are_lists` is false, or `None` if there is none.
+/// Returns the first row of `SEEDS` for which `sets_are_lists` is `false`, or `None` if there is no such row.
 fn first_unlike_lists() -> Option<(u64, u64, u64)> {
     for (a, b, index) in SEEDS {
         let agree = match Rank::new(index) {
@@ -153,8 +153,8 @@ fn first_unlike_lists() -> Option<(u64, u64, u64)> {
     None
 }
 
-/// Fails if one of seven sets differs from its list, which is by hand, or a drawn set from its list, which is by
-/// `is_drawn`. Fails too if there aren't 192 ranks above 63.
+/// Checks that seven sets have the ranks in their lists, that pseudo-random sets have those that `is_drawn` says, and
+/// that 192 ranks are above 63.
 #[test]
 fn sets_of_ranks(rt: HostRuntime) {
     assert_eq!(rt; (told_of_sets(), first_unlike_lists()), ((None, 192), None));

@@ -1,4 +1,4 @@
-//! Sinks that fail at each put, and at each byte. An error means that memory ran out.
+//! Tests of journals whose sinks fail at each put, or at each byte. An error means that memory ran out.
 use mml_fakes::Drip;
 use mml_fakes::labs::{PATH_OF_THREE, boxed_lab};
 use mml_fakes::scripts::{TEN_LINES, first_lines};
@@ -8,8 +8,8 @@ use mml_lab::Lab;
 use std::alloc::Global;
 use std::test::Fail;
 
-/// Appends the text of the event that a line spells to a journal. Returns `false` if the line spells none, or a put
-/// failed now or before.
+/// Reads the event of a line, and appends its text to a journal. Returns whether it was appended: `false` if the line
+/// isn't an event's, or a put has failed, now or before.
 fn put_line<S: Sink>(
     alloc: Global,
     lab: &Lab,
@@ -23,7 +23,7 @@ fn put_line<S: Sink>(
     Ok(journal.append(&text).is_ok())
 }
 
-/// Appends the lines of `TEN_LINES` to a journal one by one, and returns how many were taken whole.
+/// Appends the lines of `TEN_LINES` to a journal one by one, and returns how many were appended whole.
 fn put_lines<S: Sink>(alloc: Global, lab: &Lab, journal: &mut Journal<S>) -> Result<usize, Memory> {
     let mut count = 0usize;
     for line in TEN_LINES.lines() {
@@ -33,9 +33,9 @@ fn put_lines<S: Sink>(alloc: Global, lab: &Lab, journal: &mut Journal<S>) -> Res
     Ok(count)
 }
 
-/// Appends the ten lines to a journal whose sink fails from the put `fail_at` on, counted from 1, or never if that is
-/// `None`. Returns whether the sink is left with exactly the first `lines` of them, and the journal is halted unless
-/// those are all.
+/// Appends the ten lines to a journal whose sink fails from its put number `fail_at` on, counted from 1, or never if
+/// that is `None`. Returns whether the sink then has exactly the first `lines` of them, and the journal is halted
+/// exactly if some are missing.
 fn takes_lines(alloc: Global, lab: &Lab, fail_at: Option<u64>, lines: usize) -> Result<bool, Fail> {
     let text = first_lines(TEN_LINES, lines as u64);
     let mut journal = Journal::new(MemorySink::new(alloc, fail_at));
@@ -44,8 +44,8 @@ fn takes_lines(alloc: Global, lab: &Lab, fail_at: Option<u64>, lines: usize) -> 
     Ok(count == lines && is_halted && journal.into_sink().bytes() == text.as_bytes())
 }
 
-/// Returns the first number of lines, from 0 to 10, for which `takes_lines` is false if the sink takes so many lines
-/// and fails at the next. Returns `None` if there is none.
+/// Tries sinks that take 0 to 10 lines and fail at the next. Returns the first number of lines for which `takes_lines`
+/// is `false`, or `None` if there is no such number.
 fn first_other_count(alloc: Global, lab: &Lab) -> Result<Option<usize>, Fail> {
     for lines in 0..=10usize {
         if !takes_lines(alloc, lab, Some(lines as u64 + 1), lines)? {
@@ -55,8 +55,8 @@ fn first_other_count(alloc: Global, lab: &Lab) -> Result<Option<usize>, Fail> {
     Ok(None)
 }
 
-/// Returns the result of `first_other_count`; whether a sink that fails from the beginning has no line and halts its
-/// journal; and whether one that never fails has all ten lines and doesn't halt it.
+/// Returns three results: that of `first_other_count`; whether a sink that fails from the beginning has no line, and
+/// halts its journal; and whether one that never fails has all ten lines, and doesn't halt it.
 fn faults_of_sinks(alloc: Global, lab: &Lab) -> Result<(Option<usize>, bool, bool), Fail> {
     let other = first_other_count(alloc, lab)?;
     let none = takes_lines(alloc, lab, Some(0), 0)?;
@@ -64,8 +64,9 @@ fn faults_of_sinks(alloc: Global, lab: &Lab) -> Result<(Option<usize>, bool, boo
     Ok((other, none, all))
 }
 
-/// Appends the ten lines, whose text is `text`, to a journal whose sink fails after `left` bytes. Returns whether the
-/// sink is left with exactly so many bytes, or all if there are no more, and the journal is halted unless it has all.
+/// Appends the ten lines, whose text is `text`, to a journal whose sink stores `left` bytes and then fails. Returns
+/// whether the sink then has exactly the first `left` bytes of the text (or all, if it is shorter), and the journal is
+/// halted exactly if some are missing.
 fn takes_bytes(alloc: Global, lab: &Lab, text: &[u8], left: usize) -> Result<bool, Memory> {
     let mut journal = Journal::new(Drip::failing_after(left, alloc));
     put_lines(alloc, lab, &mut journal)?;
@@ -74,7 +75,7 @@ fn takes_bytes(alloc: Global, lab: &Lab, text: &[u8], left: usize) -> Result<boo
     Ok(is_halted && taken.len() == left.min(text.len()) && text.starts_with(taken.as_slice()))
 }
 
-/// Returns whether `takes_bytes` is true for each number of bytes, from 0 to all of the ten lines.
+/// Returns whether `takes_bytes` is `true` for each number of bytes, from 0 to all bytes of the ten lines.
 fn takes_each_number_of_bytes(alloc: Global, lab: &Lab) -> Result<bool, Fail> {
     let text = TEN_LINES.as_bytes();
     for left in 0..=text.len() {
@@ -85,15 +86,15 @@ fn takes_each_number_of_bytes(alloc: Global, lab: &Lab) -> Result<bool, Fail> {
     Ok(true)
 }
 
-/// Returns, over the path of three, the results of `faults_of_sinks` and of `takes_each_number_of_bytes`.
+/// Returns the results of `faults_of_sinks` and of `takes_each_number_of_bytes` for the path of three.
 fn lines_and_bytes_taken(alloc: Global) -> Result<((Option<usize>, bool, bool), bool), Fail> {
     let lab = boxed_lab(alloc, PATH_OF_THREE)?;
     let lines = faults_of_sinks(alloc, &lab)?;
     Ok((lines, takes_each_number_of_bytes(alloc, &lab)?))
 }
 
-/// Fails if a failed put leaves more or fewer lines or bytes in the sink than were put before it, or doesn't halt the
-/// journal. Fails too if a journal is halted though no put failed.
+/// Checks that after a failed put a sink has exactly what was put before, and the journal is halted, and that a journal
+/// isn't halted if no put failed.
 #[test]
 fn sinks_fail_at_each_put_and_at_each_byte(rt: HostRuntime) -> Result<(), Fail> {
     assert_eq!(rt;

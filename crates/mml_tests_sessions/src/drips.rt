@@ -1,5 +1,4 @@
-//! A sink that takes one byte a put, and fails after each number of them: a house over it, asked for the
-//! acts of a stored run.
+//! Tests of a house over a sink that stores one byte in each put, and fails after each possible number of bytes.
 use mml_fakes::Drip;
 use mml_fakes::scripts::{TEN_LINES, ended_lines};
 use mml_fakes_houses::ten_acts::{ACTS, act, asker, number_before};
@@ -9,8 +8,9 @@ use std::alloc::Global;
 use std::sync::Wait;
 use std::test::Fail;
 
-/// Returns whether an answer to the act with this place is right if the sink fails at the line of event `last`. Acts
-/// before that are granted, the act at it is refused for the journal, and acts after it are denied or refused so.
+/// Returns whether an answer to the act at this place is right, if the sink fails at the line of event `last`. Acts
+/// before that must be granted, the act at it must be refused for the journal, and later ones must be denied or refused
+/// likewise.
 fn is_right_answer(answer: &Answer, place: u64, last: u64) -> bool {
     match answer {
         Answer::Granted { place: granted, .. } => place < last && *granted == place,
@@ -20,7 +20,7 @@ fn is_right_answer(answer: &Answer, place: u64, last: u64) -> bool {
 }
 
 /// Asks for the ten acts in their order, if the sink fails at the line of event `last`. Returns whether each answer is
-/// right, and the window's number after it is that of the configuration to which the granted acts lead.
+/// right, and the window then shows the configuration to which the granted acts lead.
 fn plays<H: House, R: Wait>(seat: &mut Seat<'_, Drip, H, R>, last: u64) -> bool {
     for place in 1..=ACTS {
         let answer = seat.ask(asker(place), &act(place));
@@ -32,24 +32,24 @@ fn plays<H: House, R: Wait>(seat: &mut Seat<'_, Drip, H, R>, last: u64) -> bool 
     true
 }
 
-/// A visit that asks for all ten acts, if the sink fails at the line of event `last`, or at none if that is 11.
+/// A visit that asks for all ten acts. The sink fails at the line of event `last`, or never if that is 11.
 #[derive(Clone, Copy)]
 struct Acts {
     last: u64,
 }
 
 impl Visit<Drip> for Acts {
-    /// Whether each act is answered as it should be.
+    /// Whether each act was answered rightly.
     type Told = bool;
 
-    // Asks for the ten acts through the first seat, and returns the result of `plays`.
+    // Asks for the ten acts through the first seat, and returns whether each was answered rightly.
     fn visit<H: House, R: Wait>(self, seats: &mut Pair<'_, Drip, H, R>) -> bool {
         plays(&mut seats.one, self.last)
     }
 }
 
-/// Returns the ending of a house that was asked for all ten acts, if its sink failed at the line of event `last`, or at
-/// none if that is 11.
+/// Returns how a house must end that was asked for all ten acts, if its sink failed at the line of event `last`, or
+/// never if that is 11.
 fn ending_at(last: u64) -> Ending {
     Ending::Log {
         events: last.saturating_sub(1) as usize,
@@ -58,8 +58,8 @@ fn ending_at(last: u64) -> Ending {
     }
 }
 
-/// Returns whether a house ended with a log, its sink holds exactly these bytes, and one put failed there if the
-/// journal halted, else none.
+/// Returns whether a house has left a log, and its sink has exactly these bytes. One put must have failed if the
+/// journal was halted, and otherwise none.
 fn has_dripped(end: &Result<Log<Drip>, Astray>, wanted: &[u8]) -> bool {
     match end {
         Ok(log) => {
@@ -69,8 +69,9 @@ fn has_dripped(end: &Result<Log<Drip>, Astray>, wanted: &[u8]) -> bool {
     }
 }
 
-/// Plays the ten acts in a house whose sink takes `puts` bytes. Returns whether they are answered as they should be,
-/// and the house ends with exactly so many bytes of their journal and the events of the whole lines in them.
+/// Asks for the ten acts in a house whose sink stores `puts` bytes and then fails. Returns whether they are answered
+/// rightly, the sink has exactly the first `puts` bytes of their journal, and the house has the events of the whole
+/// lines in these.
 fn drips<R: Wait>(rt: &R, alloc: Global, puts: usize) -> Result<bool, Fail> {
     let (wanted, _) = TEN_LINES.as_bytes().split_at(puts.min(TEN_LINES.len()));
     let last = (ended_lines(wanted) as u64).saturating_add(1);
@@ -78,8 +79,8 @@ fn drips<R: Wait>(rt: &R, alloc: Global, puts: usize) -> Result<bool, Fail> {
     Ok(plays == Some(true) && ending_of(&end) == ending_at(last) && has_dripped(&end, wanted))
 }
 
-/// Returns the first number of bytes, from 0 to all of the journal of the ten acts, for which `drips` is false, or
-/// `None` if there is none.
+/// Returns the first number of bytes, from 0 to all of the journal of the ten acts, for which `drips` is `false`, or
+/// `None` if there is no such number.
 fn first_byte_told_otherwise<R: Wait>(rt: &R, alloc: Global) -> Result<Option<usize>, Fail> {
     for puts in 0..=TEN_LINES.len() {
         if !drips(rt, alloc, puts)? {
@@ -89,8 +90,8 @@ fn first_byte_told_otherwise<R: Wait>(rt: &R, alloc: Global) -> Result<Option<us
     Ok(None)
 }
 
-/// Fails if a sink that fails after some byte of the journal is left with other bytes, or its house with other events,
-/// or an act there is answered otherwise.
+/// Checks a house whose sink fails, for each byte of the journal that may be the last: its answers, the bytes in the
+/// sink, and the events.
 #[test]
 fn each_byte_of_a_house_may_be_the_last(rt: HostRuntime) -> Result<(), Fail> {
     assert_eq!(rt; first_byte_told_otherwise(&rt, rt.alloc())?, None);

@@ -1,4 +1,4 @@
-//! The program's library: its calls if there is memory, and what no program shows.
+//! Tests of the program's library: of calls that succeed if there is memory, and of what no use of the program shows.
 mod answering;
 mod faults;
 mod files;

@@ -1,5 +1,5 @@
-//! Sessions in threads of their own, held at each line and each reply until the others are there. What they
-//! read comes byte by byte, so that each reply goes out before the next line.
+//! Tests of sessions in threads of their own, which wait for each other at lines and replies. They read byte by byte,
+//! so that each reply is written before the next line is read.
 mod bytewise;
 mod locked;
 mod steps;
@@ -25,7 +25,7 @@ use std::thread::Threads;
 use std::vec::IntoIter;
 use steps::{Holds, Steps};
 
-/// The two ends of a connection: what it sends, and what it is sent.
+/// The two ends of a connection: a reader of what it sends, and a writer that stores what it gets.
 type Ends<'a> = (Bytewise<'a>, Vec<u8>);
 
 /// A house whose sessions have ended, or the fault because of which there is none.
@@ -43,8 +43,8 @@ fn arrivals_of<'a>(alloc: Global, scripts: &[&'a str]) -> Result<IntoIter<Ends<'
     Ok(coming.into_iter())
 }
 
-/// Returns the lab file of the path of three with sixteen sessions, the most that a lab may have, and with ben and ana
-/// as the owners of node 2.
+/// Returns the lab file of the path of three with sixteen sessions, the most that a lab may have, in which ben and ana
+/// own node 2.
 fn document_of_sixteen(alloc: Global) -> Result<String, AllocError> {
     let file = PATH_OF_THREE.replacen(alloc, "sessions = 4", "sessions = 16", 1)?;
     file.replacen(alloc, "owner = \"ben\"", "owners = [\"ben\", \"ana\"]", 1)
@@ -56,9 +56,9 @@ fn lab_of_sixteen(alloc: Global) -> Result<Lab, Fail> {
     Ok(read_lab(alloc, file.as_bytes())?)
 }
 
-/// Serves the first `connections` of these scripts over `lab_of_sixteen` and a sink, and writes the server's last line
-/// to `out`. Returns the finished house, or the fault because of which there is none. Returns an error (`Fail`) if the
-/// test itself goes wrong.
+/// Serves the first `connections` of these scripts over `lab_of_sixteen`, with this sink for the journal, and writes
+/// the server's last line to `out`. Returns the result of the house, or the fault because of which there is none.
+/// Returns an error (`Fail`) if the test itself fails to work.
 fn serve<'a, S: Sink + Send + Drop, R: Threads + Wait + Sync, G: Gate + Sync>(
     rt: &R,
     alloc: Global,
@@ -79,7 +79,7 @@ fn serve<'a, S: Sink + Send + Drop, R: Threads + Wait + Sync, G: Gate + Sync>(
     Ok(serve_arrivals(rt, alloc, lab, arrivals, connections, sink, gate, out))
 }
 
-/// Returns whether the connections have the numbers from 1 on in their order, and each was sent exactly its replies.
+/// Returns whether the connections are numbered from 1 in their order, and each got exactly its replies.
 fn are_answered<S: Drop>(house: &ServedHouse<S, Bytewise<'_>, Vec<u8>>, replies: &[&str]) -> bool {
     let mut number = 0u8;
     for session in house.sessions.iter() {
@@ -97,7 +97,8 @@ fn are_answered<S: Drop>(house: &ServedHouse<S, Bytewise<'_>, Vec<u8>>, replies:
 /// An outcome of sessions: the replies to each, the journal, and the server's last line.
 type Outcome = (&'static [&'static str], &'static str, &'static str);
 
-/// Scripts, how their sessions are held, how many steps each session takes, and the outcomes that are allowed.
+/// Scripts, where their sessions wait for each other, how many steps each session takes, and the outcomes that are
+/// allowed.
 type Race = (
     &'static [&'static str],
     Holds<'static>,
@@ -105,7 +106,7 @@ type Race = (
     &'static [Outcome],
 );
 
-/// Returns whether a house has the outcome `wanted`: its journal, the replies to each session, and the server's last
+/// Returns whether a house has the outcome `wanted`: the journal, the replies to each session, and the server's last
 /// line, which is `out`.
 fn is_outcome(
     house: &ServedHouse<MemorySink, Bytewise<'_>, Vec<u8>>,
@@ -118,7 +119,7 @@ fn is_outcome(
         && are_answered(house, replies)
 }
 
-/// Returns whether a house has one of these outcomes.
+/// Returns whether a house has one of these outcomes. `out` is the server's last line.
 fn is_some_outcome(
     house: &ServedHouse<MemorySink, Bytewise<'_>, Vec<u8>>,
     out: &[u8],
@@ -132,8 +133,8 @@ fn is_some_outcome(
     false
 }
 
-/// Runs a race. Returns whether it has one of its outcomes, each session was held as the race says, and each passed the
-/// race's number of steps. Returns `false` if the sessions couldn't be served to their end.
+/// Serves the sessions of a race. Returns whether there is an allowed outcome, and the sessions waited as they should
+/// and each took the race's number of steps. Returns `false` if the sessions couldn't be served to their end.
 fn is_run<R: Threads + Wait + Sync>(rt: &R, alloc: Global, race: &Race) -> Result<bool, Fail> {
     let (scripts, holds, steps, outcomes) = race;
     let connections = u8::try_from(scripts.len()).map_err(|_| "too many scripts")?;
@@ -152,13 +153,13 @@ const ANA_MOVES: &str = lines!(hello("ana", "a-key"), seduction(1), bye);
 // The replies to `ANA_MOVES` if the move is the first event.
 const ANA_GRANTED: &str = lines!(welcome("ana"), granted(1, 1), left);
 
-// The replies to ana's greeting, a move, and a bye if a move of that node is chosen already.
+// The replies to ana's hello, to a move of a node for which one is chosen already, and to a bye.
 const ANA_DENIED: &str = lines!(welcome("ana"), chosen, left);
 
-/// The last line of a house with one move and no close.
+/// The last line of a house with one chosen move and no close.
 const ONE_MOVED: &str = "done: 1 events, configuration 0\n";
 
-/// Ana's greeting, a move of node 2, and a bye.
+/// Ana's hello, a move of node 2, and a bye.
 const ANA_MOVES_THE_SECOND: &str = lines!(hello("ana", "a-key"), seduction(2), bye);
 
 /// The replies to `ANA_MOVES_THE_SECOND` if the move is the first event.
@@ -173,7 +174,7 @@ const BEN_DENIED: &str = lines!(welcome("ben"), chosen, left);
 /// The replies to `TESS_CLOSES` if the close is the second event, and applies a move of node 1.
 const TESS_CLOSED: &str = lines!(welcome("tess"), closed, left);
 
-/// Ana's greeting, and sees of nodes 2, 3 and 99.
+/// Ana's hello, and sees of nodes 2, 3 and 99.
 const LOOKS: &str = lines!(hello("ana", "a-key"), see(2), see(3), see(99));
 
 /// The replies to `LOOKS`: ana owns node 2 here, so its neighbour 3 is shown to her. There is no node 99.
@@ -184,7 +185,7 @@ const LOOKED: &str = lines!(
     hidden
 );
 
-/// The teacher's greeting.
+/// The teacher's hello.
 const HELLO: &str = lines!(hello("tess", "chalk"));
 
 /// The reply to `HELLO`.
@@ -212,16 +213,16 @@ const AFTER_A_MOVE: &[(u8, u64, u8, u64)] = &[
 /// until the first has come to its second reply.
 const IN_ORDER: &[(u8, u64, u8, u64)] = &[(1, 1, 2, 3), (2, 2, 1, 4)];
 
-/// Races, each with the outcomes that it may have.
+/// Races, each with its allowed outcomes.
 const RACES: &[Race] = &[
-    // Views of one configuration.
+    // Two sessions see the same configuration.
     (
         &[LOOKS, LOOKS],
         Holds::Together,
         8,
         &[(&[LOOKED, LOOKED], "", NOTHING_DONE)],
     ),
-    // One of two moves of one node.
+    // Two sessions ask for a move of the same node: one gets it.
     (
         &[ANA_MOVES, ANA_MOVES],
         Holds::Together,
@@ -231,7 +232,7 @@ const RACES: &[Race] = &[
             (&[ANA_DENIED, ANA_GRANTED], ANA_JOURNAL, ONE_MOVED),
         ],
     ),
-    // One of two owners, whom the journal names.
+    // Two owners ask for a move of their node: one gets it, and the journal names that owner.
     (
         &[ANA_MOVES_THE_SECOND, BEN_MOVES],
         Holds::Together,
@@ -249,7 +250,7 @@ const RACES: &[Race] = &[
             ),
         ],
     ),
-    // One of two closes applies the move that was chosen before.
+    // Two sessions ask for a close: one applies the move that was chosen before.
     (
         &[ANA_MOVES, TESS_CLOSES, TESS_CLOSES],
         Holds::Each(AFTER_A_MOVE),
@@ -267,14 +268,14 @@ const RACES: &[Race] = &[
             ),
         ],
     ),
-    // A close that is held until a move was answered applies it, though its line came first.
+    // A close waits until a move was answered, though its line came first: it applies the move.
     (
         &[ANA_MOVES, TESS_CLOSES],
         Holds::Each(IN_ORDER),
         6,
         &[(&[ANA_GRANTED, TESS_CLOSED], CLOSED_JOURNAL, ONE_CLOSED)],
     ),
-    // Sixteen of one name.
+    // Sixteen sessions of the same participant.
     (
         &[HELLO; 16],
         Holds::Together,
@@ -283,7 +284,7 @@ const RACES: &[Race] = &[
     ),
 ];
 
-/// Returns the index of the first of `RACES` for which `is_run` is false, or `None` if there is none.
+/// Returns the index of the first of `RACES` for which `is_run` is `false`, or `None` if there is no such race.
 fn first_other<R: Threads + Wait + Sync>(rt: &R, alloc: Global) -> Result<Option<usize>, Fail> {
     for (number, race) in RACES.iter().enumerate() {
         if !is_run(rt, alloc, race)? {
@@ -293,15 +294,15 @@ fn first_other<R: Threads + Wait + Sync>(rt: &R, alloc: Global) -> Result<Option
     Ok(None)
 }
 
-/// Fails if a race has an outcome that no order of its lines allows, or a session gave up waiting or took other steps.
+/// Checks that each race has an outcome that some order of its lines allows, and its sessions wait and step as it says.
 #[test]
 fn held_sessions_are_answered_one_by_one(rt: HostRuntime) -> Result<(), Fail> {
     assert_eq!(rt; first_other(&rt, rt.alloc())?, None);
     Ok(())
 }
 
-/// Serves two of three connections. Returns whether the first two alone are served, answered as they should be, and
-/// left in their order.
+/// Serves two of three connections. Returns whether exactly the first two are served and answered rightly, and the
+/// house has them in their order.
 fn are_two_left<R: Threads + Wait + Sync>(rt: &R, alloc: Global) -> Result<bool, Fail> {
     let mut out = Vec::new(alloc);
     let sink = MemorySink::new(alloc, None);
@@ -313,8 +314,8 @@ fn are_two_left<R: Threads + Wait + Sync>(rt: &R, alloc: Global) -> Result<bool,
     }
 }
 
-/// Returns whether a server that wants two connections, of which only one comes, ends with the fault `Accept` and
-/// writes no last line.
+/// Returns whether a server that should serve two connections, of which only one comes, ends with the fault `Accept`,
+/// and writes no last line.
 fn is_lack_told<R: Threads + Wait + Sync>(rt: &R, alloc: Global) -> Result<bool, Fail> {
     let mut out = Vec::new(alloc);
     let sink = MemorySink::new(alloc, None);
@@ -327,8 +328,8 @@ fn told_of_arrivals<R: Threads + Wait + Sync>(rt: &R, alloc: Global) -> Result<(
     Ok((are_two_left(rt, alloc)?, is_lack_told(rt, alloc)?))
 }
 
-/// Fails if two connections are wanted and a third one is served, or the first two are left in another order; or if too
-/// few connections are no error.
+/// Checks that a server for two connections serves the first two of three, and has them in their order, and that too
+/// few connections are an error.
 #[test]
 fn connections_are_left_in_the_order_in_which_they_came(rt: HostRuntime) -> Result<(), Fail> {
     assert_eq!(rt; told_of_arrivals(&rt, rt.alloc())?, (true, true));

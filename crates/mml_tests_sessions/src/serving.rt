@@ -1,6 +1,5 @@
-//! Connections over sockets of this machine, numbered as they come: only a gate sees their numbers.
-//! Clients connect and send before the server accepts: the system holds what they sent, and what they are
-//! answered.
+//! A test of connections over sockets of this machine, which are numbered as they come: a gate sees their numbers. The
+//! clients connect and send before the server accepts, so the system buffers what they send and get.
 use mml_fakes::labs::PATH_OF_THREE;
 use mml_fakes::lines;
 use mml_fakes::meeting::wait_for;
@@ -18,7 +17,7 @@ use std::sync::atomic::{AtomicU64, Ordering};
 use std::test::Fail;
 use std::thread::Threads;
 
-/// A gate that holds each connection but the first until the first has had `wanted` replies.
+/// A gate that makes each connection but the first wait until the first has had `wanted` replies.
 #[derive(Drop)]
 struct After {
     replies: AtomicU64,
@@ -26,8 +25,8 @@ struct After {
 }
 
 impl Gate for After {
-    // Counts the replies of connection 1. At each point any other connection waits until they are as many as wanted, or
-    // gives up after many looks.
+    // Counts the replies to connection 1. Makes any other connection wait at each point until there are enough of
+    // these, or gives up after many checks.
     fn pass(&self, connection: u8, point: Point) {
         if connection == 1 && point == Point::Told {
             self.replies.fetch_add(1, Ordering::SeqCst);
@@ -38,8 +37,8 @@ impl Gate for After {
     }
 }
 
-/// Connects a client to this address, sends the text, and then shuts down the sending side. Returns the stream with the
-/// replies.
+/// Connects a client to this address, sends the text, and shuts down the sending side. Returns the stream, from which
+/// the replies can be read.
 fn client<R: Net<Listener = TcpListener, Stream = TcpStream>>(
     rt: &R,
     address: SocketAddr,
@@ -51,8 +50,8 @@ fn client<R: Net<Listener = TcpListener, Stream = TcpStream>>(
     Ok(stream)
 }
 
-/// Serves two connections of a listener over the path of three, the second held until the first has had two replies.
-/// Returns whether that went well, and the server wrote exactly `last`.
+/// Serves two connections of a listener over the path of three. The second one waits until the first has had two
+/// replies. Returns whether that went well, and the server wrote exactly `last`.
 fn is_served<R: Threads + Wait + Sync>(
     rt: &R,
     alloc: Global,
@@ -73,20 +72,20 @@ fn is_served<R: Threads + Wait + Sync>(
     Ok(ended == Ok(()) && out.as_slice() == last.as_bytes())
 }
 
-/// Returns whether a client was sent exactly these replies before its connection ended.
+/// Returns whether a client got exactly these replies before its connection ended.
 fn is_answered(alloc: Global, stream: TcpStream, replies: &str) -> io::Result<bool> {
     let found = io::read_to_string(alloc, &stream)?;
     Ok(found.as_str() == replies)
 }
 
-/// The teacher's greeting and a close.
+/// The teacher's hello and a close.
 const STEP: &str = lines!(hello("tess", "chalk"), close);
 
 /// The replies to `STEP` if the close is the second event, and applies a move of node 1.
 const STEP_REPLIES: &str = lines!(welcome("tess"), closed);
 
-/// Serves two clients, the second of which closes a step once the first one's move was answered. Returns whether the
-/// server did well, whether the first client has its replies, and whether the second has.
+/// Serves two clients; the second one asks for a close when the first one's move was answered. Returns three answers:
+/// whether the server ended well, and whether the first and the second client got the right replies.
 fn told_of_two<
     R: Net<Listener = TcpListener, Stream = TcpStream> + Threads + Wait + Sync + AllocGlobal,
 >(rt: &R) -> Result<(bool, bool, bool), Fail> {
@@ -100,8 +99,8 @@ fn told_of_two<
     Ok((is_served, is_granted, is_closed))
 }
 
-/// Fails if two clients aren't served or answered as they should be. If connections had other numbers, the gate would
-/// let the close come first, and that would be answered otherwise.
+/// Checks that two clients are served and answered rightly. If connections had other numbers, the gate would let the
+/// close come first, and the reply to it would be another one.
 #[test]
 fn connections_are_numbered_as_they_come(rt: HostRuntime) -> Result<(), Fail> {
     assert_eq!(rt; told_of_two(&rt)?, (true, true, true));

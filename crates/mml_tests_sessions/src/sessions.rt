@@ -1,4 +1,4 @@
-//! One session: how it ends at its reader and its writer, and what stands then.
+//! Tests of one session: how it ends if its reader or its writer fails, and which events have happened then.
 use mml_fakes::scripts::{ANA_GRANTED, ANA_MOVES, ANA_WELCOME};
 use mml_fakes::{FakeReader, FakeWriter, line, lines};
 use mml_fakes_houses::{Ending, Pair, Visit, ending_of, is_first_close, visit_path};
@@ -11,7 +11,7 @@ use std::alloc::{AllocError, Global};
 use std::sync::Wait;
 use std::test::Fail;
 
-/// A visit that serves one session, between this reader and this writer.
+/// A visit that serves one session with this reader and this writer.
 #[derive(Drop)]
 struct Session<'a> {
     reader: FakeReader<'a>,
@@ -24,15 +24,15 @@ struct Served<'a> {
     end: SessionEnd,
     reader: FakeReader<'a>,
     writer: FakeWriter,
-    /// Whether the teacher's close after it applied a move of node 1.
+    /// Whether the teacher's close, which is asked for after the session, applied a move of node 1.
     is_closed: bool,
 }
 
 impl<'a> Visit<MemorySink> for Session<'a> {
-    /// The session's result, and whether the close after it applied its move.
+    /// The result of the session, and whether the close after it applied its move.
     type Told = Served<'a>;
 
-    // Serves the session through the first seat, and then asks for the teacher's close through the second.
+    // Serves the session through the first seat, and then asks for the teacher's close through the second seat.
     fn visit<H: House, R: Wait>(self, seats: &mut Pair<'_, MemorySink, H, R>) -> Served<'a> {
         let Session {
             mut reader,
@@ -50,8 +50,8 @@ impl<'a> Visit<MemorySink> for Session<'a> {
 }
 
 /// Serves a session over the path of three, and then asks for the teacher's close. Returns the session's result, and
-/// whether the house ended well: with a move and its close if the close applied a move, else with no event. Returns an
-/// error if there were fewer than two windows, or one couldn't be put back.
+/// whether the house ended rightly: with a move and its close if the close applied a move, and otherwise with no event.
+/// Returns an error if there were fewer than two windows, or one couldn't be put back.
 fn serve<'a, R: Wait>(
     rt: &R,
     alloc: Global,
@@ -69,7 +69,7 @@ fn serve<'a, R: Wait>(
     }
 }
 
-/// Returns the ending of a house with a move and its close if `is_closed`, else with no event.
+/// Returns how the house must end: with a move and its close if `is_closed`, and otherwise with no event.
 fn ending_after(is_closed: bool) -> Ending {
     Ending::Log {
         events: if is_closed { 2 } else { 0 },
@@ -92,8 +92,8 @@ fn bye(alloc: Global, spaces: usize, end: &str) -> Result<Vec<u8>, AllocError> {
 /// The reply to a bye.
 const LEFT: &str = lines!(left);
 
-/// How many spaces follow a bye, and what comes after them; then how the session ends, what it writes, how many reads
-/// of one byte it makes, and how many bytes it leaves unread.
+/// How many spaces follow a bye, and what comes after them; then how the session must end, what it must write, how many
+/// reads of one byte it must make, and how many bytes it must leave unread.
 type Row = (usize, &'static str, SessionEnd, &'static str, usize, usize);
 
 /// Byes at the limit of a line's length, one byte over it, without a newline, and with another line after them.
@@ -105,8 +105,8 @@ const BYES: &[Row] = &[
     (0, "\n{\"do\":\"bye\"}\n", SessionEnd::Bye, LEFT, 13, 13),
 ];
 
-/// Serves the line of a row. Returns whether the session ends, writes and reads as the row says, and its house ends
-/// well.
+/// Serves a session with the line of a row. Returns whether it ends, writes and reads as the row says, and its house
+/// ends rightly.
 fn ends_as_in<R: Wait>(rt: &R, alloc: Global, row: &Row) -> Result<bool, Fail> {
     let (spaces, after, end, written, reads, rest) = row;
     let line = bye(alloc, *spaces, after)?;
@@ -120,7 +120,7 @@ fn ends_as_in<R: Wait>(rt: &R, alloc: Global, row: &Row) -> Result<bool, Fail> {
     )
 }
 
-/// Returns the index of the first row of `BYES` for which `ends_as_in` is false, or `None` if there is none.
+/// Returns the index of the first row of `BYES` for which `ends_as_in` is `false`, or `None` if there is no such row.
 fn first_row_told_otherwise<R: Wait>(rt: &R, alloc: Global) -> Result<Option<usize>, Fail> {
     for (number, row) in BYES.iter().enumerate() {
         if !ends_as_in(rt, alloc, row)? {
@@ -130,14 +130,14 @@ fn first_row_told_otherwise<R: Wait>(rt: &R, alloc: Global) -> Result<Option<usi
     Ok(None)
 }
 
-/// Fails if a session over a row of `BYES` ends, writes or reads otherwise than the row says.
+/// Checks that a session over each row of `BYES` ends, writes and reads as the row says.
 #[test]
 fn lines_have_limits_and_nothing_is_read_after_a_bye(rt: HostRuntime) -> Result<(), Fail> {
     assert_eq!(rt; first_row_told_otherwise(&rt, rt.alloc())?, None);
     Ok(())
 }
 
-/// Returns a reader of `ANA_MOVES` that gives at most `step` bytes in a read.
+/// Returns a reader of `ANA_MOVES` that returns at most `step` bytes in a read.
 fn ana_moving(step: usize) -> FakeReader<'static> {
     let mut reader = FakeReader::failing_after(usize::MAX, ANA_MOVES.as_bytes());
     reader.step = step;
@@ -145,8 +145,8 @@ fn ana_moving(step: usize) -> FakeReader<'static> {
 }
 
 /// Serves `ANA_MOVES` with a writer that fails after `good` bytes. Returns whether exactly these bytes are written, the
-/// session ends with `WriteFault`, or with `End` if they are all, and the move stands: the close applies it even if its
-/// reply isn't out.
+/// session ends with `WriteFault` (or with `End` if they are all), and the move stays granted: the close applies it
+/// even if its reply wasn't written.
 fn tells_a_write<R: Wait>(rt: &R, alloc: Global, good: usize) -> Result<bool, Fail> {
     let reader = ana_moving(usize::MAX);
     let mut writer = FakeWriter::failing_after(good, alloc);
@@ -166,7 +166,7 @@ fn tells_a_write<R: Wait>(rt: &R, alloc: Global, good: usize) -> Result<bool, Fa
     )
 }
 
-/// Returns the first number of bytes for which `tells_a_write` is false, or `None` if there is none.
+/// Returns the first number of bytes for which `tells_a_write` is `false`, or `None` if there is no such number.
 fn first_untold_write<R: Wait>(rt: &R, alloc: Global) -> Result<Option<usize>, Fail> {
     for good in 0..=ANA_GRANTED.len() {
         if !tells_a_write(rt, alloc, good)? {
@@ -176,16 +176,16 @@ fn first_untold_write<R: Wait>(rt: &R, alloc: Global) -> Result<Option<usize>, F
     Ok(None)
 }
 
-/// Fails if a session whose writer fails after some byte of the replies, or after all, ends or writes otherwise, or its
-/// move is lost.
+/// Checks sessions whose writer fails after each possible number of bytes of the replies: what they write, how they
+/// end, and that their move isn't lost.
 #[test]
 fn failed_writes_are_told(rt: HostRuntime) -> Result<(), Fail> {
     assert_eq!(rt; first_untold_write(&rt, rt.alloc())?, None);
     Ok(())
 }
 
-/// Returns the replies to the whole lines among the first `good` bytes of `ANA_MOVES`. Its first line, the greeting,
-/// has 42 bytes with its newline.
+/// Returns the replies to the whole lines among the first `good` bytes of `ANA_MOVES`. Its first line, the hello, has
+/// 42 bytes with its newline.
 fn replies_after(good: usize) -> &'static str {
     if good == ANA_MOVES.len() {
         ANA_GRANTED
@@ -197,8 +197,8 @@ fn replies_after(good: usize) -> &'static str {
 }
 
 /// Serves `ANA_MOVES` with a reader that fails after `good` bytes. Returns whether the session ends with `ReadFault`,
-/// exactly the whole lines among these bytes are answered, and the close applies the move exactly if its line is among
-/// them.
+/// exactly the whole lines among these bytes are answered, and the close applies the move exactly if the move's line is
+/// one of them.
 fn tells_a_read<R: Wait>(rt: &R, alloc: Global, good: usize) -> Result<bool, Fail> {
     let reader = FakeReader::failing_after(good, ANA_MOVES.as_bytes());
     let (served, is_ended) = serve(rt, alloc, reader, FakeWriter::patient(alloc))?;
@@ -210,7 +210,7 @@ fn tells_a_read<R: Wait>(rt: &R, alloc: Global, good: usize) -> Result<bool, Fai
     )
 }
 
-/// Returns the first number of bytes for which `tells_a_read` is false, or `None` if there is none.
+/// Returns the first number of bytes for which `tells_a_read` is `false`, or `None` if there is no such number.
 fn first_untold_read<R: Wait>(rt: &R, alloc: Global) -> Result<Option<usize>, Fail> {
     for good in 0..=ANA_MOVES.len() {
         if !tells_a_read(rt, alloc, good)? {
@@ -220,16 +220,16 @@ fn first_untold_read<R: Wait>(rt: &R, alloc: Global) -> Result<Option<usize>, Fa
     Ok(None)
 }
 
-/// Fails if a session whose reader fails after some byte of the lines ends or writes otherwise. Fails too if its move
-/// is lost though its line was read whole, or stands though it wasn't.
+/// Checks sessions whose reader fails after each possible number of bytes of the lines: how they end, what they write,
+/// and that their move is granted exactly if its line was read whole.
 #[test]
 fn failed_reads_are_told(rt: HostRuntime) -> Result<(), Fail> {
     assert_eq!(rt; first_untold_read(&rt, rt.alloc())?, None);
     Ok(())
 }
 
-/// Serves `ANA_MOVES` with at most `step` bytes in a read. Returns how many writes the replies take, or `None` if they
-/// are other replies, or the house doesn't end well.
+/// Serves `ANA_MOVES` with at most `step` bytes in a read. Returns how many writes the replies take, or `None` if the
+/// replies are wrong, or the house ends wrongly.
 fn writes_at<R: Wait>(rt: &R, alloc: Global, step: usize) -> Result<Option<usize>, Fail> {
     let reader = ana_moving(step);
     let (served, is_ended) = serve(rt, alloc, reader, FakeWriter::patient(alloc))?;
@@ -237,14 +237,14 @@ fn writes_at<R: Wait>(rt: &R, alloc: Global, step: usize) -> Result<Option<usize
     Ok(is_well.then_some(usize::MAX - served.writer.good))
 }
 
-/// Fails if the replies to two lines of one read take more than one write, or are other ones.
+/// Checks that the replies to two lines that came in one read take one write.
 #[test]
 fn replies_to_lines_that_came_together_are_one_write(rt: HostRuntime) -> Result<(), Fail> {
     assert_eq!(rt; writes_at(&rt, rt.alloc(), usize::MAX)?, Some(1));
     Ok(())
 }
 
-/// Fails if the replies to two lines that came byte by byte don't take a write each, or are other ones.
+/// Checks that the replies to two lines that came byte by byte take one write each.
 #[test]
 fn a_line_that_came_alone_is_answered_before_the_next_read(rt: HostRuntime) -> Result<(), Fail> {
     assert_eq!(rt; writes_at(&rt, rt.alloc(), 1)?, Some(2));

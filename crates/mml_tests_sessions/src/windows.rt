@@ -1,4 +1,4 @@
-//! Windows of one house in one thread, with some of them left out at its end.
+//! Tests of the windows of one house (one run of a lab) in one thread, also if some are missing at its end.
 ghost use Rattle.std.specs.Prelude.{◌≡◌, length};
 ghost use Rattle.mml_window.specs.Houses.{house_of};
 
@@ -18,8 +18,8 @@ use std::alloc::Global;
 use std::sync::Wait;
 use std::test::Fail;
 
-/// Asks for a move of node 1 through the second window, and then for the teacher's close through the first. Returns
-/// whether both are granted, at places 1 and 2.
+/// Asks for a move of node 1 through the second seat's window, and then for the teacher's close through the first
+/// seat's. Returns whether both are granted, at places 1 and 2.
 fn plays<H: House, R: Wait>(seats: &mut Pair<'_, MemorySink, H, R>) -> bool {
     let granted = seats.two.ask(student(0), &seduction(1, 0));
     let closed = seats.one.ask(Who::Teacher, &Command::Close);
@@ -38,8 +38,8 @@ fn is_first_move(answer: &Answer) -> bool {
     }
 }
 
-/// Returns whether the number, a see, a student's look and a report, all through the teacher's window, show
-/// configuration 1: node 1 points at node 2, and all three nodes are free.
+/// Returns whether the teacher's window shows configuration 1, by its number, a see, a student's look and a report:
+/// node 1 points at node 2, and all three nodes are free.
 fn sees_the_close<H: House, R: Wait>(teacher: &mut Seat<'_, MemorySink, H, R>) -> bool {
     let number = teacher.window.number() == Ok(1);
     let see = match teacher.window.see(Who::Teacher, 1) {
@@ -57,15 +57,15 @@ fn sees_the_close<H: House, R: Wait>(teacher: &mut Seat<'_, MemorySink, H, R>) -
     number && see && look && report
 }
 
-/// Returns whether ana's window, through which the move was asked for, shows configuration 1, which a close through
-/// another window has made, and denies the same move as stale.
+/// Returns whether ana's window, through which the move was asked for, shows configuration 1, which the close through
+/// the other window has made, and the same move is now denied as stale.
 fn meets_the_close<H: House, R: Wait>(ana: &mut Seat<'_, MemorySink, H, R>) -> bool {
     let number = ana.window.number() == Ok(1);
     let answer = ana.ask(student(0), &seduction(1, 0));
     number && matches!(answer, Answer::Denied(Denial::Stale(1)))
 }
 
-/// A visit in which ana moves at the second seat, and then the teacher closes at the first.
+/// A visit in which ana's move is asked for at the second seat, and then the teacher's close at the first.
 #[derive(Clone, Copy)]
 struct MoveAndClose;
 
@@ -73,7 +73,7 @@ impl Visit<MemorySink> for MoveAndClose {
     /// Whether both acts are granted, and both windows then show the new configuration.
     type Told = bool;
 
-    // Plays the move and the close, checks the views through the first seat, and asks for the move again through the
+    // Asks for the move and the close, checks the views through the first seat, and asks for the move again through the
     // second.
     fn visit<H: House, R: Wait>(self, seats: &mut Pair<'_, MemorySink, H, R>) -> bool {
         plays(seats) && sees_the_close(&mut seats.one) && meets_the_close(&mut seats.two)
@@ -92,7 +92,7 @@ fn are_at<H: House>(windows: &mut [Window<H>], number: u64) -> bool {
     count == 4
 }
 
-/// The result of a house in which a move and a close were played through two of its windows.
+/// The result of a house in which a move and a close were asked for through two of its windows.
 #[derive(Clone, Copy, Debug, PartialEq, Eq)]
 struct Told {
     /// Whether the visit went well.
@@ -100,12 +100,12 @@ struct Told {
     /// Whether all windows show number 0 before the visit and number 1 after it.
     are_shown: bool,
     ending: Ending,
-    /// Whether the house ended with a log, and its sink has just `CLOSED_JOURNAL`.
+    /// Whether the house has left a log, and its sink has exactly `CLOSED_JOURNAL`.
     has_journal: bool,
 }
 
-/// Starts a house, plays a move and a close in it, and ends it: with all its windows if `with_all`, else without the
-/// last one, which is ana's. Returns what came of it, or `Memory` if memory runs out.
+/// Starts a house, asks for a move and a close in it, and ends it: with all its windows if `with_all`, and otherwise
+/// without the last one, through which ana moved. Returns the result, or `Memory` if memory runs out.
 fn in_house<H: House, R: Wait>(
     rt: &R,
     alloc: Global,
@@ -130,14 +130,14 @@ fn in_house<H: House, R: Wait>(
     })
 }
 
-/// Returns the result of `in_house` over the path of three.
+/// Returns the result of `in_house` for the path of three.
 fn ended_with<R: Wait>(rt: &R, alloc: Global, with_all: bool) -> Result<Told, Fail> {
     let blank = open_path(rt, alloc, None)?;
     Ok(in_house::<Brand, _>(rt, alloc, blank, with_all)?)
 }
 
-/// Returns the result of a house in which all went well, with this ending. `has_journal`: whether it left the journal
-/// of a move and its close.
+/// Returns the result of a house in which all went well and that has ended like this. `has_journal` is whether it left
+/// the journal of a move and its close.
 fn good(ending: Ending, has_journal: bool) -> Told {
     Told {
         is_visited: true,
@@ -147,7 +147,8 @@ fn good(ending: Ending, has_journal: bool) -> Told {
     }
 }
 
-/// Fails if a house that ends with all its windows has no log, or one that ends without the window of a grant has one.
+/// Checks that a house that ends with all its windows leaves a log, and one that ends without the window of a granted
+/// move doesn't.
 #[test]
 fn a_house_ends_with_all_its_windows(rt: HostRuntime) -> Result<(), Fail> {
     let all = ended_with(&rt, rt.alloc(), true)?;
@@ -162,7 +163,7 @@ fn a_house_ends_with_all_its_windows(rt: HostRuntime) -> Result<(), Fail> {
     Ok(())
 }
 
-/// Returns whether the number, a see, a look and a report of a window all answer that it is closed.
+/// Returns whether a window shows nothing any more: its number, a see, a look and a report all say that it is closed.
 fn is_closed<H: House>(alloc: Global, window: &mut Window<H>) -> bool {
     let see = window.see(Who::Teacher, 1);
     let look = window.look(alloc, Who::Teacher, 1);
@@ -174,7 +175,7 @@ fn is_closed<H: House>(alloc: Global, window: &mut Window<H>) -> bool {
 }
 
 /// Ends a house without one of its windows, which was never used. Returns whether that window is closed then (`None` if
-/// there was no window), and how the house ended. Returns `Memory` if memory runs out.
+/// there was no window), and how the house has ended. Returns `Memory` if memory runs out.
 fn is_closed_after<H: House, R: Wait>(
     rt: &R,
     alloc: Global,
@@ -189,7 +190,7 @@ fn is_closed_after<H: House, R: Wait>(
     Ok((is_closed, ending))
 }
 
-/// Fails if a window still shows something after its house has ended without it, or the house's log isn't empty.
+/// Checks that a window shows nothing any more after its house has ended without it, and that the house's log is empty.
 #[test]
 fn a_window_that_outlives_its_house_is_closed(rt: HostRuntime) -> Result<(), Fail> {
     let blank = open_path(&rt, rt.alloc(), None)?;
@@ -203,7 +204,7 @@ fn a_window_that_outlives_its_house_is_closed(rt: HostRuntime) -> Result<(), Fai
     Ok(())
 }
 
-/// Decides three moves in a book whose sink fails at its second line. Returns whether the first is granted, the second
+/// Asks a book, whose sink fails at its second line, for three moves. Returns whether the first is granted, the second
 /// is refused for the journal, the first is denied as chosen when asked again, and the book has one event.
 fn refuses_the_second<H: House, R: Wait>(
     rt: &R,
@@ -219,8 +220,8 @@ fn refuses_the_second<H: House, R: Wait>(
         && book.events().len() == 1
 }
 
-/// Takes the book out of a house whose sink fails at its second line. Returns the result of `refuses_the_second`, and
-/// how the house ends, whose windows keep no place. Returns `Memory` if memory runs out.
+/// Takes the book out of a house whose sink fails at its second line. Returns the result of `refuses_the_second` for
+/// it, and how the house has ended, whose windows have no place. Returns `Memory` if memory runs out.
 fn decides_alone<H: House, R: Wait>(
     rt: &R,
     alloc: Global,
@@ -234,8 +235,8 @@ fn decides_alone<H: House, R: Wait>(
     Ok((holds, ending_of(&book.finish_from(rt, windows, 0))))
 }
 
-/// Fails if a book without its lock decides otherwise, or a house ends with a log though no window keeps its event's
-/// place.
+/// Checks that a book decides rightly without its lock, and that a house doesn't leave a log if no window has the place
+/// of its event.
 #[test]
 fn a_book_decides_alone(rt: HostRuntime) -> Result<(), Fail> {
     let blank = open_path(&rt, rt.alloc(), Some(2))?;

@@ -1,4 +1,4 @@
-//! Requests and replies as lines. An error (`Fail`) is running out of memory.
+//! Tests of requests and replies as lines. An error (`Fail`) means that memory ran out.
 mod replies;
 
 use mml_codec::{LineFault, Request, read_request, read_request_with, write_request};
@@ -7,7 +7,8 @@ use mml_plain::{Fields, LineScratch, read_fields};
 use std::alloc::{AllocError, Global};
 use std::test::Fail;
 
-/// Returns the text that `write_request` writes for the request that was read, or the name of the error.
+/// Returns the result of reading a request as text: the line that `write_request` writes for it, or the name of the
+/// error.
 fn text_or_fault(alloc: Global, read: Result<Request, LineFault>) -> Result<String, Fail> {
     match read {
         Ok(request) => written(alloc, &request),
@@ -15,15 +16,15 @@ fn text_or_fault(alloc: Global, read: Result<Request, LineFault>) -> Result<Stri
     }
 }
 
-/// Returns the text that `write_request` writes for a request, in place of older text.
+/// Returns the line that `write_request` writes for a request, into a buffer that had other text before.
 fn written(alloc: Global, request: &Request) -> Result<String, Fail> {
     let mut out = b"before".to_vec(alloc)?;
     write_request(alloc, request, &mut out)?;
     Ok(String::from_utf8(out)?)
 }
 
-// Lines, each with what it is read as, by hand. There are the greatest numbers, each kind of value of the registers p
-// and m, and lines that are no requests.
+// Lines, each with what it must be read as, worked out by hand. They have the greatest numbers, and each kind of value
+// of the registers p and m. Some of the lines are no requests.
 const LINES: &[(&[u8], &str)] = &[
     (br#"{"do":"bye"}"#, r#"{"do":"bye"}"#),
     (
@@ -73,8 +74,8 @@ const LINES: &[(&[u8], &str)] = &[
     (b"[1]", "Malformed"),
 ];
 
-/// Returns whether a line is read as `wanted`, a request's text or an error's name, both by `read_request`, which takes
-/// its own memory, and by `read_request_with`, which uses kept memory.
+/// Returns whether a line is read as `wanted`, which is a request's text or an error's name. Tries both `read_request`,
+/// which allocates its memory, and `read_request_with`, which uses `scratch`.
 fn is_read_as(
     alloc: Global,
     scratch: &mut LineScratch,
@@ -86,7 +87,7 @@ fn is_read_as(
     Ok(own.as_str() == wanted && kept.as_str() == wanted)
 }
 
-/// Returns the index of the first row of `LINES` whose line is read as something else, or `None` if there is none.
+/// Returns the index of the first row of `LINES` whose line is read wrongly, or `None` if all are right.
 fn first_line_read_otherwise(
     alloc: Global,
     scratch: &mut LineScratch,
@@ -99,13 +100,14 @@ fn first_line_read_otherwise(
     Ok(None)
 }
 
-/// A text, how it is spelled in a line, and how often it is repeated there.
+/// A text, how it is written in a line, and how often it is repeated.
 type Repeated = (&'static str, &'static str, usize);
 
-/// A name, a key, and the length in bytes of the greeting with them.
+/// A name, a key, and the length in bytes of the line of a hello with them.
 type Hello = (Repeated, Repeated, usize);
 
-// Names and keys that are plain, that are escaped in a line, or that make a long line; the lengths are by hand.
+// Names and keys that are plain, that are escaped in a line, or that make a long line. The lengths were worked out by
+// hand.
 const HELLOS: &[Hello] = &[
     (("ana", "ana", 1), ("a-key", "a-key", 1), 41),
     (("\"\n", r#"\"\n"#, 1), ("\\", r"\\", 1), 39),
@@ -115,8 +117,8 @@ const HELLOS: &[Hello] = &[
     (("\"", r#"\""#, 983), ("k", "k", 2001), 4000),
 ];
 
-/// Returns whether the greeting with a name and a key is written as `text`, and `text` is read as a greeting that is
-/// written as `text` again.
+/// Returns whether the line of the hello with this name and key is `text`, and `text` is read as a request whose line
+/// is `text` again.
 fn is_hello_written_as(
     alloc: Global,
     scratch: &mut LineScratch,
@@ -129,7 +131,7 @@ fn is_hello_written_as(
     Ok(written.as_str() == text && is_read_as(alloc, scratch, text.as_bytes(), text)?)
 }
 
-/// Returns the text that the greeting with the name and the key of a row should have.
+/// Returns the line that the hello with the name and the key of a row should have.
 fn hello_text(alloc: Global, row: &Hello) -> Result<String, AllocError> {
     let ((_, name, names), (_, key, keys), _) = row;
     let name = name.repeat(alloc, *names)?;
@@ -137,7 +139,7 @@ fn hello_text(alloc: Global, row: &Hello) -> Result<String, AllocError> {
     format!(in alloc; "{{\"do\":\"hello\",\"key\":\"{key}\",\"name\":\"{name}\"}}")
 }
 
-/// Returns whether the greeting of a row is written and read as its text, and that is as long as the row says.
+/// Returns whether the hello of a row is written and read rightly, and its line is as long as the row says.
 fn is_hello_told(alloc: Global, scratch: &mut LineScratch, row: &Hello) -> Result<bool, Fail> {
     let text = hello_text(alloc, row)?;
     let ((name, _, names), (key, _, keys), length) = row;
@@ -146,7 +148,8 @@ fn is_hello_told(alloc: Global, scratch: &mut LineScratch, row: &Hello) -> Resul
     Ok(text.len() == *length && is_hello_written_as(alloc, scratch, name, key, text.as_str())?)
 }
 
-/// Returns the index of the first row of `HELLOS` for which `is_hello_told` is false, or `None` if there is none.
+/// Returns the index of the first row of `HELLOS` for which `is_hello_told` is `false`, or `None` if there is no such
+/// row.
 fn first_hello_told_otherwise(
     alloc: Global,
     scratch: &mut LineScratch,
@@ -159,7 +162,8 @@ fn first_hello_told_otherwise(
     Ok(None)
 }
 
-/// Returns the number under `node` in a line, or `None` if the line isn't read as an object, or has no number there.
+/// Returns the number under the key `node` in a line, or `None` if the line isn't read as an object, or has no number
+/// there.
 fn named_node(scratch: &mut LineScratch, line: &[u8]) -> Result<Option<u64>, Fail> {
     let mut fields = Fields::empty();
     if read_fields(line, scratch, &mut fields)? {
@@ -168,12 +172,14 @@ fn named_node(scratch: &mut LineScratch, line: &[u8]) -> Result<Option<u64>, Fai
     Ok(None)
 }
 
-/// The first row of `LINES` and the first of `HELLOS` that have another result, and the nodes that three lines name.
+/// The first row of `LINES` and the first of `HELLOS` that are wrong, if there are any, and the numbers under `node` in
+/// three lines.
 type Told = (Option<usize>, Option<usize>, [Option<u64>; 3]);
 
-/// Returns the first rows of `LINES` and of `HELLOS` that have another result, and then the nodes named in three lines:
-/// a plain one, one with nested arrays and objects, and one with a number too great to be read. All are read with the
-/// same kept memory.
+/// Returns the results of three checks, all of which use `scratch` as memory for reading lines. These are the first row
+/// of `LINES` that is read wrongly, the first row of `HELLOS` that is written or read wrongly (`None` if all are
+/// right), and the numbers under `node` in three lines: a plain one, one with nested arrays and objects, and one with a
+/// number that is too great to be read.
 fn told_with(alloc: Global, scratch: &mut LineScratch) -> Result<Told, Fail> {
     let line = first_line_read_otherwise(alloc, scratch)?;
     let hello = first_hello_told_otherwise(alloc, scratch)?;
@@ -183,8 +189,8 @@ fn told_with(alloc: Global, scratch: &mut LineScratch) -> Result<Told, Fail> {
     Ok((line, hello, [plain, nested, great]))
 }
 
-// Fails if a row of `LINES` or `HELLOS` is read or written otherwise. Fails too if a node isn't found in a plain or in
-// a nested line, or is found in one with a number that can't be read.
+// Checks that the rows of `LINES` and `HELLOS` are read and written rightly, and that a node is found in a plain and in
+// a nested line, but not in one with a number that can't be read.
 #[test]
 fn requests_are_read_and_written(rt: HostRuntime) -> Result<(), Fail> {
     let mut scratch = LineScratch::new(rt.alloc(), 4096)?;

@@ -1,5 +1,5 @@
-//! Scripts from the bytes that come in to the bytes that go out, over the path of three. An error (`Fail`) is running
-//! out of memory, or that of a lab file.
+//! Tests of scripts over the path of three, from the bytes that are read to the bytes that are written. An error
+//! (`Fail`) means that memory ran out, or is that of a lab file.
 mod answers;
 mod journals;
 mod reads;
@@ -14,7 +14,7 @@ use std::alloc::Global;
 use std::io::{Read, Write};
 use std::test::Fail;
 
-/// Returns the error that a script over the path of three ends with, or `None` if it ends well.
+/// Answers a script over the path of three. Returns the error that it ends with, or `None` if it ends well.
 fn script_error_of<R: Read, W: Write>(
     alloc: Global,
     reader: &mut R,

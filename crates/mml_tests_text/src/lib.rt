@@ -1,4 +1,4 @@
-//! Tests of the libraries of text by their public items: lines, requests and replies, scripts and audits
+//! Tests of the libraries of text, which use only public items: lines, requests and replies, and scripts and audits,
 //! over readers, writers and sinks that count and fail.
 #![tactic(auto)]
 

@@ -1,4 +1,4 @@
-//! Lines of readers. An error means that memory ran out.
+//! Tests of reading lines. An error means that memory ran out.
 mod whole;
 
 use mml_fakes::{FakeReader, Parts};
@@ -10,11 +10,11 @@ use std::test::Fail;
 /// Two lines with text, an empty one between them, and a rest without a newline.
 const TEXT: &[u8] = b"ab\n\ncd\ne";
 
-/// The answers to `TEXT`, as `steps_text` writes them: its rest is no line.
+/// The answers of `Lines::next` for `TEXT`, in the form of `steps_text`. The rest isn't a line.
 const TOLD: &str = "Line ab\nLine \nLine cd\nEnd \n";
 
-/// Calls `next` until its first answer that isn't `Line`, at most ten times. Returns each answer with its bytes, as a
-/// text.
+/// Calls `next` until its first answer that isn't `Line`, at most ten times. Returns each answer with the line's bytes,
+/// as a text.
 fn steps_text<R: Read>(
     lines: &mut Lines,
     alloc: Global,
@@ -31,8 +31,8 @@ fn steps_text<R: Read>(
     Ok(text)
 }
 
-/// Reads a reader to its end under this limit. Returns the answers of `next` as a text, and appends `and another end`
-/// if a later call gives another answer or reads on.
+/// Reads a reader to its end under this limit. Returns the answers of `next` as a text. Appends `and another end` if a
+/// later call gives another answer, or reads on.
 fn steps_to_the_end<R: Read>(alloc: Global, limit: usize, reader: &mut R) -> Result<String, Fail> {
     let mut lines = Lines::new(alloc, limit.min(MAX_LIMIT))?;
     let mut text = steps_text(&mut lines, alloc, reader)?;
@@ -42,7 +42,7 @@ fn steps_to_the_end<R: Read>(alloc: Global, limit: usize, reader: &mut R) -> Res
     Ok(text)
 }
 
-/// Returns whether two more calls of `next`, with another reader, repeat the last answer in `text` and read nothing.
+/// Returns whether two more calls of `next`, for another reader, repeat the last answer in `text` and read nothing.
 fn is_repeated(lines: &mut Lines, alloc: Global, text: &str) -> Result<bool, AllocError> {
     let mut late = b"late\n".as_slice();
     let again = steps_text(lines, alloc, &mut late)?;
@@ -50,7 +50,8 @@ fn is_repeated(lines: &mut Lines, alloc: Global, text: &str) -> Result<bool, All
     Ok(text.ends_with(again.as_str()) && again == once_more && late.len() == 5)
 }
 
-/// A limit, a number of digits, what ends them, whether they come as a line, and the last answer as text.
+/// A limit, a number of digits, what follows them, whether they must be returned as a line, and the last answer as
+/// text.
 type Length = (usize, usize, &'static str, bool, &'static str);
 
 /// Lines at their limit and over it, with a newline and without.
@@ -64,8 +65,8 @@ const LENGTHS: &[Length] = &[
     (MAX_LIMIT, 65_537, "\n", false, "TooLong \n"),
 ];
 
-/// Returns a text of `len` digits, which repeats 7, 1, 1. The period of three doesn't divide 4,096, so that a block of
-/// that size in the wrong place changes the text.
+/// Returns a text of `len` digits, which repeats 7, 1, 1. Its period of three doesn't divide 4,096, so the text changes
+/// if a block of that size is in the wrong place.
 fn digits(alloc: Global, len: usize) -> Result<String, AllocError> {
     let mut text = String::new(alloc);
     for index in 0..len {
@@ -86,7 +87,7 @@ fn are_steps(
     Ok(steps_to_the_end(alloc, limit, &mut text.as_bytes())?.as_str() == wanted)
 }
 
-/// Returns the wanted answers as a text: the line if `is_line`, and then the last answer.
+/// Returns the right answers as a text: the line if `is_line`, and then the last answer.
 fn wanted(alloc: Global, line: &str, is_line: bool, last: &str) -> Result<String, AllocError> {
     if is_line {
         format!(in alloc; "Line {line}\n{last}")
@@ -95,7 +96,7 @@ fn wanted(alloc: Global, line: &str, is_line: bool, last: &str) -> Result<String
     }
 }
 
-/// Returns whether the digits of a row, with the row's end and limit, give the row's answers.
+/// Returns whether the digits of a row, with what follows them and under the row's limit, give the row's answers.
 fn is_length_told(alloc: Global, row: &Length) -> Result<bool, Fail> {
     let (limit, len, end, is_line, last) = row;
     let line = digits(alloc, *len)?;
@@ -103,7 +104,8 @@ fn is_length_told(alloc: Global, row: &Length) -> Result<bool, Fail> {
     are_steps(alloc, *limit, line.as_str(), end, wanted.as_str())
 }
 
-/// Returns the index of the first row of `LENGTHS` for which `is_length_told` is false, or `None` if there is none.
+/// Returns the index of the first row of `LENGTHS` for which `is_length_told` is `false`, or `None` if there is no such
+/// row.
 fn first_length_told_otherwise(alloc: Global) -> Result<Option<usize>, Fail> {
     for (number, row) in LENGTHS.iter().enumerate() {
         if !is_length_told(alloc, row)? {
@@ -113,7 +115,7 @@ fn first_length_told_otherwise(alloc: Global) -> Result<Option<usize>, Fail> {
     Ok(None)
 }
 
-// Fails if a line at its limit isn't returned, a longer one isn't reported as too long, or one without a newline is
+// Checks that a line at its limit is returned, a longer one is reported as too long, and one without a newline isn't
 // returned.
 #[test]
 fn a_line_is_as_long_as_the_limit(rt: HostRuntime) -> Result<(), Fail> {
@@ -121,8 +123,8 @@ fn a_line_is_as_long_as_the_limit(rt: HostRuntime) -> Result<(), Fail> {
     Ok(())
 }
 
-/// Returns whether `TEXT`, split at `cut`, gives the answers in `TOLD`. The first part comes in one read, the second in
-/// reads of at most `step` bytes.
+/// Returns whether `TEXT`, cut in two at `cut`, gives the answers in `TOLD`. The first part comes in one read, and the
+/// second in reads of at most `step` bytes.
 fn is_told_in_parts(alloc: Global, cut: usize, step: usize) -> Result<bool, Fail> {
     let (first, second) = TEXT.split_at(cut.min(TEXT.len()));
     let mut reader = Parts {
@@ -133,8 +135,8 @@ fn is_told_in_parts(alloc: Global, cut: usize, step: usize) -> Result<bool, Fail
     Ok(steps_to_the_end(alloc, 2, &mut reader)?.as_str() == TOLD)
 }
 
-/// Returns the first offset at which a cut of `TEXT` changes the answers, or `None` if there is none. The second part
-/// comes in reads of at most `step` bytes.
+/// Returns the first offset at which cutting `TEXT` in two changes the answers, or `None` if there is no such offset.
+/// The second part comes in reads of at most `step` bytes.
 fn first_cut_that_changes(alloc: Global, step: usize) -> Result<Option<usize>, Fail> {
     for cut in 0..=TEXT.len() {
         if !is_told_in_parts(alloc, cut, step)? {
@@ -144,10 +146,10 @@ fn first_cut_that_changes(alloc: Global, step: usize) -> Result<Option<usize>, F
     Ok(None)
 }
 
-/// The most bytes that a read gives, how many reads succeed, the answers, and how many reads are made.
+/// The most bytes that a read returns, how many reads succeed, the right answers, and how many reads must be made.
 type Reads = (usize, usize, &'static str, usize);
 
-/// Readers of `TEXT` that fail after some reads, but for the row of `TOLD`, which comes to the end first.
+/// Readers of `TEXT` that fail after some reads. In the row of `TOLD`, the end comes before that.
 const READS: &[Reads] = &[
     (1, 0, "ReadFault \n", 1),
     (1, 1, "ReadFault \n", 2),
@@ -163,7 +165,7 @@ const READS: &[Reads] = &[
     (100, 1, "Line ab\nLine \nLine cd\nReadFault \n", 2),
 ];
 
-/// Returns whether `TEXT`, from the reader of a row, gives the row's answers in the row's number of reads.
+/// Returns whether `TEXT`, from the reader of a row, gives the row's answers with the row's number of reads.
 fn are_reads_told(alloc: Global, row: &Reads) -> Result<bool, Fail> {
     let (step, good, wanted, reads) = row;
     let mut reader = FakeReader::failing_after(*good, TEXT);
@@ -172,7 +174,8 @@ fn are_reads_told(alloc: Global, row: &Reads) -> Result<bool, Fail> {
     Ok(told.as_str() == *wanted && reader.reads == *reads)
 }
 
-/// Returns the index of the first row of `READS` for which `are_reads_told` is false, or `None` if there is none.
+/// Returns the index of the first row of `READS` for which `are_reads_told` is `false`, or `None` if there is no such
+/// row.
 fn first_reads_told_otherwise(alloc: Global) -> Result<Option<usize>, Fail> {
     for (number, row) in READS.iter().enumerate() {
         if !are_reads_told(alloc, row)? {
@@ -182,15 +185,16 @@ fn first_reads_told_otherwise(alloc: Global) -> Result<Option<usize>, Fail> {
     Ok(None)
 }
 
-/// Returns the first cut of `TEXT` that changes the answers in reads of one byte, the first one in reads of up to 100
-/// bytes, and the first row of `READS` that is answered otherwise; each is `None` if there is none.
+/// Returns three results, each `None` if all is right: the first cut of `TEXT` that changes the answers in reads of one
+/// byte, the first one in reads of up to 100 bytes, and the first row of `READS` that is wrong.
 fn first_told_otherwise(alloc: Global) -> Result<[Option<usize>; 3], Fail> {
     let by_bytes = first_cut_that_changes(alloc, 1)?;
     let at_once = first_cut_that_changes(alloc, 100)?;
     Ok([by_bytes, at_once, first_reads_told_otherwise(alloc)?])
 }
 
-// Fails if a cut of the input changes the answers, a failed read isn't the last answer, or there are other reads.
+// Checks that cutting the input changes nothing, that a failed read is the last answer, and that the number of reads is
+// right.
 #[test]
 fn cuts_change_nothing_and_a_failed_read_ends_the_lines(rt: HostRuntime) -> Result<(), Fail> {
     assert_eq!(rt; first_told_otherwise(rt.alloc())?, [None; 3]);
@@ -209,15 +213,15 @@ fn count_lines(lines: &mut Lines, reader: &mut FakeReader) -> (u32, Step) {
     (u32::MAX, Step::Line)
 }
 
-/// Reads one newline more than there may be reads, one byte a read. Returns how many empty lines come, the answer that
-/// ends them, and how many bytes are left unread.
+/// Reads newlines, one more than the number of reads that are allowed, one byte in each read. Returns how many empty
+/// lines come, the answer that ends them, and how many bytes are left unread.
 fn lines_of_many_newlines(alloc: Global) -> Result<(u32, Step, usize), Fail> {
     let breaks = vec![in alloc; b'\n'; MAX_READS as usize + 1]?;
     counted_in(alloc, breaks.as_slice())
 }
 
-/// Reads these bytes one by one. Returns how many lines come, the answer that ends them, and how many bytes are left
-/// unread.
+/// Reads these bytes, one in each read. Returns how many lines come, the answer that ends them, and how many bytes are
+/// left unread.
 fn counted_in(alloc: Global, breaks: &[u8]) -> Result<(u32, Step, usize), Fail> {
     let mut reader = FakeReader::failing_after(usize::MAX, breaks);
     let mut lines = Lines::new(alloc, 4096)?;
@@ -225,16 +229,16 @@ fn counted_in(alloc: Global, breaks: &[u8]) -> Result<(u32, Step, usize), Fail> 
     Ok((count, step, reader.rest.len()))
 }
 
-/// Reads a line of 4,096 bytes, the limit, one byte a read. Returns whether it comes whole and then the end, and how
-/// many reads were made.
+/// Reads a line of 4,096 bytes, the limit, one byte in each read. Returns whether it is returned whole, followed by the
+/// end, and how many reads were made.
 fn longest_line_by_bytes(alloc: Global) -> Result<(bool, usize), Fail> {
     let mut text = digits(alloc, 4096)?;
     text.push('\n')?;
     line_by_bytes(alloc, text.as_bytes())
 }
 
-/// Reads the line in `text`, which ends with a newline, one byte a read. Returns whether it comes whole and then the
-/// end, and how many reads were made.
+/// Reads the line in `text`, which ends with a newline, one byte in each read. Returns whether it is returned whole,
+/// followed by the end, and how many reads were made.
 fn line_by_bytes(alloc: Global, text: &[u8]) -> Result<(bool, usize), Fail> {
     let mut reader = FakeReader::failing_after(usize::MAX, text);
     let mut lines = Lines::new(alloc, 4096)?;
@@ -255,8 +259,8 @@ fn counts(alloc: Global) -> Result<Counts, Fail> {
     ))
 }
 
-// Fails unless as many lines come as there may be reads if each line takes a read, and a line of 4,096 bytes comes
-// whole by a read for each byte, with one more that finds the end.
+// Checks that as many lines come as reads are allowed, if each line takes one read, and that a line of 4,096 bytes
+// comes whole with one read for each byte, and one that finds the end.
 #[test]
 fn reads_are_counted_over_all_lines(rt: HostRuntime) -> Result<(), Fail> {
     // One read for each byte, and one that finds the end.

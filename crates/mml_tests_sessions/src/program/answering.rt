@@ -1,4 +1,4 @@
-//! What `check`, `audit` and `script` write, over writers that fail after so many writes or flushes.
+//! Tests of what `check`, `audit` and `script` write, over writers that fail after given numbers of writes or flushes.
 use mml_fakes::labs::{PATH_OF_THREE, boxed_lab};
 use mml_fakes::scripts::{FIRST_LOOK, FIRST_LOOK_REPLIES, TEN_LINES};
 use mml_fakes::{FakeWriter, lines};
@@ -10,8 +10,8 @@ use mml_serving::write_listening;
 use std::alloc::Global;
 use std::test::Fail;
 
-/// Returns whether a call ended with the error `wanted`, or well if that is `None`, and its writer has taken exactly
-/// the bytes of `out`.
+/// Returns whether a call ended with the error `wanted` (or well, if that is `None`), and its writer has exactly the
+/// bytes of `out`.
 fn has_written(
     ended: Result<(), Fault>,
     writer: &FakeWriter,
@@ -21,23 +21,23 @@ fn has_written(
     ended.err() == wanted && writer.taken.as_slice() == out
 }
 
-/// The size line of the path of three.
+/// The line of `check` for the path of three.
 const SIZE: &[u8] = b"ok: 3 nodes, 2 links, 3 students\n";
 
-/// The audit line of `TEN_LINES` over the path of three.
+/// The line of `audit` for `TEN_LINES` over the path of three.
 const AUDITED: &[u8] = b"ok: 10 events, configuration 4, stable\n";
 
 /// The first line of a server on port 7000.
 const LISTENING: &[u8] = b"listening on port 7000\n";
 
-/// Returns whether a server's first line, which names its port, goes out in one write as `LISTENING`.
+/// Returns whether a server's first line is written as `LISTENING`, with one write.
 fn is_listening_told(alloc: Global) -> bool {
     let mut first = FakeWriter::failing_after(1, alloc);
     write_listening(alloc, 7000, &mut first) == Ok(()) && first.taken.as_slice() == LISTENING
 }
 
-/// Returns whether the size line of this lab is `SIZE` and its audit line `AUDITED`, each in one write. A failed write
-/// of the size line must be reported, with nothing written.
+/// Returns whether the line of `check` for this lab is `SIZE` and the line of `audit` is `AUDITED`, each with one
+/// write, and a failed write of the first is reported, with nothing written.
 fn are_lines_told(alloc: Global, lab: &Lab) -> bool {
     let mut size = FakeWriter::failing_after(1, alloc);
     let is_size = write_size(alloc, lab, &mut size);
@@ -50,16 +50,15 @@ fn are_lines_told(alloc: Global, lab: &Lab) -> bool {
         && has_written(is_failed, &failing, Some(Fault::Write), b"")
 }
 
-/// Returns whether each of these lines goes out in one write: a server's first line, and the size line and the audit
-/// line of the built-in lab. A failed write of the size line must be reported. Returns an error if the built-in lab
-/// can't be read.
+/// Returns whether a server's first line, and the lines of `check` and `audit` for the built-in lab, are right, each
+/// with one write, and a failed write is reported. Returns an error if the built-in lab can't be read.
 fn told_of_lines(alloc: Global) -> Result<bool, Fail> {
     let lab = boxed_lab(alloc, BUILT_IN)?;
     Ok(is_listening_told(alloc) && are_lines_told(alloc, &lab))
 }
 
-/// Fails if a server's first line, a size line or an audit line is another or takes more than one write, or a failed
-/// write isn't reported. Fails too if the built-in lab isn't the path of three.
+/// Checks that a server's first line, and the lines of `check` and `audit`, are right and take one write each, that a
+/// failed write is reported, and that the built-in lab is the path of three.
 #[test]
 fn lines_go_out_in_one_write(rt: HostRuntime) -> Result<(), Fail> {
     let are_told = told_of_lines(rt.alloc())?;
@@ -77,8 +76,8 @@ const LEFT: &str = lines!("1 ", left);
 /// A script whose second line names connection 5, which the built-in lab doesn't have.
 const BAD_SECOND_LINE: &str = lines!("1 ", bye, "5 ", bye);
 
-/// A script and how often it is repeated; after how many writes and after how many flushes its writer fails; the error
-/// at the end; and what was written: a text and how often it is repeated.
+/// A script and how often it is repeated; how many writes and how many flushes of its writer succeed; the error at its
+/// end; and what must be written: a text and how often it is repeated.
 type Row = (
     &'static str,
     usize,
@@ -89,9 +88,9 @@ type Row = (
     usize,
 );
 
-/// Scripts and how they end. Before each read all replies are written and flushed. A write or a flush that fails is
-/// reported instead of a good end, and instead of the error that would come after it. A read has at most 4096 bytes,
-/// which holds 273 of these byes; their replies go out in one write.
+/// Scripts and how they must end. Before each read all replies are written and flushed. A write or a flush that fails
+/// is reported instead of a good end, and instead of an error that would come after it. One read returns at most 4096
+/// bytes, which are 273 of these byes; the replies to them take one write.
 const ROWS: &[Row] = &[
     ("", 1, 1, 2, None, "", 1),
     (FIRST_LOOK, 1, 1, 2, None, FIRST_LOOK_REPLIES, 1),
@@ -112,15 +111,15 @@ const ROWS: &[Row] = &[
     (BYE, 1000, 100, 100, None, LEFT, 1000),
 ];
 
-/// Runs a script over the built-in lab, and writes the replies to the writer. Returns the fault with which the script
-/// ends, or `None` if it ends well. Returns an error (`Fail`) if the lab can't be read.
+/// Answers a script over the built-in lab, and writes the replies to the writer. Returns the fault with which the
+/// script ends, or `None` if it ends well. Returns an error (`Fail`) if the lab can't be read.
 fn fault_of(alloc: Global, script: &str, writer: &mut FakeWriter) -> Result<Option<Fault>, Fail> {
     let lab = read_lab(alloc, BUILT_IN.as_bytes())?;
     let mut reader = script.as_bytes();
     Ok(answer_script(alloc, lab, &mut reader, writer, NullSink::new()).err())
 }
 
-/// Returns whether the script of a row ends with the row's error, and its writer takes the row's replies.
+/// Returns whether the script of a row ends with the row's error, and its writer gets the row's replies.
 fn is_answered(alloc: Global, row: &Row) -> Result<bool, Fail> {
     let (script, times, writes, flushes, wanted, replies, count) = row;
     let mut writer = FakeWriter::failing_after(*writes, alloc);
@@ -131,7 +130,7 @@ fn is_answered(alloc: Global, row: &Row) -> Result<bool, Fail> {
     Ok(fault == *wanted && writer.taken.as_slice() == replies.as_bytes())
 }
 
-/// Returns the index of the first row of `ROWS` for which `is_answered` is false, or `None` if there is none.
+/// Returns the index of the first row of `ROWS` for which `is_answered` is `false`, or `None` if there is no such row.
 fn first_other(alloc: Global) -> Result<Option<usize>, Fail> {
     for (number, row) in ROWS.iter().enumerate() {
         if !is_answered(alloc, row)? {
@@ -141,7 +140,7 @@ fn first_other(alloc: Global) -> Result<Option<usize>, Fail> {
     Ok(None)
 }
 
-/// Fails if a script of `ROWS` ends otherwise or has other replies than its row says.
+/// Checks that each script of `ROWS` ends, and is answered, as its row says.
 #[test]
 fn scripts_are_answered_up_to_a_failed_write(rt: HostRuntime) -> Result<(), Fail> {
     assert_eq!(rt; first_other(rt.alloc())?, None);

@@ -1,19 +1,19 @@
-//! Error lines and statuses that no use of the program meets, and the errors of running out of memory.
+//! Tests of error lines and exit statuses that no use of the program shows, and of errors for memory that ran out.
 use mml_ids::IdFault;
 use mml_lab::LabFault;
 use mml_program::Fault;
 use std::alloc::{AllocError, Global};
 use std::test::Fail;
 
-/// Returns whether the status of an error and its line, with a space between them, are the text `wanted`.
+/// Returns whether the exit status of an error and its line, with a space between them, make the text `wanted`.
 fn has_line(alloc: Global, fault: &Fault, wanted: &str) -> Result<bool, AllocError> {
     let status = fault.status();
     let told = format!(in alloc; "{status} {fault}")?;
     Ok(told.as_str() == wanted)
 }
 
-/// Fails if an error that no use of the program meets has another status or line, or if a lab's error of running out of
-/// memory doesn't become the program's.
+/// Checks the statuses and lines of two errors that no use of the program shows, and that a lab's error for memory that
+/// ran out becomes the program's.
 #[test]
 fn faults_that_are_not_met_have_lines(rt: HostRuntime) -> Result<(), Fail> {
     let astray = has_line(

@@ -1,4 +1,4 @@
-//! The words that were given, files that are read whole, and a journal's file that is begun.
+//! Tests of the command line's words, of reading whole files, and of beginning a journal's file.
 use mml_ends::hold_streams;
 use mml_fakes::scripts::ANA_JOURNAL;
 use mml_files::OpenJournal;
@@ -10,14 +10,14 @@ use std::path::{Path, PathBuf};
 use std::test::Fail;
 use std::{env, fs, process};
 
-/// Returns a path in the folder of temporary files. The file's name has this process's number, and ends with `end`.
+/// Returns a path in the folder for temporary files. The file's name has this process's number, and ends with `end`.
 fn path_of_process(rt: &HostRuntime, end: &str) -> Result<PathBuf, Fail> {
     let name = format!(in rt.alloc(); "mml_tests_sessions_{}{end}", process::id(rt.process()))?;
     let folder = env::temp_dir(rt)?;
     Ok(folder.join(rt.alloc(), name.as_str())?)
 }
 
-/// Returns whether what was read is what is wanted: the same bytes, or the same fault.
+/// Returns whether the result of a read is as wanted: the same bytes, or the same fault.
 fn is_read(found: Result<Vec<u8>, Fault>, wanted: Result<&[u8], Fault>) -> bool {
     match (found, wanted) {
         (Ok(bytes), Ok(wanted)) => bytes.as_slice() == wanted,
@@ -26,8 +26,8 @@ fn is_read(found: Result<Vec<u8>, Fault>, wanted: Result<&[u8], Fault>) -> bool 
     }
 }
 
-/// Opens a journal at a path and begins it, with the number 7 as what else was needed. Returns whether the number comes
-/// back, and the journal takes a whole line.
+/// Opens a journal at a path and begins it; the number 7 stands for what else is needed. Returns whether the number is
+/// returned, and the journal's sink takes a whole line.
 fn is_begun(rt: &HostRuntime, path: &str) -> bool {
     let Ok(journal) = OpenJournal::open(rt, path, &[]) else {
         return false;
@@ -40,8 +40,8 @@ fn is_begun(rt: &HostRuntime, path: &str) -> bool {
     }
 }
 
-/// Begins a journal at `path`, which holds the file of the built-in lab. Returns whether a lab of three nodes is read
-/// from `path` before, the journal's line is read from there afterwards, and the lab's text is then found at `kept`.
+/// Begins a journal at `path`, where the file of the built-in lab is. Returns whether this lab is read from `path`
+/// before, the journal's line is read from there afterwards, and the lab's text is then found at `kept`.
 fn is_kept(rt: &HostRuntime, path: &str, kept: &str) -> bool {
     let old = lab_of(rt, path).is_ok_and(|lab| lab.node_count() == 3);
     let is_begun = is_begun(rt, path);
@@ -64,8 +64,8 @@ fn told_of_paths(rt: &HostRuntime, path: Path<'_>, kept: Path<'_>) -> Result<boo
     Ok(is_kept)
 }
 
-/// Fails if a file isn't read whole, a journal isn't begun in its place, or the old file isn't kept. Fails too if the
-/// command line has no words, or the standard streams can't be held.
+/// Checks that a file is read whole, that a journal is begun in its place, and that the old file is kept. Also checks
+/// that the command line has words, and the standard streams can be held open.
 #[test]
 fn files_are_read_and_journals_begun(rt: HostRuntime) -> Result<(), Fail> {
     let path = path_of_process(&rt, "")?;
@@ -77,7 +77,7 @@ fn files_are_read_and_journals_begun(rt: HostRuntime) -> Result<(), Fail> {
     Ok(())
 }
 
-/// Fails if a path with a null byte, which no command line has, is read, or has another fault than the one handed in.
+/// Checks that a path with a null byte, which no command line has, isn't read, and that the fault is the given one.
 #[test]
 fn a_path_with_a_null_is_not_read(rt: HostRuntime) {
     let lab = is_read(read_file(&rt, "a\0b", Fault::ReadLab), Err(Fault::ReadLab));

@@ -1,4 +1,4 @@
-//! What the words of the command line ask for.
+//! Tests of reading the command line.
 use mml_program::read_words;
 use std::alloc::Global;
 use std::test::Fail;
@@ -14,7 +14,7 @@ fn given(alloc: Global, line: &str) -> Result<Vec<String>, Fail> {
     Ok(words)
 }
 
-/// Command lines, each with the debug text of the task that it asks for.
+/// Command lines, each with the debug text of the task that it must be read as.
 const FORMS: &[(&str, &str)] = &[
     ("mml", "BuiltIn"),
     ("mml check a", "Check { lab: \"a\" }"),
@@ -60,14 +60,15 @@ const FORMS: &[(&str, &str)] = &[
     ),
 ];
 
-/// Returns whether words are read as the task whose debug text is `wanted`. Returns an error if they ask for no task.
+/// Returns whether these words are read as the task with the debug text `wanted`. Returns an error if they aren't a
+/// task.
 fn is_task(alloc: Global, words: &[String], wanted: &str) -> Result<bool, Fail> {
     let task = read_words(alloc, words)?;
     let found = format!(in alloc; "{task:?}")?;
     Ok(found.as_str() == wanted)
 }
 
-/// Returns the first line of `FORMS` that is read as another task, or `None` if there is none.
+/// Returns the first line of `FORMS` that is read as another task, or `None` if all are right.
 fn first_other(alloc: Global) -> Result<Option<&'static str>, Fail> {
     for (line, wanted) in FORMS {
         let words = given(alloc, line)?;
@@ -78,7 +79,7 @@ fn first_other(alloc: Global) -> Result<Option<&'static str>, Fail> {
     Ok(None)
 }
 
-/// Fails if a line of `FORMS` is read as another task, or an empty list of words isn't read as the built-in lab.
+/// Checks that each line of `FORMS` is read as its task, and an empty list of words as the task over the built-in lab.
 #[test]
 fn each_form_is_taken(rt: HostRuntime) -> Result<(), Fail> {
     let are_none_taken = is_task(rt.alloc(), &[], "BuiltIn")?;

@@ -1,16 +1,16 @@
-//! A reader that gives one byte in a read.
+//! A reader that returns one byte in a read.
 use mml_serving::LetGo;
 use std::io;
 use std::io::Read;
 
-/// A reader that gives these bytes one by one.
+/// A reader that returns these bytes one by one.
 #[derive(Drop)]
 pub struct Bytewise<'a> {
     pub rest: &'a [u8],
 }
 
 impl<'a> Read for Bytewise<'a> {
-    // Returns the next byte; 0 bytes if none is left, or there is no room for it.
+    // Returns the next byte, or 0 bytes if none is left or there is no room for it.
     fn read(&mut self, buf: &mut [u8]) -> io::Result<usize> {
         let len = buf.len().min(1);
         self.rest.read(&mut buf[..len])
@@ -18,6 +18,6 @@ impl<'a> Read for Bytewise<'a> {
 }
 
 impl<'a> LetGo for Bytewise<'a> {
-    // Does nothing: a reader in memory holds nothing that could be given back.
+    // Does nothing: a reader in memory has no handle.
     fn let_go(&mut self) {}
 }

@@ -1,4 +1,4 @@
-//! A put that goes on, under the lock, until another session has come for the lock and a third was answered.
+//! A test of a slow put: it holds the lock until another session wants the lock and a third was answered.
 use super::steps::{Hold, Holds, Steps};
 use super::{ANA_GRANTED, ANA_MOVES, are_answered, serve};
 use mml_fakes::lines;
@@ -11,15 +11,15 @@ use std::test::Fail;
 use std::thread;
 use std::thread::Threads;
 
-/// The number under which the first put is held; the three sessions have the numbers before it.
+/// The number of the put among the connections of `Steps`. The three sessions have the numbers before it.
 const PUT: u8 = 4;
 
-/// How often the first put lets other threads run, after the second session has come to its second line and the third
-/// to its second reply.
+/// How often the put lets other threads run, after the second session has come to its second line and the third has got
+/// its second reply.
 const TURNS: u64 = 100_000;
 
-/// The second and the third session wait at their second line until the first put has begun, and the put waits there
-/// until the second session has come to its second line and the third to its second reply.
+/// Where sessions wait: the second and the third at their second line until the first put has begun, and the put until
+/// the second session has come to its second line and the third has got its second reply.
 const HOLDS: &[Hold] = &[
     (2, 2, PUT, 1),
     (3, 2, PUT, 1),
@@ -27,7 +27,7 @@ const HOLDS: &[Hold] = &[
     (PUT, 0, 3, 4),
 ];
 
-/// A sink that takes all bytes. Its first put is held as `HOLDS` says, and then for `TURNS` turns of other threads.
+/// A sink that stores all bytes. Its first put waits as `HOLDS` says, and then lets other threads run `TURNS` times.
 #[derive(Drop)]
 struct Slow<'a> {
     bytes: Vec<u8>,
@@ -42,8 +42,8 @@ impl<'a> Sink for Slow<'a> {
 
     ghost failures = { λ s. s.failures };
 
-    // Takes all bytes. The first put waits until the second session has come to its second line and the third to its
-    // second reply, and then for `TURNS` turns more. If memory runs out, fails and counts that.
+    // Stores all bytes. The first put waits until the second session has come to its second line and the third has got
+    // its second reply, and then lets other threads run `TURNS` times. If memory runs out, fails and counts that.
     fn put(&mut self, bytes: &[u8]) -> Result<usize, SinkFault> {
         if self.bytes.is_empty() {
             self.steps.come(PUT, Point::Line);
@@ -59,7 +59,7 @@ impl<'a> Sink for Slow<'a> {
     }
 }
 
-/// Cyd's greeting, a see of node 2, and a bye.
+/// Cyd's hello, a see of node 2, and a bye.
 const CYD_LOOKS: &str = lines!(hello("cyd", "c-key"), see(2), bye);
 
 /// The replies to `BEN_MOVES` if the move is the second event.
@@ -71,9 +71,9 @@ const CYD: &str = lines!(welcome("cyd"), seen(0, false, 2, "null"), left);
 /// The journal of ana's move and then ben's.
 const JOURNAL: &str = "1 0 grant ana 1 seduction\n2 0 grant ben 2 seduction\n";
 
-/// Serves three sessions over a sink whose first put is slow. Returns whether all are answered as they should be and
-/// the journal has both moves, and whether the put and the sessions were held until the others were there. Both are
-/// false if the sessions couldn't be served to their end.
+/// Serves three sessions over a sink whose first put is slow. Returns two answers: whether all are answered rightly and
+/// the journal has both moves, and whether the sessions and the put waited as `HOLDS` says. Both are `false` if the
+/// sessions couldn't be served to their end.
 fn told_of_a_slow_put<R: Threads + Wait + Sync>(
     rt: &R,
     alloc: Global,
@@ -94,8 +94,7 @@ fn told_of_a_slow_put<R: Threads + Wait + Sync>(
     Ok((are_so, steps.were_led()))
 }
 
-/// Fails if a view waits for the lock while it is held, an act doesn't, or one of the three sessions is answered
-/// otherwise.
+/// Checks three sessions during a slow put, which holds the lock: a view must not wait for the lock, and an act must.
 #[test]
 fn a_lock_that_is_held_is_waited_for_by_acts_alone(rt: HostRuntime) -> Result<(), Fail> {
     assert_eq!(rt; told_of_a_slow_put(&rt, rt.alloc())?, (true, true));

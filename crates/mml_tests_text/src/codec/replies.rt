@@ -1,4 +1,4 @@
-//! Replies, over a lab of two nodes far apart. An error means that memory ran out.
+//! Tests of the lines of replies, over a lab of two nodes far apart. An error means that memory ran out.
 ghost use Rattle.mml_codec.specs.Replies.{IsAbout};
 
 use mml_board::Board;
@@ -12,7 +12,7 @@ use mml_stable::{Report, report};
 use std::alloc::Global;
 use std::test::Fail;
 
-/// Returns the line that `write_reply` writes for a reply, in place of older text.
+/// Returns the line that `write_reply` writes for a reply, into a buffer that had other text before.
 fn line_of(alloc: Global, lab: &Lab, reply: &Reply) -> Result<String, Fail>
     requires { IsAbout lab.now.ids lab.now.roster reply.now }
 {
@@ -21,9 +21,9 @@ fn line_of(alloc: Global, lab: &Lab, reply: &Reply) -> Result<String, Fail>
     Ok(String::from_utf8(out)?)
 }
 
-/// Returns the line of a see's reply that shows node 65535 in the configuration with the greatest number. The node's m
-/// is true, and its p points at node 7, or is null if the lab lacks that. Returns an empty text if the lab lacks node
-/// 65535.
+/// Returns the line of the reply to a see that shows node 65535 in the configuration with the greatest number. The
+/// node's m is true, and its p points at node 7, or is null if the lab lacks that. Returns an empty text if the lab
+/// lacks node 65535.
 fn sight(alloc: Global, lab: &Lab) -> Result<String, Fail> {
     let p = lab.ids().rank_of(7);
     let Some(node) = lab.ids().rank_of(65535) else {
@@ -34,8 +34,7 @@ fn sight(alloc: Global, lab: &Lab) -> Result<String, Fail> {
     line_of(alloc, lab, &Reply::See(See { at, node, regs }))
 }
 
-/// Returns whether `reply_of` answers an allowed report on a board by a report with the number and the stability of
-/// this one.
+/// Returns whether the reply to an allowed report on a board is a report with the number and the stability of `told`.
 fn is_reported(alloc: Global, board: &Board, told: &Report) -> Result<bool, Fail> {
     match reply_of(alloc, board, Ruling::Reported)? {
         Reply::Report(other) => Ok(other.at == told.at && other.stable == told.stable),
@@ -43,8 +42,8 @@ fn is_reported(alloc: Global, board: &Board, told: &Report) -> Result<bool, Fail
     }
 }
 
-/// Returns the line of the report on the board at the beginning of a lab's run. Returns an empty text if the board
-/// isn't of the lab's size, or `reply_of` reports another number or stability.
+/// Returns the line of the report on the first board of a lab. Returns an empty text if the board and the lab differ in
+/// size, or `reply_of` reports another number or stability.
 fn report_line(alloc: Global, lab: &Lab) -> Result<String, Fail> {
     let board = &*boxed_board(alloc, lab)?;
     if lab.ids().len() != board.size() {
@@ -57,14 +56,14 @@ fn report_line(alloc: Global, lab: &Lab) -> Result<String, Fail> {
     line_of(alloc, lab, &Reply::Report(told))
 }
 
-/// Writes a denial into a vector, in place of what it held, and returns the vector's capacity.
+/// Writes a denial into a vector, in place of its former contents, and returns the vector's capacity.
 fn room_after(alloc: Global, lab: &Lab, denial: Denial, out: &mut Vec<u8>) -> Result<usize, Fail> {
     write_reply(alloc, lab.ids(), lab.roster(), &Reply::Deny(denial), out)?;
     Ok(out.capacity())
 }
 
-/// Returns the capacity of a vector with room for a reply, first when it is new, and then after each of two denials
-/// that are written into it. The three should be the same.
+/// Returns the capacity of a vector with memory for a reply: when it is new, and after each of two denials that are
+/// written into it. The three should be the same.
 fn rooms(alloc: Global, lab: &Lab) -> Result<[usize; 3], Fail> {
     let mut out = Vec::with_capacity(alloc, REPLY_ROOM)?;
     let first = out.capacity();
@@ -73,21 +72,21 @@ fn rooms(alloc: Global, lab: &Lab) -> Result<[usize; 3], Fail> {
     Ok([first, second, third])
 }
 
-/// Returns the line of a see's reply, the line of the lab's report, and whether a vector with room for a reply keeps
-/// its capacity when one is written.
+/// Returns the line of the reply to a see, the line of the lab's report, and whether a vector with memory for a reply
+/// keeps its capacity when a reply is written into it.
 fn replies_of_lab(alloc: Global, lab: &Lab) -> Result<(String, String, bool), Fail> {
     let rooms = rooms(alloc, lab)?;
     let stays = rooms[1] == rooms[0] && rooms[2] == rooms[0];
     Ok((sight(alloc, lab)?, report_line(alloc, lab)?, stays))
 }
 
-/// Returns the result of `replies_of_lab` for the lab with two nodes far apart.
+/// Returns the result of `replies_of_lab` for the lab of two nodes far apart.
 fn replies_far_apart(alloc: Global) -> Result<(String, String, bool), Fail> {
     let lab = boxed_lab(alloc, FAR_APART)?;
     replies_of_lab(alloc, &lab)
 }
 
-// Fails if the line of a see or of a report is another, or a vector with room for a reply changes its capacity.
+// Checks the lines of a see and of a report, and that a vector with memory for a reply keeps its capacity.
 #[test]
 fn replies_are_written(rt: HostRuntime) -> Result<(), Fail> {
     let (sight, report, stays) = replies_far_apart(rt.alloc())?;

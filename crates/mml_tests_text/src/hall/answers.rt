@@ -1,4 +1,4 @@
-//! Requests to a hall, and how it begins. An error means that memory ran out, or that of a lab file.
+//! Tests of requests to a hall, and of its first board. An error means that memory ran out, or is that of a lab file.
 use mml_board::Board;
 use mml_codec::{REPLY_ROOM, tell_reply};
 use mml_fakes::labs::{PAIR, boxed_board, boxed_lab, greatest};
@@ -9,18 +9,18 @@ use mml_lab_file::read_lab;
 use std::alloc::Global;
 use std::test::Fail;
 
-/// The teacher's greeting.
+/// The teacher's hello.
 const HELLO: &str = r#"{"do":"hello","name":"tess","key":"chalk"}"#;
 
 // The reply to `HELLO`.
 const WELCOME: &str = "{\"ok\":\"hello\",\"who\":\"tess\"}\n";
 
-// The reply to the teacher's look at node 9 at the beginning of a run over `PAIR`, by hand.
+// The reply to the teacher's look at node 9 at the beginning of a run over `PAIR`, worked out by hand.
 const LOOK: &str =
     "{\"at\":0,\"chosen\":null,\"m\":false,\"near\":[{\"m\":false,\"node\":5,\"p\":3}],\"node\":9,\"ok\":\"look\",\"p\":null,\"rule\":null}\n";
 
 /// Returns the line of the reply to a request on the first connection, with its newline. Returns an empty list if the
-/// hall's lab has no connection.
+/// hall's lab has no session.
 fn answer(alloc: Global, hall: &mut Hall<NullSink>, line: &str) -> Result<Vec<u8>, Fail> {
     let mut out = Vec::with_capacity(alloc, REPLY_ROOM)?;
     if hall.lab().sessions() < 1 {
@@ -32,8 +32,8 @@ fn answer(alloc: Global, hall: &mut Hall<NullSink>, line: &str) -> Result<Vec<u8
     Ok(out)
 }
 
-/// Returns whether a hall answers the teacher's hello and a look by `WELCOME` and `LOOK`, and its board is then still
-/// in configuration 0, with no event.
+/// Returns whether a hall answers the teacher's hello by `WELCOME` and a look by `LOOK`, and its board is still in
+/// configuration 0, with no event.
 fn is_answered(alloc: Global, hall: &mut Hall<NullSink>) -> Result<bool, Fail> {
     let hello = answer(alloc, hall, HELLO)?;
     let look = answer(alloc, hall, r#"{"do":"look","node":9}"#)?;
@@ -41,7 +41,7 @@ fn is_answered(alloc: Global, hall: &mut Hall<NullSink>) -> Result<bool, Fail> {
     Ok(are_so && hall.board().number() == 0 && hall.board().place() == 0)
 }
 
-/// Returns a new hall over the lab that a document spells.
+/// Returns a new hall over the lab of this lab file.
 fn hall_of(alloc: Global, document: &str) -> Result<Box<Hall<NullSink>>, Fail> {
     let lab = read_lab(alloc, document.as_bytes())?;
     let hall = Hall::new(alloc, lab, NullSink::new())?;
@@ -54,26 +54,26 @@ fn is_look_answered(alloc: Global) -> Result<bool, Fail> {
     is_answered(alloc, &mut hall)
 }
 
-/// Returns whether a hall over the lab that a document spells begins in the same world as `board`, with no event.
+/// Returns whether a hall over the lab of this lab file begins with the world of `board`, and with no event.
 fn begins_as(alloc: Global, document: &str, board: &Board) -> Result<bool, Fail> {
     let hall = hall_of(alloc, document)?;
     Ok(board.is_same(hall.board()) && hall.events().is_empty())
 }
 
-/// Returns whether a board is the same world as its copy.
+/// Returns whether a board has the same world as its copy.
 fn is_copied(alloc: Global, board: &Board) -> Result<bool, Fail> {
     let copy = board.try_copy(alloc)?;
     Ok(board.is_same(&copy))
 }
 
-/// Returns whether a board of a lab, a copy of it, and the board of a hall over the lab's document begin as the same
+/// Returns whether the first board of a lab, its copy, and the first board of a hall over the lab's file have the same
 /// world.
 fn are_one(alloc: Global, document: &str, lab: &Lab) -> Result<bool, Fail> {
     let board = &*boxed_board(alloc, lab)?;
     Ok(is_copied(alloc, board)? && begins_as(alloc, document, board)?)
 }
 
-/// Returns whether a board of the largest lab, a copy of that board and the board of a hall begin as the same world.
+/// Returns the result of `are_one` for the largest lab.
 fn is_one_beginning(alloc: Global) -> Result<bool, Fail> {
     let document = greatest(alloc)?;
     let lab = boxed_lab(alloc, document.as_str())?;
@@ -85,8 +85,8 @@ fn are_looks_and_beginnings_right(alloc: Global) -> Result<(bool, bool), Fail> {
     Ok((is_look_answered(alloc)?, is_one_beginning(alloc)?))
 }
 
-// Fails if a hello or a look isn't answered by `WELCOME` or `LOOK`, or changes the board. Fails too if a board of the
-// largest lab, its copy and the board of a hall aren't the same world.
+// Checks that a hello and a look are answered rightly and don't change the board, and that the first board of the
+// largest lab, its copy, and the first board of a hall have the same world.
 #[test]
 fn requests_are_answered(rt: HostRuntime) -> Result<(), Fail> {
     assert_eq!(rt; are_looks_and_beginnings_right(rt.alloc())?, (true, true));

@@ -1,5 +1,5 @@
-//! A sink in which each byte may be the last: what it has then, and what the hall and audits say of it. An error means
-//! that memory ran out, or that of a script.
+//! Tests of a hall whose sink fails after each possible number of bytes: what the sink has, and what the hall and
+//! audits make of it. An error means that memory ran out, or is that of a script.
 use mml_audit::{audit, audit_events};
 use mml_fakes::labs::PATH_OF_THREE;
 use mml_fakes::scripts::{GREETINGS, TEN_ACTS, TEN_LINES, ended_lines};
@@ -9,8 +9,8 @@ use mml_lab_file::read_lab;
 use std::alloc::Global;
 use std::test::Fail;
 
-/// Returns whether a hall's sink holds exactly the first `puts` bytes of `TEN_LINES`, and the hall has one event for
-/// each whole line in them. One failed put must have halted the hall, unless those bytes are all.
+/// Returns whether a hall's sink has exactly the first `puts` bytes of `TEN_LINES`, and the hall has one event for each
+/// whole line in them. If bytes are missing, one put must have failed and halted the hall.
 fn has_dripped(hall: &Hall<Drip>, puts: usize) -> bool {
     let (wanted, _) = TEN_LINES.as_bytes().split_at(puts.min(TEN_LINES.len()));
     let lines = ended_lines(wanted);
@@ -21,7 +21,7 @@ fn has_dripped(hall: &Hall<Drip>, puts: usize) -> bool {
         && hall.board().place() == lines as u64
 }
 
-/// Returns whether `audit` passes a journal over the hall's lab, with the same board as the hall's.
+/// Returns whether a journal passes `audit` over the hall's lab, and leads to the hall's board.
 fn leads_to_board(alloc: Global, hall: &Hall<Drip>, journal: &[u8]) -> bool {
     match audit(alloc, hall.lab(), journal) {
         Ok(board) => board.is_same(hall.board()),
@@ -29,7 +29,8 @@ fn leads_to_board(alloc: Global, hall: &Hall<Drip>, journal: &[u8]) -> bool {
     }
 }
 
-/// Returns whether `audit_events` passes a journal over the hall's lab, with the hall's events and the same board.
+/// Returns whether a journal passes `audit_events` over the hall's lab, with the hall's events, and leads to the hall's
+/// board.
 fn is_listed(alloc: Global, hall: &Hall<Drip>, journal: &[u8]) -> bool {
     match audit_events(alloc, hall.lab(), journal) {
         Ok(audited) => {
@@ -39,8 +40,8 @@ fn is_listed(alloc: Global, hall: &Hall<Drip>, journal: &[u8]) -> bool {
     }
 }
 
-/// Returns whether `audit` and `audit_events` pass the journal in a hall's sink, with the hall's board and events, if
-/// its last line is whole, and neither does if that is torn.
+/// Returns whether the journal in a hall's sink passes both audits if its last line is whole, and neither if that is
+/// torn. If it passes, it must have the hall's events and lead to the hall's board.
 fn is_audited(alloc: Global, hall: &Hall<Drip>) -> bool {
     let journal = hall.sink().bytes.as_slice();
     let is_whole = match journal.last() {
@@ -50,8 +51,8 @@ fn is_audited(alloc: Global, hall: &Hall<Drip>) -> bool {
     leads_to_board(alloc, hall, journal) == is_whole && is_listed(alloc, hall, journal) == is_whole
 }
 
-/// Runs a script over the path of three, with a sink that takes one byte a put and fails after `puts` of them. Returns
-/// the hall that the script leaves.
+/// Answers a script over the path of three, with a sink that stores one byte in each put and fails after `puts` of
+/// them. Returns the hall after the script.
 fn hall_of(alloc: Global, script: &str, puts: usize) -> Result<Box<Hall<Drip>>, Fail> {
     let lab = read_lab(alloc, PATH_OF_THREE.as_bytes())?;
     let sink = Drip::failing_after(puts, alloc);
@@ -60,15 +61,15 @@ fn hall_of(alloc: Global, script: &str, puts: usize) -> Result<Box<Hall<Drip>>, 
     Ok(Box::new(alloc, hall)?)
 }
 
-/// Runs a script over a sink that fails after `puts` bytes. Returns whether `has_dripped` and `is_audited` are true of
-/// the hall that it leaves.
+/// Answers a script over a sink that fails after `puts` bytes. Returns whether the hall after it passes `has_dripped`
+/// and `is_audited`.
 fn drips(alloc: Global, script: &str, puts: usize) -> Result<bool, Fail> {
     let hall = hall_of(alloc, script, puts)?;
     Ok(has_dripped(&hall, puts) && is_audited(alloc, &hall))
 }
 
-/// Returns the first number of bytes for which `drips` is false of the script of the ten acts, or `None` if there is
-/// none.
+/// Returns the first number of bytes for which `drips` is `false` for the script of the ten acts, or `None` if there is
+/// no such number.
 fn first_byte_told_otherwise(alloc: Global) -> Result<Option<usize>, Fail> {
     let script = format!(in alloc; "{GREETINGS}{TEN_ACTS}")?;
     for puts in 0..=TEN_LINES.len() {
@@ -79,8 +80,8 @@ fn first_byte_told_otherwise(alloc: Global) -> Result<Option<usize>, Fail> {
     Ok(None)
 }
 
-// Fails if a sink that fails after some number of bytes is left with other bytes, or the hall with other events than
-// those of their whole lines. Fails too if an audit passes a torn line, or doesn't pass whole lines.
+// Checks halls whose sink fails after each possible number of bytes: the sink must have exactly these bytes, and the
+// hall the events of their whole lines. Audits must pass whole lines, and no torn line.
 #[test]
 fn each_byte_of_a_journal_may_be_the_last(rt: HostRuntime) -> Result<(), Fail> {
     assert_eq!(rt; first_byte_told_otherwise(rt.alloc())?, None);

@@ -1,5 +1,5 @@
-//! Each read of a script is made once, and none after its end: the result of one that fails, and how far the replies go
-//! then. An error (`Fail`) is running out of memory.
+//! Tests that each read of a script is made once, and none after its end; and of how a script ends, and which lines are
+//! answered, if a read fails. An error (`Fail`) means that memory ran out.
 use super::script_error_of;
 use mml_fakes::scripts::{
     FIRST_LOOK, FIRST_LOOK_REPLIES, GREETING, GREETING_REPLIES, ended_lines, first_lines,
@@ -9,14 +9,14 @@ use mml_hall::ScriptFault;
 use std::alloc::{AllocError, Global};
 use std::test::Fail;
 
-/// How a script ends: how many reads are good, the error (`None` if it ends well), and how many bytes are left unread.
+/// How a script ends: how many reads succeed, the error (`None` if it ends well), and how many bytes are left unread.
 type End = (usize, Option<ScriptFault>, usize);
 
-/// The error of a script of which a read failed.
+/// The error of a script for which a read failed.
 const FAILED: Option<ScriptFault> = Some(ScriptFault::Read);
 
-/// Runs a script that comes in reads of `step` bytes. Returns whether it has exactly these replies and this end, and is
-/// read as often as there are good reads, and once more if a read fails.
+/// Answers a script that comes in reads of `step` bytes. Returns whether it has exactly these replies and this end, and
+/// makes as many reads as succeed, and one more if a read fails.
 fn is_script_answered(
     alloc: Global,
     script: &str,
@@ -35,8 +35,8 @@ fn is_script_answered(
     Ok(fault == wanted && reader.reads == reads && is_rest && is_answered)
 }
 
-/// Returns whether a script has exactly these replies, both if it comes byte by byte and if it comes in one read, each
-/// time with one read more, which finds the end.
+/// Returns whether a script has exactly these replies, both if it comes byte by byte and if it comes in one read. In
+/// each case one more read finds the end.
 fn is_read_once(alloc: Global, script: &str, replies: &str) -> Result<bool, Fail> {
     let by_bytes = (script.len().saturating_add(1), None, 0);
     let is_read_by_bytes = is_script_answered(alloc, script, replies, 1, by_bytes)?;
@@ -44,8 +44,9 @@ fn is_read_once(alloc: Global, script: &str, replies: &str) -> Result<bool, Fail
     Ok(is_read_by_bytes && is_read_at_once)
 }
 
-/// Returns the first number of good reads of `GREETING`, a byte each, after which the failed read isn't reported, or
-/// other lines are answered than those that came whole. Returns `None` if there is none.
+/// Tries a failed read after each number of good reads of `GREETING`, of one byte each. Returns the first number for
+/// which the error isn't reported, or other lines are answered than those that came whole, or `None` if there is no
+/// such number.
 fn first_untold_read(alloc: Global) -> Result<Option<usize>, Fail> {
     let script = GREETING.as_bytes();
     for good in 0..=script.len() {
@@ -58,8 +59,8 @@ fn first_untold_read(alloc: Global) -> Result<Option<usize>, Fail> {
     Ok(None)
 }
 
-// How many of 600 byes, of 15 bytes each, are answered, and how the script ends, in reads of a whole buffer, of 4,096
-// bytes.
+// A script of 600 byes, of 15 bytes each, comes in reads of 4,096 bytes, the whole buffer. Each row has how many byes
+// are answered, and how the script ends.
 const BUFFERS: [(usize, End); 5] = [
     (0, (0, FAILED, 9000)),
     (273, (1, FAILED, 4904)),
@@ -68,8 +69,7 @@ const BUFFERS: [(usize, End); 5] = [
     (600, (4, None, 0)),
 ];
 
-/// Returns the index of the first row of `BUFFERS` whose script ends or is answered otherwise, or `None` if there is
-/// none.
+/// Returns the index of the first row of `BUFFERS` that is wrong, or `None` if all are right.
 fn first_other_buffer(alloc: Global) -> Result<Option<usize>, Fail> {
     let script = lines!("2 ", bye).repeat(alloc, 600)?;
     for (row, (answered, end)) in BUFFERS.iter().enumerate() {
@@ -81,33 +81,33 @@ fn first_other_buffer(alloc: Global) -> Result<Option<usize>, Fail> {
     Ok(None)
 }
 
-/// Returns a script line of 4,036 bytes: a greeting with a name and a key that nobody has.
+/// Returns a script line of 4,036 bytes: a hello with a name and a key that nobody has.
 fn long_greeting(alloc: Global) -> Result<String, AllocError> {
     let (name, key) = ("n".repeat(alloc, 2000)?, "k".repeat(alloc, 2000)?);
     format!(in alloc; "1 {{\"do\":\"hello\",\"key\":\"{key}\",\"name\":\"{name}\"}}\n")
 }
 
-/// The reply to a greeting whose name and key don't match.
+/// The reply to a hello whose name and key don't match.
 const UNKNOWN: &str =
     "1 {\"clause\":2,\"deny\":\"unknown\",\"text\":\"name and key do not match\"}\n";
 
-/// Returns whether the greeting of 4,036 bytes is answered by `UNKNOWN`, with one read and one more that finds the end.
+/// Returns whether the hello of 4,036 bytes is answered by `UNKNOWN`, with one read for it and one that finds the end.
 fn is_long_greeting_answered(alloc: Global) -> Result<bool, Fail> {
     let script = long_greeting(alloc)?;
     let is_told = is_script_answered(alloc, script.as_str(), UNKNOWN, usize::MAX, (2, None, 0))?;
     Ok(is_told && script.len() == 4036)
 }
 
-/// Returns whether a script with an empty second line ends with `BadLine(2)`, with the first line answered and nothing
-/// read after the empty one.
+/// Returns whether a script with an empty second line ends with `BadLine(2)`, after its first line was answered, and
+/// nothing is read after the empty line.
 fn is_bad_line_told(alloc: Global) -> Result<bool, Fail> {
     let script = lines!("2 ", bye, "\n2 ", bye);
     let end = (16, Some(ScriptFault::BadLine(2)), 15);
     is_script_answered(alloc, script, lines!("2 ", left), 1, end)
 }
 
-/// Returns whether each read is made once, with the right replies, for four scripts: one with looks, one with
-/// greetings, one with a long greeting, and one with a bad line.
+/// Returns for each of four scripts whether each read is made once, and the replies are right: one with looks, one with
+/// hellos, one with a long hello, and one with a bad line.
 fn are_read_once(alloc: Global) -> Result<[bool; 4], Fail> {
     let look = is_read_once(alloc, FIRST_LOOK, FIRST_LOOK_REPLIES)?;
     let greeting = is_read_once(alloc, GREETING, GREETING_REPLIES)?;
@@ -116,15 +116,15 @@ fn are_read_once(alloc: Global) -> Result<[bool; 4], Fail> {
 }
 
 /// Returns the results of `are_read_once`, `first_untold_read` and `first_other_buffer`. The last two are `None` if all
-/// is as it should be.
+/// is right.
 fn reads_made(alloc: Global) -> Result<([bool; 4], [Option<usize>; 2]), Fail> {
     let are_read_once = are_read_once(alloc)?;
     let firsts = [first_untold_read(alloc)?, first_other_buffer(alloc)?];
     Ok((are_read_once, firsts))
 }
 
-// Fails if a script is read more or less often than it should be, or has other replies. Fails too if a failed read or a
-// bad line isn't its error.
+// Checks that scripts make each read once and have the right replies, and that a failed read or a bad line is their
+// error.
 #[test]
 fn each_read_is_made_once(rt: HostRuntime) -> Result<(), Fail> {
     assert_eq!(rt; reads_made(rt.alloc())?, ([true; 4], [None; 2]));

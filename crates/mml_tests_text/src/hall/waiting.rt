@@ -1,5 +1,5 @@
-//! Replies wait for no line: all of them are out and flushed before each read, many in one write. An error (`Fail`) is
-//! running out of memory.
+//! Tests that all replies are written and flushed before each read, many of them with one write. An error (`Fail`)
+//! means that memory ran out.
 use super::script_error_of;
 use mml_fakes::scripts::{FIRST_LOOK, FIRST_LOOK_REPLIES, GREETING, GREETING_REPLIES, ended_lines};
 use mml_fakes::{FakeWriter, Parts};
@@ -9,15 +9,15 @@ use std::io;
 use std::io::{Read, Write};
 use std::test::Fail;
 
-/// Counts that a reader and a writer share: how many replies were written, and how many of their bytes aren't flushed.
+/// What a reader and a writer share: how many replies were written, and how many of their bytes aren't flushed.
 #[derive(Drop)]
 struct Replies {
     count: Cell<usize>,
     unflushed: Cell<usize>,
 }
 
-/// A reader that returns one line of a script in each read. It notes in `is_late` whether, at some read, an earlier
-/// line's reply wasn't written and flushed yet.
+/// A reader that returns one line of a script in each read. It sets `is_late` if, at some read, the reply to an earlier
+/// line wasn't written and flushed.
 #[derive(Drop)]
 struct Asker<'a> {
     script: &'a str,
@@ -27,8 +27,8 @@ struct Asker<'a> {
 }
 
 impl<'a> Read for Asker<'a> {
-    // Returns what fits of the next line, and drops the rest of it; 0 bytes at the end. Sets `is_late` if the replies
-    // written so far aren't one for each earlier read, or some of their bytes aren't flushed.
+    // Returns the next line, as far as there is room, or 0 bytes at the end. Sets `is_late` if there isn't one written
+    // reply for each earlier read, or some of their bytes aren't flushed.
     fn read(&mut self, buf: &mut [u8]) -> io::Result<usize> {
         if self.replies.unflushed.get() > 0 || self.replies.count.get() != self.reads {
             self.is_late = true;
@@ -40,7 +40,7 @@ impl<'a> Read for Asker<'a> {
     }
 }
 
-/// A writer that keeps the replies, and counts them and their unflushed bytes in `replies`.
+/// A writer that stores the replies, and counts them and their unflushed bytes in `replies`.
 #[derive(Drop)]
 struct Answered<'a> {
     taken: Vec<u8>,
@@ -48,7 +48,7 @@ struct Answered<'a> {
 }
 
 impl<'a> Write for Answered<'a> {
-    // Takes all bytes. Counts them as unflushed, and their newlines as replies. Returns an error if memory runs out.
+    // Stores all bytes. Counts them as unflushed, and their newlines as replies. Returns an error if memory runs out.
     fn write(&mut self, buf: &[u8]) -> io::Result<usize> {
         self.taken.extend_from_slice(buf)?;
         let count = &self.replies.count;
@@ -65,8 +65,8 @@ impl<'a> Write for Answered<'a> {
     }
 }
 
-/// Runs a script that comes one line a read. Returns whether it ends well with exactly the replies in `wanted`, all
-/// written and flushed before each next read and at the end; and how many reads there were.
+/// Answers a script that comes one line in each read. Returns whether it ends well with exactly the replies in
+/// `wanted`, all of them written and flushed before the next read and at the end; and how many reads there were.
 fn asked(alloc: Global, script: &str, wanted: &str) -> Result<(bool, usize), Fail> {
     let replies = Replies {
         count: Cell::new(0),
@@ -90,7 +90,7 @@ fn asked(alloc: Global, script: &str, wanted: &str) -> Result<(bool, usize), Fai
     ))
 }
 
-/// Returns how many writes and how many flushes a writer made by `FakeWriter::patient` has had.
+/// Returns how many writes and how many flushes were made to a writer from `FakeWriter::patient`.
 fn calls(writer: &FakeWriter) -> (usize, usize) {
     (
         usize::MAX.saturating_sub(writer.good),
@@ -98,8 +98,8 @@ fn calls(writer: &FakeWriter) -> (usize, usize) {
     )
 }
 
-/// Runs `FIRST_LOOK`, cut in two parts that come in a read each. Returns whether it ends well with exactly its replies,
-/// in at most two writes and at most three flushes, one for each read.
+/// Answers `FIRST_LOOK`, which comes in two reads and is cut at this offset. Returns whether it ends well with exactly
+/// its replies, in at most two writes and three flushes.
 fn is_answered_in_parts(alloc: Global, cut: usize) -> Result<bool, Fail> {
     let (first, second) = FIRST_LOOK.as_bytes().split_at(cut.min(FIRST_LOOK.len()));
     let mut reader = Parts {
@@ -114,8 +114,8 @@ fn is_answered_in_parts(alloc: Global, cut: usize) -> Result<bool, Fail> {
     Ok(is_told && writes <= 2 && flushes <= 3)
 }
 
-/// Returns the first offset in `FIRST_LOOK` for which `is_answered_in_parts` is false, or `None` if no cut changes
-/// anything.
+/// Returns the first offset in `FIRST_LOOK` for which `is_answered_in_parts` is `false`, or `None` if there is no such
+/// offset.
 fn first_cut_that_changes(alloc: Global) -> Result<Option<usize>, Fail> {
     for cut in 0..=FIRST_LOOK.len() {
         if !is_answered_in_parts(alloc, cut)? {
@@ -125,8 +125,8 @@ fn first_cut_that_changes(alloc: Global) -> Result<Option<usize>, Fail> {
     Ok(None)
 }
 
-/// The results of `asked` for `FIRST_LOOK` and for `GREETING`: whether the replies are right and in time, and how many
-/// reads there were. Then the first cut of `FIRST_LOOK` that changes something, or `None` if no cut does.
+/// The results of `asked` for `FIRST_LOOK` and for `GREETING`, and the first cut of `FIRST_LOOK` that changes
+/// something, or `None` if no cut does.
 type Writes = ((bool, usize), (bool, usize), Option<usize>);
 
 /// Returns the results of `asked` for `FIRST_LOOK` and for `GREETING`, and that of `first_cut_that_changes`.
@@ -136,11 +136,11 @@ fn writes_before_reads(alloc: Global) -> Result<Writes, Fail> {
     Ok((looks, greets, first_cut_that_changes(alloc)?))
 }
 
-// Fails if a line is read before all replies are written and flushed, or there are other replies or reads. Fails too if
-// a cut of the script changes the replies, or takes more writes or flushes.
+// Checks that all replies are written and flushed before the next read, and that cutting the script in two reads
+// doesn't change the replies, and needs few writes and flushes.
 #[test]
 fn replies_go_out_before_the_next_read(rt: HostRuntime) -> Result<(), Fail> {
-    // Both scripts pass, with a read for each line and one that finds the end, and no cut changes anything.
+    // Both scripts pass, with one read for each line and one that finds the end, and no cut changes anything.
     assert_eq!(rt;
         writes_before_reads(rt.alloc())?,
         ((true, 5), (true, 8), None)

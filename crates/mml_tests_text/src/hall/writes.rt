@@ -1,5 +1,5 @@
-//! Writes and flushes that fail: the replies that went out before, and what the error says of them. An error (`Fail`)
-//! is running out of memory.
+//! Tests of writes and flushes that fail: which replies were written before, and what the error says. An error (`Fail`)
+//! means that memory ran out.
 use super::script_error_of;
 use mml_fakes::scripts::{FIRST_LOOK, FIRST_LOOK_REPLIES, GREETING, GREETING_REPLIES};
 use mml_fakes::{FakeReader, FakeWriter, Refusal};
@@ -14,9 +14,9 @@ fn after_last_line(bytes: &[u8]) -> usize {
     last.unwrap_or(bytes.len())
 }
 
-/// Runs `FIRST_LOOK` with a writer that takes `step` bytes in each of `good` writes and then refuses. Returns whether
-/// exactly so many bytes of the replies are out, and the error says how many of them belong to a line that isn't wholly
-/// out. If all replies are out, there must be no error.
+/// Answers `FIRST_LOOK` with a writer that takes `step` bytes in each of `good` writes and then refuses. Returns
+/// whether exactly so many bytes of the replies are written, and the error says how many of them belong to a line that
+/// isn't written whole. If all replies are written, there must be no error.
 fn tells_a_write(alloc: Global, step: usize, good: usize, refusal: Refusal) -> Result<bool, Fail> {
     let replies = FIRST_LOOK_REPLIES.as_bytes();
     let (out, rest) = replies.split_at(usize::saturating_mul(step, good).min(replies.len()));
@@ -33,14 +33,14 @@ fn tells_a_write(alloc: Global, step: usize, good: usize, refusal: Refusal) -> R
     Ok(fault == wanted && writer.taken.as_slice() == out)
 }
 
-/// A refusal by an error.
+/// A refusal by an error, instead of writing nothing.
 const FAILS: Refusal = Refusal::Fails(ErrorKind::Other);
 
-// How many bytes each write takes, and what comes instead once writes are refused.
+// How many bytes each write takes, and how writes are refused later.
 const WRITERS: [(usize, Refusal); 3] = [(1, FAILS), (1, Refusal::TakesNothing), (7, FAILS)];
 
-/// Returns the first number of good writes for which `tells_a_write` is false, with how many bytes a write took there,
-/// or `None` if there is none.
+/// Returns the first number of good writes for which `tells_a_write` is `false`, with the number of bytes in each
+/// write, or `None` if there is no such number.
 fn first_untold_write(alloc: Global) -> Result<Option<(usize, usize)>, Fail> {
     for good in 0..=FIRST_LOOK_REPLIES.len() {
         for (step, refusal) in WRITERS {
@@ -52,8 +52,8 @@ fn first_untold_write(alloc: Global) -> Result<Option<(usize, usize)>, Fail> {
     Ok(None)
 }
 
-/// Runs `GREETING` with a writer whose flush fails after `good` good ones. Returns whether the script ends with a write
-/// fault of no bytes, only whole lines of replies are out, and there were as many reads as good flushes.
+/// Answers `GREETING` with a writer whose flush fails after `good` good ones. Returns whether the script ends with a
+/// write fault of no bytes, only whole lines of replies are written, and there were as many reads as good flushes.
 fn tells_a_flush(alloc: Global, good: usize) -> Result<bool, Fail> {
     let mut reader = FakeReader::failing_after(usize::MAX, GREETING.as_bytes());
     reader.step = 40;
@@ -66,8 +66,8 @@ fn tells_a_flush(alloc: Global, good: usize) -> Result<bool, Fail> {
     Ok(fault == Some(ScriptFault::Write { written: 0 }) && is_front && is_unread)
 }
 
-/// Returns the first number of good flushes for which `tells_a_flush` is false, or `None` if there is none. Tries all
-/// numbers below seven, the number of flushes that the script takes.
+/// Returns the first number of good flushes for which `tells_a_flush` is `false`, or `None` if there is no such number.
+/// Tries all numbers less than seven, which is the number of flushes that the script makes.
 fn first_untold_flush(alloc: Global) -> Result<Option<usize>, Fail> {
     for good in 0..7 {
         if !tells_a_flush(alloc, good)? {
@@ -77,7 +77,7 @@ fn first_untold_flush(alloc: Global) -> Result<Option<usize>, Fail> {
     Ok(None)
 }
 
-/// The results of `first_untold_write` and of `first_untold_flush`; each is `None` if all is as it should be.
+/// The results of `first_untold_write` and of `first_untold_flush`; each is `None` if all is right.
 type Untold = (Option<(usize, usize)>, Option<usize>);
 
 /// Returns the results of `first_untold_write` and of `first_untold_flush`.
@@ -85,7 +85,7 @@ fn first_untold(alloc: Global) -> Result<Untold, Fail> {
     Ok((first_untold_write(alloc)?, first_untold_flush(alloc)?))
 }
 
-// Fails if a failed write or flush doesn't end a script, or other bytes are out than the error says.
+// Checks that a failed write or flush ends a script, and that the error says how many bytes were written.
 #[test]
 fn failed_writes_and_flushes_are_told(rt: HostRuntime) -> Result<(), Fail> {
     assert_eq!(rt; first_untold(rt.alloc())?, (None, None));

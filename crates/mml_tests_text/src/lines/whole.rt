@@ -1,12 +1,13 @@
-//! Whole reads and writes, and lines that go out together. An error means that memory ran out.
+//! Tests of reading and writing whole inputs, and of lines that are written together. An error means that memory ran
+//! out.
 use mml_fakes::{FakeReader, FakeWriter, Refusal};
 use mml_lines::{Outgoing, WriteFault, put_all, read_whole};
 use std::alloc::Global;
 use std::io::ErrorKind;
 use std::test::Fail;
 
-/// Calls `read_whole` with a limit of six bytes, over a reader that gives one byte a read and fails with `kind` after
-/// `good` reads. Returns the bytes as text, or the name of the error.
+/// Calls `read_whole` with a limit of six bytes, for a reader that returns one byte in a read and fails with `kind`
+/// after `good` reads. Returns the bytes as text, or the name of the error.
 fn bytes_or_fault(
     alloc: Global,
     input: &[u8],
@@ -21,7 +22,7 @@ fn bytes_or_fault(
     }
 }
 
-// Inputs, each with how many reads are good, the error after them, and the result of `bytes_or_fault`.
+// Inputs, each with the number of good reads, the error after them, and what `bytes_or_fault` must return.
 const INPUTS: &[(&str, usize, ErrorKind, &str)] = &[
     ("", 100, ErrorKind::Other, ""),
     ("abc", 100, ErrorKind::Other, "abc"),
@@ -34,8 +35,7 @@ const INPUTS: &[(&str, usize, ErrorKind, &str)] = &[
     ("abc", 1, ErrorKind::OutOfMemory, "Memory"),
 ];
 
-/// Returns the index of the first row of `INPUTS` for which `bytes_or_fault` returns another text, or `None` if there
-/// is none.
+/// Returns the index of the first row of `INPUTS` for which `bytes_or_fault` is wrong, or `None` if all are right.
 fn first_told_otherwise(alloc: Global) -> Result<Option<usize>, Fail> {
     for (row, (input, good, kind, wanted)) in INPUTS.iter().enumerate() {
         if bytes_or_fault(alloc, input.as_bytes(), *good, *kind)?.as_str() != *wanted {
@@ -45,17 +45,17 @@ fn first_told_otherwise(alloc: Global) -> Result<Option<usize>, Fail> {
     Ok(None)
 }
 
-// Fails if a reader isn't read whole within a limit of six bytes, or if a longer one or a failed read has another
-// result.
+// Checks that an input is read whole within a limit of six bytes, and that a longer one and a failed read have the
+// right error.
 #[test]
 fn readers_are_read_up_to_a_limit(rt: HostRuntime) -> Result<(), Fail> {
     assert_eq!(rt; first_told_otherwise(rt.alloc())?, None);
     Ok(())
 }
 
-/// Calls `put_all` over a writer that takes `step` bytes in each of `good` writes and then refuses. Returns whether
-/// exactly so many bytes are out and none is flushed. If bytes are left, the result must be an error that says how many
-/// are out.
+/// Calls `put_all` for a writer that takes `step` bytes in each of `good` writes and then refuses. Returns whether
+/// exactly so many bytes are written and none is flushed. If bytes are left, the result must be an error that says how
+/// many were written.
 fn puts(alloc: Global, bytes: &[u8], step: usize, good: usize, refusal: Refusal) -> bool {
     let mut writer = FakeWriter::failing_after(good, alloc);
     writer.step = step;
@@ -70,7 +70,7 @@ fn puts(alloc: Global, bytes: &[u8], step: usize, good: usize, refusal: Refusal)
     told == wanted && writer.taken.as_slice() == out && writer.good_flushes == usize::MAX
 }
 
-// How often a text of ten digits is repeated, how many bytes a write takes, and how many writes are good.
+// How often a text of ten digits is repeated, how many bytes each write takes, and how many writes succeed.
 const PUTS: &[(usize, usize, usize)] = &[
     (1, 3, 1),
     (1, 1, 0),
@@ -95,8 +95,8 @@ const PUTS: &[(usize, usize, usize)] = &[
     (200, 7, 2001),
 ];
 
-/// Returns the index of the first row of `PUTS` for which `puts` is false over a writer with this refusal, or `None` if
-/// there is none.
+/// Returns the index of the first row of `PUTS` for which `puts` is `false` for a writer with this refusal, or `None`
+/// if there is no such row.
 fn first_other_put(alloc: Global, refusal: Refusal) -> Result<Option<usize>, Fail> {
     for (row, (times, step, good)) in PUTS.iter().enumerate() {
         let text = "0123456789".repeat(alloc, *times)?;
@@ -107,8 +107,8 @@ fn first_other_put(alloc: Global, refusal: Refusal) -> Result<Option<usize>, Fai
     Ok(None)
 }
 
-/// Puts 512 lines of four bytes each into one `Outgoing`, then one line more, and then flushes it. Returns how many
-/// bytes are out after each of the three. Returns an error if memory runs out.
+/// Puts 512 lines of four bytes each into an `Outgoing`, then one more line, and then flushes it. Returns how many
+/// bytes the writer has after each of the three. Returns an error if memory runs out.
 fn sent(alloc: Global) -> Result<[usize; 3], Fail> {
     let mut outgoing = Outgoing::new(alloc)?;
     let mut writer = FakeWriter::patient(alloc);
@@ -124,10 +124,11 @@ fn sent(alloc: Global) -> Result<[usize; 3], Fail> {
     Ok(out)
 }
 
-/// The results of `first_other_put` over writers that fail and over writers that take nothing, and that of `sent`.
+/// The results of `first_other_put` for writers that fail and for writers that write nothing, and that of `sent`.
 type Written = (Option<usize>, Option<usize>, [usize; 3]);
 
-/// Returns the results of `first_other_put` over writers that fail and over writers that take nothing, and that of
+/// Returns the results of the three checks of this file's second test: the first row of `PUTS` that is wrong for a
+/// writer that fails, the first that is wrong for one that writes nothing (`None` if all are right), and the result of
 /// `sent`.
 fn told_of_writes(alloc: Global) -> Result<Written, Fail> {
     let failed = first_other_put(alloc, Refusal::Fails(ErrorKind::Other))?;
@@ -135,8 +136,8 @@ fn told_of_writes(alloc: Global) -> Result<Written, Fail> {
     Ok((failed, refused, sent(alloc)?))
 }
 
-// Fails if other bytes are out than a writer takes, or an error doesn't say how many are. Fails too if 512 lines aren't
-// all held, or don't all go out once another line comes.
+// Checks that the writer has exactly the bytes that it took, and the error says how many; and that 512 lines are all
+// buffered, and written when another line comes.
 #[test]
 fn writes_tell_what_went_out(rt: HostRuntime) -> Result<(), Fail> {
     assert_eq!(rt; told_of_writes(rt.alloc())?, (None, None, [0, 2048, 2052]));
