@@ -29,8 +29,8 @@ use Rattle.mml_class.specs.Granting.{AreGranted, IsFound}
 abbrev pub Tell : Option (List ℕ) → (ℕ → Option (List ℕ)) → List ℕ → (ℕ → List ℕ) → Type 0
 Tell begun text start texts = (begun ≡ Some start) × ((n : ℕ) → text n ≡ Some (texts n))
 
--- the texts of the seats from the number `first` on are those of these records, one a seat, in which these places were granted, in the order
--- of seats
+-- the texts of the seats, numbered from `first` on, are those of these records, one for each seat; these places are
+-- granted in them, in the order of seats
 abbrev pub AreRecordsOf : LabValue → List Event → (ℕ → List ℕ) → ℕ → List (List Entry) → List ℕ → Type 0
 AreRecordsOf lab l texts first [] places = places ≡ []
 AreRecordsOf lab l texts first (es ∷ ess) places =
@@ -43,8 +43,8 @@ AreRecordsOf lab l texts first (es ∷ ess) places =
 abbrev pub counted : ℕ → ℕ
 counted n = min n (2 ^ 64 - 1)
 
--- the records of several seats come to this: so many sessions ended, so many lines were answered, whether all are whole, whether anything
--- may be missing in one, and for whom recording paused in one
+-- the findings of several records together: how many sessions ended, how many lines were answered, whether all are
+-- whole, whether anything may be missing in one, and for whom recording paused in one
 abbrev pub ComeTo : RosterValue → Findings → List (List Entry) → Type 0
 ComeTo roster f ess =
     (f.sessions ≡ counted (sum_by sessions_in ess)) × (f.lines ≡ counted (sum_by lines_in ess)) × (f.whole ≡ list_all are_whole ess)
@@ -56,9 +56,9 @@ all_asks roster ess = flat_map (asks_in roster) ess
 
 -- ---- a class
 
--- the texts are the record of a class, which comes to this: each is that of a record of its seat beside one list of events. Each place that
--- they grant is that of an event after the first `begun`, and is granted once; and if all are whole, each such event is granted. If it is
--- wanted, `asks` are what their lines asked
+-- the texts are the record of a class, with these findings: each is that of a record of its seat beside one list of
+-- events. Each place that they grant is that of an event after the first `begun`, and is granted once. If all are
+-- whole, each such event is granted. If the caller wants it, `asks` is what their lines asked
 pub record IsClassRecord (lab : LabValue) (l : List Event) (with_asks : Bool) (start : List ℕ) (texts : ℕ → List ℕ) (c : ClassRecord) : Type 0 where
   pub begun : begun_in start ≡ Some c.begun
   pub entries : List (List Entry)

@@ -50,7 +50,7 @@ pub(crate) struct Both<O: Drop, E: Drop> {
 impl<O: Observer + Drop, E: ReplyObserver + Drop> Observer for Both<O, E> {
     ghost kept = { λ b. O.kept b.observer };
 
-    // Tells the seat's observer that a line came.
+    // Passes the line that came to the seat's observer.
     fn came(&mut self, number: u8, line: &[u8]) {
         self.observer.came(number, line);
     }
@@ -61,12 +61,12 @@ impl<O: Observer + Drop, E: ReplyObserver + Drop> Observer for Both<O, E> {
         self.replies.note_reply(reply);
     }
 
-    // Tells the seat's observer how many replies were written.
+    // Passes the number of written replies to the seat's observer.
     fn wrote(&mut self, number: u8, replies: u32) {
         self.observer.wrote(number, replies);
     }
 
-    // Tells the seat's observer that a session has ended.
+    // Passes the end of a session to the seat's observer.
     fn left(&mut self, number: u8, ending: &Ending, seen: u64) {
         self.observer.left(number, ending, seen);
     }

@@ -74,7 +74,7 @@ pub struct SeatRecord<K: Drop, C: Drop> {
 /// know the seat by its number.
 #[derive(Drop)]
 pub struct Seat<H: Begun, K: Drop, C: Drop> {
-    /// Whether it is the seat of the desk, where the teacher's bye ends the service.
+    /// Whether it is the seat of the desk: the teacher's bye there ends the service.
     pub is_desk: bool,
     pub window: Window<H>,
     pub record: SeatRecord<K, C>,

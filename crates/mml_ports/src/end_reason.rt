@@ -1,4 +1,4 @@
-//! The lines that tell the other side why its connection is ended. They aren't replies of a session.
+//! The lines by which the other side learns why its connection is ended. They aren't replies of a session.
 use mml_hosting::BUSY;
 
 /// Why the host ends a connection.
@@ -15,7 +15,7 @@ pub enum EndReason {
 }
 
 impl EndReason {
-    /// Returns the line that tells the other side this reason.
+    /// Returns the line that is sent to the other side for this reason.
     pub fn line(self) -> &'static [u8] {
         match self {
             EndReason::Busy => BUSY,

@@ -198,9 +198,9 @@ impl<'a, Rt: Clock + Wait + Eprint> Port<'a, Rt> {
     }
 
     // Returns the next newcomer to serve, if there is a seat. If there is none, has the crowd send a guest away, if one
-    // must leave; turns away the first newcomer if it has waited for half a second; and returns `None`. Tells the crowd
-    // whether a newcomer waits for a seat. Also returns `None` if there are no newcomers, or if the clock fails, when
-    // nothing else is done.
+    // must leave; turns away the first newcomer if it has waited for half a second; and returns `None`. Notes in the
+    // crowd whether a newcomer waits for a seat. Also returns `None` if there are no newcomers, or if the clock fails,
+    // when nothing else is done.
     fn let_in(&mut self) -> Option<Brought<'a, Rt>> {
         let Some(first) = self.waiting.front() else {
             self.wanted_since = None;

@@ -1,4 +1,4 @@
-//! The writing end of a connection. It delays denials of hellos, and tells the other side why its connection ends.
+//! The writing end of a connection. It delays denials of hellos, and sends the reason when the connection ends.
 ghost use Rattle.std.specs.Prelude.{◌≡◌};
 ghost use Rattle.std.specs.Io.{WritesAtMost};
 

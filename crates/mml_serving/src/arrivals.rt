@@ -34,7 +34,7 @@ pub trait LetGo: Read {
         ensures closed { IsLetGo self.new };
 }
 
-/// The writing end of a connection, which can tell the other side that no more bytes follow.
+/// The writing end of a connection. It can signal to the other side that no more bytes follow.
 pub trait HangUp: Write {
     // The statement that the connection is ended and the handle closed. Bytes in memory have neither.
     ghost IsHungUp: { Self → Type 0 } = { λ _. Unit {0} };

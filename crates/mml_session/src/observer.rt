@@ -61,7 +61,7 @@ impl<'a, G: Gate, K: Recorder + Drop> Observer for Gated<'a, G, K> {
         }
     }
 
-    // Tells the recorder that the session has ended, after its window had seen `seen` events.
+    // Records that the session has ended, after its window had seen `seen` events.
     fn left(&mut self, number: u8, _ending: &Ending, seen: u64) {
         self.recorder.left(number, seen);
     }

@@ -28,8 +28,8 @@ IsTogether a b c =
     (c.sessions ≡ counted (a.sessions + b.sessions)) × (c.lines ≡ counted (a.lines + b.lines)) × (c.whole ≡ (a.whole && b.whole))
     × (c.is_cut ≡ (a.is_cut || b.is_cut)) × ((who : Who) → lacks c who ≡ (lacks a who || lacks b who))
 
--- the text of a seat is that of a record, which comes to this; the places that it grants go after `granted`, and if it is wanted, what its
--- lines asked goes after `asks`. Or it goes on with this entry, which can't be
+-- the text of a seat is a record, with these findings. The places that it grants are appended to `granted`, and, if the
+-- caller wants it, what its lines asked to `asks`. Or the text has this bad entry
 abbrev pub IsSeatRead : LabValue → List Event → ℕ → Bool → List ℕ → List ℕ → List ℕ → List Ask → List Ask → Verdict → Type 0
 IsSeatRead lab l number with_asks text granted granted' asks asks' (Passed f) =
     (es : List Entry) × (own : List ℕ) × IsRecordOf lab l es own × (text ≡ record_text number es) × ComesTo lab.roster f es

@@ -40,7 +40,7 @@ fn is_begun(rt: &HostRuntime, path: &str) -> bool {
     }
 }
 
-/// Begins a journal at `path`, where the file of the built-in lab is. Returns whether this lab is read from `path`
+/// Begins a journal at `path`, at which the file of the built-in lab is. Returns whether this lab is read from `path`
 /// before, the journal's line is read from there afterwards, and the lab's text is then found at `kept`.
 fn is_kept(rt: &HostRuntime, path: &str, kept: &str) -> bool {
     let old = lab_of(rt, path).is_ok_and(|lab| lab.node_count() == 3);

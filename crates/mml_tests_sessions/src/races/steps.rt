@@ -9,7 +9,7 @@ use std::sync::atomic::{AtomicU64, Ordering};
 /// that step until the other one has come to that many steps.
 pub type Hold = (u8, u64, u8, u64);
 
-/// Where sessions wait for each other.
+/// At which steps sessions wait for each other.
 #[derive(Clone, Copy)]
 pub enum Holds<'a> {
     /// At each step, until all connections have come to it.
