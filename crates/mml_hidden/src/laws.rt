@@ -1,5 +1,7 @@
 //! Laws about what a student can't learn. Each is the contract of a function that does nothing. Two worlds are alike
-//! for a student if they agree in all that the student may see, and in the numbers of events and configurations.
+//! for a student if they agree in all that the student may see, and in the numbers of events and configurations. A turn
+//! is the effect of one line; in a plain turn nothing goes wrong. A hall is the engine that answers the lines of
+//! numbered connections.
 ghost use Rattle.std.specs.Prelude.{◌≡◌, ◌↔◌, ◌<◌, ℕ, Bool, List, true, false, length, map};
 ghost use Rattle.mml_rules.specs.declared.regs.Regs.{Regs};
 ghost use Rattle.mml_rules.specs.Network.{Network, IsNetwork, configuration_of, with_registers, with_link};

@@ -372,7 +372,7 @@ impl<
         let mut arrivals = arrivals;
         let mut free = seats;
         let mut busy = Vec::with_capacity(self.alloc, free.len())?;
-        // This allocates nothing: by its contract there is room for each seat that comes back.
+        // Allocates nothing. By its contract the list has room for each seat that is put back.
         free.reserve(0)?;
         for _ in self.rt.forever() {
             match arrivals.accept_next() {

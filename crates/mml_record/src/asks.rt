@@ -159,7 +159,7 @@ fn line_and_known(
     ensures known { IfOk result (λ x. x.1 ≡ known_asked roster.now known (request_in line.now)) }
     ensures part { IfOk result (λ x. IfSome x.1 (IsPrincipal roster.now)) }
 {
-    // By reference: a value with a student inside isn't copied by the toolchain if it is used again.
+    // A reference is used because the toolchain doesn't copy a value that contains a student.
     let known = &known;
     match read_request(alloc, line) {
         Ok(request) => {
@@ -208,7 +208,7 @@ fn ask_and_known(
     ensures known { IfOk result (λ x. x.1 ≡ known_after roster.now known line.now text.now) }
     ensures part { IfOk result (λ x. IfSome x.1 (IsPrincipal roster.now)) }
 {
-    // By reference: a value with a student inside isn't copied by the toolchain if it is used again.
+    // A reference is used because the toolchain doesn't copy a value that contains a student.
     let known = &known;
     let denied = clause_told(text);
     let named = denial_told(text);
@@ -273,7 +273,7 @@ pub fn read_asks(
         text.now ≡ record_text number es →
         asks.new.items ≡ asks.old.items ++ asks_in lab.now.roster es) }
 {
-    // By what these getters ensure, the lab is lawful, and the number of events is one of 64 bits.
+    // Called only for the proof: by their contracts the lab is valid, and the number of events fits into 64 bits.
     let _nodes = lab.node_count();
     let _count = events.len();
     let mut known = None;
