@@ -84,7 +84,7 @@ def own_room() -> Iterator[Path]:
 def results_of(bots: list[Bot], cases: list[Case], words: argparse.Namespace, top: Path, stop: threading.Event,
                seen_by: dict[str, Seen] | None = None) -> Iterator[Result]:
     """Yields the result of each bot in each case as it ends, but none of a case that was interrupted. Bots run at
-    the same time if `seen_by` says what each of them sees, and else one after another."""
+    the same time if `seen_by` says what each of them sees, and otherwise one after another."""
     limits = Limits(words.timeout, words.memory, words.own_rule)
     at_once = words.at_once or min(MOST_AT_ONCE, 3 * (os.cpu_count() or 1))
 

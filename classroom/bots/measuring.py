@@ -63,7 +63,7 @@ def drawn(setting: Setting, seed: int) -> labs.Lab:
 
 def partner_chooser(how: Daemon, chance: random.Random) -> Callable[[Sequence[int]], int]:
     """Returns the function that chooses a node's partner among those that point at it. It takes the lowest if the
-    daemon makes runs long, and else a random one."""
+    daemon makes runs long, and otherwise a random one."""
     if how.kind in SEARCHING:
         return min
     return chance.choice

@@ -353,7 +353,7 @@ class Playing:
         return next((name for name in self.lab.owners(node) if name not in self.programs), None)
 
     def move_house(self) -> None:
-        """Lets the house ask for its nodes: for one if a close applies one move, and else for all. For a node that
+        """Lets the house ask for its nodes: for one if a close applies one move, and otherwise for all. For a node that
         a program plays too, the house asks only now and then."""
         nodes = [node for node, _ in self.report["privileged"] if node not in self.chosen and self.house_owner(node)]
         own = [node for node in nodes if len(self.lab.owners(node)) == 1 or not set(self.lab.owners(node)) & set(self.programs)]

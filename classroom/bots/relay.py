@@ -91,7 +91,7 @@ class Relay:
         return sum(when >= since for when in self.calls)
 
     def accept(self) -> None:
-        """Accepts a connection if a number is free. Else answers `busy` and closes it."""
+        """Accepts a connection if a number is free. Otherwise answers `busy` and closes it."""
         try:
             its, _ = self.listener.accept()
         except OSError:

@@ -28,7 +28,7 @@ The state of the class is a JSON object, which the page for all receives (`class
   - `page`: the address of the network's own page, or an empty text; on the page to act it is the address to act at
   - `seats`, `students`: how many there are
   - `status`: `starts`, `runs`, `down` (its server or its desk is gone: an alarm) or `ended`
-  - `alarm`: if it is down what has happened and what helps, as a text; else an empty text
+  - `alarm`: if it is down what has happened and what helps, as a text; otherwise an empty text
   - `state`: the state of the network as above, or null if it isn't known
 
 Names of students are those that the pages show: short names, or numbers if the class is anonymous.

@@ -85,7 +85,7 @@ class Passing:
             return b""
 
     async def serve(self) -> None:
-        """Passes the connection to a page if its first byte is that of an HTTP method, and else to the students'
+        """Passes the connection to a page if its first byte is that of an HTTP method, and otherwise to the students'
         port of a network."""
         first = await self.first_bytes()
         if not first:

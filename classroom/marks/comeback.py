@@ -41,7 +41,7 @@ class Comeback:
 
     def close(self, moved: Collection[int], before: Collection[int], after: Collection[int]) -> str:
         """Counts a close, by the nodes that moved and the nodes that were privileged before and after it. Returns
-        the line with the counts if the class is stable, and else an empty text."""
+        the line with the counts if the class is stable, and an empty text otherwise."""
         if self.recovery is None:
             self.recovery = Recovery(before)
         self.recovery.step(moved, after)

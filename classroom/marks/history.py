@@ -114,7 +114,7 @@ def beginning(said: Session) -> tuple[int, int]:
 
 
 def left_open(part: Vouched, said: Session, session: int) -> list[Row]:
-    """Returns the last row of a session that hasn't ended: it continues if the server runs, and else its rest
+    """Returns the last row of a session that hasn't ended: it continues if the server runs, and otherwise its rest
     isn't recorded. Returns no row if the session has ended, or if its last entry is such a mark already."""
     if said[-1].mark == ENDED or said[-1].mark == CUT and not part.goes_on:
         return []

@@ -145,7 +145,7 @@ class Parser:
         self.tokens, self.names, self.depth = tokens, names, 0
 
     def take(self, *texts: str) -> str:
-        """Removes the next token and returns it, if it is one of these. Else returns an empty text."""
+        """Removes the next token and returns it, if it is one of these. Returns an empty text otherwise."""
         if self.tokens and self.tokens[0][0] != "text" and self.tokens[0][1] in texts:
             return self.tokens.pop(0)[1]
         return ""

@@ -124,7 +124,7 @@ def by_roster(runs: Runs, roster: People, rule: Rule | None = None) -> tuple[lis
 
 
 def is_same_person(person: Person, other: Person) -> bool:
-    """Returns whether two entries are one person: by their identifiers if both have one, and else by their names.
+    """Returns whether two entries are one person: by their identifiers if both have one, and otherwise by their names.
     Characters that aren't printable are compared as they are escaped, because labs of 1.0.0 have them so."""
     return printable(person.id) == printable(other.id) if person.id and other.id else printable(person.written) == printable(other.written)
 

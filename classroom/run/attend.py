@@ -39,7 +39,7 @@ AGAIN_ROOM = ("the disk has room again. If a line couldn't be written, the journ
 
 def disk_line(left: int, why: str) -> tuple[str, str]:
     """Returns how much room a disk with `left` free bytes has (`little`, `full` or an empty text), and the line to
-    print. `why` is the reason if nothing can be written, and else empty."""
+    print. `why` is the reason if nothing can be written, and empty otherwise."""
     if left > 0 and not why:
         return ("little", f"the disk has little room: {left} bytes are left") if left < LITTLE else ("", "")
     what = f"takes nothing ({why})" if why else "is full"
@@ -177,7 +177,7 @@ def next_typed(typed: Typed, seconds: float) -> str | None:
 
 
 def run_typed(desk: Desk, line: str | None, hung: Callable[[], None]) -> str:
-    """Runs a typed line, if there is one. Returns the reason if the line ends the run, and else an empty text."""
+    """Runs a typed line, if there is one. Returns the reason if the line ends the run, and an empty text otherwise."""
     if line is None:
         return ""
     if line == HUNG:

@@ -35,7 +35,7 @@ def wait_for_desks(folder: Path, kept: Class) -> None:
 
 def begin(member: Member, several: Several, again: bool, starts: bool) -> None:
     """Takes the desk of a network. Starts the network's server first if it has ended and `starts` is set. If the run was
-    ended on purpose, it is opened only if `again` is set too. Else a network without a server is marked as down."""
+    ended on purpose, it is opened only if `again` is set too. Otherwise a network without a server is marked as down."""
     record = Record.read(member.folder)
     if record is not None and record.ended and not record.goes_on() and not (starts and again):
         member.status = ENDED

@@ -150,7 +150,7 @@ def show(pages: projector.Pages, desk: Desk, tell: Teller, typed: bool) -> None:
     watch = desk.start_watch()
 
     def act() -> None:
-        """Prints the address to act at if only the teacher can read it, and else that it isn't printed."""
+        """Prints the address to act at if only the teacher can read it. Otherwise prints that it isn't shown."""
         if is_private(typed):
             tell.alone(f"page to act {pages.address_to_act}")
         else:

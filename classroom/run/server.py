@@ -131,7 +131,7 @@ class Call:
 
     def start(self, words: list[str | Path], port: int, number: int, knock: Knock | None) -> Server | None:
         """Starts a server with these arguments. Returns it when it listens, or None if a port is taken. `number`
-        is the desk's port for a host, and else the number of connections to serve."""
+        is the desk's port for a host, and otherwise the number of connections to serve."""
         output = self.folder / "server.txt"
         with output.open("ab" if self.is_resumed else "wb") as prints:
             before = prints.tell()

@@ -1,1 +1,1 @@
-"""Proves and builds the programs of a clone, on all processors, over what this machine has proved before."""
+"""Proves and builds the programs of a clone, on all processors. Uses the proofs that this machine has made before."""

@@ -1,9 +1,9 @@
 """Proves and builds programs of this clone.
 
-    python3 -B -m tools.build PROGRAM..     what ./mml calls if a program isn't built from its sources
+    python3 -B -m tools.build PROGRAM..     is called by ./mml if a program isn't built from its present sources
 
-All processors prove side by side, and what this machine has proved before is taken. The status is 0 if all these
-programs are built, 1 if not. After a signal it ends by that signal, and what is proved by then is kept.
+Proofs run on all processors, and proofs that this machine has made before are used again. The status is 0 if all these
+programs are built, and 1 if not. After a signal the build ends by that signal, and the finished proofs are kept.
 """
 from __future__ import annotations
 
@@ -38,7 +38,7 @@ def progress_of(crates: Uses, number: int) -> Progress:
 
 
 def tell_beginning(programs: list[str], progress: Progress) -> None:
-    """Prints what the build does, how long it takes, and the alternatives."""
+    """Prints what the build does, how long it takes, and what the user can do instead."""
     side = processors()
     say(f"building {' and '.join(programs)}, after proving {len(progress.crates)} crates; what this machine has proved before is taken")
     say(f"from nothing that takes {duration_text(progress.left(0.0))} on {side} processor{'s' if side > 1 else ''}, by the times of another "

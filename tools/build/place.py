@@ -1,8 +1,8 @@
 """The folders in which a build proves: small repositories with the sources of a crate and of those below it.
 
-`rt ci` proves in one from nothing what no earlier run on this machine proved, as it does at the top of a clone, and
-leaves programs and libraries there. It sees no file of the clone that may be edited meanwhile, and the clone keeps
-what `rt check` left in it.
+In such a repository `rt ci` works as at the top of a clone: it proves what no earlier run on this machine has proved,
+and leaves programs and libraries there. Files of the clone can be edited meanwhile without an effect on the build, and
+the results of `rt check` in the clone stay as they are.
 """
 from __future__ import annotations
 

@@ -22,7 +22,7 @@ def chains(crates: Uses, seconds: dict[str, float]) -> dict[str, float]:
 
 
 class Progress:
-    """The crates that are proved, and those whose proofs are running, at most `number` side by side."""
+    """The crates that are proved, and those whose proofs are running, at most `at_once` side by side."""
 
     def __init__(self, crates: Uses, seconds: dict[str, float], at_once: int) -> None:
         self.crates, self.seconds, self.at_once = crates, seconds, at_once
@@ -78,5 +78,5 @@ class Progress:
 
 
 def duration_text(seconds: float) -> str:
-    """Returns a duration as a text."""
+    """Returns a duration as a text, in minutes."""
     return f"some {math.ceil(seconds / 60)} minutes" if seconds > 60 else "about a minute"

@@ -1,9 +1,10 @@
 """Proves crates by runs of `rt ci`, and puts what they make into the clone.
 
-One run over all crates first takes what this machine has proved before. It is ended when it would prove: alone in its
-repository a crate is proved by several processes, and else mostly by one, while the crates above it wait. So each of
-the others has a run of its own, over what the runs before it kept. A crate that the longest chain waits for, or one
-nearly as long, has all processors, and goes before the others.
+A first run over all crates takes over the proofs that this machine has made before. It is stopped when it begins to
+prove something. Each remaining crate is then proved by a run of its own, which uses the proofs of the runs before. The
+reason is that `rt ci` uses several processes for a crate that is alone in its repository, but mostly one process
+otherwise, and the crates above have to wait. A crate on the longest chain of waiting crates, or on one that is nearly
+as long, gets all processors, and is proved before the others.
 """
 from __future__ import annotations
 
@@ -18,7 +19,7 @@ from tools.build.place import Place, Room, take, take_library
 from tools.build.progress import Progress
 from tools.build.running import Run, Screen
 
-POLL = 0.2  # seconds between two looks at the runs
+POLL = 0.2  # seconds between two checks of the runs
 MOST_JOBS = 4  # processes of a proof, at most
 MEMORY = 4_000_000_000  # bytes that have to be free for one more proof side by side
 

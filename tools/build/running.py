@@ -26,7 +26,7 @@ NOT_KEPT = re.compile(r"^rt: note: .*(nothing is kept|is not kept)", re.MULTILIN
 
 
 class Stopped(Exception):
-    """The error that a signal ends the build."""
+    """Raised when a signal ends the build."""
 
     def __init__(self, number: int) -> None:
         super().__init__(number)
@@ -36,6 +36,7 @@ class Stopped(Exception):
 def raise_on_signals() -> None:
     """Raises `Stopped` at the signals that end a process, except for those that the caller ignores."""
     def stop(number: int, _: FrameType | None) -> None:
+        """Raises `Stopped`, and ignores all further signals."""
         for each in ENDING:
             signal.signal(each, signal.SIG_IGN)
         raise Stopped(number)

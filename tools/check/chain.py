@@ -1,4 +1,5 @@
-"""The longest chain of proofs of a run: each waits for the crates below it, so no machine is quicker than their sum.
+"""The longest chain of proofs of a run. Each proof waits for those of the crates below it, so a run takes at least the
+time of this chain, however many processors there are.
 
 A run of `./check` that proves something keeps the times of its proofs in `out/proofs.txt`. `./check chain` prints the
 chain to a crate, with how long each proof waited for a free processor and how long it took.

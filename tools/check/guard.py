@@ -1,5 +1,5 @@
-"""The process that the user has called. It stays beside the process that checks, and each of them cleans up if the
-other is killed."""
+"""The process that the user has started. It stays alive beside the process that does the check. If one of the two is
+killed, the other cleans up."""
 from __future__ import annotations
 
 import os
@@ -57,6 +57,7 @@ def work_below(guard: int, room: Path, work: Callable[[Path], int]) -> None:
 def forward_signals(child: int) -> None:
     """Passes the signals that end a check to a child from now on, except for those that the caller ignores."""
     def hand_on(number: int, _: object) -> None:
+        """Sends the signal to the child, unless the child has ended."""
         try:
             os.kill(child, number)
         except ProcessLookupError:

@@ -10,7 +10,7 @@ from tools.check.parts import TOP
 
 
 class Taken(Exception):
-    """The error that another check runs in this tree."""
+    """Raised if another check is running in this tree."""
 
 
 @contextmanager

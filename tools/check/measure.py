@@ -1,10 +1,10 @@
-"""What processor time a check took, by part, and of the checks of `rattle` by crate and kind.
+"""Measures the processor time of a check: for each part, and for the checks of `rattle` by crate and kind.
 
-The sum is what the system counted of each part and of all that it waited for. Of each check (a process
-`rattle --crate-name C`, with those that it started) what it had used when it was last looked at, twice a
-second, counts for its crate: as `wrong` below the part of that name or in a folder of an edit, as `tests`
-under --test, else as `proof`. What is left is `the rest`: links, programs that `rt ci` ran, the rt command
-itself, and the last half second of each check.
+The system counts the time of each part, with all processes that the part waited for. The time of each check (a process
+`rattle --crate-name C`, with those that it started) is read twice a second, and counted for its crate. Its kind is
+`wrong` below the part of that name or in a folder of an edit, `tests` if it has the option --test, and otherwise
+`proof`. The remaining time is `the rest`: links, programs that `rt ci` ran, the rt command itself, and the last half
+second of each check.
 """
 from __future__ import annotations
 

@@ -1,4 +1,4 @@
-"""Returns the command line of a module of tests or tools."""
+"""The parts of a check: their command lines, the time that they take, and what they need."""
 from __future__ import annotations
 
 import re

@@ -111,6 +111,7 @@ def end_all(groups: list[int], patience: float) -> None:
     """Ends all processes below this one. Asks the leaders of these groups first, which clean up, then all others,
     and kills those that stay."""
     def rest() -> list[int]:
+        """Returns the processes below this one that are left."""
         return below(os.getpid())
 
     send(groups, signal.SIGTERM, os.killpg)

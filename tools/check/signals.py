@@ -10,7 +10,7 @@ ALL = (signal.SIGINT, signal.SIGTERM, signal.SIGHUP)
 
 
 class Killed(Exception):
-    """A signal has come that ends a check."""
+    """Raised when a signal ends the check."""
 
     def __init__(self, number: int) -> None:
         super().__init__(number)

@@ -3,14 +3,14 @@
     python3 -B -m tools.plant [PLANT..]                     builds the host's program with each in turn, and runs its test
     python3 -B -m tools.plant --prove [PLANT..]             asks the prover about those that name their function
     python3 -B -m tools.plant --build TO [PLANT..]          builds the program once with all of these, and puts it there
-    python3 -B -m tools.plant --draw N [--seed S] [CRATE..] draws so many small bugs, one a function, and asks the prover about them
-    python3 -B -m tools.plant --list                        says which there are
+    python3 -B -m tools.plant --draw N [--seed S] [CRATE..] draws N small bugs, one for each function, and asks the prover about them
+    python3 -B -m tools.plant --list                        prints all plants
 
-A PLANT is CRATE or CRATE/NAME. A plant is seen if its test fails over the program that has it; that the test passes
-otherwise is what `./check` shows. Such a program isn't proved: its build takes two minutes, and no library that `rt` leaves.
-The prover is asked by one check a crate, over the libraries that `rt ci` or `rt check` left. A drawn bug is the same for the
-same seed and sources. If the prover lets one through, a person says whether it changes anything, whether a test sees it, or
-which clause is missing.
+A PLANT is CRATE or CRATE/NAME. A plant is seen if its test fails with the program that has the plant; `./check` shows that the
+test passes otherwise. A program with a plant isn't proved: its build takes two minutes, and needs no library of `rt`. The
+prover is asked by one check for each crate, over the libraries that `rt ci` or `rt check` left. The same seed and sources give
+the same random bugs. If the prover accepts a bug, a person has to find out why: it may change nothing, a test may see it, or a
+clause of a contract may be missing.
 """
 from __future__ import annotations
 

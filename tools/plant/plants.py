@@ -1,6 +1,6 @@
-"""Plants: bugs in bodies of the crates, by which it is found what neither the prover nor a test sees.
+"""Plants: bugs that are put into bodies of the crates, to find out which bugs neither the prover nor a test would see.
 
-A plant is a file `crates/NAME/plants/WHAT_IT_DOES.edit`, as a wrong body is, without a goal:
+A plant is a file `crates/NAME/plants/WHAT_IT_DOES.edit`, in the form of a wrong body (`tools.wrong.edits`) without a goal:
 
     # in: file_sink::FileSink::write
     # seen: tests.resume failed_sync
@@ -8,9 +8,9 @@ A plant is a file `crates/NAME/plants/WHAT_IT_DOES.edit`, as a wrong body is, wi
     old: TEXT
     new: TEXT
 
-`old` stands exactly once in the file, each TEXT is one line, and further pairs apply to what the earlier ones made. There
-is one of the first two lines, or both: the function, below its crate, in which the prover is asked about the bug, and a
-module of tests over programs with a test of it that has to fail.
+Each TEXT is one line. The text after `old` occurs exactly once in the file, and further pairs apply to the result of the
+earlier ones. At least one of the first two lines is present. `in` names the function, below its crate, about which the
+prover is asked. `seen` names a test that has to fail: its module, and its name.
 """
 from __future__ import annotations
 

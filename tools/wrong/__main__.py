@@ -1,16 +1,19 @@
-"""Tries the wrong bodies of the crates, many at once, and wants each refused in its own function at its own goal.
+"""Tries the wrong bodies of the crates, many at once. The prover has to refuse each in its own function, at its own goal.
 
-    python3 -B -m tools.wrong [CRATE..]             over the libraries that `rt ci` or `rt check` left
-    python3 -B -m tools.wrong --rounds [CRATE..]    says only what is tried together
-    python3 -B -m tools.wrong --as-proved           tries each crate once it and those below it are named on standard
-                                                    input, with what is idle; after its end, what is left, with all
+    python3 -B -m tools.wrong [CRATE..]             tries them over the libraries that `rt ci` or `rt check` left
+    python3 -B -m tools.wrong --rounds [CRATE..]    prints only which of them are tried together
+    python3 -B -m tools.wrong --as-proved           reads the names of proved crates from standard input, and tries each
+                                                    crate after it and those below it are named, on idle processors;
+                                                    at the end of the input tries the others, on all processors
 
-Edits of a crate whose texts and functions are apart are put into one copy of it (a round), of which one check
-proves the functions that they name. A function is proved from the clauses of what it calls, so one that is
-refused opens no goal of its callers. Each round of a crate begins with what the crate's library holds; crates are
-tried side by side. What fails: an edit that can't be applied, a function that isn't refused at its
-goal, an error of no goal (a text that doesn't compile, a name that a proof lost), a function that is refused
-though no edit names it, and counts of the check that don't fit what it says.
+Edits of one crate that change different texts and functions are put into one copy of the crate, which is called a
+round. A single check proves the functions that the edits of a round name. A function is proved from the contracts of
+the functions that it calls, so a refused function leaves no goal of its callers open. Each round starts from the proofs
+in the crate's library. Crates are tried side by side.
+
+The following is a failure: an edit that can't be applied; a function that isn't refused at its goal; an error that
+belongs to no goal (a text that doesn't compile, or a name that a proof doesn't find); a function that is refused though
+no edit names it; and counts of the check that don't match its lines.
 """
 from __future__ import annotations
 

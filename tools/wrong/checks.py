@@ -23,7 +23,7 @@ WITH_THIS_PROCESS = ("setpriv", "--pdeathsig", "KILL")
 
 
 class Stopped(Exception):
-    """The error that no more checks can begin."""
+    """Raised if no more checks may begin."""
 
 
 @dataclass(frozen=True)

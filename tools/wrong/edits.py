@@ -7,13 +7,13 @@ A wrong body is a file `crates/NAME/wrong/WHAT_IT_DOES.edit`:
     old: TEXT
     new: TEXT
 
-FUNCTION is a path below the crate, GOAL what the prover must leave open there; there may be several such
-lines. Each TEXT is one line, `old` stands exactly once in the file, and further pairs apply to what the
-earlier ones made. A pair of `proofs/` gives a part of the body its new name in an answer.
+FUNCTION is a path below the crate, and GOAL is the goal that the prover must leave open there. There may be several
+such lines. Each TEXT is one line. The text after `old` occurs exactly once in the file. Further pairs apply to the
+result of the earlier ones. A pair for a file of `proofs/` changes the name of a part of the body in a proof's answer.
 
-A line `# round: 2` keeps an edit out of the first round. What stands between two functions that are edited in one
-round, being called by the one and calling the other, is proved there once more, and so is all that cites a constant
-that is edited there: so an edit of a constant, and of what stands above many others, is cheaper in a later round.
+A line `# round: 2` keeps an edit out of the first round. Some functions are proved once more in a round: those that
+are called by one edited function and call another, and those that cite an edited constant. So an edit of a constant,
+or of a function that many others call, is cheaper in a later round.
 """
 from __future__ import annotations
 

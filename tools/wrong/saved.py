@@ -1,8 +1,8 @@
-"""What a crate's library holds of the check that proved it, put in the place in which the checks of its wrong bodies look for it.
+"""Copies the checked modules in a crate's library into the folder in which the checks of its wrong bodies look for them.
 
-A library has the modules that were checked for it. A check that goes on from a folder takes from there what is up
-to date, and checks the rest: so a function that no edit touches, and that calls none that one does, isn't proved
-once more. If a library has no such modules, or the prover saves under no name, all are checked.
+A library contains the modules that were checked for it. A check that starts from such a folder uses the modules that
+are up to date, and checks the others. So a function isn't proved again if no edit changes it or a function that it
+calls. If a library has no such modules, or the name of the folder isn't known, all modules are checked.
 """
 from __future__ import annotations
 
@@ -19,8 +19,8 @@ TEXT = "#![tactic(auto)]\n\n/// Does nothing.\npub fn nothing() {}\n"
 
 
 def find_name(tree: Tree) -> str:
-    """Returns the name of the folder in which this prover saves checked modules, or None. Waits for no other
-    check."""
+    """Returns the name of the folder in which this prover saves checked modules, or an empty text if it isn't known.
+    Doesn't wait for other checks."""
     with tempfile.TemporaryDirectory(prefix="mml-wrong-") as room:
         alone, kept = Tree(Path(room), tree.kit, {NOTHING: []}), Path(room) / "kept"
         (alone.folder(NOTHING) / "src").mkdir(parents=True)
