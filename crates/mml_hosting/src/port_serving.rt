@@ -210,8 +210,8 @@ fn cut_off_all<
     }
 }
 
-// Returns 256 marks, one for each number that a seat can have, none of which is set. Returns `Memory` if memory runs
-// out.
+// Returns 256 marks, one for each number that a seat can have. A mark says that the seat's thread has ended; none is
+// set yet. Returns `Memory` if memory runs out.
 fn new_marks(alloc: Global) -> Result<Vec<AtomicU64>, Memory>
     ensures { IfOk result (λ marks. vec_len marks ≡ 2 ^ 8) }
 {
