@@ -17,7 +17,7 @@ TOP = Path(__file__).resolve().parents[2]
 PICTURE = TOP / "docs/crates.svg"
 TESTS = "mml_tests_"
 FOLDERS = {
-    "mml_lab_file": ["labs"],
+    "mml_lab_file": ["labs", "resume"],
     "mml_tally": ["tally"],
     "mml_stable": ["scripts"],
     "mml_audit": ["journals"],
@@ -25,7 +25,6 @@ FOLDERS = {
     "mml_class": ["record", "tally"],
     "mml_recording": ["record"],
     "mml_resuming": ["resume"],
-    "mml_same_lab": ["resume"],
     "mml_program": ["program"],
     "mml_server": ["program", "hostile"],
     "mml_judging_program": ["tally", "record"],

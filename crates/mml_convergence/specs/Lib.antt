@@ -4,3 +4,8 @@ pub mod Moves
 pub mod Rest
 pub mod Examples
 pub mod Rounds
+pub mod Courtships
+pub mod Halves
+pub mod Crowd
+pub mod Comb
+pub mod Most

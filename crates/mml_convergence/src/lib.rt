@@ -1,4 +1,6 @@
-//! Why a run ends, in which configuration, and how soon: only laws, on which no code depends.
+//! Why a run ends, in which configuration, and how soon: only laws, on which no code depends. `bounds` has those that name
+//! the greatest numbers of moves and rounds.
 #![tactic(auto)]
 
+pub mod bounds;
 pub mod laws;

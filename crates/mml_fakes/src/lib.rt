@@ -1,9 +1,12 @@
-//! For tests only: readers, writers and sinks that fail when a test wants it, threads that wait for each other, numbers
-//! that look random, and the labs, lines and scripts that several tests share. The programs don't depend on this crate.
+//! For tests only: readers, writers and sinks that fail on demand, threads that wait for each other, numbers that look
+//! drawn, and the labs, lines and scripts that several tests share; for a house, its seats, visits through them, how it
+//! ends, and the acts of a stored run. Nothing of the program depends on it.
 #![tactic(auto)]
 
+mod acts;
 pub mod cycles;
 mod drip;
+mod ending;
 mod fake_reader;
 mod fake_writer;
 pub mod labs;
@@ -11,8 +14,16 @@ mod lines;
 pub mod meeting;
 mod numbers;
 pub mod scripts;
+mod seat;
+pub mod ten_acts;
+mod visiting;
+mod windows;
 
+pub use acts::{is_first_close, seduction, student};
 pub use drip::Drip;
+pub use ending::{Ending, ending_of, has_journal};
 pub use fake_reader::{FakeReader, Parts};
 pub use fake_writer::{FakeWriter, Refusal};
 pub use numbers::Numbers;
+pub use seat::{Pair, Seat};
+pub use visiting::{Visit, Visited, open_path, visit_lab, visit_path, visit_windows};

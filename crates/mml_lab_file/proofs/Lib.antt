@@ -15,3 +15,4 @@ pub mod NoMemoryLemmas
 pub mod LinksBelowLemmas
 pub mod LinkCountLemmas
 pub mod OwnersLemmas
+mod SamenessLemmas

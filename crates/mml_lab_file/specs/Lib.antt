@@ -4,3 +4,4 @@ pub mod Reading
 pub mod LabErrors
 pub mod LabMeaning
 pub mod inside
+pub mod Sameness

@@ -1,4 +1,4 @@
-//! The lab file: its bytes as a lab, or its first error.
+//! The lab file: its bytes as a lab, or its first error; and a comparison of two labs in all that a journal names.
 #![tactic(auto)]
 
 mod build;
@@ -9,5 +9,7 @@ mod lab_reading;
 pub mod laws;
 mod links;
 mod raw_lab;
+mod sameness;
 
 pub use lab_reading::read_lab;
+pub use sameness::{is_same_lab, spells_same_lab};

@@ -23,7 +23,7 @@ use Rattle.mml_journal.specs.EventLines.{IsEventOf}
 use Rattle.mml_journal.proofs.MemberLemmas.{legal_member}
 use Rattle.mml_convergence.specs.Rest.{EachHasOwner, LeadsToRest, is_grant_or_close}
 use Rattle.mml_convergence.proofs.LeadsToRestLemmas.{reached}
-use Rattle.mml_bounds.specs.Most.{events_to_rest}
+use Rattle.mml_convergence.specs.Most.{events_to_rest}
 use Rattle.mml_codec.specs.declared.reply.Reply.{Reply}
 use Rattle.mml_codec.specs.declared.reply.Reply.TheVariants as reply
 use Rattle.mml_codec.specs.declared.request.Request.TheVariants as requests

@@ -18,8 +18,8 @@ use Rattle.mml_board.proofs.{WorldLemmas.after-world, WorldLemmas.size-after, Ru
 use Rattle.mml_convergence.specs.{Potential.whole_potential, Rest.EachHasOwner, Rest.is_grant_or_close}
 use Rattle.mml_convergence.proofs.{SumsLemmas.count_same, WholePotentialLemmas.whole_fell, RestLemmas.any_chosen, RestLemmas.may_move, RestLemmas.first_owner}
 use Rattle.mml_convergence.proofs.AppliedLemmas.{Falls, close_paid, close_moves, network_most}
-use Rattle.mml_bounds.specs.{Courtships.courting_potential, Most.events_to_rest}
-use Rattle.mml_bounds.proofs.{NumbersLemmas.courtships_kept, NumbersLemmas.courtships_even, WholeLemmas.courting_fell, WholeLemmas.courting_most}
+use Rattle.mml_convergence.specs.{Courtships.courting_potential, Most.events_to_rest}
+use Rattle.mml_convergence.proofs.{NumbersLemmas.courtships_kept, NumbersLemmas.courtships_even, WholeLemmas.courting_fell, WholeLemmas.courting_most}
 use Rattle.mml_laws.proofs.ChoicesLemmas.{opening}
 use Rattle.mml_board.specs.declared.event.Event.TheVariants as event
 

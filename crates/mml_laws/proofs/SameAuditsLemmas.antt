@@ -17,7 +17,7 @@ use Rattle.mml_audit.specs.declared.auditing.AuditFault.{AuditFault}
 use Rattle.mml_audit.specs.declared.auditing.AuditFault.TheVariants as fault
 use Rattle.mml_audit.specs.Audit.{or_else, allowed, event_in, after_line, after_lines, audited, audited_from, is_torn}
 use Rattle.mml_record.proofs.RiseLemmas.{owned_within}
-use Rattle.mml_same_lab.specs.Sameness.{IsSameLab}
+use Rattle.mml_lab_file.specs.Sameness.{IsSameLab}
 use Rattle.mml_laws.proofs.SameLabsLemmas.{said_alike, networks_alike}
 
 -- whether each one owns a node, as what the event of a line depends on

@@ -22,7 +22,7 @@ use Rattle.mml_journal.specs.declared.journal_fault.JournalFault.TheVariants as 
 use Rattle.mml_journal.specs.EventWords.{EventWords, LineWords, line_of}
 use Rattle.mml_journal.specs.EventWords as words
 use Rattle.mml_journal.specs.EventLines.{said_by, event_line, event_named, IsEventOf}
-use Rattle.mml_same_lab.specs.Sameness.{IsSameLab}
+use Rattle.mml_lab_file.specs.Sameness.{IsSameLab}
 
 -- ---- lines
 

@@ -1,8 +1,8 @@
 -- The bounds as numbers.
 use Rattle.std.proofs.Common.{◌≡◌, ◌⊎◌, inl, inr, ℕ, zero, suc, ◌+◌, ◌-◌, ◌*◌, ◌/◌, ◌%◌, refl, sym, ap, ◌∙◌, arith}
 use Rattle.mml_convergence.specs.Rounds.{rounds_for}
-use Rattle.mml_bounds.specs.Courtships.{most_courtships}
-use Rattle.mml_bounds.proofs.NumbersLemmas.{courtships_even, courtships_odd}
+use Rattle.mml_convergence.specs.Courtships.{most_courtships}
+use Rattle.mml_convergence.proofs.NumbersLemmas.{courtships_even, courtships_odd}
 
 -- twice the half, and one more if the number is odd
 halved : (n : ℕ) → (n ≡ 2 * (n / 2)) ⊎ (n ≡ 2 * (n / 2) + 1)

@@ -27,9 +27,9 @@ use Rattle.mml_convergence.proofs.AppliedLemmas.{Falls, close_paid, network_most
 use Rattle.mml_convergence.proofs.WholePotentialLemmas.{whole_fell}
 use Rattle.mml_convergence.proofs.RestLemmas.{same_size}
 use Rattle.mml_convergence.proofs.SumsLemmas.{count_some}
-use Rattle.mml_bounds.specs.Courtships.{most_courtships, courting_potential}
-use Rattle.mml_bounds.specs.Most.{most_moves}
-use Rattle.mml_bounds.proofs.WholeLemmas.{courting_fell, courting_most}
+use Rattle.mml_convergence.specs.Courtships.{most_courtships, courting_potential}
+use Rattle.mml_convergence.specs.Most.{most_moves}
+use Rattle.mml_convergence.proofs.WholeLemmas.{courting_fell, courting_most}
 use Rattle.mml_tally.specs.Moves.{fate_of, moves_from}
 use Rattle.mml_tally.specs.declared.fate.Fate.{Fate}
 use Rattle.mml_tally.specs.declared.fate.Fate.TheVariants as fate

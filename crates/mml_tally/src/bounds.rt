@@ -1,7 +1,7 @@
 ghost use Rattle.std.specs.Prelude.{◌≡◌, ◌≤◌};
 ghost use Rattle.mml_ids.specs.declared.TheConstants.{MAX_NODES};
 ghost use Rattle.mml_convergence.specs.Rounds.{rounds_for};
-ghost use Rattle.mml_bounds.specs.Courtships.{most_courtships};
+ghost use Rattle.mml_convergence.specs.Courtships.{most_courtships};
 ghost use Rattle.mml_tally.specs.Bounds.{bounds_for, bounds_of};
 
 use mml_board::Board;

@@ -4,7 +4,7 @@ ghost use Rattle.mml_window.specs.Houses.{house_of};
 
 use mml_board::Done;
 use mml_fakes::scripts::CLOSED_JOURNAL;
-use mml_fakes_houses::{
+use mml_fakes::{
     Ending, Pair, Seat, Visit, ending_of, has_journal, is_first_close, open_path, seduction,
     student, visit_windows,
 };

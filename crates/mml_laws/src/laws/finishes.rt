@@ -4,7 +4,7 @@ ghost use Rattle.mml_lab.specs.Labs.{LabValue, link_count};
 ghost use Rattle.mml_lab_file.specs.Reading.{lab_of};
 ghost use Rattle.mml_board.specs.declared.event.Event.{Event};
 ghost use Rattle.mml_convergence.specs.Rest.{EachHasOwner};
-ghost use Rattle.mml_bounds.specs.Most.{events_to_rest};
+ghost use Rattle.mml_convergence.specs.Most.{events_to_rest};
 ghost use Rattle.mml_codec.specs.declared.reply.Reply.{Reply};
 ghost use Rattle.mml_hall.specs.Halls.{IsHall};
 ghost use Rattle.mml_hall.specs.Turns.{State, opening};

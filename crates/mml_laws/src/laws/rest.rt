@@ -10,7 +10,7 @@ ghost use Rattle.mml_board.specs.World.{World, IsWorld, size, configuration, ope
 ghost use Rattle.mml_board.specs.Events.{chosen_count};
 ghost use Rattle.mml_board.specs.Runs.{is_legal_list, world_of};
 ghost use Rattle.mml_convergence.specs.Rest.{EachHasOwner, is_grant_or_close};
-ghost use Rattle.mml_bounds.specs.Most.{events_to_rest};
+ghost use Rattle.mml_convergence.specs.Most.{events_to_rest};
 
 /// On n nodes with L links, a legal list of only grants and closes has at most 6n + 4 min(L, n²/4) events, where n²/4
 /// is rounded down, less one for each move that is chosen at its beginning. So if each node has an owner and so many

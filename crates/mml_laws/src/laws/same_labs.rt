@@ -10,7 +10,7 @@ ghost use Rattle.mml_board.specs.Lists.{world_in};
 ghost use Rattle.mml_board.specs.World.{World};
 ghost use Rattle.mml_audit.specs.Audit.{audited};
 ghost use Rattle.mml_journal.specs.EventLines.{said_by, event_line, IsEventOf};
-ghost use Rattle.mml_same_lab.specs.Sameness.{IsSameLab};
+ghost use Rattle.mml_lab_file.specs.Sameness.{IsSameLab};
 
 /// Labs that are the same read each journal alike. A line means the same event in both, or has the same fault, and an
 /// event has the same line. A list of events leads to the same world. The participants have the same names, and own the

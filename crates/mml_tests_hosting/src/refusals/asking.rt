@@ -1,8 +1,8 @@
 //! Tests that ask for the acts of a stored run through a window, while one request for memory after another is refused.
 use super::MOST;
 use super::library::{is_there, refuse, was_none_refused};
-use mml_fakes_houses::ten_acts::{ACTS, act, asker, number_before};
-use mml_fakes_houses::{Ending, Pair, Seat, Visit, ending_of, visit_path};
+use mml_fakes::ten_acts::{ACTS, act, asker, number_before};
+use mml_fakes::{Ending, Pair, Seat, Visit, ending_of, visit_path};
 use mml_journal::NullSink;
 use mml_window::{Answer, House, Refusal};
 use std::alloc::Global;

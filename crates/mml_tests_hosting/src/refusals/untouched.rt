@@ -2,8 +2,8 @@
 //! journal is halted.
 use super::library::{is_there, refuse, was_none_made};
 use mml_fakes::labs::PATH_OF_THREE;
-use mml_fakes_houses::ten_acts::{act, asker};
-use mml_fakes_houses::{Pair, Seat, Visit, visit_lab};
+use mml_fakes::ten_acts::{act, asker};
+use mml_fakes::{Pair, Seat, Visit, visit_lab};
 use mml_journal::MemorySink;
 use mml_lab::Who;
 use mml_window::{Answer, House, Refusal};

@@ -1,5 +1,0 @@
-pub mod Courtships
-pub mod Halves
-pub mod Crowd
-pub mod Comb
-pub mod Most

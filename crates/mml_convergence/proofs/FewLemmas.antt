@@ -1,0 +1,14 @@
+-- Over grants, releases and closes the moves are paid for by the courting potential.
+use Rattle.std.proofs.{lemmas.Bool.Decides.nat_tests, Common.◌≡◌, Common.◌+◌, Common.◌*◌, Common.◌≤◌, Common.min, Common.true, Common.List, Common.arith}
+use Rattle.std.specs.List.{list_all}
+use Rattle.mml_lab.specs.{Labs.link_count, Rosters.RosterValue}
+use Rattle.mml_board.specs.{declared.event.Event.Event, World.World, World.size, World.IsWorld, Runs.is_legal_list}
+use Rattle.mml_convergence.specs.{Runs.is_of_step, Moves.applied_over}
+use Rattle.mml_convergence.proofs.AppliedLemmas.{moves_paid, moves_bounded}
+use Rattle.mml_convergence.specs.Courtships.{most_courtships, courting_potential}
+use Rattle.mml_convergence.proofs.WholeLemmas.{courting_fell, courting_most}
+
+-- both bounds together
+pub moves_few : (r : RosterValue) (w : World) (es : List Event) → IsWorld w → is_legal_list r w es ≡ true → list_all is_of_step es ≡ true
+    → applied_over w es ≤ 3 * size w + 2 * min (link_count w.network) (most_courtships (size w))
+moves_few r w es k legal steps = grind (arith, nat_tests, moves_paid courting_potential courting_fell r w es k legal steps, courting_fell, moves_bounded, courting_most)

@@ -1,0 +1,110 @@
+//! Laws of the most moves that a run has. Each is the contract of a function that does nothing.
+ghost use Rattle.std.specs.Prelude.{◌≡◌, ℕ, ◌+◌, ◌-◌, ◌*◌, ◌<◌, ◌≤◌, true, List, Option};
+ghost use Rattle.std.specs.List.{list_all};
+ghost use Rattle.mml_ids.specs.Search.{count_below};
+ghost use Rattle.mml_ids.specs.declared.TheConstants.{MAX_NODES};
+ghost use Rattle.mml_rules.specs.declared.rule.Rule.{Rule};
+ghost use Rattle.mml_rules.specs.Configuration.{Configuration, IsLawful};
+ghost use Rattle.mml_rules.specs.Rules.{step, AllHold};
+ghost use Rattle.mml_rules.specs.Matching.{IsStable};
+ghost use Rattle.mml_lab.specs.Labs.{link_count};
+ghost use Rattle.mml_lab.specs.declared.who.Who.{Who};
+ghost use Rattle.mml_lab.specs.Rosters.{RosterValue, owns};
+ghost use Rattle.mml_board.specs.declared.event.Event.{Event};
+ghost use Rattle.mml_board.specs.World.{World, IsWorld, size, configuration};
+ghost use Rattle.mml_board.specs.Runs.{is_legal_list, world_of};
+ghost use Rattle.mml_convergence.specs.Runs.{is_of_step};
+ghost use Rattle.mml_convergence.specs.Moves.{moves, applied_over, count_closes};
+ghost use Rattle.mml_convergence.specs.Rest.{is_grant_or_close};
+ghost use Rattle.mml_convergence.specs.Rounds.{Rounds, rounds_for};
+ghost use Rattle.mml_convergence.specs.Courtships.{most_courtships, courting_potential};
+ghost use Rattle.mml_convergence.specs.Most.{most_moves};
+ghost use Rattle.mml_convergence.specs.Halves.{halves_world};
+ghost use Rattle.mml_convergence.specs.Crowd.{crowd_world};
+ghost use Rattle.mml_convergence.specs.Comb.{comb_world};
+
+/// On n nodes with L links, the closes of a legal list of grants, releases and closes apply at most 3n + 2 min(L, n²/4)
+/// moves, n²/4 rounded down. This holds from any world, and however the moves are chosen.
+pub fn moves_are_few()
+    ensures { (r : RosterValue) (w : World) (es : List Event) → IsWorld w →
+        is_legal_list r w es ≡ true → list_all is_of_step es ≡ true →
+        applied_over w es ≤ most_moves (size w) (link_count w.network) }
+{}
+
+/// A courtship is a pointer of an unmarried node at a higher unmarried node whose m is false. Among n unmarried nodes
+/// there are at most n²/4, rounded down.
+pub fn courtships_in_numbers()
+    ensures even { (k : ℕ) → most_courtships (2 * k) ≡ k * k }
+    ensures odd { (k : ℕ) → most_courtships (2 * k + 1) ≡ k * k + k }
+{}
+
+/// The potential that counts courtships, pointers of unmarried nodes at higher ones that may still marry them, falls in
+/// a step of moves whose guards hold. It falls by at least the number of nodes that move. It is at most 3 for each of n
+/// nodes, and 2 for each of n²/4, rounded down.
+pub fn step_lowers_courting_potential()
+    ensures lower { (c : Configuration) (chosen : ℕ → Option Rule) → IsLawful c → AllHold c chosen →
+        courting_potential (step c chosen) + count_below c.size (moves chosen) ≤ courting_potential c }
+    ensures most { (c : Configuration) →
+        courting_potential c ≤ 3 * c.size + 2 * most_courtships c.size }
+{}
+
+/// The bound on rounds, 2n or, if n is odd, 2n - 1, can't be lowered for any number n of nodes from 2 on that a lab may
+/// have. In the network of two halves (`halves_world`), a student who owns each node has a legal list of grants and
+/// closes with one round less, after which some node is still privileged. There is also such a list in which each close
+/// applies one move.
+pub fn rounds_are_reached()
+    ensures world { (n : ℕ) → n ≤ MAX_NODES →
+        IsWorld (halves_world n) × (size (halves_world n) ≡ n) }
+    ensures reached { (r : RosterValue) (s n : ℕ) → 2 ≤ n → n ≤ MAX_NODES →
+        ((i : ℕ) → i < n → owns r (Who.Student s) i ≡ true) →
+        (es : List Event) × (is_legal_list r (halves_world n) es ≡ true) ×
+        (list_all is_grant_or_close es ≡ true) × Rounds (rounds_for n - 1) (halves_world n) es ×
+        (¬ IsStable (configuration (world_of (halves_world n) es))) }
+    ensures singly { (r : RosterValue) (s n : ℕ) → 2 ≤ n → n ≤ MAX_NODES →
+        ((i : ℕ) → i < n → owns r (Who.Student s) i ≡ true) →
+        (es : List Event) × (is_legal_list r (halves_world n) es ≡ true) ×
+        (list_all is_grant_or_close es ≡ true) ×
+        (applied_over (halves_world n) es ≡ count_closes es) ×
+        Rounds (rounds_for n - 1) (halves_world n) es ×
+        (¬ IsStable (configuration (world_of (halves_world n) es))) }
+{}
+
+/// The bound on moves is 3 for each of n nodes and 2 for each of n²/4, rounded down. It is reached for each even n from
+/// 4 on that a lab may have, and missed by one for each odd n from 5 on. In the dense network (`crowd_world`), a
+/// student who owns each node has a legal list of grants and closes that applies that many moves.
+pub fn moves_are_reached()
+    ensures world { (n : ℕ) → 4 ≤ n → n ≤ MAX_NODES →
+        IsWorld (crowd_world n) × (size (crowd_world n) ≡ n) }
+    ensures even { (r : RosterValue) (s k : ℕ) → 2 ≤ k → 2 * k ≤ MAX_NODES →
+        ((i : ℕ) → i < 2 * k → owns r (Who.Student s) i ≡ true) →
+        (es : List Event) × (is_legal_list r (crowd_world (2 * k)) es ≡ true) ×
+        (list_all is_grant_or_close es ≡ true) ×
+        (applied_over (crowd_world (2 * k)) es ≡ 3 * (2 * k) + 2 * most_courtships (2 * k)) }
+    ensures odd { (r : RosterValue) (s k : ℕ) → 2 ≤ k → 2 * k + 1 ≤ MAX_NODES →
+        ((i : ℕ) → i < 2 * k + 1 → owns r (Who.Student s) i ≡ true) →
+        (es : List Event) × (is_legal_list r (crowd_world (2 * k + 1)) es ≡ true) ×
+        (list_all is_grant_or_close es ≡ true) ×
+        (applied_over (crowd_world (2 * k + 1)) es ≡ 3 * (2 * k + 1) + 2 * most_courtships (2 * k + 1) - 1) }
+{}
+
+/// The comb (`comb_world`) of 4 nodes or more is a tree. It has one link less than nodes, and each node but the last is
+/// linked to a higher one. A student who owns each node has a legal list of grants and closes with nearly the most
+/// moves, 3 for each node and 2 for each link. It applies one less than these, or two less if the number of nodes is
+/// odd. That no tree takes more isn't stated.
+pub fn a_comb_takes_nearly_the_most_moves()
+    ensures world { (n : ℕ) → 4 ≤ n → n ≤ MAX_NODES →
+        IsWorld (comb_world n) × (size (comb_world n) ≡ n) }
+    ensures tree { (n : ℕ) → 4 ≤ n → n ≤ MAX_NODES →
+        (link_count (comb_world n).network ≡ n - 1) × ((i : ℕ) → i + 1 < n →
+        (j : ℕ) × (i < j) × ((configuration (comb_world n)).linked i j ≡ true)) }
+    ensures even { (r : RosterValue) (s k : ℕ) → 2 ≤ k → 2 * k ≤ MAX_NODES →
+        ((i : ℕ) → i < 2 * k → owns r (Who.Student s) i ≡ true) →
+        (es : List Event) × (is_legal_list r (comb_world (2 * k)) es ≡ true) ×
+        (list_all is_grant_or_close es ≡ true) ×
+        (applied_over (comb_world (2 * k)) es ≡ 3 * (2 * k) + 2 * (2 * k - 1) - 1) }
+    ensures odd { (r : RosterValue) (s k : ℕ) → 2 ≤ k → 2 * k + 1 ≤ MAX_NODES →
+        ((i : ℕ) → i < 2 * k + 1 → owns r (Who.Student s) i ≡ true) →
+        (es : List Event) × (is_legal_list r (comb_world (2 * k + 1)) es ≡ true) ×
+        (list_all is_grant_or_close es ≡ true) ×
+        (applied_over (comb_world (2 * k + 1)) es ≡ 3 * (2 * k + 1) + 2 * (2 * k) - 2) }
+{}

@@ -1,5 +1,0 @@
-use Rattle.mml_fakes_houses.proofs.visiting.visit_lab.Given as goal
-
--- the house that was just opened
-abbrev pub ghosts-visit_house : goal.ghosts-visit_house
-ghosts-visit_house g a = record { name = a.blank.name; lab = a.blank.lab }

@@ -1,6 +1,0 @@
-use Rattle.std.proofs.Common.{refl, arith}
-use Rattle.std.proofs.lemmas.List.{ext_get_or}
-use Rattle.mml_same_lab.proofs.sameness.has_same_ids.Goals as goal
-
-pub returns : goal.returns
-returns c = (λ h. ext_get_or 0 c.args.a.now c.args.b.now (omega arith) (λ k l. c.loop-index.invariant k (omega arith)), λ h. refl)

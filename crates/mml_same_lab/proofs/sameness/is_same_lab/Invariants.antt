@@ -1,6 +1,0 @@
-use Rattle.std.proofs.Common.{ℕ, ◌<◌}
-use Rattle.mml_same_lab.specs.Sameness.{IsSameNode}
-use Rattle.mml_same_lab.proofs.sameness.is_same_lab.Given as goal
-
-abbrev pub invariant-loop-index : goal.invariant-loop-index
-invariant-loop-index l = (i : ℕ) → i < l.index → IsSameNode l.a l.b i
