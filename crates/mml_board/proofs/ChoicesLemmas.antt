@@ -1,16 +1,12 @@
 -- The set of the nodes that have a chosen move, beside the list of the choices.
-use Rattle.std.proofs.Common.{◌≡◌, ℕ, ◌<◌, Bool, true, false, not, cond, ◌||◌, eqb, Option, None, is_some, List, [], ◌∷◌, length, zero, suc, set, replicate, sym, refl, ap, ◌∙◌}
+use Rattle.std.proofs.Common.{◌≡◌, ℕ, ◌<◌, Bool, true, false, not, cond, ◌||◌, eqb, Option, None, is_some, List, [], ◌∷◌, length, zero, suc, set, replicate, sym, refl, ap, ◌∙◌, arith}
 use Rattle.std.proofs.lemmas.Bool.{false≢true, or_right, both_ways, false_from_ne_true}
-use Rattle.std.specs.List.{list_any}
-use Rattle.std.specs.FinSet as sets
-use Rattle.std.specs.FinSet.{FinSet}
-use Rattle.std.specs.Ordering.{nat_cmp}
+use Rattle.std.specs.{List.list_any, FinSet.FinSet, Ordering.nat_cmp}
 use Rattle.mml_ids.specs.inside.WordsLemmas.{has_empty, same_ranks}
 use Rattle.mml_rules.specs.declared.rule.Rule.{Rule}
-use Rattle.mml_board.specs.World.{chosen_at}
-use Rattle.mml_board.specs.inside.Kept.{AreChosen}
+use Rattle.mml_board.specs.{World.chosen_at, inside.Kept.AreChosen}
 use Rattle.mml_board.proofs.WorldLemmas.{chosen_at-set, length-none, none_at, same_lists}
-use Rattle.std.proofs.Common.{arith}
+use Rattle.std.specs.FinSet as sets
 
 -- what is not some is none
 pub not_some : {X : Type 0} (o : Option X) → is_some o ≡ false → o ≡ None

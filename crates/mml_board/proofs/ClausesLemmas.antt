@@ -1,28 +1,17 @@
 -- What follows if the clauses of an act hold, and when they hold again for the event's own act. Other crates cite these lemmas
 -- and no clause.
 use Rattle.std.proofs.Common.{◌≡◌, ℕ, ◌<◌, ◌-◌, ◌^◌, ◌==◌, nat_lt, Bool, true, cond, not, ◌&&◌, Option, None, Some, is_none, option_map, Result, Ok, Err, refl, ap, sym, ◌∙◌, arith}
-use Rattle.std.specs.Option.{ok_or, IfSome}
-use Rattle.std.specs.Result.{IfOk}
+use Rattle.std.specs.{Option.ok_or, Option.IfSome, Result.IfOk, Result.is_ok}
 use Rattle.mml_ids.proofs.GivesLemmas.{bind-if, need-if}
-use Rattle.mml_board.specs.declared.act.Act.{Act}
-use Rattle.mml_board.specs.ActNodes.{AreAllThere}
-use Rattle.mml_board.specs.Clauses.{check, student, asker, act_of, anybodys}
-use Rattle.std.specs.Result.{is_ok}
-use Rattle.std.proofs.lemmas.Bool.Decides.{nat_tests}
-use Rattle.std.proofs.lemmas.Bool.{and_from, and_parts, ltb-true, lt-ltb, eq-eqb, false≢true}
+use Rattle.mml_board.specs.declared.{act.Act.Act, denial.Denial.Denial, denial.Denial.TheVariants.NotOwner, denial.Denial.TheVariants.BadRegister, event.Event.Event}
+use Rattle.mml_board.specs.{ActNodes.AreAllThere, World.World, World.size, World.configuration, World.chosen_at, Events.is_possible, Events.is_legal, Events.can_absorb}
+use Rattle.mml_board.specs.Clauses.{check, student, asker, act_of, anybodys, is_node, may_point, is_chosen, is_any_chosen, pointer, node_in}
+use Rattle.std.proofs.lemmas.Bool.{Decides.nat_tests, and_from, and_parts, ltb-true, lt-ltb, eq-eqb, false≢true}
 use Rattle.mml_ids.specs.Gives.{◌>>=◌, ◌>>◌, need}
-use Rattle.mml_rules.specs.declared.rule.Rule.{Rule}
-use Rattle.mml_rules.specs.Rules.{guard}
-use Rattle.mml_lab.specs.declared.who.Who.{Who}
+use Rattle.mml_rules.specs.{declared.rule.Rule.Rule, Rules.guard}
+use Rattle.mml_lab.specs.{declared.who.Who.Who, Rosters.RosterValue, Rosters.owns}
 use Rattle.mml_lab.specs.declared.who.Who.TheVariants as who
-use Rattle.mml_lab.specs.Rosters.{RosterValue, owns}
-use Rattle.mml_board.specs.declared.denial.Denial.{Denial}
-use Rattle.mml_board.specs.declared.denial.Denial.TheVariants.{NotOwner, BadRegister}
-use Rattle.mml_board.specs.declared.event.Event.{Event}
 use Rattle.mml_board.specs.declared.event.Event.TheVariants as event
-use Rattle.mml_board.specs.World.{World, size, configuration, chosen_at}
-use Rattle.mml_board.specs.Clauses.{is_node, may_point, is_chosen, is_any_chosen, pointer, node_in}
-use Rattle.mml_board.specs.Events.{is_possible, is_legal, can_absorb}
 
 -- a step whose chain ends well found a value
 pub ok-bind : {A B E : Type 0} (s : Result A E) (f : A → Result B E) → is_ok (s >>= f) ≡ true → (a : A) × (s ≡ Ok a) × (is_ok (f a) ≡ true)

@@ -1,19 +1,11 @@
 -- For whom the clauses of an act let it happen, and with what they deny it.
-use Rattle.std.proofs.lemmas.Bool.Decides.{nat_tests}
+use Rattle.std.{proofs.lemmas.Bool.Decides.nat_tests, proofs.lemmas.Bool.eq-eqb, specs.Prelude.◌||◌, specs.Option.ok_or, specs.Result.IfOk, specs.Result.IfErr}
 use Rattle.std.proofs.Common.{◌≡◌, ◌⊎◌, ℕ, Bool, true, ◌==◌, Option, Err, refl, subst, arith}
-use Rattle.std.specs.Prelude.{◌||◌}
-use Rattle.std.specs.Option.{ok_or}
-use Rattle.std.specs.Result.{IfOk, IfErr}
-use Rattle.std.proofs.lemmas.Bool.{eq-eqb}
 use Rattle.mml_ids.proofs.GivesLemmas.{bind-if, need-if, bind-deny, need-deny}
 use Rattle.mml_rules.specs.declared.rule.Rule.{Rule}
 use Rattle.mml_lab.specs.declared.who.Who.{Who}
-use Rattle.mml_board.specs.declared.act.Act.{Act}
-use Rattle.mml_board.specs.declared.denial.Denial.{Denial}
+use Rattle.mml_board.specs.{declared.act.Act.Act, declared.denial.Denial.Denial, World.World, Clauses.check, Clauses.student, Clauses.pointer, Clauses.is_teacher, Denials.clause_of}
 use Rattle.mml_board.specs.declared.denial.Denial.TheVariants as denial
-use Rattle.mml_board.specs.World.{World}
-use Rattle.mml_board.specs.Clauses.{check, student, pointer, is_teacher}
-use Rattle.mml_board.specs.Denials.{clause_of}
 
 -- a denial of a clause from 1 to 4, which names no number but the world's
 abbrev pub is_of_act : World → Denial → Bool

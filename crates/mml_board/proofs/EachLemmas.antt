@@ -1,11 +1,9 @@
 -- Loops that do something once for each rank of a set.
 use Rattle.std.proofs.Common.{◌≡◌, ℕ, Bool, true, cond, not, ◌&&◌, eqb, sym, refl, ap, ◌∙◌, arith}
-use Rattle.std.proofs.lemmas.Bool.{eqb-true}
-use Rattle.std.specs.FinSet as sets
-use Rattle.std.specs.FinSet.{FinSet}
-use Rattle.std.specs.Ordering.{nat_cmp}
+use Rattle.std.{proofs.lemmas.Bool.eqb-true, specs.FinSet.FinSet, specs.Ordering.nat_cmp}
 use Rattle.mml_ids.specs.inside.WordsLemmas.{has_empty, has_remove}
 use Rattle.mml_board.proofs.KeptLemmas.{in_remove}
+use Rattle.std.specs.FinSet as sets
 
 -- those that are left are ranks of the set, and have what stood there before; all others of the set have f
 abbrev pub IsDone : {X : Type 0} → (ℕ → X) → (ℕ → X) → FinSet nat_cmp → FinSet nat_cmp → (ℕ → X) → Type 0
@@ -23,8 +21,7 @@ one_done before f now next nodes left left' a x is here k e done = record {
       ∙ sym (ap (λ b. cond b (before i) (cond (sets.contains nodes i) (f i) (before i))) (ap (λ t. sets.contains t i) k ∙ has_remove left a i));
 }
   where
-    go : (i : ℕ) (b : Bool) → eqb i a ≡ b
-        → cond b x (now i) ≡ cond (not b && sets.contains left i) (before i) (cond (sets.contains nodes i) (f i) (before i))
+    go : (i : ℕ) (b : Bool) → eqb i a ≡ b → cond b x (now i) ≡ cond (not b && sets.contains left i) (before i) (cond (sets.contains nodes i) (f i) (before i))
     go i b q = grind (arith, eqb-true)
 
 -- it is done for each rank of the set

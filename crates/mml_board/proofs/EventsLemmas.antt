@@ -1,14 +1,9 @@
 -- What each event changes, and what it leaves.
 use Rattle.std.proofs.Common.{◌≡◌, ◌↔◌, ◌⊎◌, ℕ, ◌<◌, ◌+◌, Bool, true, false, cond, ◌&&◌, eqb, Option, None, Some, List, length, ap, ◌∙◌, arith}
 use Rattle.std.proofs.lemmas.Bool.{eq-eqb, eqb-true, and_parts, and_from, or_cases, or_left, or_right, both_ways, not-true}
-use Rattle.mml_rules.specs.declared.regs.Regs.{Regs}
-use Rattle.mml_rules.specs.Configuration.{holds}
-use Rattle.mml_rules.specs.Network.{registers_at, configuration_of, unpointed, with_link, without_link}
+use Rattle.mml_rules.specs.{declared.regs.Regs.Regs, Configuration.holds, Network.registers_at, Network.configuration_of, Network.unpointed, Network.with_link, Network.without_link}
 use Rattle.mml_rules.proofs.NetworkLemmas.{registers_at-set, length-unpointed, both_are, are_both, linked-with_link, linked-without_link}
-use Rattle.mml_board.specs.declared.event.Event.{Event}
-use Rattle.mml_board.specs.World.{World, size, configuration, chosen_at, IsWorld}
-use Rattle.mml_board.specs.Events.{after}
-use Rattle.mml_board.specs.Meaning.{makes_configuration, AreEnds}
+use Rattle.mml_board.specs.{declared.event.Event.Event, World.World, World.size, World.configuration, World.chosen_at, World.IsWorld, Events.after, Meaning.makes_configuration, Meaning.AreEnds}
 use Rattle.mml_board.proofs.WorldLemmas.{none_at}
 
 -- after a link, its two ends are linked, and whoever was linked before

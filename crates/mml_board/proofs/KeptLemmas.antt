@@ -1,24 +1,13 @@
 -- The world of a board's parts, before and after an event.
-use Rattle.std.proofs.Common.{◌≡◌, ℕ, zero, suc, ◌<◌, ◌≤◌, ◌+◌, Bool, true, false, not, ◌&&◌, eqb, Option, Some, List, length}
-use Rattle.std.proofs.Common.{None, replicate, sym, ap, ◌∙◌, subst, arith}
-use Rattle.std.proofs.lemmas.Bool.{lt-ltb, le-ltb, and_right, and_parts}
-use Rattle.std.specs.FinSet as sets
-use Rattle.std.specs.FinSet.{FinSet}
-use Rattle.std.specs.Ordering.{nat_cmp}
-use Rattle.std.specs.Cmp.{nat_cmp_total}
-use Rattle.mml_ids.specs.Search.{count_below}
-use Rattle.mml_ids.specs.Sets.{those_below}
-use Rattle.mml_ids.specs.inside.WordsLemmas.{has_empty, has_remove, same_ranks, has-those_below}
+use Rattle.std.proofs.Common.{◌≡◌, ℕ, zero, suc, ◌<◌, ◌≤◌, ◌+◌, Bool, true, false, not, ◌&&◌, eqb, Option, Some, List, length, None, replicate, sym, ap, ◌∙◌, subst, arith}
+use Rattle.std.{proofs.lemmas.Bool.lt-ltb, proofs.lemmas.Bool.le-ltb, proofs.lemmas.Bool.and_right, proofs.lemmas.Bool.and_parts, specs.FinSet.FinSet, specs.Ordering.nat_cmp, specs.Cmp.nat_cmp_total}
+use Rattle.mml_ids.specs.{Search.count_below, Sets.those_below, inside.WordsLemmas.has_empty, inside.WordsLemmas.has_remove, inside.WordsLemmas.same_ranks, inside.WordsLemmas.has-those_below}
 use Rattle.mml_ids.proofs.NodeSetLemmas.{len-insert_new}
-use Rattle.mml_rules.specs.declared.regs.Regs.{Regs}
-use Rattle.mml_rules.specs.declared.rule.Rule.{Rule}
-use Rattle.mml_rules.specs.Rules.{moved}
-use Rattle.mml_rules.specs.Network.{Network, neighbours_at, registers_at, configuration_of, IsNetwork}
-use Rattle.mml_board.specs.World.{World, size, configuration, chosen_at, IsWorld}
-use Rattle.mml_board.specs.Events.{is_chosen, chosen_nodes, chosen_count, renewed, may_point}
-use Rattle.mml_board.specs.inside.Kept.{AreChosen, kept_world}
-use Rattle.mml_board.specs.inside.Monitor.{privileged_set, IsBoard}
+use Rattle.mml_rules.specs.{declared.regs.Regs.Regs, declared.rule.Rule.Rule, Rules.moved, Network.Network, Network.neighbours_at, Network.registers_at, Network.configuration_of, Network.IsNetwork}
+use Rattle.mml_board.specs.{World.World, World.size, World.configuration, World.chosen_at, World.IsWorld, Events.is_chosen, Events.chosen_nodes, Events.chosen_count, Events.renewed, Events.may_point}
+use Rattle.mml_board.specs.{inside.Kept.AreChosen, inside.Kept.kept_world, inside.Monitor.privileged_set, inside.Monitor.IsBoard}
 use Rattle.mml_board.proofs.WorldLemmas.{closed, chosen_node, renewed-world, moved_registers-is, may_point-linked}
+use Rattle.std.specs.FinSet as sets
 
 -- ---- sets of nodes
 

@@ -1,26 +1,17 @@
 -- What the monitor keeps over a change.
 use Rattle.std.proofs.Common.{◌≡◌, ℕ, ◌<◌, Bool, true, false, cond, ◌&&◌, ◌||◌, eqb, Option, None, Some, is_none, List, length, set, sym, refl, ap, ◌∙◌, subst, arith, length-set}
-use Rattle.std.specs.Prelude.{IfSome, IfNone}
+use Rattle.std.specs.{Prelude.IfSome, Prelude.IfNone, FinSet.FinSet, Ordering.nat_cmp}
 use Rattle.std.proofs.lemmas.Bool.{eq-eqb, ne_eqb, lt-ltb, both_ways, or_left, or_right, false_from_ne_true}
-use Rattle.std.specs.FinSet as sets
-use Rattle.std.specs.FinSet.{FinSet}
-use Rattle.std.specs.Ordering.{nat_cmp}
 use Rattle.mml_ids.specs.inside.WordsLemmas.{has_empty, has_insert, has_remove, same_ranks, has-those_below}
-use Rattle.mml_rules.specs.declared.regs.Regs.{Regs}
-use Rattle.mml_rules.specs.Configuration.{Configuration, IsLawful}
-use Rattle.mml_rules.specs.Rules.{enabled_kind, is_privileged}
-use Rattle.mml_rules.specs.Network.{Network, neighbours_at, registers_at, configuration_of, IsNetwork, unpointed, with_registers, with_link, without_link}
-use Rattle.mml_rules.specs.Network.{with_neighbour, without_neighbour}
+use Rattle.mml_rules.specs.{declared.regs.Regs.Regs, Configuration.Configuration, Configuration.IsLawful, Rules.enabled_kind, Rules.is_privileged}
+use Rattle.mml_rules.specs.Network.{Network, neighbours_at, registers_at, configuration_of, IsNetwork, unpointed, with_registers, with_link, without_link, with_neighbour, without_neighbour}
 use Rattle.mml_rules.proofs.AroundLemmas.{same_kind}
-use Rattle.mml_rules.proofs.NetworkLemmas.{registers_at-set, length-unpointed, linked-with_link, linked-without_link, with_registers-lawful, with_link-lawful}
-use Rattle.mml_rules.proofs.NetworkLemmas.{without_link-lawful}
+use Rattle.mml_rules.proofs.NetworkLemmas.{registers_at-set, length-unpointed, linked-with_link, linked-without_link, with_registers-lawful, with_link-lawful, without_link-lawful}
 use Rattle.mml_board.specs.World.{World, configuration, IsWorld, privileged_count}
-use Rattle.mml_board.specs.inside.Kept.{AreChosen}
-use Rattle.mml_board.specs.inside.Monitor.{is_privileged_node, privileged_set, IsUntouched}
+use Rattle.mml_board.specs.inside.{Kept.AreChosen, Monitor.is_privileged_node, Monitor.privileged_set, Monitor.IsUntouched}
 use Rattle.mml_board.proofs.WorldLemmas.{closed, moved_at, length-moved_registers, length-without_link}
-use Rattle.mml_board.proofs.EventsLemmas.{nulled, unpointed-at}
-use Rattle.mml_board.proofs.ChoicesLemmas.{not_some}
-use Rattle.mml_board.proofs.KeptLemmas.{len-those_below}
+use Rattle.mml_board.proofs.{EventsLemmas.nulled, EventsLemmas.unpointed-at, ChoicesLemmas.not_some, KeptLemmas.len-those_below}
+use Rattle.std.specs.FinSet as sets
 
 -- the privileged set has exactly the nodes that are privileged
 pub has-privileged : (c : Configuration) (j : ℕ) → sets.contains (privileged_set c) j ≡ is_privileged_node c j
@@ -116,8 +107,7 @@ pub cut_differs : (s : FinSet nat_cmp) (n : Network) (a b : ℕ) → IsNetwork n
 cut_differs s n a b w la lb ha hb = grind (arith, length-without_link, linked-without_link, unlike, unpoint_same, length-unpointed)
 
 -- a close changes the configuration at the chosen nodes alone
-pub close_differs : (s : FinSet nat_cmp) (w : World) → IsWorld w → AreChosen w.chosen s
-    → DifferAt s (configuration w) (configuration_of (closed w))
+pub close_differs : (s : FinSet nat_cmp) (w : World) → IsWorld w → AreChosen w.chosen s → DifferAt s (configuration w) (configuration_of (closed w))
 close_differs s w k h = grind (arith, length-moved_registers, moved_at, not_some)
 
 -- after a change at some nodes alone, the privileged set is still right at each untouched node

@@ -1,27 +1,16 @@
 -- What the rows of bits beside a network say, and how they follow its changes.
-use Rattle.std.proofs.Common.{◌≡◌, ℕ, ◌<◌, ◌≤◌, ◌+◌, Bool, true, false, cond, not, ◌&&◌, ◌||◌, eqb, ltb, Option, None, Some, is_none, is_some, List, length}
-use Rattle.std.proofs.Common.{set, sym, refl, ap, ◌∙◌, arith, length-set}
-use Rattle.std.specs.Prelude.{replicate, IfSome, IfNone}
-use Rattle.std.proofs.lemmas.Bool.{cases_eq, cases_lt, eq-eqb, ne_eqb, eqb-true, eqb-false, lt-ltb, le-ltb, and_right, and_parts, and_from, both_ways}
-use Rattle.std.proofs.lemmas.Bool.{false_from_ne_true}
+use Rattle.std.proofs.Common.{◌≡◌, ℕ, ◌<◌, ◌≤◌, ◌+◌, Bool, true, false, cond, not, ◌&&◌, ◌||◌, eqb, ltb, Option, None, Some, is_none, is_some, List, length, set, sym, refl, ap, ◌∙◌, arith, length-set}
+use Rattle.std.specs.{Prelude.replicate, Prelude.IfSome, Prelude.IfNone, FinSet.FinSet, Ordering.nat_cmp, Cmp.nat_cmp_total}
+use Rattle.std.proofs.lemmas.Bool.{cases_eq, cases_lt, eq-eqb, ne_eqb, eqb-true, eqb-false, lt-ltb, le-ltb, and_right, and_parts, and_from, both_ways, false_from_ne_true}
 use Rattle.std.proofs.lemmas.List.{get_or-replicate, length-replicate}
-use Rattle.std.specs.FinSet as sets
-use Rattle.std.specs.FinSet.{FinSet}
-use Rattle.std.specs.Ordering.{nat_cmp}
-use Rattle.std.specs.Cmp.{nat_cmp_total}
-use Rattle.mml_ids.specs.declared.TheConstants.{MAX_NODES}
-use Rattle.mml_ids.specs.Search.{greatest_below}
+use Rattle.mml_ids.specs.{declared.TheConstants.MAX_NODES, Search.greatest_below, inside.WordsLemmas.has_empty, inside.WordsLemmas.same_ranks}
 use Rattle.mml_ids.proofs.SearchLemmas.{greatest_is, greatest_below-some}
-use Rattle.mml_ids.specs.inside.WordsLemmas.{has_empty, same_ranks}
-use Rattle.mml_rules.specs.declared.regs.Regs.{Regs}
-use Rattle.mml_rules.specs.Configuration.{Configuration, IsLawful, holds}
-use Rattle.mml_rules.specs.Rules.{has_suitor, is_candidate, greatest_candidate}
+use Rattle.mml_rules.specs.{declared.regs.Regs.Regs, Configuration.Configuration, Configuration.IsLawful, Configuration.holds, Rules.has_suitor, Rules.is_candidate, Rules.greatest_candidate}
 use Rattle.mml_rules.specs.Network.{Network, neighbours_at, registers_at, configuration_of, unpointed}
-use Rattle.mml_rules.proofs.ConfigurationLemmas.{holds-true, holds-from}
-use Rattle.mml_rules.proofs.RulesLemmas.{suitor-find, suitor-from}
-use Rattle.mml_rules.proofs.NetworkLemmas.{has-with_neighbour, has-without_neighbour, length-with_neighbour, length-without_neighbour, length-unpointed}
-use Rattle.mml_rules.proofs.NetworkLemmas.{registers_at-set, pointer_left}
+use Rattle.mml_rules.proofs.{ConfigurationLemmas.holds-true, ConfigurationLemmas.holds-from, RulesLemmas.suitor-find, RulesLemmas.suitor-from}
+use Rattle.mml_rules.proofs.NetworkLemmas.{has-with_neighbour, has-without_neighbour, length-with_neighbour, length-without_neighbour, length-unpointed, registers_at-set, pointer_left}
 use Rattle.mml_board.specs.inside.Rows.{with_suitor, without_suitor, AreRows}
+use Rattle.std.specs.FinSet as sets
 
 -- ---- the row of the nodes that point at one
 

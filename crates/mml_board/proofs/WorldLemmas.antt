@@ -1,22 +1,16 @@
 -- What events make of a world, and that lawful worlds stay lawful.
-use Rattle.std.proofs.Common.{◌≡◌, ℕ, ◌<◌, zero, suc, true, cond, not, ◌&&◌, eqb, ltb, Option, None, Some, is_some, is_none, List, length, get_or}
-use Rattle.std.proofs.Common.{set, replicate, sym, refl, ap, ◌∙◌, subst, arith, length-set, get_or-set_same, get_or-set_other}
+use Rattle.std.proofs.Common.{◌≡◌, ℕ, ◌<◌, zero, suc, true, cond, not, ◌&&◌, eqb, ltb, Option, None, Some, is_some, is_none, List, length, get_or, set, replicate, sym, refl, ap, ◌∙◌, subst, arith}
+use Rattle.std.proofs.Common.{length-set, get_or-set_same, get_or-set_other}
 use Rattle.std.proofs.lemmas.Bool.{cases_eq, cases_lt, eq-eqb, ne_eqb, eqb-true, eqb-false, ltb-true, not-true, and_parts, both_ways}
-use Rattle.std.proofs.lemmas.List.{get_or_past}
-use Rattle.std.proofs.lemmas.List.FromFn.{fill_by_all, get_or-map-range_with_len, length-map-range_with_len}
-use Rattle.std.specs.FinSet as sets
-use Rattle.mml_rules.specs.declared.regs.Regs.{Regs}
-use Rattle.mml_rules.specs.declared.rule.Rule.{Rule}
-use Rattle.mml_rules.specs.Configuration.{Configuration, IsLawful}
-use Rattle.mml_rules.specs.Rules.{guard, moved, step, AllHold, IsWithin}
-use Rattle.mml_rules.specs.Network.{Network, no_regs, neighbours_at, registers_at, configuration_of, IsNetwork, unpointed, with_registers, with_link}
-use Rattle.mml_rules.specs.Network.{without_link}
+use Rattle.std.proofs.lemmas.List.{get_or_past, FromFn.fill_by_all, FromFn.get_or-map-range_with_len, FromFn.length-map-range_with_len}
+use Rattle.mml_rules.specs.{declared.regs.Regs.Regs, declared.rule.Rule.Rule, Configuration.Configuration, Configuration.IsLawful, Rules.guard, Rules.moved, Rules.step, Rules.AllHold, Rules.IsWithin}
+use Rattle.mml_rules.specs.Network.{Network, no_regs, neighbours_at, registers_at, configuration_of, IsNetwork, unpointed, with_registers, with_link, without_link}
 use Rattle.mml_rules.proofs.StepLemmas.{effect-linked, step-lawful}
 use Rattle.mml_rules.proofs.NetworkLemmas.{length-unpointed, with_registers-lawful, with_link-lawful, without_link-lawful}
-use Rattle.mml_board.specs.declared.event.Event.{Event}
-use Rattle.mml_board.specs.World.{World, size, configuration, chosen_at, IsWorld}
+use Rattle.mml_board.specs.{declared.event.Event.Event, World.World, World.size, World.configuration, World.chosen_at, World.IsWorld}
 use Rattle.mml_board.proofs.ClausesLemmas.{is_fit, fit}
 use Rattle.mml_board.specs.Events.{is_possible, may_point, moved_registers, renewed, choosing, after}
+use Rattle.std.specs.FinSet as sets
 
 -- moves leave the number of nodes
 pub length-moved_registers : (w : World) → length (moved_registers w) ≡ length w.network.registers

@@ -1,20 +1,15 @@
 -- The clauses of each act, in the order in which they are tried. No other place states them: what may happen, what is
 -- legal, what is granted and why it is denied follow from them.
 use Rattle.std.specs.Prelude.{ℕ, Bool, true, false, not, ◌==◌, nat_lt, Option, None, Some, is_some, is_none, option_map, if◌then◌else◌, Result, Ok, Err}
-use Rattle.std.specs.List.{list_any}
-use Rattle.std.specs.Option.{ok_or}
+use Rattle.std.specs.{List.list_any, Option.ok_or}
 use Rattle.mml_ids.specs.Gives.{◌>>=◌, ◌>>◌, need}
-use Rattle.mml_rules.specs.Configuration.{Configuration}
-use Rattle.mml_rules.specs.Rules.{guard}
+use Rattle.mml_rules.specs.{Configuration.Configuration, Rules.guard}
 use Rattle.mml_lab.specs.declared.who.Who.{Who}
-use Rattle.mml_lab.specs.declared.who.Who.TheVariants as who
-use Rattle.mml_board.specs.declared.act.Act.{Act}
-use Rattle.mml_board.specs.declared.act.Act.TheVariants as act
-use Rattle.mml_board.specs.declared.denial.Denial.{Denial}
+use Rattle.mml_board.specs.{declared.act.Act.Act, declared.denial.Denial.Denial, declared.event.Event.Event, World.World, World.size, World.configuration, World.chosen_at}
 use Rattle.mml_board.specs.declared.denial.Denial.TheVariants.{NotOwner, Stale, Chosen, Guard, NotTeacher, Empty, NoNode, BadRegister, Loop, Linked, NotLinked, NotChosen}
-use Rattle.mml_board.specs.declared.event.Event.{Event}
+use Rattle.mml_lab.specs.declared.who.Who.TheVariants as who
+use Rattle.mml_board.specs.declared.act.Act.TheVariants as act
 use Rattle.mml_board.specs.declared.event.Event.TheVariants as event
-use Rattle.mml_board.specs.World.{World, size, configuration, chosen_at}
 
 -- ---- what the clauses test
 

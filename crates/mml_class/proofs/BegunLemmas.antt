@@ -1,6 +1,5 @@
 -- Numbers of few digits.
-use Rattle.std.proofs.Common.{◌≡◌, ◌+◌, ◌-◌, ◌*◌, ◌^◌, ◌≤◌, ◌<◌, ℕ, ap, suc, zero, arith}
-use Rattle.std.proofs.Math.Nat.{pow-suc}
+use Rattle.std.proofs.{Common.◌≡◌, Common.◌+◌, Common.◌-◌, Common.◌*◌, Common.◌^◌, Common.◌≤◌, Common.◌<◌, Common.ℕ, Common.ap, Common.suc, Common.zero, Common.arith, Math.Nat.pow-suc}
 
 ten_up : (k m : ℕ) → 10 ^ k ≤ 10 ^ (k + m)
 ten_up k zero = grind arith

@@ -1,33 +1,19 @@
 -- The records of seats, one after another.
-use Rattle.std.proofs.Common.{◌≡◌, ◌+◌, ◌-◌, ◌≤◌, ◌++◌, [], ◌∷◌, ◌&&◌, ◌||◌, ℕ, List, Bool, true, false, ap, subst, refl, sym, ◌∙◌, suc, zero, length, append_assoc, append-nil, length-append, Option, None, Some, arith}
-use Rattle.std.specs.List.{list_all, list_any, sum_by}
-use Rattle.std.proofs.lemmas.List.Folds.{list_all-append, list_any-append}
-use Rattle.std.proofs.lemmas.List.Sums.{sum_by_push}
-use Rattle.std.proofs.lemmas.List.Concat.{flat_map-append}
-use Rattle.std.specs.Prelude.{IfSome}
+use Rattle.std.proofs.Common.{◌≡◌, ◌+◌, ◌-◌, ◌≤◌, ◌++◌, [], ◌∷◌, ◌&&◌, ◌||◌, ℕ, List, Bool, true, false, ap, subst, refl, sym, ◌∙◌, suc, zero, length, append_assoc, append-nil, length-append, Option}
+use Rattle.std.proofs.Common.{None, Some, arith}
+use Rattle.std.specs.{List.list_all, List.list_any, List.sum_by, Prelude.IfSome}
+use Rattle.std.proofs.lemmas.List.{Folds.list_all-append, Folds.list_any-append, Sums.sum_by_push, Concat.flat_map-append}
 use Rattle.mml_ids.specs.inside.WordsLemmas.{has_empty}
-use Rattle.mml_lab.specs.declared.who.Who.{Who}
-use Rattle.mml_lab.specs.declared.who.Who.TheVariants as who
-use Rattle.mml_lab.specs.Labs.{LabValue}
+use Rattle.mml_lab.specs.{declared.who.Who.Who, Labs.LabValue}
 use Rattle.mml_board.specs.declared.event.Event.{Event}
-use Rattle.mml_tally.specs.declared.ask.Ask.{Ask}
-use Rattle.mml_tally.specs.declared.record_text.Findings.{Findings}
-use Rattle.mml_tally.specs.Lacking.{lacks}
-use Rattle.mml_record.specs.declared.kept_entry.Entry.{Entry}
-use Rattle.mml_class.specs.declared.class_record.ClassRecord.{ClassRecord}
-use Rattle.mml_class.specs.declared.class_record.ClassFault.{ClassFault}
-use Rattle.mml_class.specs.declared.class_record.ClassFault.TheVariants as fault
-use Rattle.mml_class.specs.declared.granting.Misgranted.{Misgranted}
+use Rattle.mml_tally.specs.{declared.ask.Ask.Ask, declared.record_text.Findings.Findings, Lacking.lacks}
+use Rattle.mml_record.specs.{declared.kept_entry.Entry.Entry, Losses.are_paused_for, Losses.are_cut, Certified.IsRecordOf, Asks.asks_in, Verdicts.ComesTo, Verdicts.IsFirstBad}
+use Rattle.mml_class.specs.{declared.class_record.ClassRecord.ClassRecord, declared.class_record.ClassFault.ClassFault, declared.granting.Misgranted.Misgranted, Begun.begun_in, Granting.IsFound}
 use Rattle.mml_record.specs.Entries.{record_text, sessions_in, lines_in, are_whole}
-use Rattle.mml_record.specs.Losses.{are_paused_for, are_cut}
-use Rattle.mml_record.specs.Certified.{IsRecordOf}
-use Rattle.mml_record.specs.Asks.{asks_in}
-use Rattle.mml_record.specs.Verdicts.{ComesTo, IsFirstBad}
-use Rattle.mml_class.specs.Begun.{begun_in}
-use Rattle.mml_class.specs.Granting.{IsFound}
 use Rattle.mml_class.specs.Classes.{counted, AreRecordsOf, ComeTo, all_asks, IsClassRecord, IsClassRefused}
-use Rattle.mml_class.specs.inside.Seats.{no_findings}
-use Rattle.mml_class.specs.inside.Seats.{IsTogether, AddsSeat, IsSeatRefused, AreReadSoFar}
+use Rattle.mml_class.specs.inside.Seats.{no_findings, IsTogether, AddsSeat, IsSeatRefused, AreReadSoFar}
+use Rattle.mml_lab.specs.declared.who.Who.TheVariants as who
+use Rattle.mml_class.specs.declared.class_record.ClassFault.TheVariants as fault
 
 -- ---- lists with one element more
 

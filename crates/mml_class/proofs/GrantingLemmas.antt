@@ -1,12 +1,10 @@
 -- Places that are marked one after another.
-use Rattle.std.proofs.Common.{◌≡◌, ◌⊎◌, ◌+◌, ◌≤◌, ◌<◌, ◌==◌, nat_lt, nat_le, ◌++◌, [], ◌∷◌, ℕ, List, Bool, true, false, cond, ap, subst, refl, sym, ◌∙◌, suc, zero, get_or, length, take, drop, arith, Option, None, Some, ⊎_elim}
-use Rattle.std.proofs.lemmas.Bool.Decides.{nat_tests}
-use Rattle.std.proofs.lemmas.List.{take_more, drop_more, take_all, take-append-drop}
+use Rattle.std.proofs.Common.{◌≡◌, ◌⊎◌, ◌+◌, ◌≤◌, ◌<◌, ◌==◌, nat_lt, nat_le, ◌++◌, [], ◌∷◌, ℕ, List, Bool, true, false, cond, ap, subst, refl, sym, ◌∙◌, suc, zero, get_or, length, take, drop, arith}
+use Rattle.std.proofs.Common.{Option, None, Some, ⊎_elim}
+use Rattle.std.proofs.lemmas.{Bool.Decides.nat_tests, List.take_more, List.drop_more, List.take_all, List.take-append-drop}
 use Rattle.mml_window.specs.Tallies.{times, once_from}
-use Rattle.mml_class.specs.declared.granting.Misgranted.{Misgranted}
-use Rattle.mml_class.specs.declared.granting.Misgranted.TheVariants.{Early, Twice, Nowhere}
-use Rattle.mml_class.specs.Granting.{IsFound, ComesAfter, AreGranted}
-use Rattle.mml_class.specs.inside.Marking.{has_mark, marked, IsMarked, IsUnmarked}
+use Rattle.mml_class.specs.declared.granting.Misgranted.{Misgranted, TheVariants.Early, TheVariants.Twice, TheVariants.Nowhere}
+use Rattle.mml_class.specs.{Granting.IsFound, Granting.ComesAfter, Granting.AreGranted, inside.Marking.has_mark, inside.Marking.marked, inside.Marking.IsMarked, inside.Marking.IsUnmarked}
 
 -- one place more, with no mark
 pub unmarked_more : (marks : List Bool) (p : ℕ) → marked (marks ++ false ∷ []) p ≡ marked marks p

@@ -1,11 +1,8 @@
 -- Two sets in one.
-use Rattle.std.proofs.Common.{◌≡◌, ℕ, Bool, true, false, ◌&&◌, not, eqb, ap, ◌∙◌, arith}
-use Rattle.std.specs.Prelude.{◌||◌}
-use Rattle.std.specs.Ordering.{nat_cmp}
-use Rattle.std.specs.FinSet as sets
-use Rattle.std.specs.FinSet.{FinSet}
+use Rattle.std.proofs.{Common.◌≡◌, Common.ℕ, Common.Bool, Common.true, Common.false, Common.◌&&◌, Common.not, Common.eqb, Common.ap, Common.◌∙◌, Common.arith, lemmas.Bool.Decides.nat_tests}
+use Rattle.std.specs.{Prelude.◌||◌, Ordering.nat_cmp, FinSet.FinSet}
 use Rattle.mml_ids.specs.inside.WordsLemmas.{has_empty, has_insert, has_remove}
-use Rattle.std.proofs.lemmas.Bool.Decides.{nat_tests}
+use Rattle.std.specs.FinSet as sets
 
 moved : (b s t both : Bool) → (b ≡ true → t ≡ true) → (s || t) ≡ both → ((b || s) || (not b && t)) ≡ both
 moved true s t both there h = grind (arith, nat_tests)

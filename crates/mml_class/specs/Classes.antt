@@ -1,27 +1,15 @@
 -- The record of a class: a text for each seat, beside one list of events, and how many of these came before.
 use Rattle.std.specs.Prelude.{◌≡◌, ◌≤◌, ◌+◌, ◌-◌, ◌^◌, min, ℕ, suc, Bool, true, List, [], ◌∷◌, ◌++◌, length, Option, None, Some}
 use Rattle.std.specs.List.{list_all, list_any, sum_by, flat_map}
-use Rattle.mml_lab.specs.declared.who.Who.{Who}
-use Rattle.mml_lab.specs.Labs.{LabValue}
-use Rattle.mml_lab.specs.Rosters.{RosterValue}
+use Rattle.mml_lab.specs.{declared.who.Who.Who, Labs.LabValue, Rosters.RosterValue}
 use Rattle.mml_board.specs.declared.event.Event.{Event}
 use Rattle.mml_window.specs.Tallies.{IsEachOnceFrom}
-use Rattle.mml_tally.specs.declared.ask.Ask.{Ask}
-use Rattle.mml_tally.specs.declared.record_text.Findings.{Findings}
-use Rattle.mml_tally.specs.Lacking.{lacks}
-use Rattle.mml_record.specs.declared.kept_entry.Entry.{Entry}
-use Rattle.mml_class.specs.declared.class_record.ClassRecord.{ClassRecord}
-use Rattle.mml_class.specs.declared.class_record.ClassFault.{ClassFault}
-use Rattle.mml_class.specs.declared.class_record.ClassFault.TheVariants as fault
-use Rattle.mml_class.specs.declared.granting.Misgranted.{Misgranted}
-use Rattle.mml_record.specs.declared.verdict.BadEntry.{BadEntry}
+use Rattle.mml_tally.specs.{declared.ask.Ask.Ask, declared.record_text.Findings.Findings, Lacking.lacks}
+use Rattle.mml_record.specs.{declared.kept_entry.Entry.Entry, declared.verdict.BadEntry.BadEntry, Losses.are_paused_for, Losses.are_cut, Certified.IsRecordOf, Asks.asks_in, Verdicts.IsFirstBad}
+use Rattle.mml_class.specs.declared.{class_record.ClassRecord.ClassRecord, class_record.ClassFault.ClassFault, granting.Misgranted.Misgranted}
 use Rattle.mml_record.specs.Entries.{record_text, sessions_in, lines_in, are_whole}
-use Rattle.mml_record.specs.Losses.{are_paused_for, are_cut}
-use Rattle.mml_record.specs.Certified.{IsRecordOf}
-use Rattle.mml_record.specs.Asks.{asks_in}
-use Rattle.mml_record.specs.Verdicts.{IsFirstBad}
-use Rattle.mml_class.specs.Begun.{begun_in}
-use Rattle.mml_class.specs.Granting.{AreGranted, IsFound}
+use Rattle.mml_class.specs.{Begun.begun_in, Granting.AreGranted, Granting.IsFound}
+use Rattle.mml_class.specs.declared.class_record.ClassFault.TheVariants as fault
 
 -- ---- the seats' texts
 

@@ -1,8 +1,7 @@
 -- Whether the places that records grant are those of a journal's events, each once.
 use Rattle.std.specs.Prelude.{◌≡◌, ◌≤◌, ◌<◌, ℕ, Bool, true, List, ◌∷◌, ◌++◌, Option, None, Some}
 use Rattle.mml_window.specs.Tallies.{times, once_from, IsEachOnceFrom}
-use Rattle.mml_class.specs.declared.granting.Misgranted.{Misgranted}
-use Rattle.mml_class.specs.declared.granting.Misgranted.TheVariants.{Early, Twice, Nowhere}
+use Rattle.mml_class.specs.declared.granting.Misgranted.{Misgranted, TheVariants.Early, TheVariants.Twice, TheVariants.Nowhere}
 
 -- each of the places is above `begun` and at most `count`, and none stands there twice
 abbrev pub AreGranted : ℕ → ℕ → List ℕ → Type 0

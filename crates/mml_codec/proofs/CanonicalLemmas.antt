@@ -1,18 +1,12 @@
 -- What is written of a request is one line, and is read as that request.
-use Rattle.std.proofs.Common.{◌≡◌, ◌≢◌, None, Some, Ok, refl, ◌∙◌}
-use Rattle.std.specs.List.{All}
+use Rattle.std.{proofs.Common.◌≡◌, proofs.Common.◌≢◌, proofs.Common.None, proofs.Common.Some, proofs.Common.Ok, proofs.Common.refl, proofs.Common.◌∙◌, specs.List.All}
+use Rattle.mml_codec.specs.{declared.request.Request.Request, Fields.object_of, Canonical.canonical, Canonical.IsWritable, Lines.request_in}
+use Rattle.mml_codec.specs.Requests.{fields_of, request, by_word, hello_of, move_of, asked_at, fault_of}
+use Rattle.mml_codec.proofs.{CompactTextLemmas.IsUtf8-compact_text, OneLineLemmas.compact_text_line, LinesLemmas.value_in-some, LinesLemmas.request_in-some}
+use Rattle.mml_codec.proofs.FieldsLemmas.{IsObject, flat_object_read, read-object_of}
 use Rattle.mml_policy.specs.declared.command.Asked.TheVariants as asked
 use Rattle.mml_policy.specs.declared.command.Command.TheVariants as command
-use Rattle.mml_codec.specs.declared.request.Request.{Request}
 use Rattle.mml_codec.specs.declared.request.Request.TheVariants as requests
-use Rattle.mml_codec.specs.Requests.{fields_of, request, by_word, hello_of, move_of, asked_at, fault_of}
-use Rattle.mml_codec.specs.Fields.{object_of}
-use Rattle.mml_codec.specs.Canonical.{canonical, IsWritable}
-use Rattle.mml_codec.specs.Lines.{request_in}
-use Rattle.mml_codec.proofs.CompactTextLemmas.{IsUtf8-compact_text}
-use Rattle.mml_codec.proofs.OneLineLemmas.{compact_text_line}
-use Rattle.mml_codec.proofs.FieldsLemmas.{IsObject, flat_object_read, read-object_of}
-use Rattle.mml_codec.proofs.LinesLemmas.{value_in-some, request_in-some}
 
 -- each word: its fields are those of an object
 IsObject-fields_of : (r : Request) → IsObject (fields_of r)

@@ -1,20 +1,14 @@
 -- The text of a value that has no float, and whose strings are UTF-8, is read as that value.
 use Rattle.std.proofs.Common.{◌≡◌, ℕ, ◌^◌, ◌<◌, ◌≤◌, List, [], ◌∷◌, ◌++◌, Bool, true, false, Some, IsUtf8, refl, sym, ap, ◌∙◌, append-nil}
-use Rattle.std.proofs.lemmas.Str.{IsUtf8-append, IsUtf8-nil, IsUtf8-from_ascii}
-use Rattle.std.proofs.lemmas.Fmt.{IsAscii-decimal}
-use Rattle.std.specs.Option.{option_and_then}
+use Rattle.std.{proofs.lemmas.Str.IsUtf8-append, proofs.lemmas.Str.IsUtf8-nil, proofs.lemmas.Str.IsUtf8-from_ascii, proofs.lemmas.Fmt.IsAscii-decimal, specs.Option.option_and_then}
 use Rattle.json.specs.Lex.{tokens}
-use Rattle.json.specs.Json as json
-use Rattle.json.specs.Tree as tree
-use Rattle.json.proofs.Printed.Utf8.{IsUtf8-are_ascii, IsUtf8-quoted, IsUtf8-boolean}
-use Rattle.json.proofs.Printed.Decimals.{IsNumber-decimal}
-use Rattle.json.proofs.Printed.Tokens.{tokens-print}
-use Rattle.json.proofs.Printed.Trees.{value-json_tokens, ArePrintable-json_tokens}
-use Rattle.serde_json.specs.Data.{unsigned, negative, float, Data, null, boolean, number, string, array, object, Items, no_items, item, Members, no_members}
-use Rattle.serde_json.specs.Data.{member}
+use Rattle.json.proofs.Printed.{Utf8.IsUtf8-are_ascii, Utf8.IsUtf8-quoted, Utf8.IsUtf8-boolean, Decimals.IsNumber-decimal, Tokens.tokens-print, Trees.value-json_tokens, Trees.ArePrintable-json_tokens}
+use Rattle.serde_json.specs.Data.{unsigned, negative, float, Data, null, boolean, number, string, array, object, Items, no_items, item, Members, no_members, member}
 use Rattle.serde_json.specs.Read.{of_json, read, max_depth}
 use Rattle.serde_json.specs.Written.{outline, items_outline, members_outline, compact_text, items_text, members_text, comma_if}
 use Rattle.serde_json.proofs.Texts.{print-outline}
+use Rattle.json.specs.Json as json
+use Rattle.json.specs.Tree as tree
 
 -- its numbers are integers that fit 64 bits, its strings and keys UTF-8
 abbrev mutual

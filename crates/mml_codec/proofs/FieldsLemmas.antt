@@ -1,17 +1,13 @@
 -- The text of a flat object is read as that object.
 use Rattle.std.proofs.Common.{◌≡◌, ℕ, ◌≤◌, List, [], ◌∷◌, ◌++◌, Bool, true, ◌&&◌, Some, length, map, drop, sym, ap, ◌∙◌, lit≤}
-use Rattle.std.proofs.lemmas.Bool.{and_parts}
-use Rattle.std.proofs.lemmas.List.{drop_all}
-use Rattle.json.specs.Token.{Token, end_object}
-use Rattle.json.specs.Print.{print}
-use Rattle.json.specs.Tree as tree
+use Rattle.std.proofs.lemmas.{Bool.and_parts, List.drop_all}
+use Rattle.json.specs.{Token.Token, Token.end_object, Print.print}
 use Rattle.json.proofs.Printed.Utf8.{are_ascii}
-use Rattle.serde_json.specs.Read.{read}
-use Rattle.serde_json.specs.Written.{outline, members_outline, compact_text}
+use Rattle.serde_json.specs.{Read.read, Written.outline, Written.members_outline, Written.compact_text}
 use Rattle.serde_json.proofs.Texts.{print-outline}
 use Rattle.mml_codec.specs.Fields.{Field, number, word, text, truth, null, value_of, member_of, members_of, object_of, IsWritableField, AreWritable}
-use Rattle.mml_codec.proofs.ReadBackLemmas.{IsReadable, AreReadable, IsKeyed, null_read, truth_read, count_read, string_read, word_read, object_read}
-use Rattle.mml_codec.proofs.ReadBackLemmas.{read_value}
+use Rattle.mml_codec.proofs.ReadBackLemmas.{IsReadable, AreReadable, IsKeyed, null_read, truth_read, count_read, string_read, word_read, object_read, read_value}
+use Rattle.json.specs.Tree as tree
 
 -- the words that the protocol fixes are ASCII
 abbrev has_ascii_word : Field → Bool
@@ -49,8 +45,7 @@ read-object_of fs is h = read_value 1 (object_of fs) (lit≤ tt) (flat_object_re
 pub object_written : (fs : List (List ℕ × Field)) (items before : List ℕ) (tokens : List Token) → before ≡ []
     → tokens ≡ tree.json_tokens (outline (object_of fs))
     → items ≡ before ++ print tokens → items ≡ compact_text (object_of fs)
-object_written fs items before tokens none all written =
-    written ∙ ap (λ xs. xs ++ print tokens) none ∙ ap print all ∙ print-outline (object_of fs)
+object_written fs items before tokens none all written = written ∙ ap (λ xs. xs ++ print tokens) none ∙ ap print all ∙ print-outline (object_of fs)
 
 -- when all members are written, the closing bracket is left
 pub object_ended : {X : Type 0} (f : X → List ℕ × Field) (xs : List X) (i : ℕ) (held whole : List Token) → length xs ≤ i

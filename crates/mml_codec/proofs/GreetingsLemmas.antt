@@ -1,16 +1,11 @@
 -- The participant that a connection is known as after an answer.
-use Rattle.std.proofs.lemmas.Bool.Decides.{nat_tests}
-use Rattle.std.proofs.Common.{◌≡◌, ◌↔◌, ℕ, List, Option, None, Some, sym, ap, ◌∙◌, arith}
-use Rattle.mml_lab.specs.declared.who.Who.{Who}
-use Rattle.mml_lab.specs.Rosters.{RosterValue, IsRoster, principal}
-use Rattle.mml_lab.specs.RosterMeaning.{IsKnownAs}
+use Rattle.std.proofs.{lemmas.Bool.Decides.nat_tests, Common.◌≡◌, Common.◌↔◌, Common.ℕ, Common.List, Common.Option, Common.None, Common.Some, Common.sym, Common.ap, Common.◌∙◌, Common.arith}
+use Rattle.mml_lab.specs.{declared.who.Who.Who, Rosters.RosterValue, Rosters.IsRoster, Rosters.principal, RosterMeaning.IsKnownAs}
 use Rattle.mml_lab.proofs.RosterMeaningLemmas.{principal-one}
 use Rattle.mml_board.specs.declared.denial.Denial.{Denial}
-use Rattle.mml_codec.specs.declared.request.Request.{Request}
+use Rattle.mml_codec.specs.{declared.request.Request.Request, declared.greeting.Greeting.TheVariants.Answered, Greetings.admitted, Greetings.greeting}
 use Rattle.mml_codec.specs.declared.request.Request.TheVariants as requests
 use Rattle.mml_codec.specs.declared.reply.Reply.TheVariants as replies
-use Rattle.mml_codec.specs.declared.greeting.Greeting.TheVariants.{Answered}
-use Rattle.mml_codec.specs.Greetings.{admitted, greeting}
 
 granted : (found : Option Who) (who : Who) (known : Option Who) → admitted found ≡ Answered (replies.Hello who) known → (found ≡ Some who) × (known ≡ Some who)
 granted None who known e = absurd cc

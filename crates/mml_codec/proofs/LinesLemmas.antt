@@ -1,13 +1,9 @@
 use Rattle.std.proofs.Common.{◌≡◌, ℕ, List, Bool, true, false, cond, Option, Some, None, Err, ok_or, option_and_then, refl, ap}
-use Rattle.std.specs.Str.{is_utf8, IsUtf8}
-use Rattle.std.proofs.lemmas.Str.{is_utf8-from_IsUtf8}
-use Rattle.serde_json.specs.Data.{Data, object, Members}
-use Rattle.serde_json.specs.Find.{as_object}
-use Rattle.serde_json.specs.Read.{read}
+use Rattle.std.{specs.Str.is_utf8, specs.Str.IsUtf8, proofs.lemmas.Str.is_utf8-from_IsUtf8}
+use Rattle.serde_json.specs.{Data.Data, Data.object, Data.Members, Find.as_object, Read.read}
 use Rattle.mml_plain.specs.Reading.{object_in}
+use Rattle.mml_codec.specs.{Requests.request, Lines.value_in, Lines.request_in}
 use Rattle.mml_codec.specs.declared.request.LineFault.TheVariants as fault
-use Rattle.mml_codec.specs.Requests.{request}
-use Rattle.mml_codec.specs.Lines.{value_in, request_in}
 
 -- UTF-8 that is read as a value has that value
 pub value_in-some : (bytes : List ℕ) (d : Data) → IsUtf8 bytes → read bytes ≡ Some d → value_in bytes ≡ Some d

@@ -1,15 +1,10 @@
 -- In the text of a value no byte is a newline.
-use Rattle.std.proofs.lemmas.Bool.Decides.{nat_tests}
-use Rattle.std.proofs.Common.{◌≡◌, ◌≢◌, ℕ, zero, suc, ◌+◌, ◌%◌, ◌^◌, ◌<◌, ◌==◌, ◌&&◌, not, List, [], ◌∷◌, ◌++◌, Bool, true, false, decimal, inl, inr, refl}
-use Rattle.std.proofs.Common.{subst, arith}
+use Rattle.std.proofs.lemmas.{Bool.Decides.nat_tests, Bool.and_parts, Bool.cases_lt, Bool.cases_eq, List.Elements.All-nil, List.Elements.All-cons, List.Elements.All-append, Fmt.decimal_by_steps}
+use Rattle.std.proofs.Common.{◌≡◌, ◌≢◌, ℕ, zero, suc, ◌+◌, ◌%◌, ◌^◌, ◌<◌, ◌==◌, ◌&&◌, not, List, [], ◌∷◌, ◌++◌, Bool, true, false, decimal, inl, inr, refl, subst, arith}
 use Rattle.std.specs.List.{All}
-use Rattle.std.proofs.lemmas.Bool.{and_parts, cases_lt, cases_eq}
-use Rattle.std.proofs.lemmas.List.Elements.{All-nil, All-cons, All-append}
-use Rattle.std.proofs.lemmas.Fmt.{decimal_by_steps}
 use Rattle.json.specs.Print.{escape_byte, escape, quoted}
 use Rattle.json.proofs.Printed.Strings.{escape_byte_plain}
-use Rattle.serde_json.specs.Data.{unsigned, negative, float, Data, null, boolean, number, string, array, object, Items, no_items, item, Members, no_members}
-use Rattle.serde_json.specs.Data.{member}
+use Rattle.serde_json.specs.Data.{unsigned, negative, float, Data, null, boolean, number, string, array, object, Items, no_items, item, Members, no_members, member}
 use Rattle.serde_json.specs.Written.{compact_text, items_text, members_text, comma_if}
 use Rattle.mml_codec.proofs.CompactTextLemmas.{HasText, ItemsHaveText, MembersHaveText}
 
@@ -43,9 +38,7 @@ escapes_below (suc n) = test (escape_byte n) && escapes_below n
 
 escape_below : (n : ℕ) → escapes_below n ≡ true → (x : ℕ) → x < n → test (escape_byte x) ≡ true
 escape_below zero e x h = absurd (omega arith)
-escape_below (suc n) e x h =
-    let p = and_parts _ _ e in
-    elim (cases_eq x n) [ inl same ↦ rw same p.0 | inr other ↦ escape_below n p.1 x (omega arith) ]
+escape_below (suc n) e x h = let p = and_parts _ _ e in elim (cases_eq x n) [ inl same ↦ rw same p.0 | inr other ↦ escape_below n p.1 x (omega arith) ]
 
 low_escapes : escapes_below 128 ≡ true
 unfolding escape_byte

@@ -1,19 +1,14 @@
 -- What is read of the text of a value: integers, words, lists and objects.
-use Rattle.std.proofs.lemmas.Bool.Decides.{nat_tests}
+use Rattle.std.proofs.{lemmas.Bool.Decides.nat_tests, lemmas.Bool.and_parts, lemmas.Bool.and_from, lemmas.List.Elements.All-head, lemmas.List.Elements.All-tail, Math.Nat.max-le}
 use Rattle.std.proofs.Common.{◌≡◌, ℕ, suc, ◌<◌, ◌≤◌, ◌^◌, List, [], ◌∷◌, Bool, true, ◌&&◌, Some, All, IsUtf8, map, refl, arith}
 use Rattle.std.specs.List.{AllByRecursion}
-use Rattle.std.proofs.Math.Nat.{max-le}
-use Rattle.std.proofs.lemmas.Bool.{and_parts, and_from}
-use Rattle.std.proofs.lemmas.List.Elements.{All-head, All-tail}
-use Rattle.json.specs.Tree as tree
 use Rattle.json.proofs.Printed.Utf8.{are_ascii, IsUtf8-are_ascii}
 use Rattle.serde_json.specs.Data.{Data, null, boolean, number, unsigned, string, array, Members, no_members, put}
-use Rattle.serde_json.specs.Read.{of_json, of_items, of_members, read, max_depth}
-use Rattle.serde_json.specs.Written.{outline, items_outline, members_outline, compact_text}
+use Rattle.serde_json.specs.{Read.of_json, Read.of_items, Read.of_members, Read.read, Read.max_depth, Written.outline, Written.items_outline, Written.members_outline, Written.compact_text}
 use Rattle.serde_json.proofs.Numbers.{number_of-decimal}
-use Rattle.mml_codec.specs.Objects.{items_with, members_with, array_of, object_with}
-use Rattle.mml_codec.specs.ReplyValues.{has_rising_keys, items_have_rising_keys}
+use Rattle.mml_codec.specs.{Objects.items_with, Objects.members_with, Objects.array_of, Objects.object_with, ReplyValues.has_rising_keys, ReplyValues.items_have_rising_keys}
 use Rattle.mml_codec.proofs.CompactTextLemmas.{HasText, ItemsHaveText, MembersHaveText, read-compact_text}
+use Rattle.json.specs.Tree as tree
 
 -- its text is read as the value again, in which arrays and objects nest n deep at most
 pub record IsReadable (n : ℕ) (d : Data) : Type 0 where

@@ -1,27 +1,20 @@
 -- The text of a reply is that of its JSON value: of each fact, and so of all fields.
-use Rattle.std.proofs.lemmas.Bool.Decides.{nat_tests}
-use Rattle.std.proofs.Common.{◌≡◌, ◌≢◌, ℕ, ◌≤◌, List, [], ◌∷◌, ◌++◌, Bool, true, false, Option, None, Some, All, map, length, codes}
-use Rattle.std.proofs.Common.{refl, sym, ap, ◌∙◌, arith, append_assoc}
-use Rattle.std.specs.Prelude.{flat_map}
-use Rattle.std.specs.List.{AllByRecursion}
-use Rattle.std.proofs.lemmas.Bool.{and_from}
-use Rattle.std.proofs.lemmas.List.Elements.{All-head, All-tail}
+use Rattle.std.proofs.lemmas.{Bool.Decides.nat_tests, Bool.and_from, List.Elements.All-head, List.Elements.All-tail}
+use Rattle.std.proofs.Common.{◌≡◌, ◌≢◌, ℕ, ◌≤◌, List, [], ◌∷◌, ◌++◌, Bool, true, false, Option, None, Some, All, map, length, codes, refl, sym, ap, ◌∙◌, arith, append_assoc}
+use Rattle.std.specs.{Prelude.flat_map, List.AllByRecursion}
 use Rattle.json.specs.Print.{escape_byte, escape}
-use Rattle.serde_json.specs.Data.{Data, boolean}
-use Rattle.serde_json.specs.Written.{compact_text, items_text, members_text, comma_if}
+use Rattle.serde_json.specs.{Data.Data, Data.boolean, Written.compact_text, Written.items_text, Written.members_text, Written.comma_if}
 use Rattle.mml_plain.specs.Compact.{is_bare_byte, is_bare}
 use Rattle.mml_plain.proofs.CompactLemmas.{bare_escape}
-use Rattle.mml_rules.specs.declared.regs.Regs.{Regs}
-use Rattle.mml_rules.specs.declared.rule.Kind.{Kind}
-use Rattle.mml_rules.specs.declared.rule.Kind.TheVariants as kind
+use Rattle.mml_rules.specs.declared.{regs.Regs.Regs, rule.Kind.Kind}
 use Rattle.mml_lab.specs.RosterMeaning.{IsNameByte}
 use Rattle.mml_stable.specs.declared.open_link.OpenLink.{OpenLink}
 use Rattle.mml_codec.specs.Objects.{items_with, members_with}
-use Rattle.mml_codec.specs.Facts as fact
 use Rattle.mml_ids.specs.Pieces.{truth_text}
-use Rattle.mml_codec.specs.Facts.{Fact, Fields, node_text, pointer_text, kind_text, kind_or_null, separated, members, near_text, pair_text}
-use Rattle.mml_codec.specs.Facts.{privileged_text, open_link_text, list_then, fact_then, fields_after, node_value, pointer_value, kind_value}
-use Rattle.mml_codec.specs.Facts.{kind_or_null_value, near_value, pair_value, privileged_value, open_link_value, fact_value, keys_of}
+use Rattle.mml_codec.specs.Facts.{Fact, Fields, node_text, pointer_text, kind_text, kind_or_null, separated, members, near_text, pair_text, privileged_text, open_link_text, list_then, fact_then}
+use Rattle.mml_codec.specs.Facts.{fields_after, node_value, pointer_value, kind_value, kind_or_null_value, near_value, pair_value, privileged_value, open_link_value, fact_value, keys_of}
+use Rattle.mml_rules.specs.declared.rule.Kind.TheVariants as kind
+use Rattle.mml_codec.specs.Facts as fact
 
 -- ---- words of which no byte is escaped
 

@@ -1,47 +1,33 @@
 -- The text of a reply is read as the value that it spells, and is one line.
-use Rattle.std.proofs.lemmas.Bool.Decides.{nat_tests}
-use Rattle.std.proofs.Common.{◌≡◌, ◌≢◌, ℕ, ◌<◌, List, [], ◌∷◌, Bool, true, false, ◌&&◌, Option, None, Some, IfSome, All, codes, length, nat_lt, refl, ap}
-use Rattle.std.proofs.Common.{◌∙◌, arith, ltb-true, lit≤, slice_index, zero-add}
-use Rattle.std.specs.List.{AllByRecursion, range_with_len}
-use Rattle.std.specs.Ordering.{nat_cmp, is_lt}
-use Rattle.std.specs.Cmp.Lexicographic.{slice_cmp}
-use Rattle.std.specs.FinSet as set
-use Rattle.std.specs.FinSet.{FinSet}
-use Rattle.std.proofs.lemmas.Bool.{and_parts, and_from}
-use Rattle.std.proofs.lemmas.List.Elements.{All-filter, All-from_get_or}
-use Rattle.std.proofs.lemmas.List.FromFn.{length-range_with_len, get_or-range_with_len}
-use Rattle.serde_json.specs.Read.{read}
-use Rattle.serde_json.specs.Written.{compact_text}
+use Rattle.std.proofs.lemmas.Bool.{Decides.nat_tests, and_parts, and_from}
+use Rattle.std.proofs.Common.{◌≡◌, ◌≢◌, ℕ, ◌<◌, List, [], ◌∷◌, Bool, true, false, ◌&&◌, Option, None, Some, IfSome, All, codes, length, nat_lt, refl, ap, ◌∙◌, arith, ltb-true, lit≤, slice_index}
+use Rattle.std.proofs.Common.{zero-add}
+use Rattle.std.specs.{List.AllByRecursion, List.range_with_len, Ordering.nat_cmp, Ordering.is_lt, Cmp.Lexicographic.slice_cmp, FinSet.FinSet}
+use Rattle.std.proofs.lemmas.List.{Elements.All-filter, Elements.All-from_get_or, FromFn.length-range_with_len, FromFn.get_or-range_with_len}
+use Rattle.serde_json.specs.{Read.read, Written.compact_text}
 use Rattle.mml_plain.specs.Compact.{is_bare}
 use Rattle.mml_plain.proofs.CompactLemmas.{bare_ascii}
 use Rattle.mml_ids.specs.Ids.{IsTable}
-use Rattle.mml_rules.specs.declared.regs.Regs.{Regs}
-use Rattle.mml_rules.specs.declared.rule.Kind.{Kind}
-use Rattle.mml_rules.specs.declared.rule.Kind.TheVariants as kind
-use Rattle.mml_lab.specs.declared.who.Who.{Who}
-use Rattle.mml_lab.specs.Rosters.{RosterValue, IsRoster, IsPrincipal, name_of}
+use Rattle.mml_rules.specs.declared.{regs.Regs.Regs, rule.Kind.Kind}
+use Rattle.mml_lab.specs.{declared.who.Who.Who, Rosters.RosterValue, Rosters.IsRoster, Rosters.IsPrincipal, Rosters.name_of}
 use Rattle.mml_lab.proofs.FormLemmas.{name-means}
 use Rattle.mml_policy.specs.About.{IsNear}
-use Rattle.mml_board.specs.declared.denial.Denial.{Denial}
-use Rattle.mml_board.specs.declared.denial.Denial.TheVariants as denial
-use Rattle.mml_board.specs.Denials.{clause_of, text_of}
-use Rattle.mml_board.specs.Denials as denials
-use Rattle.mml_stable.specs.Reports.{IsPairOf, IsOpenLinkOf}
-use Rattle.mml_stable.specs.declared.open_link.OpenLink.{OpenLink}
-use Rattle.mml_codec.specs.declared.reply.Refused.{Refused}
-use Rattle.mml_codec.specs.declared.reply.Refused.TheVariants as refused
-use Rattle.mml_codec.specs.declared.reply.Reply.{Reply}
-use Rattle.mml_codec.specs.declared.reply.Reply.TheVariants as replies
-use Rattle.mml_codec.specs.Objects.{members_with}
-use Rattle.mml_codec.specs.Facts as fact
-use Rattle.mml_codec.specs.Facts.{Fact, Fields, members, object_text, node_value, pointer_value, kind_value, kind_or_null_value, near_keys, near_value}
-use Rattle.mml_codec.specs.Facts.{pair_value, privileged_value, open_link_value, fact_value, keys_of, FitsCount, HaveFittingCounts}
+use Rattle.mml_board.specs.{declared.denial.Denial.Denial, Denials.clause_of, Denials.text_of}
+use Rattle.mml_stable.specs.{Reports.IsPairOf, Reports.IsOpenLinkOf, declared.open_link.OpenLink.OpenLink}
+use Rattle.mml_codec.specs.{declared.reply.Refused.Refused, declared.reply.Reply.Reply, Objects.members_with}
+use Rattle.mml_codec.specs.Facts.{Fact, Fields, members, object_text, node_value, pointer_value, kind_value, kind_or_null_value, near_keys, near_value, pair_value, privileged_value, open_link_value}
+use Rattle.mml_codec.specs.Facts.{fact_value, keys_of, FitsCount, HaveFittingCounts}
 use Rattle.mml_codec.specs.Replies.{current_number, number_first, told_fields, refusal_name, fields_of, text, IsAbout}
 use Rattle.mml_codec.specs.ReplyValues.{reply_value, AreWritableCounts, has_rising_keys, members_rise, comes_first}
-use Rattle.mml_codec.proofs.OneLineLemmas.{compact_text_line}
-use Rattle.mml_codec.proofs.ReplyTextLemmas.{name_bare, IsPlainFact, ArePlain, fields_are}
-use Rattle.mml_codec.proofs.ReadBackLemmas.{IsReadable, AreReadable, IsKeyed, null_read, truth_read, count_read, word_read, items_read, array_read, object_read}
-use Rattle.mml_codec.proofs.ReadBackLemmas.{read_value, items_rise}
+use Rattle.mml_codec.proofs.{OneLineLemmas.compact_text_line, ReplyTextLemmas.name_bare, ReplyTextLemmas.IsPlainFact, ReplyTextLemmas.ArePlain, ReplyTextLemmas.fields_are}
+use Rattle.mml_codec.proofs.ReadBackLemmas.{IsReadable, AreReadable, IsKeyed, null_read, truth_read, count_read, word_read, items_read, array_read, object_read, read_value, items_rise}
+use Rattle.std.specs.FinSet as set
+use Rattle.mml_rules.specs.declared.rule.Kind.TheVariants as kind
+use Rattle.mml_board.specs.declared.denial.Denial.TheVariants as denial
+use Rattle.mml_board.specs.Denials as denials
+use Rattle.mml_codec.specs.declared.reply.Refused.TheVariants as refused
+use Rattle.mml_codec.specs.declared.reply.Reply.TheVariants as replies
+use Rattle.mml_codec.specs.Facts as fact
 
 -- ---- each kind of fact
 

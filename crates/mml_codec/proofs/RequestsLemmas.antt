@@ -1,21 +1,16 @@
 -- What is asked: a value asks a request exactly if it has its fields.
-use Rattle.std.proofs.lemmas.Bool.Decides.{nat_tests}
+use Rattle.std.proofs.lemmas.{Bool.Decides.nat_tests, Option.same_Some, Option.option_and_then_some, Slice.Eq.bytes_eq-Decides}
 use Rattle.std.proofs.Common.{◌≡◌, ℕ, List, [], ◌∷◌, Bool, true, false, cond, codes, bytes_eq, Option, None, Some, option_map, refl, ap, ◌∙◌, subst, arith}
-use Rattle.std.proofs.lemmas.Option.{same_Some, option_and_then_some}
-use Rattle.std.proofs.lemmas.Slice.Eq.{bytes_eq-Decides}
-use Rattle.serde_json.specs.Data.{Data, number}
-use Rattle.serde_json.specs.Find.{get, as_number, as_u64}
-use Rattle.mml_board.specs.Vocabulary as verb
+use Rattle.serde_json.specs.{Data.Data, Data.number, Find.get, Find.as_number, Find.as_u64}
 use Rattle.mml_plain.specs.LookUps.{◌>>=◌, text_at, number_at, truth_at, register_at, as_register}
-use Rattle.mml_policy.specs.declared.command.Asked.{Asked}
+use Rattle.mml_policy.specs.declared.command.{Asked.Asked, Command.Command}
+use Rattle.mml_codec.specs.{declared.request.Request.Request, Fields.Has, Fields.HasEach}
+use Rattle.mml_codec.specs.Requests.{rule_word, partner_fields, register, asks, fields_of, asked_at, hello_of, node_of, ends_of, move_of, fault_of, by_word, request}
+use Rattle.mml_board.specs.Vocabulary as verb
 use Rattle.mml_policy.specs.declared.command.Asked.TheVariants as asked
-use Rattle.mml_policy.specs.declared.command.Command.{Command}
 use Rattle.mml_policy.specs.declared.command.Command.TheVariants as command
-use Rattle.mml_codec.specs.declared.request.Request.{Request}
 use Rattle.mml_codec.specs.declared.request.Request.TheVariants as requests
 use Rattle.mml_codec.specs.Fields as field
-use Rattle.mml_codec.specs.Fields.{Has, HasEach}
-use Rattle.mml_codec.specs.Requests.{rule_word, partner_fields, register, asks, fields_of, asked_at, hello_of, node_of, ends_of, move_of, fault_of, by_word, request}
 
 -- ---- registers
 

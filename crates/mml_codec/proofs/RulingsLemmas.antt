@@ -1,9 +1,8 @@
 -- The reply to a grant names its place, and is short.
 use Rattle.std.proofs.Common.{◌≡◌, ℕ, true, Some, refl}
 use Rattle.mml_board.specs.declared.done.Done.{Done}
+use Rattle.mml_codec.specs.{Replies.place_in, Replies.is_short, Rulings.reply_of_done}
 use Rattle.mml_board.specs.declared.done.Done.TheVariants as done
-use Rattle.mml_codec.specs.Replies.{place_in, is_short}
-use Rattle.mml_codec.specs.Rulings.{reply_of_done}
 
 told_done : (at place : ℕ) (d : Done) → (place_in (reply_of_done at place d) ≡ Some place) × (is_short (reply_of_done at place d) ≡ true)
 told_done at place (done.Move node kind) = (refl, refl)

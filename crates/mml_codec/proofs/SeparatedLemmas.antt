@@ -1,15 +1,10 @@
 -- Texts with commas between them, made one by one.
-use Rattle.std.proofs.lemmas.Bool.Decides.{nat_tests}
-use Rattle.std.proofs.lemmas.Grind.{common_steps}
-use Rattle.std.proofs.Common.{◌≡◌, ℕ, ◌+◌, ◌<◌, List, [], ◌∷◌, ◌++◌, length, map, take, get_or, true, false, sym, ap, ◌∙◌, refl, append-nil, arith}
-use Rattle.std.proofs.Common.{append_assoc}
-use Rattle.std.specs.Ordering.{nat_cmp}
-use Rattle.std.specs.FinSet as set
-use Rattle.std.specs.FinSet.{FinSet}
-use Rattle.std.proofs.lemmas.Grind.{flat_map-append}
-use Rattle.std.proofs.lemmas.List.{take_more, map-append}
+use Rattle.std.proofs.lemmas.{Bool.Decides.nat_tests, Grind.common_steps, Grind.flat_map-append, List.take_more, List.map-append}
+use Rattle.std.proofs.Common.{◌≡◌, ℕ, ◌+◌, ◌<◌, List, [], ◌∷◌, ◌++◌, length, map, take, get_or, true, false, sym, ap, ◌∙◌, refl, append-nil, arith, append_assoc}
+use Rattle.std.specs.{Ordering.nat_cmp, FinSet.FinSet}
 use Rattle.mml_policy.proofs.NearLemmas.{passing_with, passing_without}
 use Rattle.mml_codec.specs.Facts.{node_text, members, separated}
+use Rattle.std.specs.FinSet as set
 
 -- the comma that stands before one more text
 abbrev pub comma_after : List (List ℕ) → List ℕ

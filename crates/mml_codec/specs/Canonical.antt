@@ -1,9 +1,7 @@
 -- The text by which a request is written.
 use Rattle.std.specs.Prelude.{ℕ, List}
 use Rattle.serde_json.specs.Written.{compact_text}
-use Rattle.mml_codec.specs.declared.request.Request.{Request}
-use Rattle.mml_codec.specs.Fields.{object_of, AreWritable}
-use Rattle.mml_codec.specs.Requests.{fields_of}
+use Rattle.mml_codec.specs.{declared.request.Request.Request, Fields.object_of, Fields.AreWritable, Requests.fields_of}
 
 -- the text of the request's object, with no space between its parts
 unfoldable pub canonical : Request → List ℕ

@@ -1,16 +1,13 @@
 -- The facts in replies: the text of each, and the JSON value that the text spells.
 use Rattle.std.specs.Prelude.{ℕ, ◌<◌, ◌^◌, List, [], ◌∷◌, ◌++◌, length, map, filter, flat_map, Bool, Option, None, Some, codes, decimal, slice_index}
-use Rattle.std.specs.List.{concat, range_with_len, AllByRecursion}
-use Rattle.std.specs.Ordering.{nat_cmp}
-use Rattle.std.specs.FinSet as set
-use Rattle.std.specs.FinSet.{FinSet}
+use Rattle.std.specs.{List.concat, List.range_with_len, List.AllByRecursion, Ordering.nat_cmp, FinSet.FinSet}
 use Rattle.serde_json.specs.Data.{Data, null, boolean, number, unsigned, string, array}
 use Rattle.mml_ids.specs.Pieces.{truth_text}
-use Rattle.mml_rules.specs.declared.regs.Regs.{Regs}
-use Rattle.mml_rules.specs.declared.rule.Kind.{Kind}
+use Rattle.mml_rules.specs.declared.{regs.Regs.Regs, rule.Kind.Kind}
 use Rattle.mml_board.specs.Vocabulary.{rule_name}
 use Rattle.mml_stable.specs.declared.open_link.OpenLink.{OpenLink}
 use Rattle.mml_codec.specs.Objects.{items_with, array_of, object_with}
+use Rattle.std.specs.FinSet as set
 
 -- the value of a key in a reply; the number of a clause is apart from counts, since it is always small; the nodes that
 -- moved are a set, and are written in rising order

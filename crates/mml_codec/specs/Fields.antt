@@ -1,9 +1,8 @@
 -- Flat objects: the value of each key.
-use Rattle.std.specs.Prelude.{◌≡◌, ℕ, ◌<◌, ◌^◌, List, map, Bool, None, Some, IsUtf8}
-use Rattle.std.specs.List.{AllByRecursion}
-use Rattle.serde_json.specs.Data as value
+use Rattle.std.specs.{Prelude.◌≡◌, Prelude.ℕ, Prelude.◌<◌, Prelude.◌^◌, Prelude.List, Prelude.map, Prelude.Bool, Prelude.None, Prelude.Some, Prelude.IsUtf8, List.AllByRecursion}
 use Rattle.mml_plain.specs.LookUps.{text_at, number_at, truth_at, register_at}
 use Rattle.mml_codec.specs.Objects.{members_with, object_with}
+use Rattle.serde_json.specs.Data as value
 
 -- a number, a word that the protocol fixes, a text that it doesn't, a truth value, or null
 pub data Field : Type 0 where

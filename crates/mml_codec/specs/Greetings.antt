@@ -1,22 +1,15 @@
 -- The participant that a connection is known as, and what it may ask.
 use Rattle.std.specs.Prelude.{ℕ, List, Option, None, Some, IfSome}
-use Rattle.mml_lab.specs.declared.who.Who.{Who}
-use Rattle.mml_lab.specs.Rosters.{RosterValue, principal, IsPrincipal}
+use Rattle.mml_lab.specs.{declared.who.Who.Who, Rosters.RosterValue, Rosters.principal, Rosters.IsPrincipal}
 use Rattle.mml_board.specs.declared.denial.Denial.{Denial}
+use Rattle.mml_codec.specs.{declared.request.LineFault.LineFault, declared.request.Request.Request, declared.reply.Refused.Refused, declared.reply.Reply.Reply, Replies.IsAbout}
+use Rattle.mml_codec.specs.declared.greeting.{Greeted.Greeted, Greeting.Greeting, Greeting.TheVariants.Answered, Greeting.TheVariants.LeftToJudge}
 use Rattle.mml_board.specs.declared.denial.Denial.TheVariants as denial
-use Rattle.mml_codec.specs.declared.request.LineFault.{LineFault}
 use Rattle.mml_codec.specs.declared.request.LineFault.TheVariants as fault
-use Rattle.mml_codec.specs.declared.request.Request.{Request}
 use Rattle.mml_codec.specs.declared.request.Request.TheVariants as requests
-use Rattle.mml_codec.specs.declared.reply.Refused.{Refused}
 use Rattle.mml_codec.specs.declared.reply.Refused.TheVariants as refused
 use Rattle.mml_codec.specs.declared.reply.Reply.TheVariants as replies
-use Rattle.mml_codec.specs.declared.reply.Reply.{Reply}
-use Rattle.mml_codec.specs.declared.greeting.Greeted.{Greeted}
 use Rattle.mml_codec.specs.declared.greeting.Greeted.TheVariants as greeted
-use Rattle.mml_codec.specs.declared.greeting.Greeting.{Greeting}
-use Rattle.mml_codec.specs.declared.greeting.Greeting.TheVariants.{Answered, LeftToJudge}
-use Rattle.mml_codec.specs.Replies.{IsAbout}
 
 -- how a line from which no request was read is refused
 abbrev pub refusal_of : LineFault → Refused

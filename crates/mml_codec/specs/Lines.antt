@@ -1,13 +1,10 @@
 -- The request that a line is.
 use Rattle.std.specs.Prelude.{List, ℕ, Bool, true, false, Option, None, Result, Ok, Err, ok_or, option_and_then, if◌then◌else◌}
 use Rattle.std.specs.Str.{is_utf8}
-use Rattle.serde_json.specs.Data.{Data}
-use Rattle.serde_json.specs.Read.{read}
-use Rattle.mml_codec.specs.declared.request.LineFault.{LineFault}
+use Rattle.serde_json.specs.{Data.Data, Read.read}
+use Rattle.mml_codec.specs.{declared.request.LineFault.LineFault, declared.request.Request.Request, Requests.request}
 use Rattle.mml_codec.specs.declared.request.LineFault.TheVariants as fault
-use Rattle.mml_codec.specs.declared.request.Request.{Request}
 use Rattle.mml_codec.specs.declared.request.Request.TheVariants as requests
-use Rattle.mml_codec.specs.Requests.{request}
 
 -- the error says nothing of the line: memory ran out
 abbrev pub is_line_memory : LineFault → Bool

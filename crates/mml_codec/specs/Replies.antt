@@ -1,24 +1,17 @@
 -- The replies: the keys of each, and their facts, from which the text and the value are made.
 use Rattle.std.specs.Prelude.{◌≡◌, ◌⊎◌, ℕ, ◌<◌, List, [], ◌∷◌, ◌++◌, length, Bool, true, false, Option, None, Some, codes}
-use Rattle.mml_board.specs.declared.done.Done.{Done}
+use Rattle.mml_board.specs.{declared.done.Done.Done, declared.denial.Denial.Denial, Denials.clause_of, Denials.text_of}
+use Rattle.mml_lab.specs.Rosters.{RosterValue, name_of, IsPrincipal}
+use Rattle.mml_policy.specs.{declared.look.Look.Look, declared.see.See.See, About.IsSeen, About.IsLookedAt}
+use Rattle.mml_stable.specs.{declared.stability_report.Report.Report, Reports.NamesNodes}
+use Rattle.mml_codec.specs.{declared.reply.Refused.Refused, declared.reply.Reply.Reply, Facts.Fact, Facts.Fields, Facts.object_text}
 use Rattle.mml_board.specs.declared.done.Done.TheVariants as done
 use Rattle.mml_board.specs.Vocabulary as verb
-use Rattle.mml_lab.specs.Rosters.{RosterValue, name_of, IsPrincipal}
-use Rattle.mml_board.specs.declared.denial.Denial.{Denial}
 use Rattle.mml_board.specs.declared.denial.Denial.TheVariants as denial
-use Rattle.mml_policy.specs.declared.look.Look.{Look}
-use Rattle.mml_policy.specs.declared.see.See.{See}
-use Rattle.mml_policy.specs.About.{IsSeen, IsLookedAt}
-use Rattle.mml_board.specs.Denials.{clause_of, text_of}
 use Rattle.mml_board.specs.Denials as denials
-use Rattle.mml_stable.specs.declared.stability_report.Report.{Report}
-use Rattle.mml_stable.specs.Reports.{NamesNodes}
-use Rattle.mml_codec.specs.declared.reply.Refused.{Refused}
 use Rattle.mml_codec.specs.declared.reply.Refused.TheVariants as refused
-use Rattle.mml_codec.specs.declared.reply.Reply.{Reply}
 use Rattle.mml_codec.specs.declared.reply.Reply.TheVariants as replies
 use Rattle.mml_codec.specs.Facts as fact
-use Rattle.mml_codec.specs.Facts.{Fact, Fields, object_text}
 
 -- ---- the table: each key that comes, and its fact
 

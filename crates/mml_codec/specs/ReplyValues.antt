@@ -1,13 +1,8 @@
 -- The JSON value that the text of each reply spells.
-use Rattle.std.specs.Prelude.{ℕ, List, Bool, true, ◌&&◌}
-use Rattle.std.specs.Ordering.{nat_cmp, is_lt}
-use Rattle.std.specs.Cmp.Lexicographic.{slice_cmp}
+use Rattle.std.specs.{Prelude.ℕ, Prelude.List, Prelude.Bool, Prelude.true, Prelude.◌&&◌, Ordering.nat_cmp, Ordering.is_lt, Cmp.Lexicographic.slice_cmp}
 use Rattle.serde_json.specs.Data.{Data, null, boolean, number, string, array, object, Items, no_items, item, Members, no_members, member}
 use Rattle.mml_lab.specs.Rosters.{RosterValue}
-use Rattle.mml_codec.specs.declared.reply.Reply.{Reply}
-use Rattle.mml_codec.specs.Objects.{object_with}
-use Rattle.mml_codec.specs.Facts.{keys_of, HaveFittingCounts}
-use Rattle.mml_codec.specs.Replies.{fields_of}
+use Rattle.mml_codec.specs.{declared.reply.Reply.Reply, Objects.object_with, Facts.keys_of, Facts.HaveFittingCounts, Replies.fields_of}
 
 -- the object that a reply's text spells, in a lab with these identifiers and this roster
 abbrev pub reply_value : List ℕ → RosterValue → Reply → Data

@@ -1,17 +1,15 @@
 -- The requests: what each has by which key, and what a JSON value asks.
 use Rattle.std.specs.Prelude.{codes, List, [], ◌∷◌, ℕ, Option, Some, None, option_map, bytes_eq, if◌then◌else◌}
 use Rattle.serde_json.specs.Data.{Data}
+use Rattle.mml_board.specs.Vocabulary.{rule_name}
+use Rattle.mml_policy.specs.declared.command.{Asked.Asked, Command.Command}
+use Rattle.mml_codec.specs.{declared.request.Request.Request, Fields.Field, Fields.number, Fields.word, Fields.text, Fields.truth, Fields.null}
 use Rattle.mml_rules.specs.declared.rule.Kind.TheVariants as kind
 use Rattle.mml_board.specs.Vocabulary as verb
-use Rattle.mml_board.specs.Vocabulary.{rule_name}
-pub use Rattle.mml_plain.specs.LookUps.{◌>>=◌, text_at, number_at, truth_at, register_at}
-use Rattle.mml_policy.specs.declared.command.Asked.{Asked}
 use Rattle.mml_policy.specs.declared.command.Asked.TheVariants as asked
-use Rattle.mml_policy.specs.declared.command.Command.{Command}
 use Rattle.mml_policy.specs.declared.command.Command.TheVariants as command
-use Rattle.mml_codec.specs.declared.request.Request.{Request}
 use Rattle.mml_codec.specs.declared.request.Request.TheVariants as requests
-use Rattle.mml_codec.specs.Fields.{Field, number, word, text, truth, null}
+pub use Rattle.mml_plain.specs.LookUps.{◌>>=◌, text_at, number_at, truth_at, register_at}
 
 -- ---- the table: each word with its keys, in byte order
 

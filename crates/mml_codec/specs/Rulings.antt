@@ -1,16 +1,13 @@
 -- The reply to a command that was judged.
 use Rattle.std.specs.Prelude.{ℕ}
-use Rattle.mml_board.specs.declared.done.Done.{Done}
-use Rattle.mml_board.specs.declared.done.Done.TheVariants as done
-use Rattle.mml_board.specs.World.{World}
+use Rattle.mml_board.specs.{declared.done.Done.Done, World.World}
 use Rattle.mml_stable.specs.Reports.{report_of}
-use Rattle.mml_policy.specs.declared.refusal.Refusal.{Refusal}
+use Rattle.mml_policy.specs.declared.{refusal.Refusal.Refusal, ruling.Ruling.Ruling}
+use Rattle.mml_codec.specs.declared.reply.{Refused.Refused, Reply.Reply}
+use Rattle.mml_board.specs.declared.done.Done.TheVariants as done
 use Rattle.mml_policy.specs.declared.refusal.Refusal.TheVariants as refusal
-use Rattle.mml_policy.specs.declared.ruling.Ruling.{Ruling}
 use Rattle.mml_policy.specs.declared.ruling.Ruling.TheVariants as ruling
-use Rattle.mml_codec.specs.declared.reply.Refused.{Refused}
 use Rattle.mml_codec.specs.declared.reply.Refused.TheVariants as refused
-use Rattle.mml_codec.specs.declared.reply.Reply.{Reply}
 use Rattle.mml_codec.specs.declared.reply.Reply.TheVariants as replies
 
 -- the reply to an event that happened, with the number and the place after it

@@ -5,9 +5,8 @@ use Rattle.mml_ids.specs.Search.{count_below}
 use Rattle.mml_rules.specs.Configuration.{holds}
 use Rattle.mml_lab.specs.Labs.{links_below, link_count}
 use Rattle.mml_board.specs.World.{configuration}
-use Rattle.mml_convergence.specs.Potential.{sum_below}
+use Rattle.mml_convergence.specs.{Potential.sum_below, Comb.first_pointer, Comb.is_comb, Comb.comb, Comb.comb_world}
 use Rattle.mml_convergence.proofs.SumsLemmas.{count_none, count_same, sum_turned}
-use Rattle.mml_convergence.specs.Comb.{first_pointer, is_comb, comb, comb_world}
 use Rattle.mml_convergence.proofs.{CountLemmas.count_one, CombLemmas.at_first, CombLemmas.comb_size, CombLemmas.halfway, CombLemmas.next_to, CombLemmas.linked-from}
 use Rattle.mml_convergence.proofs.OpeningLemmas as opening
 

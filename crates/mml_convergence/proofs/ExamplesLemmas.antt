@@ -10,8 +10,7 @@ use Rattle.mml_rules.proofs.NetworkLemmas.{with_link-lawful, linked-with_link}
 use Rattle.mml_lab.specs.{Labs.links_below, Labs.link_count, Rosters.RosterValue, Rosters.IsRoster, Rosters.owns}
 use Rattle.mml_board.specs.{declared.event.Event.Event, Events.moved_registers, Events.chosen_count, Events.after, Runs.is_legal_list}
 use Rattle.mml_board.specs.World.{World, size, configuration, chosen_at, IsWorld}
-use Rattle.mml_board.proofs.WorldLemmas.{size-after, hold-none}
-use Rattle.mml_board.proofs.ClausesLemmas.{owned_legal, grant_possible, close_possible}
+use Rattle.mml_board.proofs.{WorldLemmas.size-after, WorldLemmas.hold-none, ClausesLemmas.owned_legal, ClausesLemmas.grant_possible, ClausesLemmas.close_possible}
 use Rattle.mml_convergence.specs.{Potential.potential, Potential.whole_potential, Moves.applied_over}
 use Rattle.mml_convergence.specs.Examples.{unlinked, triangle, triangle_world, sole_owner, twenty_moves}
 use Rattle.std.specs.FinSet as sets

@@ -3,10 +3,8 @@ use Rattle.std.proofs.{lemmas.Bool.Decides.nat_tests, Common.◌≡◌, Common.�
 use Rattle.std.specs.List.{list_all}
 use Rattle.mml_lab.specs.{Labs.link_count, Rosters.RosterValue}
 use Rattle.mml_board.specs.{declared.event.Event.Event, World.World, World.size, World.IsWorld, Runs.is_legal_list}
-use Rattle.mml_convergence.specs.{Runs.is_of_step, Moves.applied_over}
-use Rattle.mml_convergence.proofs.AppliedLemmas.{moves_paid, moves_bounded}
-use Rattle.mml_convergence.specs.Courtships.{most_courtships, courting_potential}
-use Rattle.mml_convergence.proofs.WholeLemmas.{courting_fell, courting_most}
+use Rattle.mml_convergence.specs.{Runs.is_of_step, Moves.applied_over, Courtships.most_courtships, Courtships.courting_potential}
+use Rattle.mml_convergence.proofs.{AppliedLemmas.moves_paid, AppliedLemmas.moves_bounded, WholeLemmas.courting_fell, WholeLemmas.courting_most}
 
 -- both bounds together
 pub moves_few : (r : RosterValue) (w : World) (es : List Event) → IsWorld w → is_legal_list r w es ≡ true → list_all is_of_step es ≡ true

@@ -1,6 +1,6 @@
 -- A node's move in a close of its own, and ways on by such moves.
-use Rattle.std.{proofs.lemmas.Bool.Decides.nat_tests, proofs.lemmas.Bool.and_from, proofs.lemmas.Bool.lt-ltb, proofs.lemmas.Bool.eq-eqb, proofs.lemmas.Bool.ne_eqb, specs.List.list_all}
-use Rattle.std.proofs.Common.{◌≡◌, ℕ, suc, ◌<◌, Bool, true, false, cond, ◌==◌, Option, None, Some, is_some, is_none, List, [], ◌∷◌, refl, ap, ◌∙◌, arith}
+use Rattle.std.{proofs.lemmas.Bool.Decides.nat_tests, proofs.lemmas.Bool.and_from, proofs.lemmas.Bool.eq-eqb, proofs.lemmas.Bool.ne_eqb, specs.List.list_all}
+use Rattle.std.proofs.Common.{◌≡◌, ℕ, suc, ◌<◌, Bool, true, false, cond, ◌==◌, Option, None, Some, is_some, List, [], ◌∷◌, refl, ap, ◌∙◌, arith}
 use Rattle.mml_rules.specs.{declared.regs.Regs.Regs, declared.rule.Rule.Rule, Configuration.Configuration, Configuration.IsLawful, Rules.guard, Rules.effect, Rules.moved, Network.registers_at}
 use Rattle.mml_lab.specs.Rosters.{RosterValue, owns}
 use Rattle.mml_board.specs.{declared.event.Event.Event, World.World, World.size, World.configuration, World.chosen_at, World.IsWorld, Runs.is_legal_list, Runs.world_of}
@@ -8,8 +8,7 @@ use Rattle.mml_board.specs.Events.{is_chosen, is_any_chosen, is_possible, is_leg
 use Rattle.mml_board.proofs.WorldLemmas.{after-world, chosen_at-set, moved_at, none_at, size-after}
 use Rattle.mml_board.proofs.ClausesLemmas.{owned_legal, grant_possible, close_possible}
 use Rattle.mml_convergence.specs.{Moves.applied_over, Moves.count_closes, Rest.is_grant_or_close, Rounds.Rounds}
-use Rattle.mml_convergence.proofs.{RestLemmas.any_chosen, SumsLemmas.count_same}
-use Rattle.mml_convergence.proofs.CountLemmas.{count_one}
+use Rattle.mml_convergence.proofs.{RestLemmas.any_chosen, SumsLemmas.count_same, CountLemmas.count_one}
 use Rattle.mml_lab.specs.declared.who.Who.TheVariants as who
 use Rattle.mml_board.specs.declared.event.Event.TheVariants as event
 

@@ -6,10 +6,9 @@ use Rattle.mml_rules.specs.declared.regs.Regs.{Regs}
 use Rattle.mml_lab.specs.Rosters.{RosterValue, owns}
 use Rattle.mml_board.specs.{declared.event.Event.Event, World.World, World.configuration, World.IsWorld, Runs.is_legal_list}
 use Rattle.mml_board.proofs.WorldLemmas.{none_at}
-use Rattle.mml_convergence.specs.{Moves.applied_over, Rest.is_grant_or_close}
-use Rattle.mml_convergence.specs.{Courtships.most_courtships, Crowd.first_pointer, Crowd.crowd_world}
-use Rattle.mml_convergence.proofs.{MoveLemmas.IsQuiet, MoveLemmas.Goes, MoveLemmas.stop, MoveLemmas.unrounded, RunLemmas.court, RunLemmas.marry, RunLemmas.learn, RunLemmas.phase, CountLemmas.count_between}
-use Rattle.mml_convergence.proofs.{CountLemmas.count_one, CountLemmas.count_either, ClearLemmas.clear, ClearLemmas.cleared}
+use Rattle.mml_convergence.specs.{Moves.applied_over, Rest.is_grant_or_close, Courtships.most_courtships, Crowd.first_pointer, Crowd.crowd_world}
+use Rattle.mml_convergence.proofs.{MoveLemmas.IsQuiet, MoveLemmas.Goes, MoveLemmas.stop, MoveLemmas.unrounded, RunLemmas.court, RunLemmas.marry, RunLemmas.learn, RunLemmas.phase}
+use Rattle.mml_convergence.proofs.{CountLemmas.count_between, CountLemmas.count_one, CountLemmas.count_either, ClearLemmas.clear, ClearLemmas.cleared}
 use Rattle.mml_convergence.proofs.PhaseLemmas.{Shape, Seated, shaped, courts, marries_now, learns, leaves, courts-means, courts-from, leaves-means, leaves-from}
 use Rattle.mml_convergence.proofs.CrowdLemmas.{all, points, first_registers, first_shape, crowd_is_world}
 use Rattle.mml_lab.specs.declared.who.Who.TheVariants as who

@@ -2,8 +2,7 @@
 use Rattle.std.proofs.Common.{◌≡◌, ℕ, zero, suc, ◌+◌, ◌*◌, ◌≤◌, ◌-◌, Bool, true, cond, not, refl, subst, arith}
 use Rattle.std.proofs.lemmas.Bool.Decides.{nat_tests}
 use Rattle.mml_ids.specs.Search.{count_below}
-use Rattle.mml_convergence.specs.Potential.{sum_below}
-use Rattle.mml_convergence.specs.Courtships.{most_courtships}
+use Rattle.mml_convergence.specs.{Potential.sum_below, Courtships.most_courtships}
 
 -- each falls by what is charged to it, less what it is lent
 pub sum_lent : (n : ℕ) (f t g b : ℕ → ℕ) → ((j : ℕ) → f j + t j ≤ g j + b j) → sum_below n f + sum_below n t ≤ sum_below n g + sum_below n b

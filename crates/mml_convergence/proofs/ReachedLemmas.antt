@@ -9,8 +9,7 @@ use Rattle.mml_rules.proofs.RulesLemmas.{married-null}
 use Rattle.mml_lab.specs.Rosters.{RosterValue, owns}
 use Rattle.mml_board.specs.{declared.event.Event.Event, World.World, World.size, World.configuration, World.IsWorld, Runs.is_legal_list, Runs.world_of}
 use Rattle.mml_board.proofs.WorldLemmas.{none_at}
-use Rattle.mml_convergence.specs.{Moves.applied_over, Moves.count_closes, Rest.is_grant_or_close, Rounds.Rounds, Rounds.rounds_for}
-use Rattle.mml_convergence.specs.Halves.{is_joined, halves, halves_world}
+use Rattle.mml_convergence.specs.{Moves.applied_over, Moves.count_closes, Rest.is_grant_or_close, Rounds.Rounds, Rounds.rounds_for, Halves.is_joined, Halves.halves, Halves.halves_world}
 use Rattle.mml_convergence.proofs.MoveLemmas.{GoesOn, IsQuiet, IsMoved, stop, turned}
 use Rattle.mml_convergence.proofs.{IdleLemmas.privileged, SinglyLemmas.single_round, OneByOneLemmas.first_updates_stand, RunLemmas.court, RunLemmas.marry, RunLemmas.learn, RunLemmas.phase}
 use Rattle.mml_convergence.proofs.PhaseLemmas.{Shape, Seated, Engaged, updates_hold, abandonments_hold, leaves-from, shaped}

@@ -2,9 +2,8 @@
 use Rattle.std.proofs.Common.{ℕ, zero, suc, ◌+◌, ◌*◌, ◌≤◌, cond, not, inl, inr, Option, arith}
 use Rattle.mml_ids.specs.Search.{count_below}
 use Rattle.mml_rules.specs.{declared.rule.Rule.Rule, Configuration.Configuration, Configuration.IsLawful, Rules.is_married, Rules.step, Rules.AllHold}
-use Rattle.mml_convergence.specs.{Potential.sum_below, Moves.moves}
+use Rattle.mml_convergence.specs.{Potential.sum_below, Moves.moves, Courtships.node_part, Courtships.most_courtships, Courtships.courting_potential}
 use Rattle.mml_convergence.proofs.{StepLemmas.step-married, SumsLemmas.sum_charged, SumsLemmas.sum_of_tests, MarriedCountLemmas.married_kept, MarriedCountLemmas.grows}
-use Rattle.mml_convergence.specs.Courtships.{node_part, most_courtships, courting_potential}
 use Rattle.mml_convergence.proofs.NumbersLemmas.{sum_lent, count_both, count_lent, courtships_kept, marriages_pay}
 use Rattle.mml_convergence.proofs.CourtshipLemmas.{pointer_most, calm_pays, lent_pays}
 

@@ -2,8 +2,7 @@
 use Rattle.std.specs.Prelude.{ℕ, ◌+◌, ◌*◌, ◌-◌, Bool, true, ◌||◌, nat_lt, Option, None, Some, map, if◌then◌else◌}
 use Rattle.std.specs.List.{range_with_len}
 use Rattle.mml_ids.specs.Sets.{those_below}
-use Rattle.mml_rules.specs.Configuration.{holds}
-use Rattle.mml_rules.specs.Network.{Network}
+use Rattle.mml_rules.specs.{Configuration.holds, Network.Network}
 use Rattle.mml_board.specs.World.{World, opening_of}
 
 -- where i points at the beginning: at n - 1 - i in the first half, where 2i + 1 < n; else at i + 1; the last at none

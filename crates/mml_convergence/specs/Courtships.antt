@@ -2,8 +2,7 @@
 use Rattle.std.specs.Prelude.{ℕ, zero, suc, ◌+◌, ◌*◌, Bool, false, not, ◌&&◌, is_some, nat_lt, if◌then◌else◌}
 use Rattle.std.specs.Option.{option_map_or}
 use Rattle.mml_ids.specs.Search.{count_below}
-use Rattle.mml_rules.specs.Configuration.{Configuration}
-use Rattle.mml_rules.specs.Rules.{is_married}
+use Rattle.mml_rules.specs.{Configuration.Configuration, Rules.is_married}
 use Rattle.mml_convergence.specs.Potential.{sum_below}
 
 -- i points at a higher node that isn't married and whose m is false

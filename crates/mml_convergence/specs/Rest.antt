@@ -1,14 +1,9 @@
 -- When a run is over, and events that lead there.
-use Rattle.std.specs.Prelude.{◌≡◌, ℕ, ◌<◌, ◌≤◌, Bool, true, false, List, length}
-use Rattle.std.specs.List.{list_all}
-use Rattle.mml_rules.specs.declared.rule.Rule.{Rule}
-use Rattle.mml_rules.specs.Matching.{IsStable}
+use Rattle.std.specs.{Prelude.◌≡◌, Prelude.ℕ, Prelude.◌<◌, Prelude.◌≤◌, Prelude.Bool, Prelude.true, Prelude.false, Prelude.List, Prelude.length, List.list_all}
+use Rattle.mml_rules.specs.{declared.rule.Rule.Rule, Matching.IsStable}
 use Rattle.mml_lab.specs.Rosters.{RosterValue, owners_of}
-use Rattle.mml_board.specs.declared.event.Event.{Event}
+use Rattle.mml_board.specs.{declared.event.Event.Event, World.World, World.configuration, Events.is_legal, Runs.is_legal_list, Runs.world_of}
 use Rattle.mml_board.specs.declared.event.Event.TheVariants as event
-use Rattle.mml_board.specs.World.{World, configuration}
-use Rattle.mml_board.specs.Events.{is_legal}
-use Rattle.mml_board.specs.Runs.{is_legal_list, world_of}
 
 -- each node below n has an owner
 abbrev pub EachHasOwner : RosterValue → ℕ → Type 0

@@ -1,10 +1,7 @@
 -- Rounds of a run: in each, every node has its turn.
 use Rattle.std.specs.Prelude.{◌≡◌, ℕ, zero, suc, ◌+◌, ◌<◌, true, not, ◌&&◌, ◌||◌, Bool, List, [], ◌∷◌, ◌++◌}
 use Rattle.mml_rules.specs.Rules.{is_privileged}
-use Rattle.mml_board.specs.declared.event.Event.{Event}
-use Rattle.mml_board.specs.World.{World, size, configuration}
-use Rattle.mml_board.specs.Events.{is_chosen, after}
-use Rattle.mml_board.specs.Runs.{world_of}
+use Rattle.mml_board.specs.{declared.event.Event.Event, World.World, World.size, World.configuration, Events.is_chosen, Events.after, Runs.world_of}
 use Rattle.mml_convergence.specs.Moves.{is_close}
 
 -- in these events i has its turn: at some point it isn't privileged, or a close applies its move

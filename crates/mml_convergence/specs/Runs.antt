@@ -1,10 +1,6 @@
 -- Runs of steps alone: no fault, no link and no cut.
-use Rattle.std.specs.Prelude.{ℕ, ◌+◌, Bool, not, ◌||◌, List, [], ◌∷◌, if◌then◌else◌}
-use Rattle.std.specs.Bool.{beq}
-use Rattle.mml_board.specs.declared.event.Event.{Event}
-use Rattle.mml_board.specs.World.{World, configuration}
-use Rattle.mml_board.specs.Events.{after}
-use Rattle.mml_board.specs.Meaning.{makes_configuration}
+use Rattle.std.specs.{Prelude.ℕ, Prelude.◌+◌, Prelude.Bool, Prelude.not, Prelude.◌||◌, Prelude.List, Prelude.[], Prelude.◌∷◌, Prelude.if◌then◌else◌, Bool.beq}
+use Rattle.mml_board.specs.{declared.event.Event.Event, World.World, World.configuration, Events.after, Meaning.makes_configuration}
 use Rattle.mml_convergence.specs.Moves.{is_close}
 
 -- a grant, a release or a close: it makes no configuration, or is a close

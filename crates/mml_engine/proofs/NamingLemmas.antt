@@ -1,30 +1,16 @@
 -- What the replies of any engine name.
 use Rattle.std.proofs.Common.{◌≡◌, ◌++◌, ◌∷◌, ◌∙◌, ℕ, List, [], Option, Some, None, Result, Ok, Err, refl, sym, ap, subst, inl, inr, append-nil, append_assoc}
 use mathlib.Core.List.{IsPrefix}
-use Rattle.mml_lab.specs.declared.who.Who.{Who}
-use Rattle.mml_lab.specs.Labs.{LabValue}
-use Rattle.mml_lab.specs.Rosters.{principal}
-use Rattle.mml_board.specs.declared.event.Event.{Event}
-use Rattle.mml_board.specs.Events.{after}
-use Rattle.mml_board.specs.Lists.{world_in}
-use Rattle.mml_policy.specs.declared.command.Command.{Command}
-use Rattle.mml_policy.specs.declared.ruling.Ruling.{Ruling}
-use Rattle.mml_policy.specs.declared.ruling.Ruling.TheVariants.{Denied, Seen, Looked, Reported, Full, Journal, Granted}
-use Rattle.mml_policy.specs.Rulings.{event_of}
-use Rattle.mml_codec.specs.declared.request.LineFault.{LineFault}
-use Rattle.mml_codec.specs.declared.request.Request.{Request}
-use Rattle.mml_codec.specs.declared.request.Request.TheVariants as requests
-use Rattle.mml_codec.specs.declared.greeting.Greeting.{Greeting}
-use Rattle.mml_codec.specs.declared.greeting.Greeting.TheVariants.{Answered, LeftToJudge}
-use Rattle.mml_codec.specs.declared.reply.Reply.{Reply}
-use Rattle.mml_codec.specs.Greetings.{greeting, admitted}
-use Rattle.mml_codec.specs.Lines.{request_in}
-use Rattle.mml_codec.specs.Replies.{place_in}
-use Rattle.mml_codec.specs.Rulings.{reply_of_done}
+use Rattle.mml_lab.specs.{declared.who.Who.Who, Labs.LabValue, Rosters.principal}
+use Rattle.mml_board.specs.{declared.event.Event.Event, Events.after, Lists.world_in}
+use Rattle.mml_policy.specs.{declared.command.Command.Command, Rulings.event_of}
+use Rattle.mml_policy.specs.declared.ruling.Ruling.{Ruling, TheVariants.Denied, TheVariants.Seen, TheVariants.Looked, TheVariants.Reported, TheVariants.Full, TheVariants.Journal, TheVariants.Granted}
+use Rattle.mml_codec.specs.declared.{request.LineFault.LineFault, request.Request.Request, reply.Reply.Reply}
+use Rattle.mml_codec.specs.declared.greeting.Greeting.{Greeting, TheVariants.Answered, TheVariants.LeftToJudge}
+use Rattle.mml_codec.specs.{Greetings.greeting, Greetings.admitted, Lines.request_in, Replies.place_in, Rulings.reply_of_done}
 use Rattle.mml_codec.proofs.RulingsLemmas.{place_of_done}
-use Rattle.mml_engine.specs.Named.{NamesLast}
-use Rattle.mml_engine.specs.Told.{Told, Plainly, entered, ruling_at, told_by}
-use Rattle.mml_engine.specs.Turns.{Settles, Asked, Turn}
+use Rattle.mml_engine.specs.{Named.NamesLast, Told.Told, Told.Plainly, Told.entered, Told.ruling_at, Told.told_by, Turns.Settles, Turns.Asked, Turns.Turn}
+use Rattle.mml_codec.specs.declared.request.Request.TheVariants as requests
 
 none_named : {P : Type 0} (r : Reply) (p : ℕ) → place_in r ≡ None → place_in r ≡ Some p → P
 none_named r p none some = absurd (cc)

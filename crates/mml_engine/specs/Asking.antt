@@ -1,11 +1,8 @@
 -- Lines of known participants that ask only to be shown something.
 use Rattle.std.specs.Prelude.{◌≡◌, ℕ, false, List, Option, Some, Ok}
 use Rattle.mml_lab.specs.declared.who.Who.{Who}
-use Rattle.mml_policy.specs.declared.command.Command.{Command}
-use Rattle.mml_policy.specs.Acts.{is_act}
-use Rattle.mml_codec.specs.declared.request.Request.{Request}
-use Rattle.mml_codec.specs.declared.request.Request.TheVariants.{Do}
-use Rattle.mml_codec.specs.Lines.{request_in}
+use Rattle.mml_policy.specs.{declared.command.Command.Command, Acts.is_act}
+use Rattle.mml_codec.specs.{declared.request.Request.Request, declared.request.Request.TheVariants.Do, Lines.request_in}
 
 -- the request is a command of a known participant, and asks only to be shown something
 pub record AsksToSee (known : Option Who) (request : Request) : Type 0 where

@@ -1,17 +1,9 @@
 -- The event that a reply names, of any engine.
 use Rattle.std.specs.Prelude.{◌≡◌, ℕ, true, List, [], ◌∷◌, ◌++◌, Option, Some, Ok}
-use Rattle.mml_lab.specs.declared.who.Who.{Who}
-use Rattle.mml_lab.specs.Labs.{LabValue}
-use Rattle.mml_board.specs.declared.done.Done.{Done}
-use Rattle.mml_board.specs.declared.event.Event.{Event}
-use Rattle.mml_board.specs.Events.{after}
-use Rattle.mml_board.specs.Lists.{is_legal_in, world_in}
-use Rattle.mml_policy.specs.declared.command.Command.{Command}
-use Rattle.mml_policy.specs.declared.ruling.Ruling.TheVariants.{Granted}
-use Rattle.mml_codec.specs.declared.reply.Reply.{Reply}
-use Rattle.mml_codec.specs.declared.request.Request.TheVariants.{Do}
-use Rattle.mml_codec.specs.Lines.{request_in}
-use Rattle.mml_codec.specs.Rulings.{reply_of_done}
+use Rattle.mml_lab.specs.{declared.who.Who.Who, Labs.LabValue}
+use Rattle.mml_board.specs.{declared.done.Done.Done, declared.event.Event.Event, Events.after, Lists.is_legal_in, Lists.world_in}
+use Rattle.mml_policy.specs.declared.{command.Command.Command, ruling.Ruling.TheVariants.Granted}
+use Rattle.mml_codec.specs.{declared.reply.Reply.Reply, declared.request.Request.TheVariants.Do, Lines.request_in, Rulings.reply_of_done}
 use Rattle.mml_engine.specs.Told.{ruling_at}
 
 -- a participant was known, and the last event seen is the one that their command was granted after the events before

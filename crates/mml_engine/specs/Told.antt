@@ -1,20 +1,13 @@
 -- The reply to a command, by the events that its session has seen.
 use Rattle.std.specs.Prelude.{◌≡◌, ◌⊎◌, true, false, List, [], ◌∷◌, ◌++◌, Option, None, Some}
 use mathlib.Core.List.{IsPrefix}
-use Rattle.mml_lab.specs.declared.who.Who.{Who}
-use Rattle.mml_lab.specs.Labs.{LabValue}
-use Rattle.mml_board.specs.declared.event.Event.{Event}
-use Rattle.mml_board.specs.World.{World}
-use Rattle.mml_board.specs.Lists.{is_legal_in, world_in}
-use Rattle.mml_policy.specs.declared.command.Command.{Command}
-use Rattle.mml_policy.specs.declared.ruling.Ruling.{Ruling}
-use Rattle.mml_policy.specs.declared.ruling.Ruling.TheVariants.{Looked, Reported, Granted}
+use Rattle.mml_lab.specs.{declared.who.Who.Who, Labs.LabValue}
+use Rattle.mml_board.specs.{declared.event.Event.Event, World.World, Lists.is_legal_in, Lists.world_in}
+use Rattle.mml_policy.specs.declared.{command.Command.Command, ruling.Ruling.Ruling, ruling.Ruling.TheVariants.Looked, ruling.Ruling.TheVariants.Reported, ruling.Ruling.TheVariants.Granted}
 use Rattle.mml_policy.specs.Rulings.{ruling, event_of, after_ruling}
-use Rattle.mml_codec.specs.declared.reply.Refused.{Refused}
+use Rattle.mml_codec.specs.{declared.reply.Refused.Refused, declared.reply.Reply.Reply, Rulings.reply_of}
 use Rattle.mml_codec.specs.declared.reply.Refused.TheVariants as refused
-use Rattle.mml_codec.specs.declared.reply.Reply.{Reply}
 use Rattle.mml_codec.specs.declared.reply.Reply.TheVariants as reply
-use Rattle.mml_codec.specs.Rulings.{reply_of}
 
 -- the ruling on a command in a world of the lab while the journal isn't halted
 abbrev pub ruling_at : LabValue → World → Who → Command → Ruling

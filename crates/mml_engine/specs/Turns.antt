@@ -1,17 +1,11 @@
 -- The turn of one line, given the answers to commands.
 use Rattle.std.specs.Prelude.{◌≡◌, ◌⊎◌, ℕ, List, Option, Result, Ok, Err}
-use Rattle.mml_lab.specs.declared.who.Who.{Who}
-use Rattle.mml_lab.specs.Rosters.{RosterValue}
+use Rattle.mml_lab.specs.{declared.who.Who.Who, Rosters.RosterValue}
 use Rattle.mml_policy.specs.declared.command.Command.{Command}
-use Rattle.mml_codec.specs.declared.request.LineFault.{LineFault}
-use Rattle.mml_codec.specs.declared.request.Request.{Request}
-use Rattle.mml_codec.specs.declared.greeting.Greeting.{Greeting}
-use Rattle.mml_codec.specs.declared.greeting.Greeting.TheVariants.{Answered, LeftToJudge}
+use Rattle.mml_codec.specs.{declared.request.LineFault.LineFault, declared.request.Request.Request, declared.reply.Reply.Reply, Greetings.greeting, Greetings.refusal_of, Lines.request_in}
+use Rattle.mml_codec.specs.declared.greeting.Greeting.{Greeting, TheVariants.Answered, TheVariants.LeftToJudge}
 use Rattle.mml_codec.specs.declared.reply.Refused.TheVariants as refused
-use Rattle.mml_codec.specs.declared.reply.Reply.{Reply}
 use Rattle.mml_codec.specs.declared.reply.Reply.TheVariants as reply
-use Rattle.mml_codec.specs.Greetings.{greeting, refusal_of}
-use Rattle.mml_codec.specs.Lines.{request_in}
 
 -- the result of a request: its greeting has the reply, and all else stays, or its command is answered
 abbrev pub Settles : {E V : Type 0} → (E → V → Who → Command → Reply → E → V → Type 0) → Option Who → E → V → Greeting → Reply → Option Who → E → V → Type 0

@@ -1,23 +1,13 @@
 -- How a script line is spelled, and what is none.
-use Rattle.std.proofs.lemmas.Bool.Decides.{nat_tests}
-use Rattle.std.proofs.Common.{◌≡◌, ◌≢◌, ℕ, ◌+◌, ◌-◌, ◌*◌, ◌/◌, ◌%◌, ◌<◌, ◌≤◌, ◌^◌, ◌⊎◌, List, [], ◌∷◌, ◌++◌, length, map, decimal, get_or, arith, sym}
-use Rattle.std.proofs.Common.{subst, ◌∙◌, length-append, refl, ap, zero, suc, All, Option, inl, inr}
-use Rattle.std.specs.Prelude.{slice_index}
-use Rattle.std.proofs.lemmas.Bool.{cases_lt}
-use Rattle.std.proofs.lemmas.Fmt.{decimal-digits_of, decimal_digit, decimal_step}
-use Rattle.std.proofs.lemmas.List.{append_cancel_left, get_or-append_right}
-use Rattle.std.proofs.lemmas.List.Elements.{All-nil, All-cons}
-use Rattle.std.specs.Int.Digits.{digits_of}
-use Rattle.std.specs.List.{AllByRecursion}
-use Rattle.std.specs.Io.KnownBytes.{Consumes, prepend_known}
+use Rattle.std.proofs.lemmas.{Bool.Decides.nat_tests, Bool.cases_lt, Fmt.decimal-digits_of, Fmt.decimal_digit, Fmt.decimal_step}
+use Rattle.std.proofs.Common.{◌≡◌, ◌≢◌, ℕ, ◌+◌, ◌-◌, ◌*◌, ◌/◌, ◌%◌, ◌<◌, ◌≤◌, ◌^◌, ◌⊎◌, List, [], ◌∷◌, ◌++◌, length, map, decimal, get_or, arith, sym, subst, ◌∙◌, length-append, refl, ap, zero, suc}
+use Rattle.std.proofs.Common.{All, Option, inl, inr}
+use Rattle.std.specs.{Prelude.slice_index, Int.Digits.digits_of, List.AllByRecursion, Io.KnownBytes.Consumes, Io.KnownBytes.prepend_known}
+use Rattle.std.proofs.lemmas.List.{append_cancel_left, get_or-append_right, Elements.All-nil, Elements.All-cons}
 use Rattle.mml_ids.specs.Lines.{IsUnbroken, ended}
-use Rattle.mml_lines.specs.LinesOf.{IsWithinLimit, IsTooLong}
-use Rattle.mml_lines.proofs.KnownBytesLemmas.{put_back}
-use Rattle.mml_lines.proofs.LinesOfLemmas.{tail_unbroken}
-use Rattle.mml_lines.specs.declared.lines.TheConstants.{READ_SIZE}
-use Rattle.mml_hall.specs.declared.TheConstants.{MAX_SCRIPT_LINE}
-use Rattle.mml_hall.specs.Turns.{RequestLine}
-use Rattle.mml_hall.specs.ScriptLines.{IsScriptLine, IsBad, script_line}
+use Rattle.mml_lines.specs.{LinesOf.IsWithinLimit, LinesOf.IsTooLong, declared.lines.TheConstants.READ_SIZE}
+use Rattle.mml_lines.proofs.{KnownBytesLemmas.put_back, LinesOfLemmas.tail_unbroken}
+use Rattle.mml_hall.specs.{declared.TheConstants.MAX_SCRIPT_LINE, Turns.RequestLine, ScriptLines.IsScriptLine, ScriptLines.IsBad, ScriptLines.script_line}
 
 unbroken_rest : (xs ys : List ℕ) → IsUnbroken (xs ++ ys) → IsUnbroken ys
 unbroken_rest xs ys h k less e =
@@ -73,8 +63,7 @@ bad_line a b line more limit sessions taken e within few differs = grind (arith,
 -- bytes that are too many for a script line, by no more than one read, are bad input
 pub too_long : (a b : Option (List ℕ)) (held : List ℕ) (limit sessions : ℕ) → Consumes a (prepend_known held b) [] → limit ≡ MAX_SCRIPT_LINE
     → IsTooLong limit held → length held ≤ limit + READ_SIZE → ComesBad sessions a b
-too_long a b held limit sessions kept e long few =
-    (held, kept, inr (subst (λ (n : ℕ). IsTooLong n held × (length held ≤ n + READ_SIZE)) e (long, few)))
+too_long a b held limit sessions kept e long few = (held, kept, inr (subst (λ (n : ℕ). IsTooLong n held × (length held ≤ n + READ_SIZE)) e (long, few)))
 
 -- a number of two digits
 pub decimal_two : (n : ℕ) → 10 ≤ n → n < 100 → decimal n ≡ (48 + n / 10) ∷ (48 + n % 10) ∷ []

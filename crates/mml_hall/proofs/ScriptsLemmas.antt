@@ -1,32 +1,19 @@
 -- What has been answered so far, and how it ends.
-use Rattle.std.proofs.Common.{◌≡◌, ℕ, ◌+◌, List, [], ◌∷◌, ◌++◌, length, map, flat_map, refl, sym, ◌∙◌, ap, Option, subst}
-use Rattle.std.proofs.Common.{inl, inr, Result, Ok, Err, IsErrAnd, ◌<◌, length-append}
-use Rattle.std.specs.Prelude.{⊤}
-use Rattle.std.proofs.lemmas.List.{map-append}
-use Rattle.std.proofs.KnownBytes.{Consumes-trans}
-use Rattle.std.specs.Io.KnownBytes.{Consumes, prepend_known}
+use Rattle.std.proofs.Common.{◌≡◌, ℕ, ◌+◌, List, [], ◌∷◌, ◌++◌, length, map, flat_map, refl, sym, ◌∙◌, ap, Option, subst, inl, inr, Result, Ok, Err, IsErrAnd, ◌<◌, length-append}
+use Rattle.std.{specs.Prelude.⊤, specs.Io.KnownBytes.Consumes, specs.Io.KnownBytes.prepend_known, proofs.lemmas.List.map-append, proofs.KnownBytes.Consumes-trans}
 use Rattle.mml_lab.specs.Labs.{LabValue}
 use Rattle.mml_ids.specs.Lines.{ended}
-use Rattle.mml_lines.specs.Sending.{BreaksOff, Sends}
-use Rattle.mml_lines.specs.declared.lines.TheConstants.{READ_SIZE}
-use Rattle.mml_lines.specs.declared.write_fault.WriteFault.{WriteFault}
-use Rattle.mml_lines.proofs.KnownBytesLemmas.{none_taken, nothing_held}
-use Rattle.mml_lines.proofs.RunsLemmas.{by_steps, empty, flat_longer, longer}
+use Rattle.mml_lines.specs.{Sending.BreaksOff, Sending.Sends, declared.lines.TheConstants.READ_SIZE, declared.write_fault.WriteFault.WriteFault}
+use Rattle.mml_lines.proofs.{KnownBytesLemmas.none_taken, KnownBytesLemmas.nothing_held, RunsLemmas.by_steps, RunsLemmas.empty, RunsLemmas.flat_longer, RunsLemmas.longer}
 use Rattle.mml_lines.proofs.SendingLemmas.{nothing_sent, sends_on, sends_more, all_out, breaks_on, breaks_more}
-use Rattle.mml_hall.specs.declared.script.ScriptStep.{ScriptStep}
-use Rattle.mml_hall.specs.declared.script.ScriptStep.TheVariants as next
-use Rattle.mml_hall.specs.declared.script.ScriptFault.{ScriptFault}
-use Rattle.mml_hall.specs.declared.script.ScriptFault.TheVariants as fault
-use Rattle.mml_hall.specs.Turns.{State, TurnOf, Halts, opening}
-use Rattle.mml_hall.specs.Halls.{HallValue}
+use Rattle.mml_hall.specs.{declared.script.ScriptStep.ScriptStep, declared.script.ScriptFault.ScriptFault, Turns.State, Turns.TurnOf, Turns.Halts, Turns.opening, Halls.HallValue}
+use Rattle.mml_hall.specs.{Journals.TellsJournal, Journals.Journals, ScriptLines.IsBad, ScriptLines.script_line, Serving.ServesNext, inside.Ending.EndsScript}
 use Rattle.mml_journal.specs.Taken.{IsFresh}
-use Rattle.mml_hall.specs.Journals.{TellsJournal, Journals}
 use Rattle.mml_hall.proofs.JournalsLemmas.{nothing_told, halts_on}
-use Rattle.mml_hall.specs.ScriptLines.{IsBad, script_line}
 use Rattle.mml_hall.specs.Transcripts.{Transcript, output_line, output_lines, bytes_read, lines_written}
 use Rattle.mml_hall.specs.Scripts.{LineTurn, AllAnswered, CutShort, Finished, Stopped, line_read, line_written}
-use Rattle.mml_hall.specs.Serving.{ServesNext}
-use Rattle.mml_hall.specs.inside.Ending.{EndsScript}
+use Rattle.mml_hall.specs.declared.script.ScriptStep.TheVariants as next
+use Rattle.mml_hall.specs.declared.script.ScriptFault.TheVariants as fault
 
 -- the lines in answer to a transcript with one line more
 written_longer : {lab : LabValue} (t : Transcript lab) {after : State} (s : LineTurn lab t.end after)
@@ -36,8 +23,7 @@ written_longer {lab} t s =
     (λ st. refl) (λ st next end l r ls rs turn rest. ap (λ t. output_line lab l.connection r ∷ t) rest) (opening lab) t.end t.lines t.replies t.run
 
 -- its script lines
-read_longer : {lab : LabValue} (t : Transcript lab) {after : State} (s : LineTurn lab t.end after)
-    → bytes_read (longer t s tt) ≡ bytes_read t ++ line_read s
+read_longer : {lab : LabValue} (t : Transcript lab) {after : State} (s : LineTurn lab t.end after) → bytes_read (longer t s tt) ≡ bytes_read t ++ line_read s
 read_longer t s = ap (flat_map ended) (map-append script_line t.lines (s.line ∷ [])) ∙ flat_longer ended (map script_line t.lines) (script_line s.line)
 
 -- the lines so far make a transcript, which leads to the state of the hall, and the last of the lines in answer aren't

@@ -1,26 +1,15 @@
 -- The result of a line, from what its parts say.
-use Rattle.std.proofs.Common.{◌≡◌, ℕ, ◌+◌, ◌-◌, ◌*◌, ◌<◌, ◌≤◌, arith, List, [], ◌∷◌, ◌++◌, append_assoc, decimal, length, ◌∙◌, ap, refl, sym, Option, subst}
-use Rattle.std.proofs.Common.{OnOk, IfErr, Result, Ok, Err}
-use Rattle.std.specs.Prelude.{⊤}
+use Rattle.std.proofs.Common.{◌≡◌, ℕ, ◌+◌, ◌-◌, ◌*◌, ◌<◌, ◌≤◌, arith, List, [], ◌∷◌, ◌++◌, append_assoc, decimal, length, ◌∙◌, ap, refl, sym, Option, subst, OnOk, IfErr, Result, Ok, Err}
+use Rattle.std.specs.{Prelude.⊤, Io.KnownBytes.Consumes, Io.KnownBytes.prepend_known}
 use Rattle.mml_lines.proofs.SendingLemmas.{nothing_sent}
-use Rattle.mml_lines.specs.Sending.{BreaksOff, Sends}
-use Rattle.mml_codec.specs.Replies.{reply_line}
-use Rattle.std.specs.Io.KnownBytes.{Consumes, prepend_known}
+use Rattle.mml_lines.specs.{Sending.BreaksOff, Sending.Sends, LinesOf.IsWithinLimit, declared.lines.TheConstants.READ_SIZE, declared.write_fault.WriteFault.WriteFault}
+use Rattle.mml_codec.specs.{Replies.reply_line, declared.reply.Reply.Reply}
 use Rattle.mml_lab.specs.Labs.{LabValue}
 use Rattle.mml_ids.specs.Lines.{ended}
-use Rattle.mml_lines.specs.LinesOf.{IsWithinLimit}
-use Rattle.mml_lines.specs.declared.lines.TheConstants.{READ_SIZE}
-use Rattle.mml_lines.specs.declared.write_fault.WriteFault.{WriteFault}
-use Rattle.mml_codec.specs.declared.reply.Reply.{Reply}
-use Rattle.mml_hall.specs.declared.TheConstants.{MAX_SCRIPT_LINE}
-use Rattle.mml_hall.specs.declared.script.ScriptStep.{ScriptStep}
-use Rattle.mml_hall.specs.declared.script.ScriptStep.TheVariants as next
-use Rattle.mml_hall.specs.Turns.{State, RequestLine, Turn}
-use Rattle.mml_hall.specs.ScriptLines.{IsScriptLine, script_line}
-use Rattle.mml_hall.specs.Scripts.{LineTurn, line_read}
-use Rattle.mml_hall.specs.Transcripts.{output_line}
-use Rattle.mml_hall.specs.Serving.{ServesLine, ServesNext, ServesText}
+use Rattle.mml_hall.specs.{declared.TheConstants.MAX_SCRIPT_LINE, declared.script.ScriptStep.ScriptStep, Turns.State, Turns.RequestLine, Turns.Turn, ScriptLines.IsScriptLine, ScriptLines.script_line}
+use Rattle.mml_hall.specs.{Scripts.LineTurn, Scripts.line_read, Transcripts.output_line, Serving.ServesLine, Serving.ServesNext, Serving.ServesText}
 use Rattle.mml_hall.proofs.ScriptLinesLemmas.{ComesBad, bad_line}
+use Rattle.mml_hall.specs.declared.script.ScriptStep.TheVariants as next
 
 -- the line is written, its front as it was read
 pub serves_line : (r : Result ⊤ WriteFault) (lab : LabValue) (st after : State) (line : RequestLine) (reply : Reply) (front whole : List ℕ)

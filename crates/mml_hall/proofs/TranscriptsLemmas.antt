@@ -1,12 +1,10 @@
 -- The lines of a transcript.
 use Rattle.std.proofs.Common.{◌≡◌, ◌≤◌, ℕ, List, ◌++◌, map}
-use Rattle.mml_lab.specs.declared.TheConstants.{MAX_SESSIONS}
-use Rattle.mml_lab.specs.Labs.{LabValue}
+use Rattle.mml_lab.specs.{declared.TheConstants.MAX_SESSIONS, Labs.LabValue}
 use Rattle.mml_ids.specs.Lines.{IsUnbroken}
 use Rattle.mml_lines.specs.LinesOf.{lines_of}
 use Rattle.mml_lines.proofs.LinesOfLemmas.{all_lines, lines_first}
-use Rattle.mml_hall.specs.ScriptLines.{script_line}
-use Rattle.mml_hall.specs.Transcripts.{Transcript, bytes_read}
+use Rattle.mml_hall.specs.{ScriptLines.script_line, Transcripts.Transcript, Transcripts.bytes_read}
 use Rattle.mml_hall.proofs.ScriptLinesLemmas.{scripts_unbroken}
 
 -- the lines of what a transcript took and of more are its script lines, and then those of what follows

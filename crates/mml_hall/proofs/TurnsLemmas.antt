@@ -1,32 +1,17 @@
 -- What turns leave as it was, and when the refusal for memory may come instead of a reply.
-use Rattle.std.proofs.lemmas.Bool.Decides.{nat_tests}
-use Rattle.std.proofs.Common.{◌≡◌, ◌≢◌, ◌⊎◌, ◌<◌, ◌-◌, ℕ, Bool, true, false, true≢false, not, cond, List, Option, Some, None, Result, Ok, Err, refl, sym, ap, ◌∙◌}
-use Rattle.std.proofs.Common.{arith, subst, inl, inr}
-use Rattle.std.proofs.lemmas.Bool.{or_right}
-use Rattle.std.proofs.lemmas.List.{get_or-set_other, set-get_or}
-use Rattle.mml_lab.specs.declared.who.Who.{Who}
-use Rattle.mml_lab.specs.Labs.{LabValue}
-use Rattle.mml_lab.specs.Rosters.{principal}
-use Rattle.mml_board.specs.Events.{after}
-use Rattle.mml_board.specs.declared.event.Event.{Event}
+use Rattle.std.proofs.lemmas.{Bool.Decides.nat_tests, Bool.or_right, List.get_or-set_other, List.set-get_or}
+use Rattle.std.proofs.Common.{◌≡◌, ◌≢◌, ◌⊎◌, ◌<◌, ◌-◌, ℕ, Bool, true, false, true≢false, not, cond, List, Option, Some, None, Result, Ok, Err, refl, sym, ap, ◌∙◌, arith, subst, inl, inr}
+use Rattle.mml_lab.specs.{declared.who.Who.Who, Labs.LabValue, Rosters.principal}
+use Rattle.mml_board.specs.{Events.after, declared.event.Event.Event, declared.done.Done.Done}
 use Rattle.mml_board.proofs.EventsLemmas.{next_place}
-use Rattle.mml_board.specs.declared.done.Done.{Done}
-use Rattle.mml_policy.specs.declared.command.Command.{Command}
-use Rattle.mml_board.specs.declared.done.Done.TheVariants as done
-use Rattle.mml_policy.specs.declared.ruling.Ruling.{Ruling}
-use Rattle.mml_policy.specs.declared.ruling.Ruling.TheVariants.{Granted}
-use Rattle.mml_policy.specs.Rulings.{ruling}
-use Rattle.mml_codec.specs.declared.request.LineFault.{LineFault}
-use Rattle.mml_codec.specs.declared.request.Request.{Request}
-use Rattle.mml_codec.specs.declared.request.Request.TheVariants as requests
-use Rattle.mml_codec.specs.declared.reply.Reply.{Reply}
-use Rattle.mml_codec.specs.Greetings.{greeting, admitted}
-use Rattle.mml_codec.specs.Lines.{request_in}
-use Rattle.mml_codec.specs.Replies.{is_short, place_in, TellsFor}
-use Rattle.mml_codec.specs.Rulings.{reply_of_done}
+use Rattle.mml_policy.specs.{declared.command.Command.Command, declared.ruling.Ruling.Ruling, declared.ruling.Ruling.TheVariants.Granted, Rulings.ruling}
+use Rattle.mml_codec.specs.declared.{request.LineFault.LineFault, request.Request.Request, reply.Reply.Reply}
+use Rattle.mml_codec.specs.{Greetings.greeting, Greetings.admitted, Lines.request_in, Replies.is_short, Replies.place_in, Replies.TellsFor, Rulings.reply_of_done}
 use Rattle.mml_codec.proofs.RulingsLemmas.{place_of_done, short_done}
-use Rattle.mml_hall.specs.Turns.{State, Outcome, Mishap, Turn, IsRefusal, GrowsByGrant, is_grant, nothing, while_read, later, sink_failed, turn, known_on}
-use Rattle.mml_hall.specs.Turns.{with_known, with_event, outcome_of, settled, answer_to, plain_turn, takes_memory, without_memory, halting, IsKept}
+use Rattle.mml_hall.specs.Turns.{State, Outcome, Mishap, Turn, IsRefusal, GrowsByGrant, is_grant, nothing, while_read, later, sink_failed, turn, known_on, with_known, with_event, outcome_of, settled}
+use Rattle.mml_hall.specs.Turns.{answer_to, plain_turn, takes_memory, without_memory, halting, IsKept}
+use Rattle.mml_board.specs.declared.done.Done.TheVariants as done
+use Rattle.mml_codec.specs.declared.request.Request.TheVariants as requests
 
 -- ---- whatever went wrong in a turn
 
@@ -84,8 +69,7 @@ module _ (lab : LabValue) (st : State) (k : ℕ) where
   -- the connection stays known as it was
   idle_known : (asked : Result Request LineFault) (x : Option Who) (r : Reply) → known_on st k ≡ x → place_in r ≡ None
       → Does asked (record { reply = r; state = with_known st k x })
-  idle_known asked x r e none =
-      inl (record { state = subst (λ (y : Option Who). with_known st k y ≡ st) e (with_known-known_on st k); nameless = none })
+  idle_known asked x r e none = inl (record { state = subst (λ (y : Option Who). with_known st k y ≡ st) e (with_known-known_on st k); nameless = none })
 
   does_told : (x : Who) (c : Command) (ruled : Ruling) → ruling lab.ids lab.roster lab.events st.halted st.world x c ≡ ruled → known_on st k ≡ Some x
       → Does (Ok (requests.Do c)) (outcome_of st ruled)

@@ -1,9 +1,7 @@
 -- The state of a hall that contracts see.
 use Rattle.std.specs.Prelude.{◌≡◌, ◌≤◌, true, length, All, IfSome}
-use Rattle.mml_lab.specs.Labs.{LabValue, IsLab}
-use Rattle.mml_lab.specs.Rosters.{IsPrincipal}
-use Rattle.mml_board.specs.World.{IsWorld, size, opening_of}
-use Rattle.mml_board.specs.Runs.{is_legal_list, world_of}
+use Rattle.mml_lab.specs.{Labs.LabValue, Labs.IsLab, Rosters.IsPrincipal}
+use Rattle.mml_board.specs.{World.IsWorld, World.size, World.opening_of, Runs.is_legal_list, Runs.world_of}
 use Rattle.mml_hall.specs.Turns.{State}
 
 -- the lab, the state that the answers have led to, and the sink as it is now

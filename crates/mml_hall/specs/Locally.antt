@@ -1,11 +1,9 @@
 -- The result of a command if all is in one thread.
 use Rattle.std.specs.Prelude.{ℕ, ⊤}
 use Rattle.mml_lab.specs.declared.who.Who.{Who}
-use Rattle.mml_policy.specs.declared.command.Command.{Command}
-use Rattle.mml_policy.specs.Rulings.{ruling}
+use Rattle.mml_policy.specs.{declared.command.Command.Command, Rulings.ruling}
 use Rattle.mml_codec.specs.declared.reply.Reply.{Reply}
-use Rattle.mml_hall.specs.Halls.{HallValue}
-use Rattle.mml_hall.specs.Turns.{Comes, Halts, outcome_of}
+use Rattle.mml_hall.specs.{Halls.HallValue, Turns.Comes, Turns.Halts, Turns.outcome_of}
 
 -- the reply and the state are those by the ruling, which is judged by all events, or by what prevented it; and the
 -- journal halts only if a write fails

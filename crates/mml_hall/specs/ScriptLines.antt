@@ -1,12 +1,9 @@
 -- Lines of a script: a request line and the connection that it came on, as one line of text.
 use Rattle.std.specs.Prelude.{◌≡◌, ◌≢◌, ◌⊎◌, ℕ, ◌+◌, ◌<◌, ◌≤◌, List, ◌∷◌, ◌++◌, length, decimal}
 use Rattle.mml_ids.specs.Lines.{ended}
-use Rattle.mml_lines.specs.LinesOf.{IsWithinLimit, IsTooLong}
-use Rattle.mml_lines.specs.declared.lines.TheConstants.{READ_SIZE}
-use Rattle.mml_hall.specs.declared.TheConstants.{MAX_SCRIPT_LINE}
+use Rattle.mml_lines.specs.{LinesOf.IsWithinLimit, LinesOf.IsTooLong, declared.lines.TheConstants.READ_SIZE}
+use Rattle.mml_hall.specs.{declared.TheConstants.MAX_SCRIPT_LINE, declared.script_line.ScriptLine.ScriptLine, Turns.RequestLine}
 use Rattle.mml_codec.specs.declared.TheConstants.{MAX_REQUEST}
-use Rattle.mml_hall.specs.declared.script_line.ScriptLine.{ScriptLine}
-use Rattle.mml_hall.specs.Turns.{RequestLine}
 
 -- the text of a script line, without its newline: the connection, a space and the request
 abbrev pub script_line : RequestLine → List ℕ

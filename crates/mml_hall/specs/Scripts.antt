@@ -3,17 +3,10 @@ use Rattle.std.specs.Prelude.{◌≡◌, ◌⊎◌, ℕ, ◌+◌, ◌<◌, List,
 use Rattle.std.specs.Io.KnownBytes.{Appends, Consumes, IsAtEnd, prepend_known}
 use Rattle.mml_lab.specs.Labs.{LabValue}
 use Rattle.mml_ids.specs.Lines.{ended}
-use Rattle.mml_lines.specs.LinesOf.{IsWithinLimit}
-use Rattle.mml_lines.specs.Runs.{OneStep}
-use Rattle.mml_lines.specs.Sending.{BreaksOff}
-use Rattle.mml_lines.specs.declared.lines.TheConstants.{READ_SIZE}
-use Rattle.mml_hall.specs.declared.TheConstants.{MAX_SCRIPT_LINE}
-use Rattle.mml_hall.specs.declared.script.ScriptFault.{ScriptFault}
+use Rattle.mml_lines.specs.{LinesOf.IsWithinLimit, Runs.OneStep, Sending.BreaksOff, declared.lines.TheConstants.READ_SIZE}
+use Rattle.mml_hall.specs.{declared.TheConstants.MAX_SCRIPT_LINE, declared.script.ScriptFault.ScriptFault, Halls.HallValue, Turns.State, Turns.TurnOf, ScriptLines.IsScriptLine, ScriptLines.IsBad}
+use Rattle.mml_hall.specs.{ScriptLines.script_line, Transcripts.Transcript, Transcripts.output_line, Transcripts.bytes_read, Transcripts.lines_written, Transcripts.bytes_written}
 use Rattle.mml_hall.specs.declared.script.ScriptFault.TheVariants as fault
-use Rattle.mml_hall.specs.Halls.{HallValue}
-use Rattle.mml_hall.specs.Turns.{State, TurnOf}
-use Rattle.mml_hall.specs.ScriptLines.{IsScriptLine, IsBad, script_line}
-use Rattle.mml_hall.specs.Transcripts.{Transcript, output_line, bytes_read, lines_written, bytes_written}
 
 -- the turn of one script line
 abbrev pub LineTurn : LabValue → State → State → Type 0

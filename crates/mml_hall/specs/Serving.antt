@@ -2,20 +2,13 @@
 use Rattle.std.specs.Prelude.{Bool, true, false, ◌≡◌, ◌≢◌, ℕ, ◌<◌, List, [], ◌∷◌, ◌++◌, length, Option, Result, Ok, Err, OnOk, IfErr, ⊤}
 use Rattle.std.specs.Io.KnownBytes.{Consumes, IsAtEnd, prepend_known}
 use Rattle.mml_lab.specs.Labs.{LabValue}
-use Rattle.mml_lines.specs.LinesOf.{IsWithinLimit}
-use Rattle.mml_lines.specs.Sending.{BreaksOff, Sends}
-use Rattle.mml_lines.specs.declared.lines.TheConstants.{READ_SIZE}
-use Rattle.mml_lines.specs.declared.write_fault.WriteFault.{WriteFault}
-use Rattle.mml_codec.specs.declared.reply.Reply.{Reply}
+use Rattle.mml_lines.specs.{LinesOf.IsWithinLimit, Sending.BreaksOff, Sending.Sends, declared.lines.TheConstants.READ_SIZE, declared.write_fault.WriteFault.WriteFault}
+use Rattle.mml_codec.specs.{declared.reply.Reply.Reply, Replies.reply_line, Replies.TellsFor}
+use Rattle.mml_hall.specs.{declared.TheConstants.MAX_SCRIPT_LINE, declared.script.ScriptStep.ScriptStep, Turns.State, Turns.RequestLine, Scripts.LineTurn, Scripts.line_read, Scripts.line_written}
+use Rattle.mml_hall.specs.ScriptLines.{IsScriptLine, IsBad, script_line}
 use Rattle.mml_codec.specs.declared.reply.Reply.TheVariants as replies
 use Rattle.mml_codec.specs.declared.reply.Refused.TheVariants as refused
-use Rattle.mml_codec.specs.Replies.{reply_line, TellsFor}
-use Rattle.mml_hall.specs.declared.TheConstants.{MAX_SCRIPT_LINE}
-use Rattle.mml_hall.specs.declared.script.ScriptStep.{ScriptStep}
 use Rattle.mml_hall.specs.declared.script.ScriptStep.TheVariants as next
-use Rattle.mml_hall.specs.Turns.{State, RequestLine}
-use Rattle.mml_hall.specs.ScriptLines.{IsScriptLine, IsBad, script_line}
-use Rattle.mml_hall.specs.Scripts.{LineTurn, line_read, line_written}
 
 -- the reply whose line was written: the reply itself, or the refusal `memory`
 abbrev pub told_of : Reply → Bool → Reply

@@ -1,13 +1,10 @@
 -- A run over the lines of a script, as bytes that come in and bytes that go out.
-use Rattle.std.specs.Prelude.{ℕ, List, [], ◌∷◌, ◌++◌, map, flat_map, decimal}
-use Rattle.std.specs.List.{concat}
+use Rattle.std.specs.{Prelude.ℕ, Prelude.List, Prelude.[], Prelude.◌∷◌, Prelude.◌++◌, Prelude.map, Prelude.flat_map, Prelude.decimal, List.concat}
 use Rattle.mml_lab.specs.Labs.{LabValue}
 use Rattle.mml_ids.specs.Lines.{ended}
 use Rattle.mml_lines.specs.Runs.{Exchange}
-use Rattle.mml_codec.specs.declared.reply.Reply.{Reply}
-use Rattle.mml_codec.specs.Replies.{reply_line}
-use Rattle.mml_hall.specs.Turns.{RequestLine, TurnOf, opening}
-use Rattle.mml_hall.specs.ScriptLines.{IsScriptLine, script_line}
+use Rattle.mml_codec.specs.{declared.reply.Reply.Reply, Replies.reply_line}
+use Rattle.mml_hall.specs.{Turns.RequestLine, Turns.TurnOf, Turns.opening, ScriptLines.IsScriptLine, ScriptLines.script_line}
 
 -- the line that is written in answer: the connection, a space and the reply's line
 abbrev pub output_line : LabValue → ℕ → Reply → List ℕ

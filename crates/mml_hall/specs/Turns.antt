@@ -1,27 +1,16 @@
 -- The turns of lines, one and many.
-use Rattle.std.specs.Prelude.{◌≡◌, ◌⊎◌, ℕ, ◌+◌, ◌-◌, ◌<◌, List, [], ◌∷◌, ◌++◌, replicate, Bool, true, false, not, ◌||◌, Option, None, Some, is_some, Result, Ok}
-use Rattle.std.specs.Prelude.{Err, slice_index_or, slice_set, if◌then◌else◌}
-use Rattle.mml_lab.specs.declared.who.Who.{Who}
-use Rattle.mml_lab.specs.Labs.{LabValue}
-use Rattle.mml_board.specs.declared.event.Event.{Event}
-use Rattle.mml_board.specs.World.{World, opening_of}
-use Rattle.mml_board.specs.Events.{after}
+use Rattle.std.specs.Prelude.{◌≡◌, ◌⊎◌, ℕ, ◌+◌, ◌-◌, ◌<◌, List, [], ◌∷◌, ◌++◌, replicate, Bool, true, false, not, ◌||◌, Option, None, Some, is_some, Result, Ok, Err, slice_index_or, slice_set}
+use Rattle.std.specs.Prelude.{if◌then◌else◌}
+use Rattle.mml_lab.specs.{declared.who.Who.Who, Labs.LabValue}
+use Rattle.mml_board.specs.{declared.event.Event.Event, World.World, World.opening_of, Events.after}
 use Rattle.mml_lines.specs.Runs.{Runs}
-use Rattle.mml_policy.specs.declared.refusal.Refusal.{Refusal}
+use Rattle.mml_policy.specs.{declared.refusal.Refusal.Refusal, declared.ruling.Ruling.Ruling, Rulings.ruling, Rulings.event_of}
+use Rattle.mml_codec.specs.declared.{request.LineFault.LineFault, request.Request.Request, reply.Reply.Reply}
+use Rattle.mml_codec.specs.{Lines.request_in, Greetings.refusal_of, Greetings.greeting, Replies.is_short, Replies.place_in, Rulings.reply_of}
+use Rattle.mml_codec.specs.declared.greeting.Greeting.{Greeting, TheVariants.Answered, TheVariants.LeftToJudge}
 use Rattle.mml_policy.specs.declared.refusal.Refusal.TheVariants as refusal
-use Rattle.mml_policy.specs.declared.ruling.Ruling.{Ruling}
-use Rattle.mml_policy.specs.Rulings.{ruling, event_of}
-use Rattle.mml_codec.specs.declared.request.LineFault.{LineFault}
-use Rattle.mml_codec.specs.declared.request.Request.{Request}
-use Rattle.mml_codec.specs.Lines.{request_in}
-use Rattle.mml_codec.specs.declared.reply.Reply.{Reply}
 use Rattle.mml_codec.specs.declared.reply.Reply.TheVariants as reply
 use Rattle.mml_codec.specs.declared.reply.Refused.TheVariants as refused
-use Rattle.mml_codec.specs.declared.greeting.Greeting.{Greeting}
-use Rattle.mml_codec.specs.declared.greeting.Greeting.TheVariants.{Answered, LeftToJudge}
-use Rattle.mml_codec.specs.Greetings.{refusal_of, greeting}
-use Rattle.mml_codec.specs.Replies.{is_short, place_in}
-use Rattle.mml_codec.specs.Rulings.{reply_of}
 
 -- the state that the answers so far have led to
 pub record State : Type 0 where

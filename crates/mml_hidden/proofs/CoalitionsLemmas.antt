@@ -1,44 +1,23 @@
 -- The turn of a member of a coalition, for each other member, and scripts.
 use Rattle.std.proofs.Common.{◌≡◌, ℕ, Bool, true, false, List, [], ◌∷◌, ◌++◌, Option, None, Some, Result, refl, sym, ap, ◌∙◌, subst, arith}
-use Rattle.std.proofs.lemmas.Bool.{false≢true, eqb-true}
-use Rattle.std.proofs.lemmas.Bool.Decides.{nat_tests}
-use Rattle.std.specs.Result.{IfOk}
+use Rattle.std.{proofs.lemmas.Bool.false≢true, proofs.lemmas.Bool.eqb-true, proofs.lemmas.Bool.Decides.nat_tests, specs.Result.IfOk, specs.Option.option_map_or, specs.Prelude.decimal}
 use Rattle.mml_ids.proofs.GivesLemmas.{bind-if, need-if}
-use Rattle.mml_lab.specs.declared.who.Who.{Who}
-use Rattle.mml_lab.specs.declared.who.Who.TheVariants as who
-use Rattle.mml_lab.specs.Labs.{LabValue}
-use Rattle.mml_lab.specs.Rosters.{RosterValue}
-use Rattle.mml_board.specs.declared.event.Event.{Event}
-use Rattle.mml_board.specs.declared.event.Event.TheVariants as event
-use Rattle.mml_board.specs.World.{World}
-use Rattle.mml_board.specs.Events.{after, is_possible}
+use Rattle.mml_lab.specs.{declared.who.Who.Who, Labs.LabValue, Rosters.RosterValue}
+use Rattle.mml_board.specs.{declared.event.Event.Event, declared.denial.Denial.Denial, World.World, Events.after, Events.is_possible}
 use Rattle.mml_board.proofs.ClausesLemmas.{legal_possible}
-use Rattle.mml_policy.specs.declared.command.Command.{Command}
-use Rattle.mml_policy.specs.declared.verdict.Leave.{Leave}
-use Rattle.mml_policy.specs.declared.verdict.Leave.TheVariants.{Grant}
-use Rattle.mml_policy.specs.Verdicts.{clauses}
-use Rattle.mml_policy.specs.Rulings.{ruling, ruled, event_of, after_ruling}
-use Rattle.mml_policy.specs.Alike.{Alike, IsWorldOf}
-use Rattle.mml_policy.proofs.AlikeLemmas.{same_ruling}
-use Rattle.mml_policy.proofs.RulingsLemmas.{legal_event}
-use Rattle.std.specs.Option.{option_map_or}
-use Rattle.std.specs.Prelude.{decimal}
-use Rattle.mml_board.specs.declared.denial.Denial.{Denial}
-use Rattle.mml_codec.specs.declared.request.LineFault.{LineFault}
-use Rattle.mml_codec.specs.declared.request.Request.{Request}
-use Rattle.mml_codec.specs.Greetings.{greeting, admitted}
-use Rattle.mml_codec.specs.Lines.{request_in}
-use Rattle.mml_codec.specs.Replies.{reply_line}
-use Rattle.mml_hall.specs.Turns.{State, Outcome, Mishap, nothing, while_read, later, sink_failed, turn, known_on, outcome_of, settled, answer_to, plain_turn, opening, takes_memory, is_grant, without_memory, halting}
-use Rattle.mml_hall.specs.Transcripts.{Transcript, output_line}
-use Rattle.mml_hidden.specs.Twins.{AreTwins, StatesAlike, is_hers}
-use Rattle.mml_hidden.specs.Sight.{ShowsTheSame}
-use Rattle.mml_hidden.specs.Scripted.{written_on_any}
+use Rattle.mml_policy.specs.declared.{command.Command.Command, verdict.Leave.Leave, verdict.Leave.TheVariants.Grant}
+use Rattle.mml_policy.specs.{Verdicts.clauses, Rulings.ruling, Rulings.ruled, Rulings.event_of, Rulings.after_ruling, Alike.Alike, Alike.IsWorldOf}
+use Rattle.mml_policy.proofs.{AlikeLemmas.same_ruling, RulingsLemmas.legal_event}
+use Rattle.mml_codec.specs.{declared.request.LineFault.LineFault, declared.request.Request.Request, Greetings.greeting, Greetings.admitted, Lines.request_in, Replies.reply_line}
+use Rattle.mml_hall.specs.{Turns.State, Turns.Outcome, Turns.Mishap, Turns.nothing, Turns.while_read, Turns.later, Turns.sink_failed, Turns.turn, Turns.known_on, Turns.outcome_of, Turns.settled}
+use Rattle.mml_hall.specs.{Turns.answer_to, Turns.plain_turn, Turns.opening, Turns.takes_memory, Turns.is_grant, Turns.without_memory, Turns.halting, Transcripts.Transcript, Transcripts.output_line}
+use Rattle.mml_hidden.specs.{Twins.AreTwins, Twins.StatesAlike, Twins.is_hers, Sight.ShowsTheSame, Scripted.written_on_any}
 use Rattle.mml_hidden.specs.Mishaps.{BefallenLine, turn_with, lines_in, replies_with, end_with}
 use Rattle.mml_hidden.specs.Coalitions.{AlikeFor, is_theirs, StatesAlikeFor, StayAlikeFor, AreTheirsThroughout, BeginAlikeFor, RunAlikeFor}
-use Rattle.mml_hidden.proofs.SightLemmas.{event_alike}
+use Rattle.mml_hidden.proofs.{SightLemmas.event_alike, ScriptedLemmas.if_same, ScriptedLemmas.openings_alike}
 use Rattle.mml_hidden.proofs.TwinsLemmas.{entered_is, either_both, plain_alike, same_turn, twin_turn, twin_others}
-use Rattle.mml_hidden.proofs.ScriptedLemmas.{if_same, openings_alike}
+use Rattle.mml_lab.specs.declared.who.Who.TheVariants as who
+use Rattle.mml_board.specs.declared.event.Event.TheVariants as event
 
 -- ---- a student's granted event is a move
 
@@ -117,8 +96,7 @@ module _ (lab : LabValue) (s t : ℕ) (st : State) (v : World) (es : List Event)
   same_reply k line h = (plain_alike lab s st v es first second a k line h).reply
 
   -- whatever went wrong in the turn, in both
-  pub turn_for : (mishap : Mishap) (k : ℕ) (line : List ℕ) → is_hers s (known_on st k) ≡ true
-      → For (turn mishap lab st k line) (turn mishap lab there k line)
+  pub turn_for : (mishap : Mishap) (k : ℕ) (line : List ℕ) → is_hers s (known_on st k) ≡ true → For (turn mishap lab st k line) (turn mishap lab there k line)
   turn_for nothing k line h = plain_for k line h
   turn_for while_read k line h = b
   turn_for later k line h =

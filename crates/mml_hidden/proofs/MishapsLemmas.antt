@@ -3,14 +3,10 @@ use Rattle.std.proofs.Common.{◌≡◌, ℕ, Bool, true, false, List, [], ◌�
 use Rattle.mml_lab.specs.Labs.{LabValue}
 use Rattle.mml_policy.specs.Alike.{Alike}
 use Rattle.mml_codec.specs.declared.reply.Reply.{Reply}
-use Rattle.mml_hall.specs.Turns.{State, Outcome, Run, RequestLine, known_on, opening}
-use Rattle.mml_hall.specs.Transcripts.{Transcript, output_line}
-use Rattle.mml_hidden.specs.Twins.{AreTwins, StatesAlike, is_hers}
-use Rattle.mml_hidden.specs.Mishaps.{BefallenLine, turn_with, lines_in, replies_with, end_with, StayAlikeWith, AreHersThroughout, Befalls}
-use Rattle.mml_hidden.specs.Mishaps.{RunAlikeWith}
-use Rattle.mml_hidden.specs.Scripted.{written_on_any}
-use Rattle.mml_hidden.proofs.TwinsLemmas.{twin_next, twin_line}
-use Rattle.mml_hidden.proofs.ScriptedLemmas.{if_same, openings_alike}
+use Rattle.mml_hall.specs.{Turns.State, Turns.Outcome, Turns.Run, Turns.RequestLine, Turns.known_on, Turns.opening, Transcripts.Transcript, Transcripts.output_line}
+use Rattle.mml_hidden.specs.{Twins.AreTwins, Twins.StatesAlike, Twins.is_hers, Scripted.written_on_any}
+use Rattle.mml_hidden.specs.Mishaps.{BefallenLine, turn_with, lines_in, replies_with, end_with, StayAlikeWith, AreHersThroughout, Befalls, RunAlikeWith}
+use Rattle.mml_hidden.proofs.{TwinsLemmas.twin_next, TwinsLemmas.twin_line, ScriptedLemmas.if_same, ScriptedLemmas.openings_alike}
 use Rattle.std.proofs.lemmas.Bool.Decides.{nat_tests}
 
 -- ---- two runs of one script that the same befell

@@ -1,32 +1,20 @@
 -- Scripts in two labs that look the same to a student.
-use Rattle.std.proofs.Common.{◌≡◌, ◌≢◌, ℕ, ◌-◌, ◌==◌, Bool, true, false, cond, List, [], ◌∷◌, ◌++◌, Option, None, Result, Ok, All, refl, sym, ap, ◌∙◌}
-use Rattle.std.specs.List.{concat}
-use Rattle.std.specs.Prelude.{slice_index_or, decimal}
-use Rattle.std.proofs.lemmas.Bool.{cases_lt}
-use Rattle.std.proofs.lemmas.List.Elements.{All-set, All-replicate}
-use Rattle.std.proofs.lemmas.List.{get_or_past}
-use Rattle.mml_lab.specs.declared.who.Who.{Who}
-use Rattle.mml_lab.specs.Labs.{LabValue}
-use Rattle.mml_lab.specs.Rosters.{principal}
+use Rattle.std.proofs.Common.{◌≡◌, ◌≢◌, ℕ, ◌-◌, ◌==◌, Bool, true, false, cond, List, [], ◌∷◌, ◌++◌, Option, None, Result, Ok, All, refl, sym, ap, ◌∙◌, arith}
+use Rattle.std.specs.{List.concat, Prelude.slice_index_or, Prelude.decimal}
+use Rattle.std.proofs.lemmas.{Bool.cases_lt, Bool.Decides.nat_tests, List.Elements.All-set, List.Elements.All-replicate, List.get_or_past}
+use Rattle.mml_lab.specs.{declared.who.Who.Who, Labs.LabValue, Rosters.principal}
 use Rattle.mml_policy.specs.Alike.{Alike}
-use Rattle.mml_codec.specs.declared.request.LineFault.{LineFault}
-use Rattle.mml_codec.specs.declared.request.Request.{Request}
-use Rattle.mml_codec.specs.declared.request.Request.TheVariants as requests
-use Rattle.mml_codec.specs.declared.reply.Reply.{Reply}
-use Rattle.mml_codec.specs.declared.reply.Reply.TheVariants.{Refuse}
-use Rattle.mml_codec.specs.declared.reply.Refused.TheVariants as refused
-use Rattle.mml_codec.specs.Greetings.{greeting, admitted}
-use Rattle.mml_codec.specs.Lines.{request_in}
+use Rattle.mml_codec.specs.declared.{request.LineFault.LineFault, request.Request.Request, reply.Reply.Reply, reply.Reply.TheVariants.Refuse}
+use Rattle.mml_codec.specs.{Greetings.greeting, Greetings.admitted, Lines.request_in}
 use Rattle.mml_hall.specs.Turns.{State, Outcome, Turn, Run, RequestLine, nothing, plain_turn, known_on, with_known, settled, answer_to, opening}
 use Rattle.mml_hall.proofs.TurnsLemmas.{by_turn}
 use Rattle.mml_hall.specs.Transcripts.{Transcript, output_line, output_lines, bytes_written}
 use Rattle.mml_audit.proofs.AuditMeaningLemmas.{reached_first}
 use Rattle.mml_hidden.specs.Twins.{AreTwins, BeginAlike, StatesAlike, is_hers}
-use Rattle.mml_hidden.specs.Scripted.{turn_of, replies_to, end_of, written_to, StayAlike, written_on, IsHersThroughout, OnlySheGreets, OnlySheIsKnown}
-use Rattle.mml_hidden.specs.Scripted.{AreUnhindered, RunAlike}
+use Rattle.mml_hidden.specs.Scripted.{turn_of, replies_to, end_of, written_to, StayAlike, written_on, IsHersThroughout, OnlySheGreets, OnlySheIsKnown, AreUnhindered, RunAlike}
 use Rattle.mml_hidden.proofs.TwinsLemmas.{twin_turn, twin_line, twin_next, twin_halted, entered_is}
-use Rattle.std.proofs.lemmas.Bool.Decides.{nat_tests}
-use Rattle.std.proofs.Common.{arith}
+use Rattle.mml_codec.specs.declared.request.Request.TheVariants as requests
+use Rattle.mml_codec.specs.declared.reply.Refused.TheVariants as refused
 
 -- what is written only if a test holds is the same if it is the same under the test
 pub if_same : (b : Bool) (x y : List (List ℕ)) → (b ≡ true → x ≡ y) → cond b x [] ≡ cond b y []

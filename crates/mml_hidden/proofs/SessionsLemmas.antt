@@ -1,40 +1,19 @@
 -- Two sessions of one student, in which the same lines have the same replies.
-use Rattle.std.proofs.Common.{◌≡◌, ℕ, ◌-◌, true, false, List, [], ◌∷◌, ◌++◌, length, take, map, Option, None, Some, Result, Ok, Err, refl, sym, ap, ◌∙◌, subst}
-use Rattle.std.proofs.Common.{arith, length-append, inl, inr}
-use Rattle.std.proofs.Math.Seq.{take-length, take-append_seam}
-use Rattle.std.proofs.lemmas.Bool.{false≢true, eqb-true}
-use Rattle.mml_lab.specs.declared.who.Who.{Who}
-use Rattle.mml_lab.specs.declared.who.Who.TheVariants as who
-use Rattle.mml_lab.specs.Labs.{LabValue, IsLab}
-use Rattle.mml_lab.specs.Rosters.{principal}
-use Rattle.mml_board.specs.declared.event.Event.{Event}
-use Rattle.mml_board.specs.World.{World}
-use Rattle.mml_policy.specs.declared.command.Command.{Command}
-use Rattle.mml_policy.specs.declared.refusal.Refusal.{Refusal}
-use Rattle.mml_policy.specs.declared.ruling.Ruling.{Ruling}
-use Rattle.mml_policy.specs.Rulings.{event_of}
-use Rattle.mml_policy.specs.Alike.{Alike, IsWorldOf}
-use Rattle.mml_codec.specs.declared.request.LineFault.{LineFault}
-use Rattle.mml_codec.specs.declared.request.Request.{Request}
-use Rattle.mml_codec.specs.declared.request.Request.TheVariants as requests
-use Rattle.mml_codec.specs.declared.reply.Refused.{Refused}
-use Rattle.mml_codec.specs.declared.reply.Reply.{Reply}
-use Rattle.mml_codec.specs.declared.reply.Reply.TheVariants as reply
-use Rattle.mml_codec.specs.Greetings.{greeting, admitted}
-use Rattle.mml_codec.specs.Lines.{request_in}
-use Rattle.mml_codec.specs.Replies.{reply_line}
-use Rattle.mml_codec.specs.Rulings.{reply_of}
-use Rattle.mml_board.specs.Lists.{is_legal_in, world_in}
-use Rattle.mml_window.specs.Rulings.{ruling_at}
-use Rattle.mml_window.specs.Windows.{WindowValue}
-use Rattle.mml_window.proofs.ListLemmas.{nodes_in}
-use Rattle.mml_window.proofs.AboutLemmas.{world_is}
+use Rattle.std.proofs.Common.{◌≡◌, ℕ, ◌-◌, true, false, List, [], ◌∷◌, ◌++◌, length, take, map, Option, None, Some, Result, Ok, Err, refl, sym, ap, ◌∙◌, subst, arith, length-append, inl, inr}
+use Rattle.std.proofs.{Math.Seq.take-length, Math.Seq.take-append_seam, lemmas.Bool.false≢true, lemmas.Bool.eqb-true, lemmas.Bool.Decides.nat_tests}
+use Rattle.mml_lab.specs.{declared.who.Who.Who, Labs.LabValue, Labs.IsLab, Rosters.principal}
+use Rattle.mml_board.specs.{declared.event.Event.Event, World.World, Lists.is_legal_in, Lists.world_in}
+use Rattle.mml_policy.specs.{declared.command.Command.Command, declared.refusal.Refusal.Refusal, declared.ruling.Ruling.Ruling, Rulings.event_of, Alike.Alike, Alike.IsWorldOf}
+use Rattle.mml_codec.specs.declared.{request.LineFault.LineFault, request.Request.Request, reply.Refused.Refused, reply.Reply.Reply}
+use Rattle.mml_codec.specs.{Greetings.greeting, Greetings.admitted, Lines.request_in, Replies.reply_line, Rulings.reply_of}
+use Rattle.mml_window.specs.{Rulings.ruling_at, Windows.WindowValue}
+use Rattle.mml_window.proofs.{ListLemmas.nodes_in, AboutLemmas.world_is}
 use Rattle.mml_session.specs.Turns.{Standing, standing, entered, places_in, MayRefuse, Plainly, Told, Settles, Asked, Turn, Run}
-use Rattle.mml_hidden.specs.CommandReplies.{reply_to}
-use Rattle.mml_hidden.specs.Twins.{AreTwins, is_hers}
-use Rattle.mml_hidden.specs.Sessions.{seen_at, IsUnhindered, IsToldAlike, AreToldAlike}
+use Rattle.mml_hidden.specs.{CommandReplies.reply_to, Twins.AreTwins, Twins.is_hers, Sessions.seen_at, Sessions.IsUnhindered, Sessions.IsToldAlike, Sessions.AreToldAlike}
 use Rattle.mml_hidden.proofs.ToldLemmas.{same_reply_to}
-use Rattle.std.proofs.lemmas.Bool.Decides.{nat_tests}
+use Rattle.mml_lab.specs.declared.who.Who.TheVariants as who
+use Rattle.mml_codec.specs.declared.request.Request.TheVariants as requests
+use Rattle.mml_codec.specs.declared.reply.Reply.TheVariants as reply
 
 -- ---- the list at which a reply was made
 
@@ -125,10 +104,7 @@ module _ (lab other : LabValue) (is : IsLab lab) (too : IsLab other) (t : AreTwi
         → Turn other su line q last → IsSame r q next last
     turn_both line e a h k = elim h [
       | inr unread ↦ absurd (a.first.0 unread.0)
-      | inl one ↦ elim k [
-        | inr unread ↦ absurd (a.second.0 unread.0)
-        | inl two ↦ asked_both st.known (request_in line) refl (sym e) a one two
-      ]
+      | inl one ↦ elim k [ inr unread ↦ absurd (a.second.0 unread.0) | inl two ↦ asked_both st.known (request_in line) refl (sym e) a one two ]
     ]
 
   -- ---- all lines

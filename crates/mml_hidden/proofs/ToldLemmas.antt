@@ -1,34 +1,19 @@
 -- A student is told the same in worlds that are alike.
 use Rattle.std.proofs.Common.{◌≡◌, ℕ, Bool, true, false, cond, option_map, List, Result, Ok, Err, ap, arith}
-use Rattle.std.proofs.lemmas.Bool.{false≢true}
-use Rattle.std.specs.Result.{IfOk}
+use Rattle.std.{proofs.lemmas.Bool.false≢true, proofs.lemmas.Bool.Decides.nat_tests, specs.Result.IfOk}
 use Rattle.mml_ids.proofs.GivesLemmas.{bind-if, need-if}
-use Rattle.mml_lab.specs.declared.who.Who.TheVariants as who
-use Rattle.mml_lab.specs.Rosters.{RosterValue}
-use Rattle.mml_board.specs.declared.event.Event.{Event}
-use Rattle.mml_board.specs.World.{World}
-use Rattle.mml_board.specs.declared.done.Done.{Done}
-use Rattle.mml_policy.specs.declared.command.Command.{Command}
-use Rattle.mml_board.specs.declared.denial.Denial.{Denial}
-use Rattle.mml_policy.specs.declared.ruling.Ruling.{Ruling}
-use Rattle.mml_policy.specs.declared.ruling.Ruling.TheVariants.{Reported, Full, Journal, Granted}
-use Rattle.mml_policy.specs.declared.verdict.Leave.{Leave}
-use Rattle.mml_policy.specs.declared.verdict.Leave.TheVariants.{Report}
-use Rattle.mml_policy.specs.Clauses.{rule_of}
-use Rattle.mml_policy.specs.Verdicts.{clauses, granted}
-use Rattle.mml_policy.specs.declared.command.Command.TheVariants as command
+use Rattle.mml_lab.specs.Rosters.{RosterValue, owns}
+use Rattle.mml_board.specs.{declared.event.Event.Event, declared.done.Done.Done, declared.denial.Denial.Denial, World.World, Clauses.check}
+use Rattle.mml_policy.specs.declared.{command.Command.Command, verdict.Leave.Leave, verdict.Leave.TheVariants.Report}
+use Rattle.mml_policy.specs.declared.ruling.Ruling.{Ruling, TheVariants.Reported, TheVariants.Full, TheVariants.Journal, TheVariants.Granted}
+use Rattle.mml_policy.specs.{Clauses.rule_of, Verdicts.clauses, Verdicts.granted, Rulings.ruled, Rulings.ruling, Alike.Alike, Alike.IsWorldOf}
 use Rattle.mml_ids.specs.Ids.{rank_in}
-use Rattle.mml_lab.specs.Rosters.{owns}
-use Rattle.mml_board.specs.declared.act.Act.TheVariants as acts
-use Rattle.mml_board.specs.Clauses.{check}
-use Rattle.mml_policy.specs.Rulings.{ruled, ruling}
-use Rattle.mml_policy.specs.Alike.{Alike, IsWorldOf}
 use Rattle.mml_policy.proofs.AlikeLemmas.{same_ruling, alike_afterwards}
-use Rattle.mml_codec.specs.declared.reply.Reply.{Reply}
-use Rattle.mml_codec.specs.Replies.{reply_line}
-use Rattle.mml_codec.specs.Rulings.{reply_of}
+use Rattle.mml_codec.specs.{declared.reply.Reply.Reply, Replies.reply_line, Rulings.reply_of}
 use Rattle.mml_hidden.specs.CommandReplies.{reply_to, line_to}
-use Rattle.std.proofs.lemmas.Bool.Decides.{nat_tests}
+use Rattle.mml_lab.specs.declared.who.Who.TheVariants as who
+use Rattle.mml_policy.specs.declared.command.Command.TheVariants as command
+use Rattle.mml_board.specs.declared.act.Act.TheVariants as acts
 
 -- ---- a student is shown no report
 

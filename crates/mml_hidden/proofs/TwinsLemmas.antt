@@ -1,34 +1,20 @@
 -- The turn of a line in two states that are alike for a student.
 use Rattle.std.proofs.Common.{◌≡◌, ◌⊎◌, ℕ, Bool, true, false, cond, List, Option, Result, refl, sym, ap, ◌∙◌, subst, inl, inr, arith}
-use Rattle.std.proofs.lemmas.Bool.{false≢true, eqb-true}
-use Rattle.std.specs.Option.{option_map_or}
-use Rattle.mml_lab.specs.declared.who.Who.{Who}
-use Rattle.mml_lab.specs.declared.who.Who.TheVariants as who
-use Rattle.mml_lab.specs.Labs.{LabValue}
+use Rattle.std.{proofs.lemmas.Bool.false≢true, proofs.lemmas.Bool.eqb-true, proofs.lemmas.Bool.Decides.nat_tests, specs.Option.option_map_or}
+use Rattle.mml_lab.specs.{declared.who.Who.Who, Labs.LabValue}
 use Rattle.mml_rules.specs.Network.{Network}
-use Rattle.mml_board.specs.declared.event.Event.{Event}
-use Rattle.mml_board.specs.World.{World}
-use Rattle.mml_board.specs.Events.{after}
-use Rattle.mml_board.proofs.WorldLemmas.{after-world, size-after}
-use Rattle.mml_board.proofs.ClausesLemmas.{legal_possible}
-use Rattle.mml_policy.specs.declared.command.Command.{Command}
-use Rattle.mml_policy.specs.Rulings.{ruling, event_of}
-use Rattle.mml_policy.specs.Alike.{Alike, IsWorldOf}
-use Rattle.mml_policy.proofs.AlikeLemmas.{alike_afterwards}
-use Rattle.mml_policy.proofs.RulingsLemmas.{legal_event}
-use Rattle.mml_codec.specs.declared.request.LineFault.{LineFault}
-use Rattle.mml_codec.specs.declared.request.Request.{Request}
-use Rattle.mml_codec.specs.declared.reply.Reply.{Reply}
-use Rattle.mml_codec.specs.declared.greeting.Greeting.TheVariants.{Answered}
-use Rattle.mml_codec.specs.Greetings.{greeting, admitted}
-use Rattle.mml_codec.specs.Lines.{request_in}
-use Rattle.mml_codec.specs.Replies.{reply_line}
-use Rattle.mml_hall.specs.Turns.{State, Outcome, Mishap, nothing, while_read, later, sink_failed, turn, known_on, entered, outcome_of, settled, answer_to}
-use Rattle.mml_hall.specs.Turns.{plain_turn, takes_memory, without_memory, is_grant, halting}
+use Rattle.mml_board.specs.{declared.event.Event.Event, World.World, Events.after}
+use Rattle.mml_board.proofs.{WorldLemmas.after-world, WorldLemmas.size-after, ClausesLemmas.legal_possible}
+use Rattle.mml_policy.specs.{declared.command.Command.Command, Rulings.ruling, Rulings.event_of, Alike.Alike, Alike.IsWorldOf}
+use Rattle.mml_policy.proofs.{AlikeLemmas.alike_afterwards, RulingsLemmas.legal_event}
+use Rattle.mml_codec.specs.declared.{request.LineFault.LineFault, request.Request.Request, reply.Reply.Reply, greeting.Greeting.TheVariants.Answered}
+use Rattle.mml_codec.specs.{Greetings.greeting, Greetings.admitted, Lines.request_in, Replies.reply_line}
+use Rattle.mml_hall.specs.Turns.{State, Outcome, Mishap, nothing, while_read, later, sink_failed, turn, known_on, entered, outcome_of, settled, answer_to, plain_turn, takes_memory, without_memory}
+use Rattle.mml_hall.specs.Turns.{is_grant, halting}
 use Rattle.mml_hall.proofs.TurnsLemmas.{plain_does, whatever_befell, either_of}
 use Rattle.mml_hidden.specs.Twins.{AreTwins, StatesAlike, is_hers}
 use Rattle.mml_hidden.proofs.ToldLemmas.{same_reply_to}
-use Rattle.std.proofs.lemmas.Bool.Decides.{nat_tests}
+use Rattle.mml_lab.specs.declared.who.Who.TheVariants as who
 
 -- ---- what comes of a turn, in one lab
 

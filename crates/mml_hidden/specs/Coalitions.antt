@@ -1,15 +1,11 @@
 -- Students who put together what they are shown: a coalition is given by a test of its members.
 use Rattle.std.specs.Prelude.{◌≡◌, ℕ, Bool, true, false, Option, None, Some, List, [], ◌∷◌}
-use Rattle.mml_lab.specs.declared.who.Who.{Who}
-use Rattle.mml_lab.specs.declared.who.Who.TheVariants as who
-use Rattle.mml_lab.specs.Labs.{LabValue, IsLab}
-use Rattle.mml_lab.specs.Rosters.{RosterValue}
+use Rattle.mml_lab.specs.{declared.who.Who.Who, Labs.LabValue, Labs.IsLab, Rosters.RosterValue}
 use Rattle.mml_board.specs.World.{World, opening_of}
 use Rattle.mml_policy.specs.Alike.{Alike, IsWorldOf}
-use Rattle.mml_hall.specs.Turns.{State, known_on, opening}
-use Rattle.mml_hall.specs.Transcripts.{Transcript}
-use Rattle.mml_hidden.specs.Twins.{AreTwins}
-use Rattle.mml_hidden.specs.Mishaps.{BefallenLine, turn_with, Befell}
+use Rattle.mml_hall.specs.{Turns.State, Turns.known_on, Turns.opening, Transcripts.Transcript}
+use Rattle.mml_hidden.specs.{Twins.AreTwins, Mishaps.BefallenLine, Mishaps.turn_with, Mishaps.Befell}
+use Rattle.mml_lab.specs.declared.who.Who.TheVariants as who
 
 -- the worlds are alike for each member of the coalition
 abbrev pub AlikeFor : RosterValue → (ℕ → Bool) → World → World → Type 0

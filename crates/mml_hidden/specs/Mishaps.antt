@@ -3,10 +3,8 @@ use Rattle.std.specs.Prelude.{◌≡◌, ℕ, Bool, true, false, List, [], ◌�
 use Rattle.mml_lab.specs.Labs.{LabValue}
 use Rattle.mml_policy.specs.Alike.{Alike}
 use Rattle.mml_codec.specs.declared.reply.Reply.{Reply}
-use Rattle.mml_hall.specs.Turns.{State, Outcome, Mishap, RequestLine, turn, known_on, opening}
-use Rattle.mml_hall.specs.Transcripts.{Transcript}
-use Rattle.mml_hidden.specs.Twins.{BeginAlike, is_hers}
-use Rattle.mml_hidden.specs.Scripted.{replies_by, end_by}
+use Rattle.mml_hall.specs.{Turns.State, Turns.Outcome, Turns.Mishap, Turns.RequestLine, Turns.turn, Turns.known_on, Turns.opening, Transcripts.Transcript}
+use Rattle.mml_hidden.specs.{Twins.BeginAlike, Twins.is_hers, Scripted.replies_by, Scripted.end_by}
 
 -- a line of a script, and what went wrong in its turn
 pub record BefallenLine : Type 0 where

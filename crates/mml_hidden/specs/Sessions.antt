@@ -1,16 +1,13 @@
 -- Two sessions of one student, each through a window of a house, that look the same to the student.
 use Rattle.std.specs.Prelude.{◌≢◌, ℕ, ◌-◌, true, ◌≡◌, List, [], ◌∷◌, length, take, Option}
-use Rattle.mml_lab.specs.declared.who.Who.{Who}
-use Rattle.mml_lab.specs.Labs.{LabValue}
-use Rattle.mml_board.specs.declared.event.Event.{Event}
+use Rattle.mml_lab.specs.{declared.who.Who.Who, Labs.LabValue}
+use Rattle.mml_board.specs.{declared.event.Event.Event, Lists.world_in}
 use Rattle.mml_policy.specs.Alike.{Alike}
-use Rattle.mml_codec.specs.declared.reply.Refused.TheVariants as refused
-use Rattle.mml_codec.specs.declared.reply.Reply.{Reply}
-use Rattle.mml_codec.specs.declared.reply.Reply.TheVariants.{Refuse}
-use Rattle.mml_board.specs.Lists.{world_in}
+use Rattle.mml_codec.specs.declared.reply.Reply.{Reply, TheVariants.Refuse}
 use Rattle.mml_window.specs.Windows.{WindowValue}
 use Rattle.mml_session.specs.Turns.{Standing, places_in, Run}
 use Rattle.mml_hidden.specs.Twins.{is_hers}
+use Rattle.mml_codec.specs.declared.reply.Refused.TheVariants as refused
 
 -- the list at which a reply was made: all that the window has seen now, except the event that the reply names
 abbrev pub seen_at : Reply → WindowValue → List Event

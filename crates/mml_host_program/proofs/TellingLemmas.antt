@@ -1,11 +1,9 @@
 -- The lines of a class that goes on.
-use Rattle.std.proofs.Common.{◌≡◌, ℕ, List, ◌++◌, Option, subst}
-use Rattle.std.specs.Io.KnownBytes.{Appends}
+use Rattle.std.{proofs.Common.◌≡◌, proofs.Common.ℕ, proofs.Common.List, proofs.Common.◌++◌, proofs.Common.Option, proofs.Common.subst, specs.Io.KnownBytes.Appends}
 use Rattle.mml_lab.specs.Labs.{LabValue}
 use Rattle.mml_board.specs.Lists.{world_in}
 use Rattle.mml_session.specs.Records.{Kept}
-use Rattle.mml_hosting.specs.declared.seat.ServedSession.{ServedSession}
-use Rattle.mml_hosting.specs.declared.hosted.Hosted.{Hosted}
+use Rattle.mml_hosting.specs.declared.{seat.ServedSession.ServedSession, hosted.Hosted.Hosted}
 use Rattle.mml_resuming.specs.Resuming.{resumed_line, Resumes}
 use Rattle.mml_host_program.specs.Telling.{ports_line, TellsResumed}
 

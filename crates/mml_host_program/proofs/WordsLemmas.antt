@@ -1,6 +1,5 @@
 -- Which texts name no port.
-use Rattle.std.proofs.Common.{◌≡◌, ◌^◌, ◌-◌, ℕ, zero, suc, List, codes, sym, ◌∙◌, arith}
-use Rattle.std.proofs.lemmas.Fmt.{decimal_digit}
+use Rattle.std.proofs.{Common.◌≡◌, Common.◌^◌, Common.◌-◌, Common.ℕ, Common.zero, Common.suc, Common.List, Common.codes, Common.sym, Common.◌∙◌, Common.arith, lemmas.Fmt.decimal_digit}
 use Rattle.mml_serving.specs.Numbers.{Spells}
 use Rattle.mml_host_program.specs.Words.{Names, NamesNone}
 

@@ -1,23 +1,16 @@
 -- Seats in which nobody was served, and the records of seats.
 use Rattle.std.proofs.Common.{rules, ◌≡◌, ◌∙◌, ap, ℕ, zero, suc, ◌+◌, ◌≤◌, true, false, List, [], ◌∷◌, ◌++◌, flat_map, length, refl, All, Option, Result, Ok, Err, IfOk, arith}
 use Rattle.std.specs.List.{AllZip, range_with_len, sum_by}
-use Rattle.std.proofs.lemmas.Bool.Decides.{nat_tests}
+use Rattle.std.proofs.lemmas.{Bool.Decides.nat_tests, List.length-map, List.map-append, List.Sums.sum_by-append, List.Sums.sum_by-cons, List.Sums.sum_by_push, List.Concat.flat_map-cons}
 use Rattle.std.proofs.lemmas.List.Elements.{All-nil, All-head, All-tail, All-map, All-append, All-weaker}
-use Rattle.std.proofs.lemmas.List.{length-map, map-append}
-use Rattle.std.proofs.lemmas.List.Sums.{sum_by-append, sum_by-cons, sum_by_push}
-use Rattle.std.proofs.lemmas.List.Concat.{flat_map-cons}
-use Rattle.mml_hosting.specs.declared.seat.Seat.{Seat}
-use Rattle.mml_hosting.specs.declared.hosted.Hosted.{Hosted}
+use Rattle.mml_hosting.specs.{declared.seat.Seat.Seat, declared.hosted.Hosted.Hosted, Seats.AreGiven, Seats.IsDismissed, Seats.IsSeat, Seats.Led, Seats.Terms, Seats.came_to, Seats.kept_from}
+use Rattle.mml_hosting.specs.{Seats.is_teachers_bye, Seats.sessions_of, Ports.HaveSame, Ports.ServesPort, Ports.numbers_of, Ports.records_of, Ports.windows_of, Hosting.HostsFrom, Hosting.IsUnused}
 use Rattle.mml_session.specs.Records.{Kept}
-use Rattle.mml_hosting.specs.Seats.{AreGiven, IsDismissed, IsSeat, Led, Terms, came_to, kept_from, is_teachers_bye, sessions_of}
 use mathlib.Core.List.{IsPrefix}
 use Rattle.mml_board.specs.declared.event.Event.{Event}
-use Rattle.mml_window.specs.Logs.{IsLogFrom}
-use Rattle.mml_window.specs.Windows.{WindowValue}
+use Rattle.mml_window.specs.{Logs.IsLogFrom, Windows.WindowValue}
 use Rattle.mml_window.proofs.PrefixLemmas.{prefix_trans}
 use Rattle.mml_hosting.proofs.SeatLemmas.{led_seen}
-use Rattle.mml_hosting.specs.Ports.{HaveSame, ServesPort, numbers_of, records_of, windows_of}
-use Rattle.mml_hosting.specs.Hosting.{HostsFrom, IsUnused}
 
 -- if each of some windows has seen these events, and one of them a beginning of others, these begin the others
 begins_with : {H K C : Type 0} (begun l : List Event) (ss : List (Seat H K C)) (rest : List WindowValue) → length ss ≡ 1

@@ -1,16 +1,11 @@
 -- The connections that came to a port so far, and the seats that they have.
 use Rattle.std.proofs.Common.{◌≡◌, ◌∙◌, ap, ℕ, ◌+◌, List, [], ◌∷◌, ◌++◌, flat_map, length, refl, arith, All, Option, inl, inr}
 use Rattle.std.specs.List.{sum_by}
-use Rattle.std.proofs.lemmas.List.Elements.{All-nil, All-append, All-push}
-use Rattle.std.proofs.lemmas.List.Sums.{sum_by-append, sum_by-cons}
-use Rattle.std.proofs.lemmas.List.Concat.{flat_map-cons}
+use Rattle.std.proofs.lemmas.List.{Elements.All-nil, Elements.All-append, Elements.All-push, Sums.sum_by-append, Sums.sum_by-cons, Concat.flat_map-cons}
 use Rattle.mml_serving.specs.Arriving.{Takes}
-use Rattle.mml_hosting.specs.Seats.{IsSeat, Terms, came_to}
-use Rattle.mml_hosting.specs.Ports.{Attends, ServesPort, numbers_of, records_of}
+use Rattle.mml_hosting.specs.{Seats.IsSeat, Seats.Terms, Seats.came_to, Ports.Attends, Ports.ServesPort, Ports.numbers_of, Ports.records_of}
 use Rattle.mml_hosting.specs.Counting.{count_all, count_busy, count_free, count_in, KeepCounts, TakesIn}
-use Rattle.mml_hosting.specs.declared.seat.ServedSession.{ServedSession}
-use Rattle.mml_hosting.specs.declared.seat.Seat.{Seat}
-use Rattle.mml_hosting.specs.declared.port_serving.Busy.{Busy}
+use Rattle.mml_hosting.specs.declared.{seat.ServedSession.ServedSession, seat.Seat.Seat, port_serving.Busy.Busy}
 use Rattle.mml_serving.proofs.ArrivingLemmas.{Takes-nil, Takes-trans}
 
 -- the connections that came are those that the seats have beyond their first ones, or will have, and those turned away, of each of which this is true
@@ -24,13 +19,7 @@ pub record History {H K C R W U : Type 0} (shows : K → ServedSession R W) (IsA
 
 module _ {H K C R W U : Type 0} (shows : K → ServedSession R W) (IsAway : R × W → Type 0) (known : Option (List (R × W))) (first : List (Seat H K C)) where
   pub nothing_yet : (busy : List (Busy H K C R W U)) → busy ≡ [] → History shows IsAway known known first first busy
-  nothing_yet busy none = record {
-    connections = [];
-    turned = [];
-    came = Takes-nil known;
-    each = λ g h. rw none (omega arith);
-    away = All-nil IsAway;
-  }
+  nothing_yet busy none = record { connections = []; turned = []; came = Takes-nil known; each = λ g h. rw none (omega arith); away = All-nil IsAway }
 
   module _ (now next : Option (List (R × W))) (free free' : List (Seat H K C)) (busy busy' : List (Busy H K C R W U))
       (so_far : History shows IsAway known now first free busy) where

@@ -1,18 +1,13 @@
 -- Seats in which sessions are served one after another.
 use Rattle.std.proofs.Common.{◌≡◌, ◌∙◌, ap, ℕ, ◌+◌, Bool, true, false, ◌&&◌, List, [], ◌∷◌, ◌++◌, map, All, arith}
-use Rattle.std.specs.List.{sum_by}
-use Rattle.std.proofs.lemmas.Bool.Decides.{nat_tests}
-use Rattle.std.proofs.lemmas.List.{map-append}
-use Rattle.std.proofs.lemmas.List.Elements.{All-push}
-use Rattle.std.proofs.lemmas.List.Sums.{sum_by_push}
+use Rattle.std.{specs.List.sum_by, proofs.lemmas.Bool.Decides.nat_tests, proofs.lemmas.List.map-append, proofs.lemmas.List.Elements.All-push, proofs.lemmas.List.Sums.sum_by_push}
 use Rattle.mml_lines.specs.Runs.{Chain}
 use Rattle.mml_lines.proofs.RunsLemmas.{run_keeps, run_longer}
 use Rattle.mml_window.proofs.PrefixLemmas.{prefix_self, prefix_trans}
 use Rattle.mml_window.specs.Windows.{WindowValue, window}
 use Rattle.mml_session.specs.Records.{stand}
 use Rattle.mml_session.proofs.SeenLemmas.{Sees, ended_seen}
-use Rattle.mml_hosting.specs.declared.seat.ServedSession.{ServedSession}
-use Rattle.mml_hosting.specs.declared.seat.SeatRecord.{SeatRecord}
+use Rattle.mml_hosting.specs.declared.seat.{ServedSession.ServedSession, SeatRecord.SeatRecord}
 use Rattle.mml_hosting.specs.Seats.{AreGoingOn, IsDismissed, Leads, Led, Terms, is_teachers_bye, sessions_of}
 
 -- what holds of each of a list and of one more holds of each of the list with that one

@@ -1,6 +1,5 @@
 -- Connections that are turned away.
-use Rattle.std.specs.Prelude.{ℕ, List, Option, Result, OnOk, IfErr, take, codes}
-use Rattle.std.specs.Io.KnownBytes.{Appends}
+use Rattle.std.specs.{Prelude.ℕ, Prelude.List, Prelude.Option, Prelude.Result, Prelude.OnOk, Prelude.IfErr, Prelude.take, Prelude.codes, Io.KnownBytes.Appends}
 use Rattle.mml_lines.specs.declared.write_fault.WriteFault.{WriteFault}
 
 -- the line that says that no seat is free

@@ -1,10 +1,6 @@
 -- The connections that were served or are being served in seats, compared by counting.
-use Rattle.std.specs.Prelude.{◌≡◌, ◌⊎◌, ℕ, ◌+◌, List, [], ◌∷◌, ◌++◌}
-use Rattle.std.specs.List.{sum_by}
-use Rattle.mml_hosting.specs.Seats.{came_to}
-use Rattle.mml_hosting.specs.declared.seat.ServedSession.{ServedSession}
-use Rattle.mml_hosting.specs.declared.seat.Seat.{Seat}
-use Rattle.mml_hosting.specs.declared.port_serving.Busy.{Busy}
+use Rattle.std.specs.{Prelude.◌≡◌, Prelude.◌⊎◌, Prelude.ℕ, Prelude.◌+◌, Prelude.List, Prelude.[], Prelude.◌∷◌, Prelude.◌++◌, List.sum_by}
+use Rattle.mml_hosting.specs.{Seats.came_to, declared.seat.ServedSession.ServedSession, declared.seat.Seat.Seat, declared.port_serving.Busy.Busy}
 
 -- the connections that will have come to a busy seat: those before, and the one that is served in it
 abbrev pub bound_for : {H K C R W U : Type 0} → (K → ServedSession R W) → Busy H K C R W U → List (R × W)

@@ -1,17 +1,12 @@
 -- A house through whose windows one connection after another was served.
-use Rattle.std.specs.Prelude.{◌≡◌, ℕ, false, List, [], ◌++◌, flat_map, length, All, Option}
-use Rattle.std.specs.List.{AllZip, range_with_len}
+use Rattle.std.specs.{Prelude.◌≡◌, Prelude.ℕ, Prelude.false, Prelude.List, Prelude.[], Prelude.◌++◌, Prelude.flat_map, Prelude.length, Prelude.All, Prelude.Option, List.AllZip, List.range_with_len}
 use Rattle.mml_lab.specs.Labs.{LabValue}
-use Rattle.mml_window.specs.Windows.{WindowValue, window}
-use Rattle.mml_window.specs.Logs.{IsLogFrom}
+use Rattle.mml_window.specs.{Windows.WindowValue, Windows.window, Logs.IsLogFrom}
 use mathlib.Core.List.{IsPrefix}
 use Rattle.mml_board.specs.declared.event.Event.{Event}
-use Rattle.mml_hosting.specs.declared.seat.ServedSession.{ServedSession}
-use Rattle.mml_hosting.specs.declared.seat.Seat.{Seat}
-use Rattle.mml_hosting.specs.declared.hosted.Hosted.{Hosted}
+use Rattle.mml_hosting.specs.{declared.seat.ServedSession.ServedSession, declared.seat.Seat.Seat, declared.hosted.Hosted.Hosted, Ports.Attends, Ports.HaveSame, Ports.numbers_of}
 use Rattle.mml_session.specs.Records.{Kept}
 use Rattle.mml_hosting.specs.Seats.{IsDismissed, Led, came_to, sessions_of, terms}
-use Rattle.mml_hosting.specs.Ports.{Attends, HaveSame, numbers_of}
 
 -- nobody was served in the seat so far, and its recorder is as at the beginning
 pub record IsUnused {H K C : Type 0} (begun : List Event) (given : ℕ → Option Kept) (recorded : C → Option Kept) (s : Seat H K C) : Type 0 where

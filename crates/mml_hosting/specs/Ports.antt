@@ -1,12 +1,8 @@
 -- Connections that came to a port.
-use Rattle.std.specs.Prelude.{◌≡◌, ℕ, List, ◌++◌, map, flat_map, length, All, Option}
-use Rattle.std.specs.List.{sum_by}
+use Rattle.std.specs.{Prelude.◌≡◌, Prelude.ℕ, Prelude.List, Prelude.◌++◌, Prelude.map, Prelude.flat_map, Prelude.length, Prelude.All, Prelude.Option, List.sum_by}
 use Rattle.mml_window.specs.Windows.{WindowValue}
 use Rattle.mml_serving.specs.Arriving.{Takes}
-use Rattle.mml_hosting.specs.declared.seat.Seat.{Seat}
-use Rattle.mml_hosting.specs.declared.seat.SeatRecord.{SeatRecord}
-use Rattle.mml_hosting.specs.Seats.{IsSeat, Terms, came_to}
-use Rattle.mml_hosting.specs.Away.{IsTurnedAway}
+use Rattle.mml_hosting.specs.{declared.seat.Seat.Seat, declared.seat.SeatRecord.SeatRecord, Seats.IsSeat, Seats.Terms, Seats.came_to, Away.IsTurnedAway}
 
 -- both lists have the same elements, each as often, in whatever order
 abbrev pub HaveSame : {A : Type 0} → List A → List A → Type 0

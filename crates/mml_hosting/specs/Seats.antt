@@ -1,18 +1,13 @@
 -- Windows through which one connection after another is served.
 use Rattle.std.specs.Prelude.{◌≡◌, ◌<◌, ℕ, ◌+◌, ◌==◌, if◌then◌else◌, Bool, true, false, List, [], ◌∷◌, ◌++◌, map, All, ⊤, Option, None, Some, vec_len, vec_capacity}
-use Rattle.mml_lab.specs.Labs.{LabValue}
+use Rattle.mml_lab.specs.{Labs.LabValue, declared.who.Who.Who}
 use Rattle.mml_board.specs.declared.event.Event.{Event}
 use Rattle.mml_lines.specs.Runs.{Chain}
 use Rattle.mml_window.specs.Windows.{WindowValue, window}
-use Rattle.mml_lab.specs.declared.who.Who.{Who}
+use Rattle.mml_session.specs.{declared.session.Ending.Ending, declared.session.SessionEnd.SessionEnd, Records.Kept, Records.Stand, Records.stand, Records.EndedRecorded}
+use Rattle.mml_hosting.specs.declared.seat.{ServedSession.ServedSession, Seat.Seat, SeatRecord.SeatRecord}
 use Rattle.mml_lab.specs.declared.who.Who.TheVariants as who
-use Rattle.mml_session.specs.declared.session.Ending.{Ending}
-use Rattle.mml_session.specs.declared.session.SessionEnd.{SessionEnd}
 use Rattle.mml_session.specs.declared.session.SessionEnd.TheVariants as end
-use Rattle.mml_session.specs.Records.{Kept, Stand, stand, EndedRecorded}
-use Rattle.mml_hosting.specs.declared.seat.ServedSession.{ServedSession}
-use Rattle.mml_hosting.specs.declared.seat.Seat.{Seat}
-use Rattle.mml_hosting.specs.declared.seat.SeatRecord.{SeatRecord}
 
 -- the parameters of a house's contracts: its lab, the events that came before it was opened, and what the recorder of
 -- the seat with each number had kept then; the bytes that a connection's reader has still to return, and those that

@@ -1,7 +1,6 @@
 -- What a search of a list finds.
 use Rattle.std.proofs.Common.{◌≡◌, ℕ, suc, ◌<◌, List, [], ◌∷◌, Bool, true, false, cond, ◌||◌, length, get_or, Some, refl, ap, ◌∙◌, arith}
-use Rattle.std.specs.List.{list_any, find}
-use Rattle.std.proofs.lemmas.Bool.{false≢true}
+use Rattle.std.{specs.List.list_any, specs.List.find, proofs.lemmas.Bool.false≢true}
 
 -- x stands in the list, and passes
 pub record IsFound {X : Type 0} (p : X → Bool) (xs : List X) (x : X) : Type 0 where

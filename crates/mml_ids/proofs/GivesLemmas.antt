@@ -1,7 +1,6 @@
 -- Steps of a definition taken apart and put together, and the first of several errors.
 use Rattle.std.proofs.Common.{◌≡◌, Bool, true, false, Option, None, Result, Ok, Err, ap, ◌∙◌, arith}
-use Rattle.std.specs.Prelude.{option_map}
-use Rattle.std.specs.Result.{IfOk, IfErr}
+use Rattle.std.specs.{Prelude.option_map, Result.IfOk, Result.IfErr}
 use Rattle.mml_ids.specs.Gives.{◌>>=◌, ◌>>◌, need, first_fault, fault_if}
 
 -- a step whose chain ends in a value found one

@@ -1,20 +1,11 @@
 -- The order of identifiers that are all different.
-use Rattle.std.proofs.Common.{◌≡◌, ◌≢◌, ℕ, zero, suc, ◌+◌, ◌<◌, ◌≤◌, Bool, false, not, cond, ◌||◌, eqb, List, [], ◌∷◌, length, get_or, take}
-use Rattle.std.proofs.Common.{Some, None, refl, sym, ap, ◌∙◌, arith, inl, inr}
-use Rattle.std.specs.Prelude.{position, IsPermutation, IsSorted, sum_by}
-use Rattle.std.specs.List.{list_any}
-use Rattle.std.specs.Ordering.{nat_cmp}
-use Rattle.std.proofs.lemmas.Bool.{cases_lt, cases_eq, cases_order, eq-eqb, ne_eqb, eqb-true, eqb-false, lt-ltb, ltb-true, ltb-false, leb-true, or_parts}
-use Rattle.std.proofs.lemmas.Bool.{and_parts, false≢true, not-false}
-use Rattle.std.proofs.lemmas.List.{get_or_default}
-use Rattle.std.proofs.lemmas.List.Quantifiers.{position-Some}
-use Rattle.std.proofs.lemmas.List.Sums.{sum_by-cons, position_or_len_is, fails_before_first}
+use Rattle.std.proofs.Common.{◌≡◌, ◌≢◌, ℕ, zero, suc, ◌+◌, ◌<◌, ◌≤◌, Bool, false, not, cond, ◌||◌, eqb, List, [], ◌∷◌, length, get_or, take, Some, None, refl, sym, ap, ◌∙◌, arith, inl, inr}
+use Rattle.std.specs.{Prelude.position, Prelude.IsPermutation, Prelude.IsSorted, Prelude.sum_by, List.list_any, Ordering.nat_cmp}
+use Rattle.std.proofs.lemmas.Bool.{cases_lt, cases_eq, cases_order, eq-eqb, ne_eqb, eqb-true, eqb-false, lt-ltb, ltb-true, ltb-false, leb-true, or_parts, and_parts, false≢true, not-false}
+use Rattle.std.proofs.lemmas.List.{get_or_default, Quantifiers.position-Some, Sums.sum_by-cons, Sums.position_or_len_is, Sums.fails_before_first}
 use Rattle.std.proofs.lemmas.List.Sorted.{IsNonDecreasingBy-from_sort, sum_by-IsPermutation, list_any-IsPermutation, length_permutation}
-use Rattle.mml_ids.specs.declared.TheConstants.{MAX_NODES, MAX_ID}
-use Rattle.mml_ids.specs.Search.{first_below}
-use Rattle.mml_ids.proofs.GivesLemmas.{both_none, if_none, map_none}
-use Rattle.mml_ids.proofs.SearchLemmas.{none-is}
-use Rattle.mml_ids.proofs.InOrderLemmas.{AllFrom, Climbs}
+use Rattle.mml_ids.specs.{declared.TheConstants.MAX_NODES, declared.TheConstants.MAX_ID, Search.first_below}
+use Rattle.mml_ids.proofs.{GivesLemmas.both_none, GivesLemmas.if_none, GivesLemmas.map_none, SearchLemmas.none-is, InOrderLemmas.AllFrom, InOrderLemmas.Climbs}
 use Rattle.mml_ids.specs.Ids.{is_id, id_fault, is_again_at, put_in_order, in_order, rank_in, IsTable}
 
 -- a number stands in the list
@@ -35,9 +26,7 @@ Differ (x ∷ xs) = (has x xs ≡ false) × Differ xs
 
 none_is : (x : ℕ) (xs : List ℕ) → ((i : ℕ) → i < length xs → eqb x (get_or xs i 0) ≡ false) → has x xs ≡ false
 none_is x [] h = refl
-none_is x (y ∷ ys) h =
-    let here : y ≢ x = λ e. eqb-false x y (h 0 (omega arith)) (sym e) in
-    rw (ne_eqb y x here) (none_is x ys (λ i l. h (suc i) (omega arith)))
+none_is x (y ∷ ys) h = let here : y ≢ x = λ e. eqb-false x y (h 0 (omega arith)) (sym e) in rw (ne_eqb y x here) (none_is x ys (λ i l. h (suc i) (omega arith)))
 
 differ_from : (ns : List ℕ) → ((i : ℕ) → i < length ns → is_again_at ns i ≡ false) → Differ ns
 differ_from [] h = tt

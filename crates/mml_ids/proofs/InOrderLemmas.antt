@@ -1,8 +1,6 @@
 -- A list put in order has the same numbers, and never falls.
 use Rattle.std.proofs.Common.{ℕ, zero, suc, ◌<◌, ◌≤◌, Bool, true, false, cond, ltb, List, [], ◌∷◌, length, get_or, arith}
-use Rattle.std.specs.Prelude.{IsPermutation}
-use Rattle.std.specs.List.Sorted.{IsNonDecreasing}
-use Rattle.std.proofs.lemmas.Bool.{ltb-true, ltb-false}
+use Rattle.std.{specs.Prelude.IsPermutation, specs.List.Sorted.IsNonDecreasing, proofs.lemmas.Bool.ltb-true, proofs.lemmas.Bool.ltb-false}
 use Rattle.std.proofs.lemmas.List.Sorted.{IsPermutation-refl, IsPermutation-cons, IsPermutation-trans, IsPermutation-insert, IsNonDecreasingBy-from_default}
 use Rattle.mml_ids.specs.Ids.{put_in_order, in_order}
 

@@ -1,12 +1,8 @@
 -- Identifiers without an error, put in order, are a table of the same identifiers.
 use Rattle.std.proofs.Common.{◌≡◌, ℕ, suc, ◌+◌, ◌≤◌, false, List, get_or, None, ap, ◌∙◌, add-one, arith}
-use Rattle.std.specs.Prelude.{IsSorted}
-use Rattle.std.specs.Ordering.{nat_cmp, is_lt}
-use Rattle.std.proofs.lemmas.Bool.{le-ltb}
-use Rattle.std.proofs.lemmas.List.{get_or_default}
+use Rattle.std.{specs.Prelude.IsSorted, specs.Ordering.nat_cmp, specs.Ordering.is_lt, proofs.lemmas.Bool.le-ltb, proofs.lemmas.List.get_or_default}
 use Rattle.mml_ids.specs.Ids.{id_fault, in_order, IsTable}
-use Rattle.mml_ids.proofs.InOrderLemmas.{in_order-moves, climbs-in_order, climbs_at}
-use Rattle.mml_ids.proofs.IdsLemmas.{sound, table_is}
+use Rattle.mml_ids.proofs.{InOrderLemmas.in_order-moves, InOrderLemmas.climbs-in_order, InOrderLemmas.climbs_at, IdsLemmas.sound, IdsLemmas.table_is}
 
 not_less : (x y : ℕ) → y ≤ x → is_lt (nat_cmp x y) ≡ false
 not_less x y le = grind (arith, le-ltb)

@@ -1,8 +1,7 @@
 -- Searches of a list, and of what its elements stand for.
 use Rattle.std.proofs.Common.{◌≡◌, ℕ, List, [], ◌∷◌, Bool, true, false, cond, ◌||◌, length, map, Some, None, suc, refl, ap, arith}
 use Rattle.std.proofs.lemmas.Bool.{cases_lt, lt-ltb, le-ltb}
-use Rattle.std.specs.Prelude.{option_map, nat_lt}
-use Rattle.std.specs.List.{list_any, find, position, position_or_len}
+use Rattle.std.specs.{Prelude.option_map, Prelude.nat_lt, List.list_any, List.find, List.position, List.position_or_len}
 
 -- a test of what the elements stand for is true of some element, as it is in the list of what they stand for
 pub list_any-map : {X Y : Type 0} (p : Y → Bool) (f : X → Y) (xs : List X) → list_any (λ x. p (f x)) xs ≡ list_any p (map f xs)

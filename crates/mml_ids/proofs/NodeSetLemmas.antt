@@ -1,22 +1,13 @@
 -- What the operations on words do to the sets that they keep.
-use Rattle.std.proofs.Common.{◌≡◌, ℕ, zero, suc, ◌+◌, ◌-◌, ◌*◌, ◌/◌, ◌%◌, ◌^◌, ◌<◌, ◌≤◌, Bool, true, false, not, cond, ◌&&◌, eqb, ltb, min, List, get_or}
-use Rattle.std.proofs.Common.{refl, sym, ap, ◌∙◌, subst, arith, inl, inr, w64, bit_and, lit<}
+use Rattle.std.proofs.Common.{◌≡◌, ℕ, zero, suc, ◌+◌, ◌-◌, ◌*◌, ◌/◌, ◌%◌, ◌^◌, ◌<◌, ◌≤◌, Bool, true, false, not, cond, ◌&&◌, eqb, ltb, min, List, get_or, refl, sym, ap, ◌∙◌, subst, arith, inl, inr}
+use Rattle.std.proofs.Common.{w64, bit_and, lit<}
 use Rattle.std.proofs.lemmas.Bool.{cases_lt, cases_eq, cases_order, eq-eqb, eqb-true, eqb-false, lt-ltb, le-ltb, ltb-true, and_parts, and_right}
-use Rattle.std.proofs.lemmas.Nat.{pow_pos, ones_le_self, zero_from_ones}
-use Rattle.std.proofs.Math.Nat.{pow-succ', mod-eq_of_lt, div-eq_of_lt-le}
-use Rattle.std.proofs.Math.Arith.{mod-mul}
-use Rattle.std.proofs.lemmas.Nat.Bits.{bit_at_and, bit_at_not, bit_at-lt, bit_at-zero, bit_at_above, bit_at_clear_same, bit_at_clear_other, ones_shl}
-use Rattle.std.proofs.lemmas.Nat.Bits.{bit_at_mask_inside, bit_at_mask_below}
-use Rattle.std.specs.Int.{bit_at, bit_not}
-use Rattle.std.specs.Prelude.{count_ones}
-use Rattle.std.specs.Ordering.{nat_cmp}
-use Rattle.std.specs.Cmp.{nat_cmp_total}
-use Rattle.std.specs.FinSet as sets
-use Rattle.std.specs.FinSet.{FinSet}
+use Rattle.std.proofs.{lemmas.Nat.pow_pos, lemmas.Nat.ones_le_self, lemmas.Nat.zero_from_ones, Math.Nat.pow-succ', Math.Nat.mod-eq_of_lt, Math.Nat.div-eq_of_lt-le, Math.Arith.mod-mul}
+use Rattle.std.proofs.lemmas.Nat.Bits.{bit_at_and, bit_at_not, bit_at-lt, bit_at-zero, bit_at_above, bit_at_clear_same, bit_at_clear_other, ones_shl, bit_at_mask_inside, bit_at_mask_below}
+use Rattle.std.specs.{Int.bit_at, Int.bit_not, Prelude.count_ones, Ordering.nat_cmp, Cmp.nat_cmp_total, FinSet.FinSet}
 use lib.Count.{ones_cat}
-use Rattle.mml_ids.specs.Sets.{those_below}
-use Rattle.mml_ids.specs.inside.Words.{bit_in, set_of}
-use Rattle.mml_ids.specs.inside.WordsLemmas.{has_empty, has-set_of, same_ranks}
+use Rattle.mml_ids.specs.{Sets.those_below, inside.Words.bit_in, inside.Words.set_of, inside.WordsLemmas.has_empty, inside.WordsLemmas.has-set_of, inside.WordsLemmas.same_ranks}
+use Rattle.std.specs.FinSet as sets
 
 two_bits : (P : ℕ → ℕ → Type 0) → P 0 0 → P 0 1 → P 1 0 → P 1 1 → (x y : ℕ) → x < 2 → y < 2 → P x y
 two_bits P none second first both x y a b = grind arith
@@ -199,9 +190,7 @@ none_above_highest n words w k q high zeros there =
             let other : digit words q ≡ bit_at (get_or words w 0) (q % 64) = ap (λ x. bit_at (get_or words x 0) (q % 64)) same in
             omega arith
         | inr later ↦ elim (cases_lt w (q / 64)) [
-          | inl after ↦
-              let bit : digit words q ≡ 0 = ap (λ b. bit_at b (q % 64)) (zeros (q / 64) after (omega arith)) ∙ bit_at-zero (q % 64) in
-              omega arith
+          | inl after ↦ let bit : digit words q ≡ 0 = ap (λ b. bit_at b (q % 64)) (zeros (q / 64) after (omega arith)) ∙ bit_at-zero (q % 64) in omega arith
           | inr before ↦ omega arith
         ]
       ]

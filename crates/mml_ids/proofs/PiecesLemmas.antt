@@ -1,13 +1,8 @@
 -- Texts in pieces, cut between two pieces.
-use Rattle.std.proofs.Common.{◌≡◌, ℕ, ◌+◌, ◌≤◌, ◌<◌, List, [], ◌∷◌, ◌++◌, length, take, drop, ◌/◌, ◌%◌, decimal, slice_index_or, refl, ap, sym, ◌∙◌}
-use Rattle.std.proofs.Common.{arith, inl, inr}
-use Rattle.std.proofs.lemmas.List.{append_assoc, append-nil, take-append-drop}
-use Rattle.std.proofs.lemmas.Fmt.{decimal_digit, decimal_step}
-use Rattle.std.proofs.Math.Seq.{take-suc, take-add}
-use Rattle.std.proofs.Math.Nat.{eq-or-lt_of_le}
-use Rattle.mml_ids.specs.declared.piece.Piece.{Piece}
-use Rattle.mml_ids.specs.Pieces.{piece_text, piece_room, joined, room_of, Fills}
-use Rattle.std.proofs.lemmas.Grind.{common_steps}
+use Rattle.std.proofs.Common.{◌≡◌, ℕ, ◌+◌, ◌≤◌, ◌<◌, List, [], ◌∷◌, ◌++◌, length, take, drop, ◌/◌, ◌%◌, decimal, slice_index_or, refl, ap, sym, ◌∙◌, arith, inl, inr}
+use Rattle.std.proofs.lemmas.{List.append_assoc, List.append-nil, List.take-append-drop, Fmt.decimal_digit, Fmt.decimal_step, Grind.common_steps}
+use Rattle.std.proofs.Math.{Seq.take-suc, Seq.take-add, Nat.eq-or-lt_of_le}
+use Rattle.mml_ids.specs.{declared.piece.Piece.Piece, Pieces.piece_text, Pieces.piece_room, Pieces.joined, Pieces.room_of, Pieces.Fills}
 
 pub joined-append : (ps qs : List Piece) → joined (ps ++ qs) ≡ joined ps ++ joined qs
 joined-append [] qs = refl
@@ -52,10 +47,7 @@ room_of-front ps n = omega (arith, ap room_of (take-append-drop n ps), room_of-a
 pub fills_all : (was now : List ℕ) (capacity : ℕ) (ps : List Piece) (n : ℕ) → Fills was now capacity ps n → length was + room_of ps ≤ capacity → n ≡ length ps
 fills_all was now capacity ps n f room = elim (eq-or-lt_of_le f.bound) [
   | inl whole ↦ whole
-  | inr short ↦
-      let one = room_of-more ps (drop n ps) n 1 refl in
-      let front = room_of-front ps (n + 1) in
-      absurd (omega (arith, f.next short, f.grows))
+  | inr short ↦ let one = room_of-more ps (drop n ps) n 1 refl in let front = room_of-front ps (n + 1) in absurd (omega (arith, f.next short, f.grows))
 ]
 
 -- one digit more

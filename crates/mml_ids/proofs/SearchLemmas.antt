@@ -1,10 +1,7 @@
 -- What searches below a number and in a list find.
-use Rattle.std.proofs.Common.{◌≡◌, ℕ, zero, suc, ◌+◌, ◌-◌, ◌<◌, ◌≤◌, Option, Some, None, Bool, true, false, cond, List, length, get_or}
-use Rattle.std.proofs.Common.{nat_lt, refl, sym, ap, ◌∙◌, arith}
-use Rattle.std.specs.List.{position, position_or_len}
-use Rattle.std.proofs.lemmas.List.Sums.{position_or_len_is, fails_before_first}
-use Rattle.std.proofs.lemmas.Bool.{or_cases, or_left, or_right, or_parts, false≢true, cases_order, cases_Bool, lt-ltb, le-ltb, ltb-false, both_ways}
-use Rattle.std.proofs.lemmas.Bool.{false_from_ne_true}
+use Rattle.std.proofs.Common.{◌≡◌, ℕ, zero, suc, ◌+◌, ◌-◌, ◌<◌, ◌≤◌, Option, Some, None, Bool, true, false, cond, List, length, get_or, nat_lt, refl, sym, ap, ◌∙◌, arith}
+use Rattle.std.{specs.List.position, specs.List.position_or_len, proofs.lemmas.List.Sums.position_or_len_is, proofs.lemmas.List.Sums.fails_before_first}
+use Rattle.std.proofs.lemmas.Bool.{or_cases, or_left, or_right, or_parts, false≢true, cases_order, cases_Bool, lt-ltb, le-ltb, ltb-false, both_ways, false_from_ne_true}
 use Rattle.mml_ids.specs.Search.{first_from, first_below, some_below, greatest_below}
 
 one_step : (test : ℕ → Bool) (s n : ℕ) (b : Bool) → test s ≡ b → first_from test s (suc n) ≡ cond b (Some s) (first_from test (s + 1) n)
@@ -147,9 +144,7 @@ greatest_below_alike n m t u same under_n under_m = go (greatest_below n t) refl
   where
     none : (o : Option ℕ) → greatest_below n t ≡ None → greatest_below m u ≡ o → None ≡ o
     none None e g = refl
-    none (Some j) e g =
-        let h = same j ∙ (greatest_below-some m j u g).1 in
-        absurd (both_ways (t j) (greatest_below-none n j t e (under_n j h)) h)
+    none (Some j) e g = let h = same j ∙ (greatest_below-some m j u g).1 in absurd (both_ways (t j) (greatest_below-none n j t e (under_n j h)) h)
 
     go : (o : Option ℕ) → greatest_below n t ≡ o → greatest_below n t ≡ greatest_below m u
     go None e = e ∙ none (greatest_below m u) e refl

@@ -1,16 +1,10 @@
 -- Sets of ranks: their ranks in rising order, one after the other, and a set without one of its ranks.
-use Rattle.std.proofs.Common.{◌≡◌, ◌≢◌, ℕ, zero, suc, ◌+◌, ◌<◌, ◌≤◌, Bool, true, false, cond, eqb, not, ◌&&◌, ◌||◌, List, [], ◌∷◌, ◌++◌, map, filter, sym, refl}
-use Rattle.std.proofs.Common.{ap, ◌∙◌, arith, append-nil, append_assoc, zero-add}
-use Rattle.std.proofs.lemmas.Bool.{cases_eq, eq-eqb, ne_eqb, false_from_ne_true}
-use Rattle.std.specs.List.{range_with_len}
-use Rattle.std.proofs.lemmas.List.{map-append}
-use Rattle.std.proofs.lemmas.List.FromFn.{map-range_with_len_more}
-use Rattle.std.proofs.lemmas.List.Elements.{filter-append}
-use Rattle.std.specs.Cmp.{nat_cmp_total}
-use Rattle.std.specs.Ordering.{nat_cmp}
-use Rattle.std.specs.FinSet as sets
-use Rattle.std.specs.FinSet.{FinSet}
+use Rattle.std.proofs.Common.{◌≡◌, ◌≢◌, ℕ, zero, suc, ◌+◌, ◌<◌, ◌≤◌, Bool, true, false, cond, eqb, not, ◌&&◌, ◌||◌, List, [], ◌∷◌, ◌++◌, map, filter, sym, refl, ap, ◌∙◌, arith, append-nil}
+use Rattle.std.proofs.Common.{append_assoc, zero-add}
+use Rattle.std.proofs.lemmas.{Bool.cases_eq, Bool.eq-eqb, Bool.ne_eqb, Bool.false_from_ne_true, List.map-append, List.FromFn.map-range_with_len_more, List.Elements.filter-append}
+use Rattle.std.specs.{List.range_with_len, Cmp.nat_cmp_total, Ordering.nat_cmp, FinSet.FinSet}
 use Rattle.mml_ids.specs.inside.WordsLemmas.{has_empty, has_insert, has_remove, same_ranks}
+use Rattle.std.specs.FinSet as sets
 
 -- the ranks below n that are in the set
 abbrev pub ranks_in : ℕ → FinSet nat_cmp → List ℕ

@@ -1,9 +1,6 @@
 -- Sets of ranks.
-use Rattle.std.specs.Prelude.{ℕ, zero, suc, Bool, if◌then◌else◌}
-use Rattle.std.specs.Ordering.{nat_cmp}
+use Rattle.std.specs.{Prelude.ℕ, Prelude.zero, Prelude.suc, Prelude.Bool, Prelude.if◌then◌else◌, Ordering.nat_cmp, FinSet.FinSet, Coded.Coded, Coded.coded_ℕ}
 use Rattle.std.specs.FinSet as set
-use Rattle.std.specs.FinSet.{FinSet}
-use Rattle.std.specs.Coded.{Coded, coded_ℕ}
 
 -- the numbers below n that pass the test
 unfoldable pub those_below : ℕ → (ℕ → Bool) → FinSet nat_cmp

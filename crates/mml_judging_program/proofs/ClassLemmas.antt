@@ -1,21 +1,14 @@
 -- What is written of a class.
 use Rattle.std.proofs.Common.{◌≡◌, ◌<◌, ◌++◌, ℕ, List, true, false, subst, sym, ◌∙◌, length, take, Option, Result, Ok, Err}
-use Rattle.std.specs.Prelude.{OnOk, IfOk, IfErr}
-use Rattle.std.specs.Io.KnownBytes.{Appends}
+use Rattle.std.specs.{Prelude.OnOk, Prelude.IfOk, Prelude.IfErr, Io.KnownBytes.Appends}
 use Rattle.mml_lab.specs.Labs.{LabValue}
-use Rattle.mml_board.specs.declared.event.Event.{Event}
-use Rattle.mml_board.specs.World.{World}
-use Rattle.mml_board.specs.Lists.{world_in}
+use Rattle.mml_board.specs.{declared.event.Event.Event, World.World, Lists.world_in}
 use Rattle.mml_audit.specs.AuditMeaning.{IsJournalOf}
-use Rattle.mml_tally.specs.declared.ask.Ask.{Ask}
-use Rattle.mml_tally.specs.RecordTexts.{recorded_text}
-use Rattle.mml_tally.specs.Rounds.{rounds_line}
-use Rattle.mml_class.specs.declared.class_record.ClassRecord.{ClassRecord}
-use Rattle.mml_class.specs.Classes.{IsClassRecord}
-use Rattle.mml_judging_program.specs.declared.class_error.ClassError.{ClassError}
-use Rattle.mml_judging_program.specs.declared.class_error.ClassError.TheVariants as error
-use Rattle.mml_judging_program.specs.Verifying.{verified_text}
+use Rattle.mml_tally.specs.{declared.ask.Ask.Ask, RecordTexts.recorded_text, Rounds.rounds_line}
+use Rattle.mml_class.specs.{declared.class_record.ClassRecord.ClassRecord, Classes.IsClassRecord}
+use Rattle.mml_judging_program.specs.{declared.class_error.ClassError.ClassError, Verifying.verified_text}
 use Rattle.mml_judging_program.specs.Classes.{IsVerified, IsTallied, IsUntold, IsWritten, IsUnwritten}
+use Rattle.mml_judging_program.specs.declared.class_error.ClassError.TheVariants as error
 
 pub weaker_ok : {X E : Type 0} (r : Result X E) (P Q : X → Type 0) → ((x : X) → P x → Q x) → IfOk r P → IfOk r Q
 weaker_ok (Ok x) P Q weaker holds = weaker x holds

@@ -1,14 +1,10 @@
 -- The tally of a journal.
 use Rattle.std.proofs.Common.{◌≡◌, ℕ, List, [], ◌++◌, Option, Result, Ok, Err, subst, ap, ◌∙◌}
-use Rattle.std.specs.Prelude.{OnOk}
-use Rattle.std.specs.Io.KnownBytes.{Appends}
+use Rattle.std.specs.{Prelude.OnOk, Io.KnownBytes.Appends}
 use Rattle.mml_lab.specs.Labs.{LabValue}
-use Rattle.mml_board.specs.declared.event.Event.{Event}
-use Rattle.mml_board.specs.World.{World}
-use Rattle.mml_board.specs.Lists.{world_in}
+use Rattle.mml_board.specs.{declared.event.Event.Event, World.World, Lists.world_in}
 use Rattle.mml_audit.specs.AuditMeaning.{IsJournalOf}
-use Rattle.mml_tally.specs.Texts.{tally_text}
-use Rattle.mml_tally.specs.Rounds.{rounds_line}
+use Rattle.mml_tally.specs.{Texts.tally_text, Rounds.rounds_line}
 use Rattle.mml_judging_program.specs.Tallies.{IsTally, TellsTally}
 
 -- the text of the events that an audit returned, and of the world that they led to
@@ -23,9 +19,5 @@ tally_of lab es slice bytes first text w journal told empty same leads = record 
 -- a text that was written is the tally if it was that before
 pub tally_told : {E : Type 0} (r : Result (Unit {0}) E) (lab : LabValue) (bytes text now : List ℕ) (wrote wrote' : Option (List ℕ)) → IsTally lab bytes text
     → now ≡ text → OnOk r (Appends wrote wrote' now) → OnOk r (TellsTally lab bytes wrote wrote')
-tally_told (Ok x) lab bytes text now wrote wrote' tally same told = record {
-  text = text;
-  tally = tally;
-  told = subst (λ t. Appends wrote wrote' t) same told;
-}
+tally_told (Ok x) lab bytes text now wrote wrote' tally same told = record { text = text; tally = tally; told = subst (λ t. Appends wrote wrote' t) same told }
 tally_told (Err e) lab bytes text now wrote wrote' tally same told = tt

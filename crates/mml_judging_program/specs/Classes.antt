@@ -2,18 +2,12 @@
 use Rattle.std.specs.Prelude.{◌≡◌, ◌<◌, ◌++◌, ℕ, true, false, List, length, take, Option, Err, MatchBool}
 use Rattle.std.specs.Io.KnownBytes.{Appends}
 use Rattle.mml_lab.specs.Labs.{LabValue}
-use Rattle.mml_board.specs.declared.event.Event.{Event}
-use Rattle.mml_board.specs.Lists.{world_in}
-use Rattle.mml_audit.specs.Audit.{audited, is_audit_memory}
-use Rattle.mml_audit.specs.AuditMeaning.{IsJournalOf}
-use Rattle.mml_tally.specs.RecordTexts.{recorded_text}
-use Rattle.mml_tally.specs.Rounds.{rounds_line}
-use Rattle.mml_class.specs.declared.class_record.ClassRecord.{ClassRecord}
-use Rattle.mml_class.specs.declared.class_record.ClassFault.{ClassFault}
-use Rattle.mml_class.specs.Classes.{IsClassRecord, IsClassRefused}
-use Rattle.mml_judging_program.specs.declared.class_error.ClassError.{ClassError}
+use Rattle.mml_board.specs.{declared.event.Event.Event, Lists.world_in}
+use Rattle.mml_audit.specs.{Audit.audited, Audit.is_audit_memory, AuditMeaning.IsJournalOf}
+use Rattle.mml_tally.specs.{RecordTexts.recorded_text, Rounds.rounds_line}
+use Rattle.mml_class.specs.{declared.class_record.ClassRecord.ClassRecord, declared.class_record.ClassFault.ClassFault, Classes.IsClassRecord, Classes.IsClassRefused}
+use Rattle.mml_judging_program.specs.{declared.class_error.ClassError.ClassError, Verifying.verified_text}
 use Rattle.mml_judging_program.specs.declared.class_error.ClassError.TheVariants as error
-use Rattle.mml_judging_program.specs.Verifying.{verified_text}
 
 -- the bytes are the journal of a legal list of the lab's, the seats' texts are the record of a class beside that list, and the text says what
 -- it comes to

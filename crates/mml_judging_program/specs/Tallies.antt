@@ -1,12 +1,9 @@
 -- The tally that a program prints of a journal.
-use Rattle.std.specs.Prelude.{◌≡◌, ◌++◌, ℕ, List, Option}
-use Rattle.std.specs.Io.KnownBytes.{Appends}
+use Rattle.std.specs.{Prelude.◌≡◌, Prelude.◌++◌, Prelude.ℕ, Prelude.List, Prelude.Option, Io.KnownBytes.Appends}
 use Rattle.mml_lab.specs.Labs.{LabValue}
-use Rattle.mml_board.specs.declared.event.Event.{Event}
-use Rattle.mml_board.specs.Lists.{world_in}
+use Rattle.mml_board.specs.{declared.event.Event.Event, Lists.world_in}
 use Rattle.mml_audit.specs.AuditMeaning.{IsJournalOf}
-use Rattle.mml_tally.specs.Texts.{tally_text}
-use Rattle.mml_tally.specs.Rounds.{rounds_line}
+use Rattle.mml_tally.specs.{Texts.tally_text, Rounds.rounds_line}
 
 -- the bytes are the journal of a legal list of the lab's, and the text is the tally of that list, with the line of its
 -- rounds

@@ -1,9 +1,7 @@
 -- The lines that are printed of a record.
-use Rattle.std.specs.Prelude.{ℕ, Bool, true, false, List, [], ◌∷◌, ◌++◌, codes, decimal}
-use Rattle.std.specs.List.{concat}
+use Rattle.std.specs.{Prelude.ℕ, Prelude.Bool, Prelude.true, Prelude.false, Prelude.List, Prelude.[], Prelude.◌∷◌, Prelude.◌++◌, Prelude.codes, Prelude.decimal, List.concat}
 use Rattle.mml_lab.specs.Labs.{LabValue}
-use Rattle.mml_tally.specs.declared.record_text.Findings.{Findings}
-use Rattle.mml_tally.specs.Lacking.{recorded_line}
+use Rattle.mml_tally.specs.{declared.record_text.Findings.Findings, Lacking.recorded_line}
 
 -- the end of the line, after the number of events, by whether a record is whole
 abbrev pub end_of : Bool → List ℕ

@@ -3,9 +3,7 @@ use Rattle.std.proofs.lemmas.Bool.{Decides.nat_tests, and_from, and_parts, or_ca
 use Rattle.std.proofs.lemmas.{Grind.common_steps, List.Elements.All-weaker, List.Elements.All-tail, List.Elements.All-cons, List.Sums.AllPass-from_list_all, List.Sums.list_all-from_AllPass}
 use Rattle.std.proofs.Common.{◌≡◌, ◌↔◌, ℕ, List, [], ◌∷◌, length, Bool, true, ◌||◌, arith, All, nat_le, rules}
 use Rattle.std.specs.{List.list_all, Int.is_in_range, Int.IsInRange}
-use Rattle.mml_lab.specs.declared.TheConstants.{MAX_NAME}
-use Rattle.mml_lab.specs.Rosters.{is_name, is_key, is_name_byte}
-use Rattle.mml_lab.specs.RosterMeaning.{IsName, IsKey, IsNameByte}
+use Rattle.mml_lab.specs.{declared.TheConstants.MAX_NAME, Rosters.is_name, Rosters.is_key, Rosters.is_name_byte, RosterMeaning.IsName, RosterMeaning.IsKey, RosterMeaning.IsNameByte}
 
 in_range : (low high b : ℕ) → is_in_range low high b ≡ true → IsInRange low high b
 in_range low high b is = let parts = and_parts (nat_le low b) (nat_le b high) is in (leb-true low b parts.0, leb-true b high parts.1)

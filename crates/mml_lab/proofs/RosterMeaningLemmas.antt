@@ -3,9 +3,8 @@ use Rattle.std.proofs.Common.{◌≡◌, ◌↔◌, ℕ, ◌<◌, List, length, 
 use Rattle.std.{specs.List.position, proofs.lemmas.Slice.Eq.bytes_eq-Decides}
 use Rattle.std.proofs.lemmas.Bool.{Decides.nat_tests, cases_Bool, cases_lt, and_from, and_parts, eqb-true, eq-eqb}
 use Rattle.std.proofs.lemmas.List.{get_or_past, Elements.All-get_or, Folds.list_any_at, Folds.Any-from_list_any, Quantifiers.position-Some}
-use Rattle.mml_lab.specs.declared.who.Who.{Who}
+use Rattle.mml_lab.specs.{declared.who.Who.Who, RosterMeaning.IsKnownAs}
 use Rattle.mml_lab.specs.Rosters.{Account, RosterValue, IsRoster, principal, owns, owners_of, name_of, student_named, has_name, has_name_and_key, no_account}
-use Rattle.mml_lab.specs.RosterMeaning.{IsKnownAs}
 use Rattle.mml_ids.proofs.SearchLemmas.{position-only}
 use Rattle.mml_lab.proofs.StudentNamedLemmas.{student_is}
 use Rattle.mml_lab.specs.declared.who.Who.TheVariants as who

@@ -1,8 +1,7 @@
 -- Rows of neighbours, into which one more is put.
-use Rattle.std.proofs.lemmas.Bool.{cases_eq, eq-eqb, ne_eqb, eqb-true}
+use Rattle.std.proofs.lemmas.{Bool.cases_eq, Bool.eq-eqb, Bool.ne_eqb, Bool.eqb-true, List.get_or-set_same, List.get_or-set_other, List.get_or_default}
 use Rattle.std.proofs.Common.{◌≡◌, ℕ, ◌<◌, ◌&&◌, ◌||◌, eqb, List, [], length, get_or, set, arith}
 use Rattle.std.specs.{Ordering.nat_cmp, FinSet.FinSet}
-use Rattle.std.proofs.lemmas.List.{get_or-set_same, get_or-set_other, get_or_default}
 use Rattle.mml_ids.specs.{inside.WordsLemmas.has_insert}
 use Rattle.mml_ids.proofs.{SearchLemmas.same_bool}
 use Rattle.mml_rules.specs.{Network.neighbours_at}

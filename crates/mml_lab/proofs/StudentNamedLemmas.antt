@@ -2,8 +2,7 @@
 use Rattle.std.proofs.lemmas.{Bool.Decides.nat_tests, List.Quantifiers.position-Some, Slice.Eq.bytes_eq-Decides}
 use Rattle.std.proofs.Common.{◌≡◌, ℕ, ◌<◌, List, [], ◌∷◌, length, get_or, map, Option, Some, refl, ap, ◌∙◌, string_bytes, String, Global, arith}
 use Rattle.std.specs.{Prelude.bytes_eq, Prelude.IfSome, List.position, List.position_or_len, Map.keys_of}
-use Rattle.mml_lab.specs.Rosters.{Account, RosterValue, has_name, no_account, name_of, student_named}
-use Rattle.mml_lab.specs.AccountView.{entry_account}
+use Rattle.mml_lab.specs.{Rosters.Account, Rosters.RosterValue, Rosters.has_name, Rosters.no_account, Rosters.name_of, Rosters.student_named, AccountView.entry_account}
 use Rattle.mml_lab.specs.declared.who.Who.TheVariants as who
 
 -- a student's name and key, as the map keeps them

@@ -1,8 +1,6 @@
 -- What the accounts that a program keeps stand for.
-use Rattle.std.specs.Prelude.{String, string_bytes}
-use Rattle.std.specs.declared.alloc.Global.{Global}
-use Rattle.mml_lab.specs.declared.accounts.Account.{Account as KeptAccount}
-use Rattle.mml_lab.specs.Rosters.{Account}
+use Rattle.std.specs.{Prelude.String, Prelude.string_bytes, declared.alloc.Global.Global}
+use Rattle.mml_lab.specs.{declared.accounts.Account.Account as KeptAccount, Rosters.Account}
 
 -- the name and the key of an account, as bytes
 abbrev pub account_view : KeptAccount → Account

@@ -1,11 +1,8 @@
 -- A lab: its identifiers, who takes part, the network at the beginning, and the limits of a run.
 use Rattle.std.specs.Prelude.{◌≡◌, ℕ, zero, suc, ◌+◌, ◌<◌, ◌≤◌, List, length}
-use Rattle.mml_ids.specs.Search.{count_below}
-use Rattle.mml_ids.specs.Ids.{IsTable}
-use Rattle.mml_rules.specs.Configuration.{Configuration}
-use Rattle.mml_rules.specs.Network.{Network, configuration_of, IsNetwork}
-use Rattle.mml_lab.specs.declared.TheConstants.{MAX_EVENTS, MAX_SESSIONS}
-use Rattle.mml_lab.specs.Rosters.{RosterValue, IsRoster}
+use Rattle.mml_ids.specs.{Search.count_below, Ids.IsTable}
+use Rattle.mml_rules.specs.{Configuration.Configuration, Network.Network, Network.configuration_of, Network.IsNetwork}
+use Rattle.mml_lab.specs.{declared.TheConstants.MAX_EVENTS, declared.TheConstants.MAX_SESSIONS, Rosters.RosterValue, Rosters.IsRoster}
 
 -- a lab, with its nodes by their ranks
 pub record LabValue : Type 0 where

@@ -1,9 +1,6 @@
 -- What the roster's definitions mean, stated as facts.
-use Rattle.std.specs.Prelude.{◌≡◌, ℕ, ◌<◌, ◌≤◌, ◌⊎◌, List, length, slice_index, All}
-use Rattle.std.specs.Int.{IsInRange}
-use Rattle.mml_lab.specs.declared.TheConstants.{MAX_NAME, MAX_KEY}
-use Rattle.mml_lab.specs.declared.who.Who.{Who}
-use Rattle.mml_lab.specs.Rosters.{RosterValue, IsPrincipal, name_of, key_of}
+use Rattle.std.specs.{Prelude.◌≡◌, Prelude.ℕ, Prelude.◌<◌, Prelude.◌≤◌, Prelude.◌⊎◌, Prelude.List, Prelude.length, Prelude.slice_index, Prelude.All, Int.IsInRange}
+use Rattle.mml_lab.specs.{declared.TheConstants.MAX_NAME, declared.TheConstants.MAX_KEY, declared.who.Who.Who, Rosters.RosterValue, Rosters.IsPrincipal, Rosters.name_of, Rosters.key_of}
 
 -- a to z
 abbrev pub IsLetter : ℕ → Type 0

@@ -1,10 +1,8 @@
 -- The participants of a lab, the name and the key of each, and who owns each node.
-use Rattle.std.specs.Prelude.{◌≡◌, ◌==◌, ℕ, ◌<◌, ◌≤◌, nat_lt, nat_le, Bool, false, ◌&&◌, ◌||◌, IsTrue, List, [], ◌∷◌, length, position, slice_index_or}
-use Rattle.std.specs.Prelude.{All, Option, Some, option_map, if◌then◌else◌, bytes_eq}
-use Rattle.std.specs.List.{list_any, list_all}
-use Rattle.std.specs.Char.{is_ascii_lowercase, is_ascii_digit, is_ascii_graphic}
-use Rattle.mml_lab.specs.declared.TheConstants.{MAX_STUDENTS, MAX_NAME, MAX_KEY}
-use Rattle.mml_lab.specs.declared.who.Who.{Who}
+use Rattle.std.specs.Prelude.{◌≡◌, ◌==◌, ℕ, ◌<◌, ◌≤◌, nat_lt, nat_le, Bool, false, ◌&&◌, ◌||◌, IsTrue, List, [], ◌∷◌, length, position, slice_index_or, All, Option, Some, option_map, if◌then◌else◌}
+use Rattle.std.specs.Prelude.{bytes_eq}
+use Rattle.std.specs.{List.list_any, List.list_all, Char.is_ascii_lowercase, Char.is_ascii_digit, Char.is_ascii_graphic}
+use Rattle.mml_lab.specs.declared.{TheConstants.MAX_STUDENTS, TheConstants.MAX_NAME, TheConstants.MAX_KEY, who.Who.Who}
 use Rattle.mml_lab.specs.declared.who.Who.TheVariants as who
 
 -- the name and the key of one who takes part

@@ -5,16 +5,11 @@ use Rattle.std.specs.{Prelude.is_some, Prelude.slice_index, Prelude.position, Fi
 use Rattle.std.proofs.lemmas.{List.take_all, List.Quantifiers.position-Some, Option.slice_get-get_or}
 use Rattle.mml_ids.specs.{Search.first_from, Search.first_below, Ids.in_order, Ids.rank_in, Ids.IsTable}
 use Rattle.mml_ids.proofs.{GivesLemmas.map_none, IdsLemmas.id_of_rank, SearchLemmas.position-none, SearchLemmas.position-None, SearchLemmas.first_here, SearchLemmas.first_end}
-use Rattle.mml_lab.specs.declared.lab_fault.LabFault.{LabFault}
-use Rattle.mml_lab.specs.Rosters.{Account}
-use Rattle.mml_lab_file.specs.Shape.{NodeSpec, RawSpec}
-use Rattle.mml_lab_file.specs.Reading.{number_of, file_ids, is_node, is_linked, lacks_end}
-use Rattle.mml_lab_file.specs.Reading.{is_link_again, neighbours_of, ends_fault, again_fault, pass_unless, pointers_fault, identified, enrolled, owned, linked}
-use Rattle.mml_lab_file.specs.Reading.{limited, checked, lab_from, lab_in, network_in}
-use Rattle.mml_lab_file.specs.inside.Checks.{rank_at, lacks_rank, are_near, lab_with}
-use Rattle.mml_lab_file.proofs.LabInLemmas.{positive}
-use Rattle.mml_lab_file.proofs.LabMeaningLemmas.{any_means, ranked}
-use Rattle.mml_lab_file.proofs.NeighboursLemmas.{AreRows, has-neighbours_of, all_rows}
+use Rattle.mml_lab.specs.{declared.lab_fault.LabFault.LabFault, Rosters.Account}
+use Rattle.mml_lab_file.specs.{Shape.NodeSpec, Shape.RawSpec, inside.Checks.rank_at, inside.Checks.lacks_rank, inside.Checks.are_near, inside.Checks.lab_with}
+use Rattle.mml_lab_file.specs.Reading.{number_of, file_ids, is_node, is_linked, lacks_end, is_link_again, neighbours_of, ends_fault, again_fault, pass_unless, pointers_fault, identified, enrolled}
+use Rattle.mml_lab_file.specs.Reading.{owned, linked, limited, checked, lab_from, lab_in, network_in}
+use Rattle.mml_lab_file.proofs.{LabInLemmas.positive, LabMeaningLemmas.any_means, LabMeaningLemmas.ranked, NeighboursLemmas.AreRows, NeighboursLemmas.has-neighbours_of, NeighboursLemmas.all_rows}
 use Rattle.mml_lab.specs.declared.lab_fault.LabFault.TheVariants as fault
 
 some_rank : (o : Option ℕ) → is_some o ≡ true → (j : ℕ) × (o ≡ Some j)

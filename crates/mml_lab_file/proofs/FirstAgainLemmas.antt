@@ -4,11 +4,9 @@ use Rattle.std.{specs.List.position, specs.Option.option_map, proofs.lemmas.Slic
 use Rattle.std.proofs.lemmas.Bool.{Decides.nat_tests, cases_Bool, cases_order, not-false}
 use Rattle.std.proofs.lemmas.List.{length-take-le, get_or-take, get_or_default, Folds.list_any_at, Folds.Any-from_list_any}
 use Rattle.mml_ids.specs.Search.{first_below}
-use Rattle.mml_lab.specs.declared.TheConstants.{MAX_STUDENTS}
-use Rattle.mml_lab.specs.declared.who.Who.{Who}
+use Rattle.mml_lab.specs.declared.{TheConstants.MAX_STUDENTS, who.Who.Who}
 use Rattle.mml_lab.specs.Rosters.{Account, IsRoster, IsPrincipal, name_of, account_of, with_owners, is_account, no_account}
-use Rattle.mml_lab_file.specs.Reading.{is_name_again, name_twice}
-use Rattle.mml_lab_file.specs.LabMeaning.{IsFirstAgain, AreDistinctBelow, name_at}
+use Rattle.mml_lab_file.specs.{Reading.is_name_again, Reading.name_twice, LabMeaning.IsFirstAgain, LabMeaning.AreDistinctBelow, LabMeaning.name_at}
 use Rattle.mml_ids.proofs.SearchLemmas.{position-None, first-is, first-at, none-is, none-at}
 use Rattle.mml_lab.specs.declared.who.Who.TheVariants as who
 use Rattle.mml_lab.specs.declared.lab_fault.LabFault.TheVariants as fault

@@ -4,10 +4,9 @@ use Rattle.std.proofs.Common.{◌≡◌, ◌<◌, ◌+◌, ℕ, suc, List, [], �
 use Rattle.std.specs.List.{slice_get}
 use Rattle.mml_ids.specs.Gives.{◌>>◌, need, first_fault, fault_if}
 use Rattle.mml_lab.specs.declared.lab_fault.LabFault.{LabFault}
-use Rattle.mml_lab_file.specs.Shape.{RawSpec}
-use Rattle.mml_lab_file.specs.LabErrors.{order_of, errors_of, IsFirstError}
-use Rattle.mml_lab_file.specs.Reading.{both_fault, ids_fault, forms_fault, no_owner_fault, owner_twice_fault, ends_fault, loops_fault, again_fault, pointers_fault, pass_unless, identified, enrolled, owned}
-use Rattle.mml_lab_file.specs.Reading.{linked, limited, checked, error_of, lab_fault}
+use Rattle.mml_lab_file.specs.{Shape.RawSpec, LabErrors.order_of, LabErrors.errors_of, LabErrors.IsFirstError}
+use Rattle.mml_lab_file.specs.Reading.{both_fault, ids_fault, forms_fault, no_owner_fault, owner_twice_fault, ends_fault, loops_fault, again_fault, pointers_fault, pass_unless, identified, enrolled}
+use Rattle.mml_lab_file.specs.Reading.{owned, linked, limited, checked, error_of, lab_fault}
 
 -- the first of a list of errors
 abbrev pub first_of : List (Option LabFault) → Option LabFault

@@ -3,15 +3,11 @@ use Rattle.std.proofs.Common.{◌≡◌, ◌≤◌, ℕ, zero, suc, Bool, true, 
 use Rattle.std.{specs.List.position, specs.List.slice_get, proofs.lemmas.Bool.ltb-false}
 use Rattle.mml_ids.specs.{Gives.fault_if, Search.first_below, Ids.id_fault}
 use Rattle.mml_ids.proofs.GivesLemmas.{bind-ok, if_none, map_none}
-use Rattle.mml_lab.specs.declared.TheConstants.{MAX_EVENTS, MAX_SESSIONS, MAX_STUDENTS}
-use Rattle.mml_lab.specs.declared.lab_fault.LabFault.{LabFault}
-use Rattle.mml_lab_file.specs.Shape.{NodeSpec, RawSpec}
-use Rattle.mml_lab.specs.Rosters.{is_account}
-use Rattle.mml_lab_file.specs.Reading.{name_twice}
-use Rattle.mml_lab_file.specs.LabErrors.{errors_of}
-use Rattle.mml_lab.specs.Labs.{LabValue}
-use Rattle.mml_lab_file.specs.Reading.{file_ids, lacks_owner, lacks_end, is_loop, is_link_again, points_at_unlinked, is_within, are_one_twice, both_fault, ids_fault, forms_fault, no_owner_fault}
-use Rattle.mml_lab_file.specs.Reading.{owner_twice_fault, ends_fault, loops_fault, again_fault, pointers_fault, checked, error_of, lab_fault, lab_in, lab_from}
+use Rattle.mml_lab.specs.declared.{TheConstants.MAX_EVENTS, TheConstants.MAX_SESSIONS, TheConstants.MAX_STUDENTS, lab_fault.LabFault.LabFault}
+use Rattle.mml_lab_file.specs.{Shape.NodeSpec, Shape.RawSpec, LabErrors.errors_of}
+use Rattle.mml_lab.specs.{Rosters.is_account, Labs.LabValue}
+use Rattle.mml_lab_file.specs.Reading.{name_twice, file_ids, lacks_owner, lacks_end, is_loop, is_link_again, points_at_unlinked, is_within, are_one_twice, both_fault, ids_fault, forms_fault}
+use Rattle.mml_lab_file.specs.Reading.{no_owner_fault, owner_twice_fault, ends_fault, loops_fault, again_fault, pointers_fault, checked, error_of, lab_fault, lab_in, lab_from}
 use Rattle.mml_lab_file.proofs.LabErrorsLemmas.{first_of, first_error}
 use Rattle.mml_lab.specs.declared.lab_fault.LabFault.TheVariants as fault
 

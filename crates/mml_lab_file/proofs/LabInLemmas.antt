@@ -7,15 +7,12 @@ use Rattle.std.proofs.lemmas.List.{get_or-map, get_or_past, length-map, Elements
 use Rattle.mml_ids.specs.{Ids.in_order, Ids.rank_in, Ids.IsTable, inside.WordsLemmas.has_empty}
 use Rattle.mml_ids.proofs.{IdsLemmas.id_of_rank, MapLemmas.list_any-map, SearchLemmas.position-None, InOrderLemmas.in_order-moves, InOrderTableLemmas.in_order-table}
 use Rattle.mml_rules.specs.{declared.regs.Regs.Regs, Network.Network, Network.no_regs, Network.registers_at, Network.configuration_of, Network.IsNetwork}
-use Rattle.mml_lab.specs.declared.TheConstants.{MAX_EVENTS, MAX_SESSIONS}
+use Rattle.mml_lab.specs.{declared.TheConstants.MAX_EVENTS, declared.TheConstants.MAX_SESSIONS, Labs.IsLab, Labs.LabValue}
 use Rattle.mml_lab.specs.Rosters.{Account, has_name, no_account, with_owners, IsRoster}
 use Rattle.mml_lab_file.specs.Shape.{NodeSpec, RawSpec}
-use Rattle.mml_lab.specs.Labs.{IsLab, LabValue}
 use Rattle.mml_lab_file.specs.Reading.{number_of, file_ids, joins, is_linked, is_loop, is_within, lacks_owner, points_at_unlinked, node_with, student_index, owners_in, owners_with, registers_in}
 use Rattle.mml_lab_file.specs.Reading.{registers_with, neighbours_of, network_in, lab_in, lab_from}
-use Rattle.mml_lab_file.proofs.FirstAgainLemmas.{is_roster}
-use Rattle.mml_lab_file.proofs.NeighboursLemmas.{has-neighbours_of}
-use Rattle.mml_lab_file.proofs.LabFaultLemmas.{IsFaultless, faultless, made}
+use Rattle.mml_lab_file.proofs.{FirstAgainLemmas.is_roster, NeighboursLemmas.has-neighbours_of, LabFaultLemmas.IsFaultless, LabFaultLemmas.faultless, LabFaultLemmas.made}
 use Rattle.mml_ids.proofs.FindLemmas.{IsFound, find-is, find-some, list_any-found, list_any-same}
 
 -- a number that is some natural number above 0 is not negative

@@ -3,15 +3,13 @@ use Rattle.std.proofs.lemmas.Bool.{Decides.nat_tests, Decides.Decides-int_eq, ca
 use Rattle.std.proofs.Common.{◌≡◌, ◌≢◌, ◌↔◌, ℕ, ℤ, pos, ◌<◌, ◌==◌, Bool, true, false, not, ◌&&◌, List, [], length, get_or, map, Option, Some, None, Ok, ◌⊎◌, inl, inr, sym, ap, ◌∙◌, subst, arith}
 use Rattle.std.proofs.Common.{Contains}
 use Rattle.std.specs.{Prelude.slice_index, Prelude.position, Prelude.unwrap_or, List.list_any, List.Any, Option.option_and_then, Option.option_map_or, Ordering.int_eq}
-use Rattle.std.proofs.lemmas.List.{get_or-map, get_or_default, get_or-take, length-map, length-take-le}
-use Rattle.std.proofs.lemmas.List.{Folds.list_any_at, Folds.Any-from_list_any, Folds.list_any-from_Any, Sorted.list_any-IsPermutation}
+use Rattle.std.proofs.lemmas.List.{get_or-map, get_or_default, get_or-take, length-map, length-take-le, Folds.list_any_at, Folds.Any-from_list_any, Folds.list_any-from_Any}
+use Rattle.std.proofs.lemmas.List.{Sorted.list_any-IsPermutation}
 use Rattle.mml_ids.proofs.{GivesLemmas.bind-ok, IdsLemmas.rank_of_id, IdsLemmas.sound, MapLemmas.list_any-map, InOrderLemmas.in_order-moves, FindLemmas.list_any-found}
 use Rattle.mml_ids.specs.Ids.{in_order, rank_in, is_again_at, IsTable}
 use Rattle.mml_rules.specs.{declared.regs.Regs.Regs, Network.no_regs, Network.registers_at, Network.configuration_of}
-use Rattle.mml_lab_file.specs.Shape.{NodeSpec, RawSpec, spelled}
-use Rattle.mml_lab_file.specs.LabMeaning.{Joins, HasLink, HasNode, JoinNodes}
-use Rattle.mml_lab.specs.Rosters.{RosterValue, has_name, with_owners, owns, owners_of, name_of}
-use Rattle.mml_lab.specs.Labs.{LabValue, IsLab}
+use Rattle.mml_lab_file.specs.{Shape.NodeSpec, Shape.RawSpec, Shape.spelled, LabMeaning.Joins, LabMeaning.HasLink, LabMeaning.HasNode, LabMeaning.JoinNodes}
+use Rattle.mml_lab.specs.{Rosters.RosterValue, Rosters.has_name, Rosters.with_owners, Rosters.owns, Rosters.owners_of, Rosters.name_of, Labs.LabValue, Labs.IsLab}
 use Rattle.mml_lab_file.specs.Reading.{number_of, file_ids, is_node, joins, is_linked, is_loop, lacks_owner, lacks_end, points_at_unlinked, node_with, registers_in, student_index, owners_in}
 use Rattle.mml_lab_file.specs.Reading.{owners_with, lab_from, lab_of}
 use Rattle.mml_ids.proofs.SearchLemmas.{position-None, position-none, none-is}

@@ -3,13 +3,10 @@ use Rattle.std.proofs.Common.{◌≡◌, ◌≢◌, ◌↔◌, ℕ, List, length
 use Rattle.std.specs.Prelude.{option_map}
 use Rattle.mml_ids.specs.{Gives.fault_if, Search.first_below, Ids.id_fault, declared.id_table.IdFault.IdFault}
 use Rattle.mml_ids.proofs.GivesLemmas.{bind-ok, bind-from}
-use Rattle.mml_lab_file.specs.Shape.{RawSpec}
-use Rattle.mml_lab_file.specs.LabMeaning.{IsLabOfFile, IsFirstLinkAgain}
+use Rattle.mml_lab_file.specs.{Shape.RawSpec, LabMeaning.IsLabOfFile, LabMeaning.IsFirstLinkAgain}
 use Rattle.mml_lab.specs.Labs.{LabValue}
 use Rattle.mml_lab_file.specs.Reading.{file_ids, is_link_again, ids_fault, again_fault, lab_fault, lab_of}
-use Rattle.mml_lab_file.proofs.LabErrorsLemmas.{told_in_order}
-use Rattle.mml_lab_file.proofs.LabFaultLemmas.{made, makes}
-use Rattle.mml_lab_file.proofs.LinksFaultLemmas.{first-means}
+use Rattle.mml_lab_file.proofs.{LabErrorsLemmas.told_in_order, LabFaultLemmas.made, LabFaultLemmas.makes, LinksFaultLemmas.first-means}
 use Rattle.mml_ids.specs.declared.id_table.IdFault.TheVariants as id
 use Rattle.mml_lab.specs.declared.lab_fault.LabFault.TheVariants as fault
 

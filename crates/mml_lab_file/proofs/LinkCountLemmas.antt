@@ -6,13 +6,11 @@ use Rattle.std.{specs.Prelude.slice_index, specs.List.list_any, specs.Option.opt
 use Rattle.std.proofs.lemmas.List.{get_or_default, length-map, Folds.list_any_more, Folds.Any-from_list_any, Folds.list_any-from_Any, Sorted.list_any-IsPermutation}
 use Rattle.mml_ids.specs.Ids.{in_order, IsTable}
 use Rattle.mml_rules.specs.Network.{configuration_of}
-use Rattle.mml_lab_file.specs.Shape.{NodeSpec, RawSpec}
-use Rattle.mml_lab_file.specs.LabMeaning.{Joins, HasNode}
+use Rattle.mml_lab_file.specs.{Shape.NodeSpec, Shape.RawSpec, LabMeaning.Joins, LabMeaning.HasNode}
 use Rattle.mml_lab_file.specs.Reading.{number_of, file_ids, joins, is_linked, is_link_again, registers_with, network_in, lab_in}
 use Rattle.mml_lab.specs.Labs.{link_count}
 use Rattle.mml_ids.proofs.{MapLemmas.list_any-map, SearchLemmas.none-is, InOrderLemmas.in_order-moves}
-use Rattle.mml_lab_file.proofs.LabFaultLemmas.{IsFaultless}
-use Rattle.mml_lab_file.proofs.LabMeaningLemmas.{joins-means, all-join}
+use Rattle.mml_lab_file.proofs.{LabFaultLemmas.IsFaultless, LabMeaningLemmas.joins-means, LabMeaningLemmas.all-join}
 use Rattle.mml_lab_file.proofs.LabInLemmas.{positive, is_linked_turned, linked-in, net, table}
 use Rattle.mml_lab_file.proofs.LinksBelowLemmas.{pairs_below, links_below-pairs, pairs_same, pairs_one, no_pairs}
 

@@ -5,8 +5,7 @@ use Rattle.std.specs.{Prelude.option_map, Prelude.slice_get, Option.option_map_o
 use Rattle.std.proofs.lemmas.List.{get_or-take, length-take, length-take-le, Folds.list_any_at}
 use Rattle.mml_ids.specs.{Gives.◌>>◌, Search.first_below}
 use Rattle.mml_lab.specs.declared.lab_fault.LabFault.{LabFault}
-use Rattle.mml_lab_file.specs.Shape.{RawSpec}
-use Rattle.mml_lab_file.specs.LabMeaning.{JoinNodes, IsLinkAgain, IsFirstLinkAgain}
+use Rattle.mml_lab_file.specs.{Shape.RawSpec, LabMeaning.JoinNodes, LabMeaning.IsLinkAgain, LabMeaning.IsFirstLinkAgain}
 use Rattle.mml_lab_file.specs.Reading.{is_linked, is_link_again, ends_fault, loops_fault, again_fault, pass_unless, linked}
 use Rattle.mml_ids.proofs.{SearchLemmas.first-is, SearchLemmas.first-at, SearchLemmas.none-is, SearchLemmas.none-at, FindLemmas.list_any-found}
 use Rattle.mml_lab_file.proofs.LabMeaningLemmas.{joins-means, join-means}

@@ -4,9 +4,7 @@ use Rattle.std.proofs.Common.{◌≡◌, ℕ, suc, ◌+◌, ◌-◌, ◌<◌, Li
 use Rattle.std.proofs.Common.{Global, is_some, true≢false, append-nil, length-append, rules}
 use Rattle.mml_ids.specs.{Gives.unless_fault, Search.first_from, Search.first_below}
 use Rattle.mml_ids.proofs.SearchLemmas.{first_here, first_next, first_end}
-use Rattle.mml_lab.specs.declared.accounts.Account.{Account as KeptAccount}
-use Rattle.mml_lab.specs.Rosters.{Account, has_name}
-use Rattle.mml_lab.specs.AccountView.{account_view, entry_account}
+use Rattle.mml_lab.specs.{declared.accounts.Account.Account as KeptAccount, Rosters.Account, Rosters.has_name, AccountView.account_view, AccountView.entry_account}
 use Rattle.mml_lab_file.specs.Reading.{is_name_again, name_twice}
 use Rattle.mml_lab.proofs.StudentNamedLemmas.{Entry}
 use Rattle.mml_lab.specs.declared.lab_fault.LabFault.TheVariants as fault

@@ -1,16 +1,15 @@
 -- The rows of neighbours, as links are put into them one after the other.
-use Rattle.std.proofs.lemmas.Bool.{Decides.nat_tests, and_right, cases_lt, ne_eqb, lt-ltb, le-ltb}
-use Rattle.std.proofs.lemmas.{Grind.common_steps, List.Folds.list_any_more, List.Quantifiers.position-Some}
+use Rattle.std.proofs.lemmas.{Bool.Decides.nat_tests, Bool.and_right, Bool.cases_lt, Bool.ne_eqb, Bool.lt-ltb, Bool.le-ltb, Grind.common_steps, List.Folds.list_any_more}
+use Rattle.std.proofs.lemmas.{List.Quantifiers.position-Some, List.get_or_default, List.get_or-replicate, List.length-replicate, List.get_or-map, List.length-map, List.same_lists}
 use Rattle.std.proofs.Common.{◌≡◌, ℕ, ℤ, pos, negsuc, ◌+◌, ◌<◌, ◌&&◌, ◌||◌, ltb, List, [], length, get_or, take, map, sym, ◌∙◌, arith, rules}
 use Rattle.std.specs.{Prelude.slice_index, Prelude.replicate, Ordering.nat_cmp, Ordering.int_eq}
-use Rattle.std.proofs.lemmas.List.{get_or_default, get_or-replicate, length-replicate, get_or-map, length-map, same_lists}
 use Rattle.mml_ids.specs.{Ids.rank_in, Ids.IsTable, inside.WordsLemmas.has_empty, inside.WordsLemmas.has-those_below, inside.WordsLemmas.same_ranks}
 use Rattle.mml_ids.proofs.{IdsLemmas.rank_of_id, IdsLemmas.id_of_rank, SearchLemmas.same_bool}
 use Rattle.mml_rules.specs.{Configuration.holds, Network.neighbours_at}
 use Rattle.mml_rules.proofs.ConfigurationLemmas.{holds-true, holds-from}
 use Rattle.mml_lab_file.specs.Reading.{number_of, joins, is_linked, neighbours_of}
-use Rattle.std.specs.FinSet as sets
 use Rattle.mml_lab.proofs.RowLemmas.{Rows}
+use Rattle.std.specs.FinSet as sets
 
 -- an end is a node's identifier exactly if it has the node's rank
 pub end_at : (ids : List ℕ) → IsTable ids → (z : ℤ) (i : ℕ) → i < length ids → int_eq z (pos (slice_index ids i)) ≡ holds (rank_in ids (number_of z)) i

@@ -3,12 +3,10 @@ use Rattle.std.proofs.Common.{◌≡◌, ◌≢◌, ◌⊎◌, inl, inr, ℕ, Li
 use Rattle.std.specs.Prelude.{codes, ok_or, IfErr}
 use Rattle.toml.specs.Data.{Data, Items, no_items, item, Members, as_table, as_array}
 use Rattle.mml_ids.specs.Gives.{◌>>=◌}
-use Rattle.mml_lab.specs.declared.lab_fault.LabFault.{LabFault}
-use Rattle.mml_lab.specs.declared.lab_fault.Key.{Key}
-use Rattle.mml_lab_file.specs.Reading.{lab_fault, lab_of}
-use Rattle.mml_lab_file.specs.Shape.{of_kind, needed, optional_of, each, account_in, student_of, names_of, node_of, link_of, RawSpec, links_of, teacher_of, students_of, nodes_of, raw_of, table_in, spelled}
-use Rattle.mml_lab_file.proofs.LabFaultLemmas.{refuses}
-use Rattle.mml_lab_file.proofs.LabOfLemmas.{no_memory, no_memory_of_ids}
+use Rattle.mml_lab.specs.declared.lab_fault.{LabFault.LabFault, Key.Key}
+use Rattle.mml_lab_file.specs.{Reading.lab_fault, Reading.lab_of, Shape.of_kind, Shape.needed, Shape.optional_of, Shape.each, Shape.account_in, Shape.student_of, Shape.names_of, Shape.node_of}
+use Rattle.mml_lab_file.specs.{Shape.link_of, Shape.RawSpec, Shape.links_of, Shape.teacher_of, Shape.students_of, Shape.nodes_of, Shape.raw_of, Shape.table_in, Shape.spelled}
+use Rattle.mml_lab_file.proofs.{LabFaultLemmas.refuses, LabOfLemmas.no_memory, LabOfLemmas.no_memory_of_ids}
 use Rattle.mml_ids.specs.declared.id_table.IdFault.TheVariants as id
 use Rattle.mml_lab.specs.declared.lab_fault.LabFault.TheVariants as fault
 use Rattle.mml_lab.specs.declared.lab_fault.Key.TheVariants as key

@@ -5,14 +5,10 @@ use Rattle.std.specs.{Prelude.codes, Prelude.ok_or, Prelude.position, Prelude.sl
 use Rattle.std.proofs.lemmas.{List.get_or-map, List.length-map, List.Quantifiers.position-Some, Slice.Eq.bytes_eq-Decides}
 use Rattle.toml.specs.Data.{Data, Items, no_items, item, get_member, as_integer, as_array}
 use Rattle.mml_ids.proofs.{GivesLemmas.bind-ok, SearchLemmas.position-None}
-use Rattle.mml_lab.specs.declared.lab_fault.LabFault.{LabFault}
-use Rattle.mml_lab.specs.Rosters.{has_name, no_account, owners_of, Account}
+use Rattle.mml_lab.specs.{declared.lab_fault.LabFault.LabFault, Rosters.has_name, Rosters.no_account, Rosters.owners_of, Rosters.Account, Labs.LabValue}
 use Rattle.mml_lab_file.specs.Shape.{NodeSpec, RawSpec, needed, optional, each, names_of, owner_names, node_of, nodes_of, links_of, teacher_of, students_of, raw_of, table_in, spelled}
-use Rattle.mml_lab.specs.Labs.{LabValue}
 use Rattle.mml_lab_file.specs.Reading.{lab_fault, are_one_twice, student_index, owners_in, owners_with, lab_in, lab_of}
-use Rattle.mml_lab_file.proofs.LabFaultLemmas.{IsFaultless, faultless}
-use Rattle.mml_lab_file.proofs.LabInLemmas.{ids, node_at, index-position, owners-known}
-use Rattle.mml_lab_file.proofs.LabOfLemmas.{of_file}
+use Rattle.mml_lab_file.proofs.{LabFaultLemmas.IsFaultless, LabFaultLemmas.faultless, LabInLemmas.ids, LabInLemmas.node_at, LabInLemmas.index-position, LabInLemmas.owners-known, LabOfLemmas.of_file}
 use Rattle.mml_lab.specs.declared.lab_fault.LabFault.TheVariants as fault
 use Rattle.mml_lab.specs.declared.lab_fault.Key.TheVariants as key
 

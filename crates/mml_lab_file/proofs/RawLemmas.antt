@@ -2,12 +2,8 @@
 use Rattle.std.proofs.Common.{◌≡◌, ℕ, List, [], ◌∷◌, map, None, Ok, Err, MatchBool, refl, String, Global, string_bytes, arith}
 use Rattle.std.specs.{Prelude.option_map, Prelude.is_some, Prelude.bytes_eq, Prelude.◌==◌, List.list_any, List.find, Map.lookup}
 use Rattle.mml_ids.specs.{Gives.Faults, Ids.id_fault, Ids.is_id_memory, declared.id_table.IdFault.IdFault}
-use Rattle.mml_lab_file.specs.declared.raw_lab.RawNode.{RawNode}
-use Rattle.mml_lab_file.specs.Shape.{NodeSpec, is_lab_memory}
-use Rattle.mml_lab_file.specs.inside.Raw.{node_view}
-use Rattle.mml_lab.specs.AccountView.{entry_account}
-use Rattle.mml_lab.specs.Rosters.{has_name}
-use Rattle.mml_lab_file.specs.Faults.{id_fault_as}
+use Rattle.mml_lab_file.specs.{declared.raw_lab.RawNode.RawNode, Shape.NodeSpec, Shape.is_lab_memory, inside.Raw.node_view, Faults.id_fault_as}
+use Rattle.mml_lab.specs.{AccountView.entry_account, Rosters.has_name}
 use Rattle.mml_lab_file.specs.Reading.{number_of, file_ids, node_with, ids_fault, pass_unless}
 use Rattle.mml_ids.proofs.MapLemmas.{find-map, map-map}
 

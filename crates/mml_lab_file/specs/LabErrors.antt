@@ -2,12 +2,11 @@
 use Rattle.std.specs.Prelude.{◌≡◌, ℕ, ◌<◌, not, nat_lt, List, [], ◌∷◌, length, Option, Some, None}
 use Rattle.std.specs.List.{slice_get}
 use Rattle.mml_ids.specs.Gives.{fault_if}
-use Rattle.mml_lab.specs.declared.TheConstants.{MAX_EVENTS, MAX_SESSIONS, MAX_STUDENTS}
-use Rattle.mml_lab.specs.declared.lab_fault.LabFault.{LabFault}
-use Rattle.mml_lab.specs.declared.lab_fault.LabFault.TheVariants as fault
-use Rattle.mml_lab.specs.declared.lab_fault.Key.TheVariants as key
+use Rattle.mml_lab.specs.declared.{TheConstants.MAX_EVENTS, TheConstants.MAX_SESSIONS, TheConstants.MAX_STUDENTS, lab_fault.LabFault.LabFault}
 use Rattle.mml_lab_file.specs.Shape.{RawSpec}
 use Rattle.mml_lab_file.specs.Reading.{name_twice, is_within, both_fault, ids_fault, forms_fault, no_owner_fault, owner_twice_fault, ends_fault, loops_fault, again_fault, pointers_fault}
+use Rattle.mml_lab.specs.declared.lab_fault.LabFault.TheVariants as fault
+use Rattle.mml_lab.specs.declared.lab_fault.Key.TheVariants as key
 
 -- the index of an error, from 0, in the order in which errors of a file that has all keys, each of its kind, are
 -- reported: both keys for owners, identifiers, names and keys, names that occur twice, owners that are no students, two

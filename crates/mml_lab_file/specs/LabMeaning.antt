@@ -1,10 +1,8 @@
 -- What the definitions of a lab mean, stated as facts.
 use Rattle.std.specs.Prelude.{◌≡◌, ◌≢◌, ◌<◌, ◌⊎◌, ℕ, ℤ, pos, List, length, slice_get, slice_index, slice_index_or, All, Contains, Ok, Some, None}
 use Rattle.std.specs.List.{Any}
-use Rattle.mml_lab_file.specs.Shape.{NodeSpec, RawSpec, spelled}
-use Rattle.mml_lab.specs.Rosters.{Account, no_account}
-use Rattle.mml_lab.specs.Labs.{LabValue}
-use Rattle.mml_lab_file.specs.Reading.{lab_fault, lab_in}
+use Rattle.mml_lab_file.specs.{Shape.NodeSpec, Shape.RawSpec, Shape.spelled, Reading.lab_fault, Reading.lab_in}
+use Rattle.mml_lab.specs.{Rosters.Account, Rosters.no_account, Labs.LabValue}
 
 -- the link has these two ends, in either order
 abbrev pub Joins : ℤ → ℤ → ℤ × ℤ → Type 0

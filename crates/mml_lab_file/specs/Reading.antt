@@ -1,23 +1,14 @@
 -- The lab that a file spells, and the first error of one that spells none.
-use Rattle.std.specs.Prelude.{ℕ, zero, ℤ, pos, negsuc, Bool, false, not, ◌&&◌, ◌||◌, nat_lt, nat_le, List, [], ◌∷◌, length, map, take}
-use Rattle.std.specs.Prelude.{slice_index, slice_index_or, position, bytes_eq, Option, Some, None, option_map, unwrap_or, ◌==◌, Result, Ok, Err}
-use Rattle.std.specs.List.{list_any, find, slice_get}
-use Rattle.std.specs.Option.{option_map_or, option_and_then}
-use Rattle.std.specs.Ordering.{nat_cmp, int_eq}
-use Rattle.std.specs.FinSet.{FinSet}
-use Rattle.mml_ids.specs.Gives.{need, unless_fault, ◌>>=◌, ◌>>◌}
-use Rattle.mml_ids.specs.Search.{first_below}
-use Rattle.mml_ids.specs.Sets.{those_below}
-use Rattle.mml_ids.specs.Ids.{id_fault, in_order, rank_in}
-use Rattle.mml_rules.specs.declared.regs.Regs.{Regs}
-use Rattle.mml_rules.specs.Network.{Network, no_regs}
-use Rattle.mml_lab.specs.declared.TheConstants.{MAX_EVENTS, MAX_SESSIONS, MAX_STUDENTS}
-use Rattle.mml_lab.specs.declared.lab_fault.LabFault.{LabFault}
+use Rattle.std.specs.Prelude.{ℕ, zero, ℤ, pos, negsuc, Bool, false, not, ◌&&◌, ◌||◌, nat_lt, nat_le, List, [], ◌∷◌, length, map, take, slice_index, slice_index_or, position, bytes_eq, Option, Some}
+use Rattle.std.specs.Prelude.{None, option_map, unwrap_or, ◌==◌, Result, Ok, Err}
+use Rattle.std.specs.{List.list_any, List.find, List.slice_get, Option.option_map_or, Option.option_and_then, Ordering.nat_cmp, Ordering.int_eq, FinSet.FinSet}
+use Rattle.mml_ids.specs.{Gives.need, Gives.unless_fault, Gives.◌>>=◌, Gives.◌>>◌, Search.first_below, Sets.those_below, Ids.id_fault, Ids.in_order, Ids.rank_in}
+use Rattle.mml_rules.specs.{declared.regs.Regs.Regs, Network.Network, Network.no_regs}
+use Rattle.mml_lab.specs.declared.{TheConstants.MAX_EVENTS, TheConstants.MAX_SESSIONS, TheConstants.MAX_STUDENTS, lab_fault.LabFault.LabFault}
+use Rattle.mml_lab.specs.{Rosters.Account, Rosters.is_account, Rosters.has_name, Rosters.no_account, Rosters.with_owners, Labs.LabValue}
+use Rattle.mml_lab_file.specs.Shape.{NodeSpec, RawSpec, spelled}
 use Rattle.mml_lab.specs.declared.lab_fault.LabFault.TheVariants as fault
 use Rattle.mml_lab.specs.declared.lab_fault.Key.TheVariants as key
-use Rattle.mml_lab.specs.Rosters.{Account, is_account, has_name, no_account, with_owners}
-use Rattle.mml_lab.specs.Labs.{LabValue}
-use Rattle.mml_lab_file.specs.Shape.{NodeSpec, RawSpec, spelled}
 
 -- the number; a negative one counts as 0
 abbrev pub number_of : ℤ → ℕ

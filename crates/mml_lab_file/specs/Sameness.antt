@@ -1,11 +1,10 @@
 -- Two labs that agree in all that a journal names: its lines mean the same in both. Keys and limits may differ.
 use Rattle.std.specs.Prelude.{◌≡◌, ◌<◌, ℕ, List, length, Ok}
-use Rattle.std.specs.FinSet as set
 use Rattle.mml_rules.specs.Network.{neighbours_at, registers_at}
-use Rattle.mml_lab.specs.declared.who.Who.TheVariants as who
-use Rattle.mml_lab.specs.Rosters.{RosterValue, name_of, owns}
-use Rattle.mml_lab.specs.Labs.{LabValue}
+use Rattle.mml_lab.specs.{Rosters.RosterValue, Rosters.name_of, Rosters.owns, Labs.LabValue}
 use Rattle.mml_lab_file.specs.Reading.{lab_of}
+use Rattle.std.specs.FinSet as set
+use Rattle.mml_lab.specs.declared.who.Who.TheVariants as who
 
 -- the node of that rank has the same links in both labs
 abbrev pub HasSameLinks : LabValue → LabValue → ℕ → Type 0

@@ -1,15 +1,10 @@
 -- The contents of a TOML table as a lab, or the first key that is missing or of the wrong kind.
-use Rattle.std.specs.Prelude.{ℕ, ℤ, Bool, true, false, ◌&&◌, nat_lt, nat_le, codes, List, [], ◌∷◌, length, Option, Some, None, option_map, is_some, Result, Ok}
-use Rattle.std.specs.Prelude.{Err, ok_or, if◌then◌else◌}
+use Rattle.std.specs.Prelude.{ℕ, ℤ, Bool, true, false, ◌&&◌, nat_lt, nat_le, codes, List, [], ◌∷◌, length, Option, Some, None, option_map, is_some, Result, Ok, Err, ok_or, if◌then◌else◌}
 use Rattle.std.specs.Str.{is_utf8}
-use Rattle.toml.specs.Parse.{parse_document}
+use Rattle.toml.specs.{Parse.parse_document, Data.Data, Data.Items, Data.no_items, Data.item, Data.Members, Data.get_member, Data.as_str, Data.as_integer, Data.as_bool, Data.as_table, Data.as_array}
 use Rattle.mml_ids.specs.Gives.{◌>>=◌}
-use Rattle.toml.specs.Data.{Data, Items, no_items, item, Members, get_member, as_str, as_integer, as_bool, as_table, as_array}
-use Rattle.mml_lab.specs.declared.TheConstants.{MAX_OWNERS}
-use Rattle.mml_lab.specs.Rosters.{Account}
-use Rattle.mml_lab.specs.declared.lab_fault.LabFault.{LabFault}
+use Rattle.mml_lab.specs.{declared.TheConstants.MAX_OWNERS, declared.lab_fault.LabFault.LabFault, declared.lab_fault.Key.Key, Rosters.Account}
 use Rattle.mml_lab.specs.declared.lab_fault.LabFault.TheVariants as fault
-use Rattle.mml_lab.specs.declared.lab_fault.Key.{Key}
 use Rattle.mml_lab.specs.declared.lab_fault.Key.TheVariants as key
 
 -- the error is that memory ran out, about which the definitions say nothing

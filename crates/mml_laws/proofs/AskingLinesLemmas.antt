@@ -1,38 +1,27 @@
 -- The lines that ask for grants and closes, and the hellos before them, are read as script lines.
-use Rattle.std.proofs.Common.{◌≡◌, ◌≢◌, ℕ, ◌<◌, ◌≤◌, ◌+◌, ◌*◌, ◌^◌, ◌/◌, ◌%◌, nat_lt, Bool, true, false, cond, List, [], ◌∷◌, ◌++◌, codes, decimal, length, refl, sym, subst, arith}
-use Rattle.std.proofs.Common.{length-append, get_or, inl, inr}
-use Rattle.std.specs.List.{All}
-use Rattle.std.proofs.lemmas.Bool.{and_parts, cases_lt, false≢true}
-use Rattle.std.proofs.lemmas.Fmt.{length-decimal-le}
-use Rattle.std.proofs.lemmas.Str.{IsUtf8-from_ascii}
-use Rattle.std.specs.Char.{digit_char}
-use Rattle.std.specs.Int.{IsInRange}
+use Rattle.std.proofs.Common.{◌≡◌, ◌≢◌, ℕ, ◌<◌, ◌≤◌, ◌+◌, ◌*◌, ◌^◌, ◌/◌, ◌%◌, nat_lt, Bool, true, false, cond, List, [], ◌∷◌, ◌++◌, codes, decimal, length, refl, sym, subst, arith, length-append}
+use Rattle.std.proofs.Common.{get_or, inl, inr}
+use Rattle.std.specs.{List.All, Char.digit_char, Int.IsInRange}
+use Rattle.std.proofs.lemmas.{Bool.and_parts, Bool.cases_lt, Bool.false≢true, Fmt.length-decimal-le, Str.IsUtf8-from_ascii, List.get_or_default, List.get_or_past}
 use Rattle.json.specs.Print.{escape_byte, escape, escape_letter, quoted}
 use Rattle.mml_ids.specs.Lines.{IsUnbroken}
-use Rattle.mml_lab.specs.declared.who.Who.{Who}
-use Rattle.mml_lab.specs.Labs.{LabValue, IsLab}
-use Rattle.mml_lab.specs.Rosters.{IsPrincipal, name_of, key_of, is_name, is_key}
-use Rattle.mml_lab.specs.RosterMeaning.{IsKey}
+use Rattle.mml_lab.specs.{declared.who.Who.Who, Labs.LabValue, Labs.IsLab, Rosters.IsPrincipal, Rosters.name_of, Rosters.key_of, Rosters.is_name, Rosters.is_key, RosterMeaning.IsKey}
 use Rattle.mml_lab.proofs.FormLemmas.{name-means, key-means}
 use Rattle.mml_rules.specs.declared.rule.Rule.{Rule}
-use Rattle.mml_rules.specs.declared.rule.Rule.TheVariants as rules
-use Rattle.mml_board.specs.declared.event.Event.{Event}
-use Rattle.mml_board.specs.declared.event.Event.TheVariants as event
-use Rattle.mml_board.specs.World.{World}
-use Rattle.mml_policy.specs.declared.command.Asked.TheVariants as asked
-use Rattle.mml_policy.specs.declared.command.Command.TheVariants as command
+use Rattle.mml_board.specs.{declared.event.Event.Event, World.World}
 use Rattle.mml_policy.specs.Asking.{id_of, command_of}
 use Rattle.mml_journal.specs.EventLines.{IsEventOf}
 use Rattle.mml_journal.proofs.NameLemmas.{name_is_utf8}
 use Rattle.mml_convergence.specs.Rest.{is_grant_or_close}
-use Rattle.mml_codec.specs.declared.TheConstants.{MAX_REQUEST}
-use Rattle.mml_codec.specs.declared.request.Request.{Request}
-use Rattle.mml_codec.specs.declared.request.Request.TheVariants as requests
-use Rattle.mml_codec.specs.Canonical.{canonical, IsWritable}
+use Rattle.mml_codec.specs.{declared.TheConstants.MAX_REQUEST, declared.request.Request.Request, Canonical.canonical, Canonical.IsWritable}
 use Rattle.mml_codec.proofs.CanonicalLemmas.{canonical_line}
 use Rattle.mml_hall.specs.ScriptLines.{IsScriptLine}
 use Rattle.mml_laws.specs.Finishes.{line_for, hello_of}
-use Rattle.std.proofs.lemmas.List.{get_or_default, get_or_past}
+use Rattle.mml_rules.specs.declared.rule.Rule.TheVariants as rules
+use Rattle.mml_board.specs.declared.event.Event.TheVariants as event
+use Rattle.mml_policy.specs.declared.command.Asked.TheVariants as asked
+use Rattle.mml_policy.specs.declared.command.Command.TheVariants as command
+use Rattle.mml_codec.specs.declared.request.Request.TheVariants as requests
 
 abbrev IsShort : Request → Type 0
 IsShort q = length (canonical q) ≤ MAX_REQUEST

@@ -5,8 +5,7 @@ use Rattle.std.proofs.lemmas.Bool.{and_parts, and_from, false≢true, ltb-true, 
 use Rattle.mml_rules.specs.declared.rule.Rule.{Rule}
 use Rattle.mml_lab.specs.{Labs.LabValue, Labs.IsLab, Rosters.RosterValue}
 use Rattle.mml_board.specs.{declared.event.Event.Event, World.World, World.IsWorld, World.size, World.chosen_at, World.opening_of, Events.is_legal, Events.after, Runs.is_legal_list, Runs.world_of}
-use Rattle.mml_board.proofs.{WorldLemmas.after-world, WorldLemmas.none_at, WorldLemmas.chosen_node, EventsLemmas.dropped}
-use Rattle.mml_board.proofs.ClausesLemmas.{is_fit, fit, legal_possible}
+use Rattle.mml_board.proofs.{WorldLemmas.after-world, WorldLemmas.none_at, WorldLemmas.chosen_node, EventsLemmas.dropped, ClausesLemmas.is_fit, ClausesLemmas.fit, ClausesLemmas.legal_possible}
 use Rattle.mml_audit.proofs.AuditMeaningLemmas.{reached_first}
 use Rattle.mml_tally.specs.Meaning.{leaves}
 use Rattle.mml_laws.specs.Choices.{IsGrantedLast}

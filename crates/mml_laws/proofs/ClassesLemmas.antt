@@ -2,8 +2,7 @@
 use Rattle.std.proofs.Common.{◌≡◌, ◌<◌, ◌≤◌, ◌+◌, ◌&&◌, ℕ, zero, suc, cond, nat_lt, nat_le, List, [], ◌∷◌, ◌++◌, map, length, All, Option, None, Some, refl, sym, ap, ◌∙◌, subst, arith, inl, inr}
 use Rattle.std.proofs.lemmas.Bool.{cases_Bool, cases_eq, and_parts, and_from, ltb-true, leb-true, lt-ltb, le-leb, eq-eqb, ne_eqb}
 use Rattle.std.proofs.lemmas.List.{Sums.sum_by-cons, Elements.All-head, Elements.All-tail}
-use Rattle.std.specs.List.{AllByRecursion, AllZip, range_with_len, sum_by}
-use Rattle.std.specs.Option.{unwrap_or}
+use Rattle.std.specs.{List.AllByRecursion, List.AllZip, List.range_with_len, List.sum_by, Option.unwrap_or}
 use mathlib.Core.List.{IsPrefix}
 use Rattle.mml_lab.specs.Labs.{LabValue}
 use Rattle.mml_board.specs.declared.event.Event.{Event}
@@ -11,13 +10,11 @@ use Rattle.mml_lines.specs.Runs.{Chain}
 use Rattle.mml_codec.specs.declared.reply.Reply.{Reply}
 use Rattle.mml_window.specs.{Logs.IsLogFrom, Tallies.IsEachOnceFrom, Windows.WindowValue, Windows.window}
 use Rattle.mml_session.specs.Records.{Kept, Stand, stand, Adds, EndedRecorded}
-use Rattle.mml_hosting.specs.declared.hosted.Hosted.{Hosted}
-use Rattle.mml_hosting.specs.declared.seat.{SeatRecord.SeatRecord, ServedSession.ServedSession}
+use Rattle.mml_hosting.specs.declared.{hosted.Hosted.Hosted, seat.SeatRecord.SeatRecord, seat.ServedSession.ServedSession}
 use Rattle.mml_hosting.specs.{Hosting.HostsFrom, Ports.numbers_of, Seats.Led, Seats.Leads, Seats.Terms, Seats.terms, Seats.kept_from, Seats.sessions_of}
 use Rattle.mml_record.specs.RecordedSeats.{Held, RecordedSeat, IsResumedSeat, IsRecordText, fresh}
 use Rattle.mml_record.proofs.RecordLemmas.{is_record_from}
-use Rattle.mml_laws.specs.Classes.{seat_of, seats_of}
-use Rattle.mml_laws.specs.Served.{replies_in, AreSessions, AreServed, named_by}
+use Rattle.mml_laws.specs.{Classes.seat_of, Classes.seats_of, Served.replies_in, Served.AreSessions, Served.AreServed, Served.named_by}
 use Rattle.mml_laws.proofs.ServedLemmas.{house_once}
 
 zip_append : {A B : Type 0} (P : A → B → Type 0) (xs us : List A) (ys vs : List B) → AllZip P xs ys → AllZip P us vs → AllZip P (xs ++ us) (ys ++ vs)
@@ -29,8 +26,7 @@ zip_append P (x ∷ xs) us (y ∷ ys) vs p q = (p.0, zip_append P xs us ys vs p.
 module _ {K C R W : Type 0} (t : Terms K C R W) where
   -- ---- the sessions of a house
 
-  talked : (n : ℕ) (ss : List (ServedSession R W)) (a b : Stand) → Chain (Leads t n) a ss b
-      → (rs : List (List Reply)) × AreSessions t.lab a.window rs b.window
+  talked : (n : ℕ) (ss : List (ServedSession R W)) (a b : Stand) → Chain (Leads t n) a ss b → (rs : List (List Reply)) × AreSessions t.lab a.window rs b.window
   talked n [] a b led = ([], ap (λ (s : Stand). s.window) led)
   talked n (s ∷ ss) a b led =
       let next : Stand = led.0 in
@@ -73,11 +69,7 @@ module _ {K C R W : Type 0} (t : Terms K C R W) where
   -- the sessions of a seat whose recorder has kept something before, as its record has them
   held : (n : ℕ) (ss : List (ServedSession R W)) (a b : Stand) (k : Kept) → a.kept ≡ Some k → Chain (Leads t n) a ss b
       → (k' : Kept) × (b.kept ≡ Some k') × Chain (Held t.lab n) (stand a.window (Some k)) (map (λ s. s.ending.end) ss) (stand b.window (Some k'))
-  held n [] a b k e led = (
-    k,
-    ap (λ (s : Stand). s.kept) led ∙ e,
-    ap (λ (s : Stand). stand s.window (Some k)) led,
-  )
+  held n [] a b k e led = (k, ap (λ (s : Stand). s.kept) led ∙ e, ap (λ (s : Stand). stand s.window (Some k)) led)
   held n (s ∷ ss) a b k e led =
       let more = still_kept a.kept led.0.kept k _ e led.1.2 in
       let rest = held n ss led.0 b more.0 more.1 led.2 in

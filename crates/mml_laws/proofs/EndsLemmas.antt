@@ -4,8 +4,7 @@ use Rattle.std.{specs.List.list_all, proofs.lemmas.Bool.and_parts, proofs.lemmas
 use Rattle.mml_rules.specs.Matching.{IsStable}
 use Rattle.mml_lab.specs.Labs.{LabValue, IsLab, link_count}
 use Rattle.mml_lab_file.specs.Reading.{lab_of}
-use Rattle.mml_lab_file.proofs.LabMeaningLemmas.{lawful}
-use Rattle.mml_lab_file.proofs.OwnersLemmas.{one_or_two}
+use Rattle.mml_lab_file.proofs.{LabMeaningLemmas.lawful, OwnersLemmas.one_or_two}
 use Rattle.mml_board.specs.{declared.event.Event.Event, Events.is_legal, Events.done_by, Runs.is_legal_list, Runs.world_of, Lists.world_in, Lists.world_in}
 use Rattle.mml_board.specs.World.{World, IsWorld, size, configuration, opening_of}
 use Rattle.mml_board.proofs.RunsLemmas.{list-world, legal-append, place-world_of}

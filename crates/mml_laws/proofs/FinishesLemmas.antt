@@ -1,43 +1,31 @@
 -- What is left of a run can be asked for.
-use Rattle.std.proofs.lemmas.Bool.{and_parts, and_from}
-use Rattle.std.proofs.lemmas.List.{get_or-set_same}
+use Rattle.std.{proofs.lemmas.Bool.and_parts, proofs.lemmas.Bool.and_from, proofs.lemmas.List.get_or-set_same, specs.List.list_all, specs.List.AllByRecursion}
 use Rattle.std.proofs.Common.{◌≡◌, ℕ, ◌<◌, ◌≤◌, ◌+◌, ◌*◌, ◌^◌, true, false, List, [], ◌∷◌, length, Option, None, Some, Ok, refl, sym, ap, ◌∙◌, subst, arith}
-use Rattle.std.specs.List.{list_all, AllByRecursion}
 use Rattle.mml_rules.specs.Matching.{IsStable}
-use Rattle.mml_lab.specs.declared.who.Who.{Who}
-use Rattle.mml_lab.specs.Labs.{LabValue, IsLab, link_count}
-use Rattle.mml_lab.specs.Rosters.{IsPrincipal, name_of, key_of}
+use Rattle.mml_lab.specs.{declared.who.Who.Who, Labs.LabValue, Labs.IsLab, Labs.link_count, Rosters.IsPrincipal, Rosters.name_of, Rosters.key_of}
 use Rattle.mml_lab_file.specs.Reading.{lab_of}
-use Rattle.mml_lab_file.proofs.LabMeaningLemmas.{lawful}
-use Rattle.mml_lab_file.proofs.OwnersLemmas.{one_or_two}
-use Rattle.mml_board.specs.declared.done.Done.{Done}
-use Rattle.mml_board.specs.declared.done.Done.TheVariants as done
-use Rattle.mml_board.specs.declared.event.Event.{Event}
-use Rattle.mml_board.specs.declared.event.Event.TheVariants as event
+use Rattle.mml_lab_file.proofs.{LabMeaningLemmas.lawful, OwnersLemmas.one_or_two}
+use Rattle.mml_board.specs.declared.{done.Done.Done, event.Event.Event}
 use Rattle.mml_board.specs.{World.World, World.IsWorld, World.size, World.configuration, World.opening_of, Events.is_legal, Events.after, Events.done_by, Runs.is_legal_list, Runs.world_of}
 use Rattle.mml_board.proofs.EventsLemmas.{next_place}
-use Rattle.mml_policy.specs.declared.ruling.Ruling.{TheVariants.Granted}
-use Rattle.mml_policy.specs.{Asking.asker, Asking.command_of, Rulings.ruling, Alike.IsWorldOf}
+use Rattle.mml_policy.specs.{declared.ruling.Ruling.TheVariants.Granted, Asking.asker, Asking.command_of, Rulings.ruling, Alike.IsWorldOf}
 use Rattle.mml_policy.proofs.AskingLemmas.{legal_granted}
 use Rattle.mml_journal.specs.EventLines.{IsEventOf}
 use Rattle.mml_journal.proofs.MemberLemmas.{legal_member}
-use Rattle.mml_convergence.specs.Rest.{EachHasOwner, LeadsToRest, is_grant_or_close}
+use Rattle.mml_convergence.specs.{Rest.EachHasOwner, Rest.LeadsToRest, Rest.is_grant_or_close, Most.events_to_rest}
 use Rattle.mml_convergence.proofs.LeadsToRestLemmas.{reached}
-use Rattle.mml_convergence.specs.Most.{events_to_rest}
-use Rattle.mml_codec.specs.declared.reply.Reply.{Reply}
-use Rattle.mml_codec.specs.declared.reply.Reply.TheVariants as reply
-use Rattle.mml_codec.specs.declared.request.Request.TheVariants as requests
-use Rattle.mml_codec.specs.declared.greeting.Greeting.TheVariants.{Answered}
-use Rattle.mml_codec.specs.{Canonical.canonical, Greetings.greeting, Rulings.reply_of_done}
-use Rattle.mml_codec.proofs.CanonicalLemmas.{request_in-canonical}
-use Rattle.mml_codec.proofs.GreetingsLemmas.{hello_is_granted}
+use Rattle.mml_codec.specs.{declared.reply.Reply.Reply, declared.greeting.Greeting.TheVariants.Answered, Canonical.canonical, Greetings.greeting, Rulings.reply_of_done}
+use Rattle.mml_codec.proofs.{CanonicalLemmas.request_in-canonical, GreetingsLemmas.hello_is_granted}
 use Rattle.mml_hall.specs.Turns.{State, Run, TurnOf, nothing, known_on, with_known, with_event, opening, outcome_of}
-use Rattle.mml_hall.specs.Halls.{IsHall}
-use Rattle.mml_hall.specs.ScriptLines.{IsScriptLine}
+use Rattle.mml_hall.specs.{Halls.IsHall, ScriptLines.IsScriptLine}
 use Rattle.mml_hall.proofs.HallsLemmas.{IsHall-opening, IsHall-event, IsHall-known, place-is}
 use Rattle.mml_laws.specs.Finishes.{line_for, hello_of, asking_lines, is_granted, FinishesByAsking}
 use Rattle.mml_laws.proofs.{GreetedLemmas.plain_so, GreetedLemmas.hall_judged, RuledLemmas.ruled_granted, ChoicesLemmas.opening as world_opening, RestWithinLemmas.events_few}
 use Rattle.mml_laws.proofs.AskingLinesLemmas.{bye_comes, hello_can, hello_comes, command_comes}
+use Rattle.mml_board.specs.declared.done.Done.TheVariants as done
+use Rattle.mml_board.specs.declared.event.Event.TheVariants as event
+use Rattle.mml_codec.specs.declared.reply.Reply.TheVariants as reply
+use Rattle.mml_codec.specs.declared.request.Request.TheVariants as requests
 
 -- ---- the number of a configuration is at most the place
 

@@ -1,12 +1,9 @@
 -- A book that is halted stays as it is, and grants nothing.
 use Rattle.std.proofs.Common.{◌≡◌, ◌⊎◌, ◌<◌, ℕ, true, true≢false, List, [], ◌∷◌, Option, inl, inr, refl, sym, ap, ◌∙◌}
 use Rattle.std.specs.List.{AllByRecursion}
-use Rattle.mml_lab.specs.declared.who.Who.{Who}
-use Rattle.mml_lab.specs.Labs.{LabValue}
-use Rattle.mml_policy.specs.declared.command.Command.{Command}
-use Rattle.mml_policy.specs.declared.refusal.Refusal.TheVariants.{Full, Journal, Memory}
-use Rattle.mml_window.specs.declared.answer.Answer.{Answer}
-use Rattle.mml_window.specs.declared.answer.Answer.TheVariants.{Granted, Denied, Refused}
+use Rattle.mml_lab.specs.{declared.who.Who.Who, Labs.LabValue}
+use Rattle.mml_policy.specs.declared.{command.Command.Command, refusal.Refusal.TheVariants.Full, refusal.Refusal.TheVariants.Journal, refusal.Refusal.TheVariants.Memory}
+use Rattle.mml_window.specs.declared.answer.Answer.{Answer, TheVariants.Granted, TheVariants.Denied, TheVariants.Refused}
 use Rattle.mml_window.specs.{Answers.Decides, Answers.AnswersAtPresent, Books.BookValue, Windows.WindowValue}
 use Rattle.mml_laws.specs.Halting.{Act, DecidesEach, IsNoGrant}
 
@@ -54,10 +51,7 @@ module _ {S : Type 0} (lab : LabValue) (failures : S → ℕ) where
       → new.halted ≡ true → (old.halted ≡ true) ⊎ ((answer ≡ Refused Journal) × (failures old.sink < failures new.sink))
   only_journal old new who command (Denied d) decides is = same_halted old new decides.1 is
   only_journal old new who command (Refused Full) decides is = same_halted old new decides.2 is
-  only_journal old new who command (Refused Journal) decides is = elim decides.1 [
-    | inl same ↦ inl same.0
-    | inr halts ↦ inr (refl, halts.failed)
-  ]
+  only_journal old new who command (Refused Journal) decides is = elim decides.1 [ inl same ↦ inl same.0 | inr halts ↦ inr (refl, halts.failed) ]
   only_journal old new who command (Refused Memory) decides is = same_halted old new decides.2 is
   only_journal old new who command (Granted place number done) decides is = absurd (true≢false (sym is ∙ decides.2.halted))
 

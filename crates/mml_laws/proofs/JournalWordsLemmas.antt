@@ -2,15 +2,13 @@
 use Rattle.std.proofs.Common.{◌≡◌, ℕ, Bool, true, false, List, ◌∷◌, decimal, Option, None, Some, option_map, refl}
 use Rattle.mml_ids.specs.Pieces.{truth_text}
 use Rattle.mml_rules.specs.declared.rule.Rule.{Rule}
-use Rattle.mml_rules.specs.declared.rule.Rule.TheVariants as rule
 use Rattle.mml_lab.specs.Rosters.{RosterValue}
 use Rattle.mml_board.specs.declared.event.Event.{Event}
-use Rattle.mml_board.specs.declared.event.Event.TheVariants as event
-use Rattle.mml_journal.specs.Words.{spaced}
-use Rattle.mml_journal.specs.EventWords.{line_text, register_word}
-use Rattle.mml_journal.specs.EventWords as written
-use Rattle.mml_journal.specs.EventLines.{event_line, id_at, named_rule}
+use Rattle.mml_journal.specs.{Words.spaced, EventWords.line_text, EventWords.register_word, EventLines.event_line, EventLines.id_at, EventLines.named_rule}
 use Rattle.mml_laws.specs.JournalWords.{words_of, rule_words, pointer_word, truth_word}
+use Rattle.mml_rules.specs.declared.rule.Rule.TheVariants as rule
+use Rattle.mml_board.specs.declared.event.Event.TheVariants as event
+use Rattle.mml_journal.specs.EventWords as written
 
 pointer_so : (ids : List ℕ) (p : Option ℕ) → register_word (option_map (id_at ids) p) ≡ pointer_word ids p
 pointer_so ids None = refl

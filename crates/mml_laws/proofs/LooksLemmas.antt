@@ -9,11 +9,9 @@ use Rattle.mml_ids.proofs.GivesLemmas.{bind-ok, bind-from, need-ok, need-from}
 use Rattle.mml_rules.specs.{declared.regs.Regs.Regs, declared.rule.Kind.Kind, declared.rule.Rule.Rule, Configuration.IsLawful, Network.registers_at, Rules.kind_of, Rules.enabled_kind}
 use Rattle.mml_rules.proofs.{EnabledKindLemmas.guard-kind, EnabledKindLemmas.kind-guard, MeaningLemmas.guard-means}
 use Rattle.mml_lab.specs.{declared.who.Who.Who, Rosters.RosterValue, Rosters.owns}
-use Rattle.mml_board.specs.{declared.event.Event.Event, World.World, World.size, World.configuration, World.chosen_at, Events.done_by}
-use Rattle.mml_board.specs.declared.denial.Denial.{Denial}
-use Rattle.mml_policy.specs.declared.{verdict.Leave.Leave, verdict.Leave.TheVariants.Look}
+use Rattle.mml_board.specs.{declared.event.Event.Event, World.World, World.size, World.configuration, World.chosen_at, Events.done_by, declared.denial.Denial.Denial}
+use Rattle.mml_policy.specs.{declared.verdict.Leave.Leave, declared.verdict.Leave.TheVariants.Look, Rulings.ruled, Rulings.ruling, Shown.look_of, Shown.near, Shown.near_below, Visible.is_teacher}
 use Rattle.mml_policy.specs.declared.ruling.Ruling.TheVariants.{Full, Journal, Granted, Seen, Looked}
-use Rattle.mml_policy.specs.{Rulings.ruled, Rulings.ruling, Shown.look_of, Shown.near, Shown.near_below, Visible.is_teacher}
 use Rattle.mml_policy.proofs.{ClausesLemmas.node-ok, NearLemmas.passing_with, NearLemmas.passing_without, NearLemmas.shown, SeenLemmas.see_shows, VisibleLemmas.teacher_is}
 use Rattle.mml_stable.specs.Listed.{Rises}
 use Rattle.mml_laws.specs.Looks.{IsLinkedWith, IsEnabledKind, IsWholeLook}

@@ -6,20 +6,17 @@ use Rattle.std.specs.List.{list_all}
 use Rattle.mml_ids.specs.Search.{count_below, some_below}
 use Rattle.mml_ids.proofs.SearchLemmas.{some_below-find, some_below-none}
 use Rattle.mml_rules.specs.{declared.rule.Rule.Rule, Configuration.Configuration, Rules.is_privileged, Matching.IsStable}
-use Rattle.mml_lab.specs.Labs.{LabValue, link_count}
+use Rattle.mml_lab.specs.{Labs.LabValue, Labs.link_count, Rosters.RosterValue}
 use Rattle.mml_lab_file.specs.Reading.{lab_of}
-use Rattle.mml_lab.specs.Rosters.{RosterValue}
-use Rattle.mml_lab_file.proofs.LabMeaningLemmas.{lawful}
-use Rattle.mml_lab_file.proofs.OwnersLemmas.{one_or_two}
+use Rattle.mml_lab_file.proofs.{LabMeaningLemmas.lawful, OwnersLemmas.one_or_two}
 use Rattle.mml_board.specs.{declared.event.Event.Event, Events.is_legal, Events.is_node, Events.is_chosen, Events.after, Events.chosen_count, Runs.is_legal_list, Runs.world_of}
 use Rattle.mml_board.specs.World.{World, IsWorld, size, configuration, chosen_at, opening_of}
 use Rattle.mml_board.proofs.ClausesLemmas.{fit, legal_possible, owned_legal, close_possible}
 use Rattle.mml_board.proofs.{WorldLemmas.after-world, WorldLemmas.size-after, RunsLemmas.list-world, RunsLemmas.legal-one_more, RunsLemmas.place-world_of}
-use Rattle.mml_convergence.specs.{Potential.whole_potential, Rest.EachHasOwner, Rest.is_grant_or_close}
-use Rattle.mml_convergence.proofs.{SumsLemmas.count_same, WholePotentialLemmas.whole_fell, RestLemmas.any_chosen, RestLemmas.may_move, RestLemmas.first_owner}
+use Rattle.mml_convergence.specs.{Potential.whole_potential, Rest.EachHasOwner, Rest.is_grant_or_close, Courtships.courting_potential, Most.events_to_rest}
+use Rattle.mml_convergence.proofs.{SumsLemmas.count_same, WholePotentialLemmas.whole_fell, RestLemmas.any_chosen, RestLemmas.may_move, RestLemmas.first_owner, NumbersLemmas.courtships_kept}
+use Rattle.mml_convergence.proofs.{NumbersLemmas.courtships_even, WholeLemmas.courting_fell, WholeLemmas.courting_most}
 use Rattle.mml_convergence.proofs.AppliedLemmas.{Falls, close_paid, close_moves, network_most}
-use Rattle.mml_convergence.specs.{Courtships.courting_potential, Most.events_to_rest}
-use Rattle.mml_convergence.proofs.{NumbersLemmas.courtships_kept, NumbersLemmas.courtships_even, WholeLemmas.courting_fell, WholeLemmas.courting_most}
 use Rattle.mml_laws.proofs.ChoicesLemmas.{opening}
 use Rattle.mml_board.specs.declared.event.Event.TheVariants as event
 

@@ -2,8 +2,7 @@
 use Rattle.std.proofs.Common.{◌≡◌, ◌≢◌, ◌↔◌, ◌<◌, ◌≤◌, ℕ, Bool, true, false, cond, nat_le, List, Result, Ok, Err, refl, arith}
 use Rattle.std.proofs.lemmas.Bool.{leb-true, leb-false, le-leb, lt-leb, Decides.nat_tests}
 use Rattle.mml_lab.specs.{declared.who.Who.Who, Rosters.RosterValue}
-use Rattle.mml_board.specs.{declared.done.Done.Done, declared.event.Event.Event, World.World, Events.done_by}
-use Rattle.mml_board.specs.declared.denial.Denial.{Denial}
+use Rattle.mml_board.specs.{declared.done.Done.Done, declared.event.Event.Event, World.World, Events.done_by, declared.denial.Denial.Denial}
 use Rattle.mml_policy.specs.{declared.command.Command.Command, Rulings.ruled, Rulings.ruling, Verdicts.clauses, Verdicts.settled, Verdicts.verdict}
 use Rattle.mml_policy.specs.declared.ruling.Ruling.{Ruling, TheVariants.Denied, TheVariants.Full, TheVariants.Journal, TheVariants.Granted}
 use Rattle.mml_policy.specs.declared.verdict.Leave.{Leave, TheVariants.See, TheVariants.Look, TheVariants.Report, TheVariants.Grant}

@@ -1,24 +1,19 @@
 -- Two labs that are the same in all that a journal names, and allow as many events, audit alike.
 use Rattle.std.proofs.Common.{◌≡◌, ◌∙◌, ℕ, ◌+◌, ◌≤◌, ◌==◌, ◌&&◌, nat_lt, not, Bool, false, List, [], ◌∷◌, length, Result, Ok, inl, inr, refl, ap, sym, arith}
-use Rattle.std.proofs.lemmas.Bool.{cases_lt, false_from_ne_true}
-use Rattle.std.specs.Result.{is_ok}
+use Rattle.std.{proofs.lemmas.Bool.cases_lt, proofs.lemmas.Bool.false_from_ne_true, specs.Result.is_ok}
 use Rattle.mml_ids.specs.Gives.{◌>>=◌, ◌>>◌, need}
-use Rattle.mml_lab.specs.declared.who.Who.{Who}
-use Rattle.mml_lab.specs.declared.who.Who.TheVariants as who
-use Rattle.mml_lab.specs.Rosters.{RosterValue, IsRoster, owns}
-use Rattle.mml_lab.specs.Labs.{LabValue, IsLab}
+use Rattle.mml_lab.specs.{declared.who.Who.Who, Rosters.RosterValue, Rosters.IsRoster, Rosters.owns, Labs.LabValue, Labs.IsLab}
 use Rattle.mml_lab.proofs.RosterMeaningLemmas.{owner_there}
-use Rattle.mml_board.specs.declared.event.Event.{Event}
-use Rattle.mml_board.specs.{World.World, World.opening_of, Events.is_legal, Events.after, Clauses.check, Clauses.asker, Clauses.act_of}
+use Rattle.mml_board.specs.{declared.event.Event.Event, World.World, World.opening_of, Events.is_legal, Events.after, Clauses.check, Clauses.asker, Clauses.act_of}
 use Rattle.mml_lines.specs.LinesOf.{lines_of}
-use Rattle.mml_journal.specs.EventLines.{said_by}
-use Rattle.mml_journal.specs.declared.journal_fault.JournalFault.{JournalFault}
+use Rattle.mml_journal.specs.{EventLines.said_by, declared.journal_fault.JournalFault.JournalFault}
 use Rattle.mml_audit.specs.declared.auditing.AuditFault.{AuditFault}
-use Rattle.mml_audit.specs.declared.auditing.AuditFault.TheVariants as fault
 use Rattle.mml_audit.specs.Audit.{or_else, allowed, event_in, after_line, after_lines, audited, audited_from, is_torn}
 use Rattle.mml_record.proofs.RiseLemmas.{owned_within}
 use Rattle.mml_lab_file.specs.Sameness.{IsSameLab}
 use Rattle.mml_laws.proofs.SameLabsLemmas.{said_alike, networks_alike}
+use Rattle.mml_lab.specs.declared.who.Who.TheVariants as who
+use Rattle.mml_audit.specs.declared.auditing.AuditFault.TheVariants as fault
 
 -- whether each one owns a node, as what the event of a line depends on
 abbrev event_by : Result (ℕ × ℕ × Event) JournalFault → (Who → ℕ → Bool) → ℕ → World → Result Event AuditFault
@@ -34,8 +29,7 @@ module _ (a b : LabValue) (la : IsLab a) (lb : IsLab b) (is : IsSameLab a b) whe
   student_owns s i = elim (cases_lt i (length a.ids)) [
     | inl node ↦ elim (cases_lt s (length a.roster.students)) [
       | inl student ↦ (is.nodes i node).owners s student
-      | inr none ↦
-          nobody a.roster la.roster none ∙ sym (nobody b.roster lb.roster (omega (arith, none, is.names.1)))
+      | inr none ↦ nobody a.roster la.roster none ∙ sym (nobody b.roster lb.roster (omega (arith, none, is.names.1)))
     ]
     | inr past ↦ nowhere a.roster (omega (arith, past, la.owned)) ∙ sym (nowhere b.roster (let same = ap (λ (ids : List ℕ). length ids) is.ids in omega (arith, past, lb.owned, same)))
   ]

@@ -1,28 +1,21 @@
 -- Two labs that are the same in all that a journal names.
-use Rattle.std.proofs.Common.{◌≡◌, ◌∙◌, ℕ, suc, ◌+◌, ◌<◌, ◌≤◌, cond, not, nat_lt, Bool, false, List, [], ◌∷◌, length, slice_index_or, Option, Some, None, Result, Ok, ok_or, inl, inr, refl, ap, sym, arith, bytes_eq}
-use Rattle.std.specs.List.{prefix_len}
-use Rattle.std.specs.FinSet as set
-use Rattle.std.proofs.lemmas.List.{same_lists, get_or_default}
-use Rattle.std.proofs.lemmas.Bool.{cases_lt, false_from_ne_true}
-use Rattle.mml_ids.specs.Gives as steps
+use Rattle.std.proofs.Common.{◌≡◌, ◌∙◌, ℕ, suc, ◌+◌, ◌<◌, ◌≤◌, cond, not, nat_lt, Bool, false, List, [], ◌∷◌, length, slice_index_or, Option, Some, None, Result, Ok, ok_or, inl, inr, refl, ap, sym}
+use Rattle.std.proofs.Common.{arith, bytes_eq}
+use Rattle.std.{specs.List.prefix_len, proofs.lemmas.List.same_lists, proofs.lemmas.List.get_or_default, proofs.lemmas.Bool.cases_lt, proofs.lemmas.Bool.false_from_ne_true}
 use Rattle.mml_ids.specs.inside.WordsLemmas.{same_ranks}
-use Rattle.mml_rules.specs.Network.{Network, IsNetwork, neighbours_at}
-use Rattle.mml_rules.specs.Network.{no_regs}
-use Rattle.mml_lab.specs.declared.who.Who.{Who}
-use Rattle.mml_lab.specs.declared.who.Who.TheVariants as who
+use Rattle.mml_rules.specs.Network.{Network, IsNetwork, neighbours_at, no_regs}
+use Rattle.mml_lab.specs.{declared.who.Who.Who, Labs.LabValue, Labs.IsLab}
 use Rattle.mml_lab.specs.Rosters.{Account, RosterValue, IsPrincipal, name_of, owns, has_name, no_account, student_named}
-use Rattle.mml_lab.specs.Labs.{LabValue, IsLab}
-use Rattle.mml_board.specs.declared.event.Event.{Event}
-use Rattle.mml_board.specs.declared.event.Event.TheVariants as event
-use Rattle.mml_board.specs.World.{opening_of}
-use Rattle.mml_board.specs.Runs.{world_of}
-use Rattle.mml_board.specs.Lists.{world_in}
-use Rattle.mml_journal.specs.declared.journal_fault.JournalFault.{JournalFault}
-use Rattle.mml_journal.specs.declared.journal_fault.JournalFault.TheVariants as fault
-use Rattle.mml_journal.specs.EventWords.{EventWords, LineWords, line_of}
-use Rattle.mml_journal.specs.EventWords as words
+use Rattle.mml_board.specs.{declared.event.Event.Event, World.opening_of, Runs.world_of, Lists.world_in}
+use Rattle.mml_journal.specs.{declared.journal_fault.JournalFault.JournalFault, EventWords.EventWords, EventWords.LineWords, EventWords.line_of}
 use Rattle.mml_journal.specs.EventLines.{said_by, event_line, event_named, IsEventOf}
 use Rattle.mml_lab_file.specs.Sameness.{IsSameLab}
+use Rattle.std.specs.FinSet as set
+use Rattle.mml_ids.specs.Gives as steps
+use Rattle.mml_lab.specs.declared.who.Who.TheVariants as who
+use Rattle.mml_board.specs.declared.event.Event.TheVariants as event
+use Rattle.mml_journal.specs.declared.journal_fault.JournalFault.TheVariants as fault
+use Rattle.mml_journal.specs.EventWords as words
 
 -- ---- lines
 
@@ -69,8 +62,7 @@ module _ (ids : List ℕ) (r q : RosterValue) (alike : (name : List ℕ) → stu
 
 -- each line says the same
 pub said_alike : (a b : LabValue) (bytes : List ℕ) → IsSameLab a b → said_by a.ids a.roster bytes ≡ said_by b.ids b.roster bytes
-said_alike a b bytes is =
-    ap (λ ids. said_by ids a.roster bytes) is.ids ∙ in_alike b.ids a.roster b.roster (students_alike a b is) (line_of bytes)
+said_alike a b bytes is = ap (λ ids. said_by ids a.roster bytes) is.ids ∙ in_alike b.ids a.roster b.roster (students_alike a b is) (line_of bytes)
 
 -- a name is the same
 pub name_alike : (a b : LabValue) (w : Who) → IsSameLab a b → IsPrincipal a.roster w → name_of a.roster w ≡ name_of b.roster w

@@ -1,11 +1,7 @@
 -- The seats of a class, as its record has them.
-use Rattle.std.specs.Prelude.{List, ◌++◌, map, Option}
-use Rattle.std.specs.Option.{unwrap_or}
+use Rattle.std.specs.{Prelude.List, Prelude.◌++◌, Prelude.map, Prelude.Option, Option.unwrap_or}
 use Rattle.mml_session.specs.Records.{Kept}
-use Rattle.mml_hosting.specs.declared.hosted.Hosted.{Hosted}
-use Rattle.mml_hosting.specs.declared.seat.SeatRecord.{SeatRecord}
-use Rattle.mml_hosting.specs.declared.seat.ServedSession.{ServedSession}
-use Rattle.mml_hosting.specs.Seats.{sessions_of}
+use Rattle.mml_hosting.specs.{declared.hosted.Hosted.Hosted, declared.seat.SeatRecord.SeatRecord, declared.seat.ServedSession.ServedSession, Seats.sessions_of}
 use Rattle.mml_record.specs.RecordedSeats.{RecordedSeat, fresh}
 
 -- a seat's number, how its sessions ended, and what its recorder has kept

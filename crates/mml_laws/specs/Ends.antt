@@ -1,12 +1,11 @@
 -- When a house is over.
 use Rattle.std.specs.Prelude.{◌≡◌, ℕ, Bool, None}
-use Rattle.mml_lab.specs.declared.who.Who.TheVariants as who
 use Rattle.mml_lab.specs.Labs.{LabValue}
 use Rattle.mml_board.specs.World.{World}
-use Rattle.mml_policy.specs.declared.command.Asked.{Asked}
-use Rattle.mml_policy.specs.declared.command.Command.TheVariants as command
-use Rattle.mml_policy.specs.Rulings.{event_of}
+use Rattle.mml_policy.specs.{declared.command.Asked.Asked, Rulings.event_of}
 use Rattle.mml_window.specs.Rulings.{ruling_while}
+use Rattle.mml_lab.specs.declared.who.Who.TheVariants as who
+use Rattle.mml_policy.specs.declared.command.Command.TheVariants as command
 
 -- no move that a student asks for is granted in the world, and no close that the teacher asks for
 pub record GrantsNoStep (lab : LabValue) (is_halted : Bool) (w : World) : Type 0 where

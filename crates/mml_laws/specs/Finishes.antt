@@ -1,23 +1,14 @@
 -- A script that asks for each event that is left of a run.
-use Rattle.std.specs.Prelude.{◌≡◌, ℕ, ◌≤◌, Bool, true, List, [], ◌∷◌, length}
-use Rattle.std.specs.List.{list_all, AllByRecursion}
+use Rattle.std.specs.{Prelude.◌≡◌, Prelude.ℕ, Prelude.◌≤◌, Prelude.Bool, Prelude.true, Prelude.List, Prelude.[], Prelude.◌∷◌, Prelude.length, List.list_all, List.AllByRecursion}
 use Rattle.mml_rules.specs.Matching.{IsStable}
-use Rattle.mml_lab.specs.declared.who.Who.{Who}
-use Rattle.mml_lab.specs.Labs.{LabValue}
-use Rattle.mml_lab.specs.Rosters.{name_of, key_of}
-use Rattle.mml_board.specs.declared.event.Event.{Event}
-use Rattle.mml_board.specs.World.{World, configuration}
-use Rattle.mml_board.specs.Events.{after}
-use Rattle.mml_board.specs.Runs.{world_of}
+use Rattle.mml_lab.specs.{declared.who.Who.Who, Labs.LabValue, Rosters.name_of, Rosters.key_of}
+use Rattle.mml_board.specs.{declared.event.Event.Event, World.World, World.configuration, Events.after, Runs.world_of}
 use Rattle.mml_policy.specs.Asking.{asker, command_of}
 use Rattle.mml_convergence.specs.Rest.{is_grant_or_close}
-use Rattle.mml_codec.specs.declared.reply.Reply.{Reply}
+use Rattle.mml_codec.specs.{declared.reply.Reply.Reply, declared.request.Request.Request, Canonical.canonical}
+use Rattle.mml_hall.specs.{Turns.State, Turns.RequestLine, Turns.Run, Turns.is_grant, ScriptLines.IsScriptLine}
 use Rattle.mml_codec.specs.declared.reply.Reply.TheVariants as reply
-use Rattle.mml_codec.specs.declared.request.Request.{Request}
 use Rattle.mml_codec.specs.declared.request.Request.TheVariants as requests
-use Rattle.mml_codec.specs.Canonical.{canonical}
-use Rattle.mml_hall.specs.Turns.{State, RequestLine, Run, is_grant}
-use Rattle.mml_hall.specs.ScriptLines.{IsScriptLine}
 
 -- the text of a request as a line on the first connection
 abbrev pub line_for : Request → RequestLine

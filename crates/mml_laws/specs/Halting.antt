@@ -1,13 +1,9 @@
 -- Acts that are decided on the one book of a house.
 use Rattle.std.specs.Prelude.{ℕ, List}
-use Rattle.mml_lab.specs.declared.who.Who.{Who}
-use Rattle.mml_lab.specs.Labs.{LabValue}
+use Rattle.mml_lab.specs.{declared.who.Who.Who, Labs.LabValue}
 use Rattle.mml_lines.specs.Runs.{Runs}
 use Rattle.mml_policy.specs.declared.command.Command.{Command}
-use Rattle.mml_window.specs.declared.answer.Answer.{Answer}
-use Rattle.mml_window.specs.declared.answer.Answer.TheVariants.{Granted}
-use Rattle.mml_window.specs.Answers.{Decides}
-use Rattle.mml_window.specs.Books.{BookValue}
+use Rattle.mml_window.specs.{declared.answer.Answer.Answer, declared.answer.Answer.TheVariants.Granted, Answers.Decides, Books.BookValue}
 
 -- a command and the participant who asked for it
 pub record Act : Type 0 where

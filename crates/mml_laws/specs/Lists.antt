@@ -1,14 +1,11 @@
 -- The lists in replies, as their reader has them.
 use Rattle.std.specs.Prelude.{◌≡◌, ℕ, List, [], ◌∷◌, map, filter, length, codes, slice_index, Some}
 use Rattle.std.specs.List.{AllByRecursion, range_with_len}
-use Rattle.std.specs.FinSet as set
-use Rattle.serde_json.specs.Data.{Data, boolean, number, unsigned, string, array}
-use Rattle.serde_json.specs.Find.{get}
+use Rattle.serde_json.specs.{Data.Data, Data.boolean, Data.number, Data.unsigned, Data.string, Data.array, Find.get}
 use Rattle.mml_board.specs.Vocabulary.{rule_name}
-use Rattle.mml_codec.specs.declared.reply.Reply.{Reply}
+use Rattle.mml_codec.specs.{declared.reply.Reply.Reply, Facts.pointer_value, Objects.items_with, Objects.object_with}
+use Rattle.std.specs.FinSet as set
 use Rattle.mml_codec.specs.declared.reply.Reply.TheVariants as reply
-use Rattle.mml_codec.specs.Facts.{pointer_value}
-use Rattle.mml_codec.specs.Objects.{items_with, object_with}
 
 -- an array of these values
 abbrev pub values : List Data → Data

@@ -1,11 +1,6 @@
 -- The contents of a look.
 use Rattle.std.specs.Prelude.{◌≡◌, ◌↔◌, ℕ, ◌<◌, true, Some, Contains}
-use Rattle.mml_rules.specs.declared.regs.Regs.{Regs}
-use Rattle.mml_rules.specs.declared.rule.Kind.{Kind}
-use Rattle.mml_rules.specs.declared.rule.Rule.{Rule}
-use Rattle.mml_rules.specs.Meaning.{MayApply}
-use Rattle.mml_rules.specs.Network.{registers_at}
-use Rattle.mml_rules.specs.Rules.{kind_of}
+use Rattle.mml_rules.specs.{declared.regs.Regs.Regs, declared.rule.Kind.Kind, declared.rule.Rule.Rule, Meaning.MayApply, Network.registers_at, Rules.kind_of}
 use Rattle.mml_board.specs.World.{World, configuration, chosen_at}
 use Rattle.mml_policy.specs.declared.look.Look.{Look}
 use Rattle.mml_stable.specs.Listed.{Rises}

@@ -1,14 +1,10 @@
 -- What a verdict and a ruling have in common.
 use Rattle.std.specs.Prelude.{◌≡◌, ℕ, List}
-use Rattle.mml_lab.specs.declared.who.Who.{Who}
-use Rattle.mml_lab.specs.Rosters.{RosterValue}
-use Rattle.mml_board.specs.declared.event.Event.{Event}
-use Rattle.mml_board.specs.World.{World}
-use Rattle.mml_policy.specs.declared.command.Command.{Command}
-use Rattle.mml_policy.specs.declared.ruling.Ruling.{Ruling}
-use Rattle.mml_policy.specs.declared.ruling.Ruling.TheVariants.{Denied, Seen, Looked, Reported, Full, Journal, Granted}
+use Rattle.mml_lab.specs.{declared.who.Who.Who, Rosters.RosterValue}
+use Rattle.mml_board.specs.{declared.event.Event.Event, World.World}
+use Rattle.mml_policy.specs.{declared.command.Command.Command, Verdicts.verdict}
+use Rattle.mml_policy.specs.declared.ruling.Ruling.{Ruling, TheVariants.Denied, TheVariants.Seen, TheVariants.Looked, TheVariants.Reported, TheVariants.Full, TheVariants.Journal, TheVariants.Granted}
 use Rattle.mml_policy.specs.declared.verdict.Verdict.TheVariants as verdicts
-use Rattle.mml_policy.specs.Verdicts.{verdict}
 
 -- each clause of the command holds, and it asks for some event
 abbrev pub IsGrantable : List ℕ → RosterValue → World → Who → Command → Type 0

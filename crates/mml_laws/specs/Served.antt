@@ -5,10 +5,8 @@ use Rattle.mml_board.specs.declared.event.Event.{Event}
 use Rattle.mml_lines.specs.Runs.{Chain}
 use Rattle.mml_codec.specs.declared.reply.Reply.{Reply}
 use Rattle.mml_window.specs.Windows.{WindowValue, window}
-use Rattle.mml_session.specs.declared.session.SessionEnd.{SessionEnd}
+use Rattle.mml_session.specs.{declared.session.SessionEnd.SessionEnd, Turns.places_in, Ends.Ended}
 use Rattle.mml_session.specs.declared.session.SessionEnd.TheVariants as end
-use Rattle.mml_session.specs.Turns.{places_in}
-use Rattle.mml_session.specs.Ends.{Ended}
 
 -- the replies of a session, by how it ended: if a write failed, only a beginning of their lines was written
 abbrev pub replies_in : (end : SessionEnd) (lab : LabValue) (old new : WindowValue) (input left wrote wrote' : Option (List ℕ))

@@ -1,25 +1,14 @@
 -- The event that a reply names.
-use Rattle.std.specs.Prelude.{◌≡◌, ℕ, ◌+◌, List, [], ◌∷◌, ◌++◌, length, Option, Some, Ok}
-use Rattle.std.specs.List.{slice_get}
-use Rattle.mml_lines.specs.LinesOf.{lines_of}
-use Rattle.mml_lines.specs.Runs.{AtEach}
-use Rattle.mml_lab.specs.declared.who.Who.{Who}
-use Rattle.mml_lab.specs.Labs.{LabValue}
-use Rattle.mml_board.specs.declared.done.Done.{Done}
-use Rattle.mml_board.specs.declared.event.Event.{Event}
-use Rattle.mml_policy.specs.declared.command.Command.{Command}
-use Rattle.mml_policy.specs.declared.ruling.Ruling.TheVariants.{Granted}
-use Rattle.mml_journal.specs.EventLines.{event_line}
-use Rattle.mml_codec.specs.declared.reply.Reply.{Reply}
-use Rattle.mml_codec.specs.declared.request.Request.TheVariants.{Do}
-use Rattle.mml_codec.specs.Lines.{request_in}
-use Rattle.mml_codec.specs.Replies.{place_in}
-use Rattle.mml_codec.specs.Rulings.{reply_of_done}
+use Rattle.std.specs.{Prelude.◌≡◌, Prelude.ℕ, Prelude.◌+◌, Prelude.List, Prelude.[], Prelude.◌∷◌, Prelude.◌++◌, Prelude.length, Prelude.Option, Prelude.Some, Prelude.Ok, List.slice_get}
+use Rattle.mml_lines.specs.{LinesOf.lines_of, Runs.AtEach}
+use Rattle.mml_lab.specs.{declared.who.Who.Who, Labs.LabValue}
+use Rattle.mml_board.specs.{declared.done.Done.Done, declared.event.Event.Event, Lists.world_in}
+use Rattle.mml_policy.specs.declared.{command.Command.Command, ruling.Ruling.TheVariants.Granted}
+use Rattle.mml_journal.specs.{EventLines.event_line, JournalText.text_in}
+use Rattle.mml_codec.specs.{declared.reply.Reply.Reply, declared.request.Request.TheVariants.Do, Lines.request_in, Replies.place_in, Rulings.reply_of_done}
 use Rattle.mml_hall.specs.Turns.{State, RequestLine, TurnOf, Run, known_on}
-use Rattle.mml_session.specs.Turns as session
-use Rattle.mml_board.specs.Lists.{world_in}
-use Rattle.mml_journal.specs.JournalText.{text_in}
 use Rattle.mml_window.specs.Rulings.{ruling_at}
+use Rattle.mml_session.specs.Turns as session
 
 -- event p of the list is the one that the command of x is granted after the events before it, line p of the list's
 -- journal is the event's line, and the reply has the event's effect, its place, and the number of the configuration

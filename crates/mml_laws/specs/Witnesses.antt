@@ -1,8 +1,6 @@
 -- What a way along the pointers shows at its end.
 use Rattle.std.specs.Prelude.{◌≡◌, ◌≢◌, ℕ, Some}
-use Rattle.mml_rules.specs.declared.rule.Kind.{Kind}
-use Rattle.mml_rules.specs.Configuration.{Configuration}
-use Rattle.mml_rules.specs.Rules.{enabled_kind}
+use Rattle.mml_rules.specs.{declared.rule.Kind.Kind, Configuration.Configuration, Rules.enabled_kind}
 
 -- a rule of this kind is enabled at the node, and it is no seduction
 abbrev pub EndsIn : Configuration → ℕ → Kind → Type 0

@@ -1,24 +1,19 @@
 -- The words of the protocol, as its reader has them.
 use Rattle.std.specs.Prelude.{◌≡◌, ℕ, Bool, true, false, List, [], ◌∷◌, codes, Option, None, Some, slice_index}
 use Rattle.mml_rules.specs.declared.rule.Kind.{Kind}
-use Rattle.mml_rules.specs.declared.rule.Kind.TheVariants as kind
 use Rattle.mml_lab.specs.Rosters.{RosterValue, name_of}
 use Rattle.mml_policy.specs.declared.command.Asked.{Asked}
+use Rattle.mml_board.specs.{declared.denial.Denial.Denial, Denials.clause_of, Denials.denial_name, Denials.text_of}
+use Rattle.mml_codec.specs.{declared.request.Request.Request, declared.reply.Refused.Refused, declared.reply.Reply.Reply, Facts.Fact, Requests.register}
+use Rattle.mml_codec.specs.Fields.{Field, number, word, text, truth, null}
+use Rattle.mml_rules.specs.declared.rule.Kind.TheVariants as kind
 use Rattle.mml_policy.specs.declared.command.Asked.TheVariants as asked
 use Rattle.mml_policy.specs.declared.command.Command.TheVariants as command
-use Rattle.mml_board.specs.declared.denial.Denial.{Denial}
 use Rattle.mml_board.specs.declared.denial.Denial.TheVariants as denial
-use Rattle.mml_board.specs.Denials.{clause_of, denial_name, text_of}
-use Rattle.mml_codec.specs.declared.request.Request.{Request}
 use Rattle.mml_codec.specs.declared.request.Request.TheVariants as requests
-use Rattle.mml_codec.specs.declared.reply.Refused.{Refused}
 use Rattle.mml_codec.specs.declared.reply.Refused.TheVariants as refused
-use Rattle.mml_codec.specs.declared.reply.Reply.{Reply}
 use Rattle.mml_codec.specs.declared.reply.Reply.TheVariants as reply
 use Rattle.mml_codec.specs.Facts as fact
-use Rattle.mml_codec.specs.Facts.{Fact}
-use Rattle.mml_codec.specs.Fields.{Field, number, word, text, truth, null}
-use Rattle.mml_codec.specs.Requests.{register}
 
 -- a denial with its clause, its name and its text
 abbrev pub IsDenial : Denial × ℕ × List ℕ × List ℕ → Type 0

@@ -1,13 +1,7 @@
 -- What an answer says of what is held.
 use Rattle.std.proofs.Common.{◌≡◌, ℕ, ◌+◌, ◌-◌, ◌<◌, ◌≤◌, List, length, drop, arith, ◌∙◌, Option, Some, None, IfNone}
-use Rattle.std.specs.List.{slice_range}
-use Rattle.std.proofs.Math.Nat.{lt_of_not-le}
-use Rattle.std.proofs.lemmas.List.{length-take, get_or-take, length-drop}
-use Rattle.mml_lines.specs.declared.lines.Step.{Step}
-use Rattle.mml_lines.specs.declared.lines.TheConstants.{READ_SIZE}
-use Rattle.mml_lines.specs.Finding.{HasLine}
-use Rattle.mml_lines.specs.LinesOf.{IsWithinLimit}
-use Rattle.mml_lines.specs.inside.LinesView.{IsReadNoFurther}
+use Rattle.std.{specs.List.slice_range, proofs.Math.Nat.lt_of_not-le, proofs.lemmas.List.length-take, proofs.lemmas.List.get_or-take, proofs.lemmas.List.length-drop}
+use Rattle.mml_lines.specs.{declared.lines.Step.Step, declared.lines.TheConstants.READ_SIZE, Finding.HasLine, LinesOf.IsWithinLimit, inside.LinesView.IsReadNoFurther}
 
 -- a line that is at the front is held whole, with its newline
 pub line_within : (limit start len : ℕ) (held : List ℕ) → HasLine len limit (drop start held) → start + len + 1 ≤ length held

@@ -1,7 +1,6 @@
 -- What holds of one step after another.
 use Rattle.std.proofs.Common.{◌≡◌, ◌∙◌, List, [], ◌∷◌, ◌++◌, append-nil, flat_map, length, suc, refl, sym, ap, subst}
-use Rattle.std.specs.List.{AllByRecursion}
-use Rattle.std.proofs.lemmas.List.Concat.{flat_map-append}
+use Rattle.std.{specs.List.AllByRecursion, proofs.lemmas.List.Concat.flat_map-append}
 use Rattle.mml_lines.specs.Runs.{Runs, AtEach, Exchange, OneStep}
 
 module _ {A L R : Type 0} (Step : A → L → R → A → Type 0) where
@@ -20,8 +19,7 @@ module _ {A L R : Type 0} (Step : A → L → R → A → Type 0) where
   by_steps P none more st end [] [] run = subst (P st [] []) (sym run) (none st)
   by_steps P none more st end [] (r ∷ rs) run = absurd run
   by_steps P none more st end (line ∷ lines) [] run = absurd run
-  by_steps P none more st end (line ∷ lines) (r ∷ rs) run =
-      more st run.0 end line r lines rs run.1 (by_steps P none more run.0 end lines rs run.2)
+  by_steps P none more st end (line ∷ lines) (r ∷ rs) run = more st run.0 end line r lines rs run.1 (by_steps P none more run.0 end lines rs run.2)
 
   -- a run has as many replies as lines
   pub as_many : (st end : A) (lines : List L) (rs : List R) → Runs Step st lines rs end → length rs ≡ length lines

@@ -1,18 +1,10 @@
 -- Lines that are written together, over several steps.
-use Rattle.std.proofs.Common.{◌≡◌, ℕ, zero, suc, ◌+◌, ◌-◌, ◌<◌, ◌≤◌, arith, List, [], ◌∷◌, ◌++◌, length, take, drop, map, refl, sym, ◌∙◌, ap, append_assoc}
-use Rattle.std.proofs.lemmas.Bool.Decides.{nat_tests}
-use Rattle.std.proofs.Common.{append-nil, length-append, length-take, length-drop, Option, subst, Result, Ok, Err, OnOk, IfErr, cond}
-use Rattle.std.specs.Prelude.{nat_lt, ⊤}
-use Rattle.std.specs.List.{concat}
-use Rattle.std.proofs.lemmas.List.Folds.{concat-append}
-use Rattle.std.proofs.Math.Seq.{take-append-add, take-length}
-use Rattle.std.proofs.lemmas.Bool.{le-ltb, lt-ltb}
-use Rattle.std.proofs.lemmas.List.{take-append-le, drop-append-le, take-append-drop}
-use Rattle.std.proofs.KnownBytes.{Appends-nil, Appends-trans, Appends-kept}
-use Rattle.std.specs.Io.KnownBytes.{Appends, Keeps}
-use Rattle.mml_lines.specs.declared.write_fault.WriteFault.{WriteFault}
-use Rattle.mml_lines.specs.inside.OutgoingView.{parted, total}
-use Rattle.mml_lines.specs.Sending.{BreaksOff, Sends, part_in}
+use Rattle.std.proofs.Common.{◌≡◌, ℕ, zero, suc, ◌+◌, ◌-◌, ◌<◌, ◌≤◌, arith, List, [], ◌∷◌, ◌++◌, length, take, drop, map, refl, sym, ◌∙◌, ap, append_assoc, append-nil, length-append, length-take}
+use Rattle.std.proofs.Common.{length-drop, Option, subst, Result, Ok, Err, OnOk, IfErr, cond}
+use Rattle.std.proofs.lemmas.{Bool.Decides.nat_tests, Bool.le-ltb, Bool.lt-ltb, List.Folds.concat-append, List.take-append-le, List.drop-append-le, List.take-append-drop}
+use Rattle.std.specs.{Prelude.nat_lt, Prelude.⊤, List.concat, Io.KnownBytes.Appends, Io.KnownBytes.Keeps}
+use Rattle.std.proofs.{Math.Seq.take-append-add, Math.Seq.take-length, KnownBytes.Appends-nil, KnownBytes.Appends-trans, KnownBytes.Appends-kept}
+use Rattle.mml_lines.specs.{declared.write_fault.WriteFault.WriteFault, inside.OutgoingView.parted, inside.OutgoingView.total, Sending.BreaksOff, Sending.Sends, Sending.part_in}
 
 -- if nothing was written, all lines are held
 pub nothing_sent : (a : Option (List ℕ)) (lines : List (List ℕ)) → Sends a a lines lines

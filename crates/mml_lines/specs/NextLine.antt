@@ -1,12 +1,8 @@
 -- What the results of `next` mean.
-use Rattle.std.specs.Prelude.{ℕ, ◌+◌, ◌<◌, ◌≤◌, List, [], length, Option, Some, None}
-use Rattle.std.specs.Io.KnownBytes.{IsAtEnd}
-use Rattle.mml_lines.specs.declared.lines.Step.{Step}
-use Rattle.mml_lines.specs.declared.lines.Step.TheVariants.{Line, TooLong, End, ReadFault}
-use Rattle.mml_lines.specs.declared.lines.TheConstants.{MAX_READS, READ_SIZE}
+use Rattle.std.specs.{Prelude.ℕ, Prelude.◌+◌, Prelude.◌<◌, Prelude.◌≤◌, Prelude.List, Prelude.[], Prelude.length, Prelude.Option, Prelude.Some, Prelude.None, Io.KnownBytes.IsAtEnd}
+use Rattle.mml_lines.specs.declared.lines.{Step.Step, Step.TheVariants.Line, Step.TheVariants.TooLong, Step.TheVariants.End, Step.TheVariants.ReadFault, TheConstants.MAX_READS, TheConstants.READ_SIZE}
 use Rattle.mml_ids.specs.Lines.{ended}
-use Rattle.mml_lines.specs.LinesOf.{IsWithinLimit, IsTooLong}
-use Rattle.mml_lines.specs.LinesState.{LinesState}
+use Rattle.mml_lines.specs.{LinesOf.IsWithinLimit, LinesOf.IsTooLong, LinesState.LinesState}
 
 -- each result but a line is final
 abbrev pub ending_of : Step → Option Step

@@ -1,6 +1,5 @@
 -- Runs of steps: the states that lines lead to, and the reply to each line.
-use Rattle.std.specs.Prelude.{◌≡◌, List, [], ◌∷◌}
-use Rattle.std.specs.List.{AllByRecursion}
+use Rattle.std.specs.{Prelude.◌≡◌, Prelude.List, Prelude.[], Prelude.◌∷◌, List.AllByRecursion}
 
 -- steps in order, from a state to the end, each beginning in the state that the one before led to
 abbrev pub Runs : {A L R : Type 0} → (A → L → R → A → Type 0) → A → List L → List R → A → Type 0

@@ -1,7 +1,6 @@
 -- Lines that are written together: which are written, and which are held.
 use Rattle.std.specs.Prelude.{◌≡◌, ℕ, ◌-◌, ◌≤◌, nat_lt, List, [], ◌∷◌, ◌++◌, length, take, map, Option, if◌then◌else◌}
-use Rattle.std.specs.List.{concat}
-use Rattle.std.specs.Io.KnownBytes.{Appends}
+use Rattle.std.specs.{List.concat, Io.KnownBytes.Appends}
 use Rattle.mml_lines.specs.declared.write_fault.WriteFault.{WriteFault}
 
 -- if the first `out` bytes of lines with the listed lengths are written: how many of those bytes are of the first line

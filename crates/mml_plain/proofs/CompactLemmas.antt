@@ -1,37 +1,20 @@
 -- A compact text, read member by member, spells the tokens that are printed as it.
-use Rattle.std.proofs.lemmas.Bool.Decides.{nat_tests}
-use Rattle.std.proofs.lemmas.Grind.{common_steps}
-use Rattle.std.proofs.Common.{◌≡◌, ℕ, suc, ◌+◌, ◌-◌, ◌<◌, List, [], ◌∷◌, ◌++◌, length, take, get_or, Bool, true, false, fold, map, not, ◌==◌, Some}
-use Rattle.std.proofs.Common.{refl, sym, ap, inl, ◌∙◌, subst, append_assoc, length-append, decimal, ◌^◌}
-use Rattle.std.proofs.Common.{arith, drop, ◌≢◌, ltb-true, ◌≤◌, ◌*◌, option_map, nat_lt}
-use Rattle.std.specs.Str.{IsUtf8}
-use Rattle.std.proofs.lemmas.Bool.{and_parts, and_from, eq-eqb, both_ways, not-true}
-use Rattle.std.proofs.lemmas.List.{take_more, take_all}
-use Rattle.std.proofs.lemmas.Nat.{be_bytes_4}
-use Rattle.std.specs.Int.{w32, to_be_bytes, from_be_bytes}
-use Rattle.std.proofs.lemmas.Fmt.{decimal_digit, decimal_step, IsAscii-decimal}
-use Rattle.json.proofs.Printed.Strings.{escape_byte_plain}
-use Rattle.std.proofs.lemmas.Str.{IsUtf8-append, IsUtf8-nil, IsUtf8-from_ascii}
+use Rattle.std.proofs.lemmas.{Bool.Decides.nat_tests, Bool.and_parts, Bool.and_from, Bool.eq-eqb, Bool.both_ways, Bool.not-true, Grind.common_steps, List.take_more, List.take_all, Nat.be_bytes_4}
+use Rattle.std.proofs.lemmas.{Fmt.decimal_digit, Fmt.decimal_step, Fmt.IsAscii-decimal, Str.IsUtf8-append, Str.IsUtf8-nil, Str.IsUtf8-from_ascii}
+use Rattle.std.proofs.Common.{◌≡◌, ℕ, suc, ◌+◌, ◌-◌, ◌<◌, List, [], ◌∷◌, ◌++◌, length, take, get_or, Bool, true, false, fold, map, not, ◌==◌, Some, refl, sym, ap, inl, ◌∙◌, subst, append_assoc}
+use Rattle.std.proofs.Common.{length-append, decimal, ◌^◌, arith, drop, ◌≢◌, ltb-true, ◌≤◌, ◌*◌, option_map, nat_lt}
+use Rattle.std.specs.{Str.IsUtf8, Int.w32, Int.to_be_bytes, Int.from_be_bytes}
+use Rattle.json.proofs.{Printed.Strings.escape_byte_plain, Printed.Decimals.IsNumber-decimal, Printed.Tokens.tokens-print_spaced, Printed.Tokens.IsGap-append, Grammar.value_is}
 use Rattle.json.proofs.Printed.Utf8.{are_ascii, IsUtf8-are_ascii, IsUtf8-quoted, IsUtf8-key, IsUtf8-boolean, IsUtf8-separator, IsUtf8-IsGap}
-use Rattle.json.proofs.Printed.Decimals.{IsNumber-decimal}
-use Rattle.json.proofs.Printed.Tokens.{tokens-print_spaced, IsGap-append}
-use Rattle.json.proofs.Grammar.{value_is}
-use Rattle.json.specs.Token.{Token}
-use Rattle.json.specs.Lex.{tokens}
-use Rattle.json.specs.Print.{escape, token_text, ends, separator, print_from, ArePrintable}
-use Rattle.json.specs.Spaced.{AreGaps, print_spaced}
+use Rattle.json.specs.{Token.Token, Lex.tokens, Print.escape, Print.token_text, Print.ends, Print.separator, Print.print_from, Print.ArePrintable, Spaced.AreGaps, Spaced.print_spaced}
 use Rattle.serde_json.specs.Data.{Data, boolean, number, unsigned, string, array, object, no_items, Members, no_members, put}
-use Rattle.serde_json.specs.Data as serde
 use Rattle.serde_json.specs.Read.{of_json, converted}
 use Rattle.serde_json.proofs.Numbers.{number_of-decimal}
-use Rattle.mml_plain.specs.declared.member_value.MemberValue.{MemberValue}
-use Rattle.mml_plain.specs.declared.member_value.MemberValue.TheVariants.{Null, Truth, Number, Other}
-use Rattle.mml_plain.specs.Reading.{members_at, value_at, if_over, object_at}
-use Rattle.mml_plain.specs.Shown.{Shows}
+use Rattle.mml_plain.specs.declared.member_value.MemberValue.{MemberValue, TheVariants.Null, TheVariants.Truth, TheVariants.Number, TheVariants.Other}
+use Rattle.mml_plain.specs.{Reading.members_at, Reading.value_at, Reading.if_over, Reading.object_at, Shown.Shows, declared.fields.Fields.Fields, Fields.with}
 use Rattle.mml_plain.specs.Compact.{is_bare_byte, is_bare, is_value_ended, Spaced, BeginsValue, BeginsMember, BeginsQuoted, BeginsAfter, PutsKnown, PutsMember}
-use Rattle.mml_plain.specs.declared.fields.Fields.{Fields}
-use Rattle.mml_plain.specs.Fields.{with}
 use Rattle.mml_plain.proofs.ReadingLemmas.{items_next, members_suc, members_next, value_array, value_object}
+use Rattle.serde_json.specs.Data as serde
 
 abbrev SpacedTokens : Type 0
 SpacedTokens = List (List ℕ × Token)
@@ -206,9 +189,7 @@ module _ (line rest more k : List ℕ) (v : MemberValue) (found : Members) (m : 
       subst IsUtf8 (sym one_text) (IsUtf8-append (separator (is_value_ended (told b.us)) (Token.key k)) _ (IsUtf8-separator (is_value_ended (told b.us)) (Token.key k)) at_key)
 
   goes_on : (n : ℕ) (ts : List Token) → members_at 126 no_members ((b.begun.turns + 1) + n) (told us ++ ts) ≡ members_at 126 (put k m.value.datum found) n ts
-  goes_on n ts =
-      let counted : (b.begun.turns + 1) + n ≡ b.begun.turns + suc n = omega arith in
-      grind (arith, nat_tests, said, append_assoc, members_suc)
+  goes_on n ts = let counted : (b.begun.turns + 1) + n ≡ b.begun.turns + suc n = omega arith in grind (arith, nat_tests, said, append_assoc, members_suc)
 
   more_begun : Begun us (put k m.value.datum found)
   unfolding ArePrintable
@@ -251,15 +232,11 @@ bare_more xs i d h was one = ap is_bare (take_more xs i d h) ∙ bare-append (ta
 
 -- one more of the small letters, or of what comes after them in ASCII
 pub bare_above : (xs : List ℕ) (i d : ℕ) → i < length xs → is_bare (take i xs) ≡ true → 92 < get_or xs i d → get_or xs i d < 128 → is_bare (take (i + 1) xs) ≡ true
-bare_above xs i d h was above below =
-    let one : is_bare_byte (get_or xs i d) ≡ true = grind (arith, nat_tests, and_from) in
-    bare_more xs i d h was one
+bare_above xs i d h was above below = let one : is_bare_byte (get_or xs i d) ≡ true = grind (arith, nat_tests, and_from) in bare_more xs i d h was one
 
 -- one more of what comes before a backslash, but for a quotation mark
 pub bare_below : (xs : List ℕ) (i d : ℕ) → i < length xs → is_bare (take i xs) ≡ true → 31 < get_or xs i d → get_or xs i d < 92 → get_or xs i d ≢ 34 → is_bare (take (i + 1) xs) ≡ true
-bare_below xs i d h was above below other =
-    let one : is_bare_byte (get_or xs i d) ≡ true = grind (arith, nat_tests, and_from) in
-    bare_more xs i d h was one
+bare_below xs i d h was above below other = let one : is_bare_byte (get_or xs i d) ≡ true = grind (arith, nat_tests, and_from) in bare_more xs i d h was one
 
 other_than : (b k : ℕ) → not (b == k) ≡ true → b ≢ k
 other_than b k h e = both_ways _ (not-true _ h) (eq-eqb b k e)

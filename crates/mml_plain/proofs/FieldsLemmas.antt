@@ -1,15 +1,9 @@
 -- A member more, in the fields and in the object.
-use Rattle.std.proofs.Common.{◌≡◌, ℕ, List, Bool, false, codes, bytes_eq, cond, Bor, Option, Some, option_map, option_and_then, true≢false}
-use Rattle.std.proofs.Common.{refl, sym, ◌∙◌, arith}
+use Rattle.std.proofs.Common.{◌≡◌, ℕ, List, Bool, false, codes, bytes_eq, cond, Bor, Option, Some, option_map, option_and_then, true≢false, refl, sym, ◌∙◌, arith}
 use Rattle.std.proofs.lemmas.Slice.Eq.{bytes_eq-Decides}
-use Rattle.serde_json.specs.Data.{Data, object, Members, put}
-use Rattle.serde_json.specs.Find.{get_member, as_str, as_bool, as_number, as_u64}
+use Rattle.serde_json.specs.{Data.Data, Data.object, Data.Members, Data.put, Find.get_member, Find.as_str, Find.as_bool, Find.as_number, Find.as_u64}
 use Rattle.serde_json.proofs.Views.{get_member-put, get_member-put_other}
-use Rattle.mml_plain.specs.declared.member_value.MemberValue.{MemberValue}
-use Rattle.mml_plain.specs.declared.fields.Fields.{Fields}
-use Rattle.mml_plain.specs.LookUps.{as_register}
-use Rattle.mml_plain.specs.Holds.{Holds}
-use Rattle.mml_plain.specs.Shown.{Shows}
+use Rattle.mml_plain.specs.{declared.member_value.MemberValue.MemberValue, declared.fields.Fields.Fields, LookUps.as_register, Holds.Holds, Shown.Shows}
 use Rattle.mml_plain.specs.Fields.{text_in, number_in, truth_in, register_in, with, after}
 
 differ : (k q : List ℕ) → bytes_eq k q ≡ false → q ≡ k → ⊥

@@ -1,20 +1,13 @@
 -- What is read of tokens, a turn at a time, and that it is what `serde_json` reads.
-use Rattle.std.proofs.Common.{◌≡◌, ℕ, suc, ◌-◌, ◌<◌, ◌≤◌, List, [], ◌∷◌, length, Bool, false, Option, Some, None}
-use Rattle.std.proofs.Common.{Bor, option_map, option_and_then, refl, sym, ap, ◌∙◌, arith}
-use Rattle.std.specs.Str.{is_utf8, IsUtf8}
-use Rattle.std.proofs.lemmas.Str.{is_utf8-from_IsUtf8, IsUtf8-from_is_utf8}
-use Rattle.json.specs.Token.{Token}
-use Rattle.json.specs.Lex.{tokens}
-use Rattle.json.specs.Json as json
-use Rattle.json.specs.Json.{parse_map, after_end_array, read_key, items_step, members_step, items, members, value, if_last}
+use Rattle.std.proofs.Common.{◌≡◌, ℕ, suc, ◌-◌, ◌<◌, ◌≤◌, List, [], ◌∷◌, length, Bool, false, Option, Some, None, Bor, option_map, option_and_then, refl, sym, ap, ◌∙◌, arith}
+use Rattle.std.{specs.Str.is_utf8, specs.Str.IsUtf8, proofs.lemmas.Str.is_utf8-from_IsUtf8, proofs.lemmas.Str.IsUtf8-from_is_utf8}
+use Rattle.json.specs.{Token.Token, Lex.tokens, Json.parse_map, Json.after_end_array, Json.read_key, Json.items_step, Json.members_step, Json.items, Json.members, Json.value, Json.if_last}
 use Rattle.json.proofs.Grammar.{value_is, value-begin_array, value-begin_object}
 use Rattle.serde_json.specs.Data.{Data, Num, null, boolean, number, string, array, object, Items, no_items, item, Members, no_members, put}
-use Rattle.serde_json.specs.Find.{as_object, as_u64}
-use Rattle.serde_json.specs.Read.{of_json, of_items, of_members, converted, number_of}
-use Rattle.mml_plain.specs.declared.member_value.MemberValue.{MemberValue}
-use Rattle.mml_plain.specs.declared.member_value.MemberValue.TheVariants.{Null, Truth, Number, Text, Other}
-use Rattle.mml_plain.specs.Shown.{Shows}
-use Rattle.mml_plain.specs.Reading.{value_at, items_at, members_at, if_over, object_at, object_in}
+use Rattle.serde_json.specs.{Find.as_object, Find.as_u64, Read.of_json, Read.of_items, Read.of_members, Read.converted, Read.number_of}
+use Rattle.mml_plain.specs.declared.member_value.MemberValue.{MemberValue, TheVariants.Null, TheVariants.Truth, TheVariants.Number, TheVariants.Text, TheVariants.Other}
+use Rattle.mml_plain.specs.{Shown.Shows, Reading.value_at, Reading.items_at, Reading.members_at, Reading.if_over, Reading.object_at, Reading.object_in}
+use Rattle.json.specs.Json as json
 
 beside : {A B : Type 0} (f : A → B) (rest : List Token) (x : Option A) → option_map (λ b. (b, rest)) (option_map f x) ≡ parse_map f (option_map (λ a. (a, rest)) x)
 beside f rest x = grind arith

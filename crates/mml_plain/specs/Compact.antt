@@ -1,15 +1,9 @@
 -- Words and values as they stand in a text without escapes.
 use Rattle.std.specs.Prelude.{◌≡◌, ℕ, List, [], ◌∷◌, ◌++◌, fold, Bool, true, false, not, ◌&&◌, ◌==◌, nat_lt, Some}
 use Rattle.std.specs.Str.{IsUtf8}
-use Rattle.json.specs.Token.{Token}
-use Rattle.json.specs.Print.{token_text, ends, print_from, ArePrintable}
-use Rattle.json.specs.Spaced.{IsGap}
+use Rattle.json.specs.{Token.Token, Print.token_text, Print.ends, Print.print_from, Print.ArePrintable, Spaced.IsGap}
 use Rattle.serde_json.specs.Data.{Data}
-use Rattle.mml_plain.specs.declared.member_value.MemberValue.{MemberValue}
-use Rattle.mml_plain.specs.declared.fields.Fields.{Fields}
-use Rattle.mml_plain.specs.Fields.{with}
-use Rattle.mml_plain.specs.Reading.{value_at}
-use Rattle.mml_plain.specs.Shown.{Shows}
+use Rattle.mml_plain.specs.{declared.member_value.MemberValue.MemberValue, declared.fields.Fields.Fields, Fields.with, Reading.value_at, Shown.Shows}
 
 -- the byte stands for itself in a string, and is ASCII
 abbrev pub is_bare_byte : ℕ → Bool

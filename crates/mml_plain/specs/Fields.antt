@@ -1,8 +1,6 @@
 -- The fields of an object, member by member.
-use Rattle.std.specs.Prelude.{ℕ, List, Bool, codes, bytes_eq, if◌then◌else◌, Option, Some, None}
-use Rattle.std.specs.Borrow.{Bor}
-use Rattle.mml_plain.specs.declared.member_value.MemberValue.{MemberValue}
-use Rattle.mml_plain.specs.declared.member_value.MemberValue.TheVariants.{Null, Truth, Number, Text, Other}
+use Rattle.std.specs.{Prelude.ℕ, Prelude.List, Prelude.Bool, Prelude.codes, Prelude.bytes_eq, Prelude.if◌then◌else◌, Prelude.Option, Prelude.Some, Prelude.None, Borrow.Bor}
+use Rattle.mml_plain.specs.declared.member_value.MemberValue.{MemberValue, TheVariants.Null, TheVariants.Truth, TheVariants.Number, TheVariants.Text, TheVariants.Other}
 use Rattle.mml_plain.specs.declared.fields.Fields.{Fields}
 
 -- the text that a value is, if it is one

@@ -1,8 +1,7 @@
 -- What the fields say of a value.
 use Rattle.std.specs.Prelude.{◌≡◌, codes, option_map}
 use Rattle.serde_json.specs.Data.{Data}
-use Rattle.mml_plain.specs.LookUps.{text_at, number_at, truth_at, register_at}
-use Rattle.mml_plain.specs.declared.fields.Fields.{Fields}
+use Rattle.mml_plain.specs.{LookUps.text_at, LookUps.number_at, LookUps.truth_at, LookUps.register_at, declared.fields.Fields.Fields}
 
 -- each field has what its key names in the value
 pub record Holds (f : Fields) (d : Data) : Type 0 where

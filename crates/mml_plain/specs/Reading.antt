@@ -1,11 +1,7 @@
 -- What is read of tokens, and the object that a line is.
-use Rattle.std.specs.Prelude.{ℕ, List, [], ◌∷◌, length, Option, Some, None, option_and_then, if◌then◌else◌}
-use Rattle.std.specs.Str.{is_utf8}
-use Rattle.json.specs.Token.{Token}
-use Rattle.json.specs.Json.{value, items, members}
-use Rattle.serde_json.specs.Data.{Data, Items, Members, no_members}
-use Rattle.serde_json.specs.Find.{as_object}
-use Rattle.serde_json.specs.Read.{of_json, of_items, of_members, converted, read}
+use Rattle.std.specs.{Prelude.ℕ, Prelude.List, Prelude.[], Prelude.◌∷◌, Prelude.length, Prelude.Option, Prelude.Some, Prelude.None, Prelude.option_and_then, Prelude.if◌then◌else◌, Str.is_utf8}
+use Rattle.json.specs.{Token.Token, Json.value, Json.items, Json.members}
+use Rattle.serde_json.specs.{Data.Data, Data.Items, Data.Members, Data.no_members, Find.as_object, Read.of_json, Read.of_items, Read.of_members, Read.converted, Read.read}
 
 -- the value that comes next, nested no deeper than the number, and the tokens after it
 abbrev pub value_at : ℕ → List Token → Option (Data × List Token)

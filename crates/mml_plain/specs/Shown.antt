@@ -1,10 +1,7 @@
 -- What a member's value shows of the JSON data.
 use Rattle.std.specs.Prelude.{◌≡◌, option_map, option_and_then}
-use Rattle.serde_json.specs.Data.{Data}
-use Rattle.serde_json.specs.Find.{as_str, as_bool, as_number, as_u64}
-use Rattle.mml_plain.specs.declared.member_value.MemberValue.{MemberValue}
-use Rattle.mml_plain.specs.LookUps.{as_register}
-use Rattle.mml_plain.specs.Fields.{text_in, number_in, truth_in, register_in}
+use Rattle.serde_json.specs.{Data.Data, Find.as_str, Find.as_bool, Find.as_number, Find.as_u64}
+use Rattle.mml_plain.specs.{declared.member_value.MemberValue.MemberValue, LookUps.as_register, Fields.text_in, Fields.number_in, Fields.truth_in, Fields.register_in}
 
 -- the value shows what a request may read of the data, and no more
 pub record Shows (v : MemberValue) (d : Data) : Type 0 where

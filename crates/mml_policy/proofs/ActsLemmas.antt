@@ -1,17 +1,10 @@
 -- No act is shown, and no view is granted.
-use Rattle.std.proofs.Common.{◌≡◌, ◌≢◌, ℕ, true, false, List, Result, arith}
-use Rattle.std.specs.Result.{IfOk}
-use Rattle.mml_lab.specs.declared.who.Who.{Who}
-use Rattle.mml_lab.specs.Rosters.{RosterValue}
-use Rattle.mml_board.specs.declared.event.Event.{Event}
-use Rattle.mml_board.specs.World.{World}
-use Rattle.mml_policy.specs.Acts.{is_act}
-use Rattle.mml_policy.specs.declared.command.Command.{Command}
-use Rattle.mml_board.specs.declared.denial.Denial.{Denial}
-use Rattle.mml_policy.specs.declared.verdict.Verdict.TheVariants as verdicts
-use Rattle.mml_policy.specs.declared.verdict.Leave.{Leave}
-use Rattle.mml_policy.specs.Verdicts.{clauses, settled, verdict}
+use Rattle.std.{proofs.Common.◌≡◌, proofs.Common.◌≢◌, proofs.Common.ℕ, proofs.Common.true, proofs.Common.false, proofs.Common.List, proofs.Common.Result, proofs.Common.arith, specs.Result.IfOk}
+use Rattle.mml_lab.specs.{declared.who.Who.Who, Rosters.RosterValue}
+use Rattle.mml_board.specs.{declared.event.Event.Event, declared.denial.Denial.Denial, World.World}
+use Rattle.mml_policy.specs.{Acts.is_act, declared.command.Command.Command, declared.verdict.Leave.Leave, Verdicts.clauses, Verdicts.settled, Verdicts.verdict}
 use Rattle.mml_policy.proofs.VerdictLemmas.{IsEvent, of_kind}
+use Rattle.mml_policy.specs.declared.verdict.Verdict.TheVariants as verdicts
 
 not_shown : (s : Result Leave Denial) → IfOk s (IsEvent true) → settled s ≢ verdicts.Show
 not_shown s h e = grind arith

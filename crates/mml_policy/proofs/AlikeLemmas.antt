@@ -1,44 +1,22 @@
 -- What a student can't see changes nothing for the student.
-use Rattle.std.proofs.lemmas.Bool.Decides.{nat_tests}
-use Rattle.std.proofs.Common.{◌≡◌, ℕ, ◌<◌, Bool, true, false, cond, ◌&&◌, ◌||◌, List, [], ◌∷◌, length, map, Option, Some}
-use Rattle.std.proofs.Common.{Result, Ok, Err, refl, sym, ap, nat_le, ◌∙◌, subst, nat_le, arith, inl, inr, slice_set, filter}
-use Rattle.std.specs.Result.{IfOk}
-use Rattle.std.proofs.lemmas.Bool.{cases_eq}
-use Rattle.std.proofs.lemmas.List.{get_or-set_other}
-use Rattle.std.proofs.lemmas.Grind.{get_or-set_at}
-use Rattle.mml_rules.specs.declared.rule.Rule.{Rule}
-use Rattle.mml_rules.specs.Configuration.{Configuration, IsLawful}
-use Rattle.mml_rules.specs.Around.{AgreeAround}
-use Rattle.mml_rules.specs.Network.{registers_at}
-use Rattle.mml_ids.proofs.SearchLemmas.{same_bool, some_below_same}
+use Rattle.std.{proofs.lemmas.Bool.Decides.nat_tests, proofs.lemmas.Bool.cases_eq, proofs.lemmas.List.get_or-set_other, proofs.lemmas.Grind.get_or-set_at, specs.Result.IfOk}
+use Rattle.std.proofs.Common.{◌≡◌, ℕ, ◌<◌, Bool, true, false, cond, ◌&&◌, ◌||◌, List, [], ◌∷◌, length, map, Option, Some, Result, Ok, Err, refl, sym, ap, nat_le, ◌∙◌, subst, nat_le, arith, inl, inr}
+use Rattle.std.proofs.Common.{slice_set, filter}
+use Rattle.mml_rules.specs.{declared.rule.Rule.Rule, Configuration.Configuration, Configuration.IsLawful, Around.AgreeAround, Network.registers_at}
+use Rattle.mml_ids.proofs.{SearchLemmas.same_bool, SearchLemmas.some_below_same, GivesLemmas.bind-same, GivesLemmas.need-same, GivesLemmas.bind-if, GivesLemmas.need-if}
 use Rattle.mml_rules.proofs.AroundLemmas.{same_guard, same_kind}
-use Rattle.mml_lab.specs.declared.who.Who.{Who}
-use Rattle.mml_lab.specs.declared.who.Who.TheVariants as who
-use Rattle.mml_lab.specs.Rosters.{RosterValue, owns}
-use Rattle.mml_board.specs.declared.event.Event.TheVariants as event
-use Rattle.mml_board.specs.World.{World, size, configuration, chosen_at}
-use Rattle.mml_board.specs.Events.{choosing, done_by}
-use Rattle.mml_policy.specs.declared.command.Command.{Command}
-use Rattle.mml_policy.specs.declared.command.Command.TheVariants as command
-use Rattle.mml_board.specs.declared.denial.Denial.{Denial}
-use Rattle.mml_policy.specs.declared.verdict.Leave.{Leave}
-use Rattle.mml_policy.specs.declared.verdict.Leave.TheVariants.{Grant}
-use Rattle.mml_policy.specs.Visible.{is_visible, owns_neighbour}
-use Rattle.mml_policy.specs.Verdicts.{granted, clauses}
+use Rattle.mml_lab.specs.{declared.who.Who.Who, Rosters.RosterValue, Rosters.owns}
+use Rattle.mml_board.specs.{World.World, World.size, World.configuration, World.chosen_at, Events.choosing, Events.done_by, declared.denial.Denial.Denial, declared.act.Act.Act, Clauses.check}
+use Rattle.mml_policy.specs.declared.{command.Command.Command, command.Asked.Asked, verdict.Leave.Leave, verdict.Leave.TheVariants.Grant}
+use Rattle.mml_policy.specs.{Visible.is_visible, Visible.owns_neighbour, Verdicts.granted, Verdicts.clauses, Clauses.rule_of, Shown.near, Shown.look_of, Alike.Alike, Alike.IsWorldOf}
 use Rattle.mml_ids.specs.Ids.{rank_in}
-use Rattle.mml_policy.specs.Clauses.{rule_of}
-use Rattle.mml_policy.specs.declared.command.Asked.{Asked}
-use Rattle.mml_board.specs.declared.act.Act.{Act}
-use Rattle.mml_board.specs.declared.act.Act.TheVariants as acts
-use Rattle.mml_board.specs.Clauses.{check}
-use Rattle.mml_policy.specs.Shown.{near, look_of}
 use Rattle.mml_policy.specs.Rulings.{ruling_on_leave, ruled, ruling, after_ruling}
-use Rattle.mml_policy.specs.declared.ruling.Ruling.{Ruling}
-use Rattle.mml_policy.specs.declared.ruling.Ruling.TheVariants.{Full, Journal, Granted}
-use Rattle.mml_policy.specs.Alike.{Alike, IsWorldOf}
-use Rattle.mml_ids.proofs.GivesLemmas.{bind-same, need-same, bind-if, need-if}
-use Rattle.mml_policy.proofs.ClausesLemmas.{node_there}
-use Rattle.mml_policy.proofs.VisibleLemmas.{visible_means}
+use Rattle.mml_policy.specs.declared.ruling.Ruling.{Ruling, TheVariants.Full, TheVariants.Journal, TheVariants.Granted}
+use Rattle.mml_policy.proofs.{ClausesLemmas.node_there, VisibleLemmas.visible_means}
+use Rattle.mml_lab.specs.declared.who.Who.TheVariants as who
+use Rattle.mml_board.specs.declared.event.Event.TheVariants as event
+use Rattle.mml_policy.specs.declared.command.Command.TheVariants as command
+use Rattle.mml_board.specs.declared.act.Act.TheVariants as acts
 
 both_ways_linked : (c : Configuration) (i j : ℕ) → IsLawful c → c.linked i j ≡ c.linked j i
 both_ways_linked c i j l = same_bool _ _ (l.symmetric i j) (l.symmetric j i)
@@ -104,10 +82,7 @@ module _ (ids : List ℕ) (r : RosterValue) (limit : ℕ) (is_halted : Bool) (s 
   same_seen : (i : ℕ) → is_visible r c x i ≡ true → registers_at w.network.registers i ≡ registers_at v.network.registers i
   same_seen i h = elim ((visible_means r c x i lawful_w).0 h) [
     | inl t ↦ absurd (grind arith)
-    | inr o ↦ elim o [
-      | inl own ↦ a.here i own
-      | inr n ↦ a.near n.0 i n.2 (lawful_w.symmetric i n.0 n.1)
-    ]
+    | inr o ↦ elim o [ inl own ↦ a.here i own | inr n ↦ a.near n.0 i n.2 (lawful_w.symmetric i n.0 n.1) ]
   ]
 
   same_near : (i : ℕ) → owns r x i ≡ true → near w i ≡ near v i

@@ -1,15 +1,12 @@
 -- Steps of clauses: what they hand on, and why they deny.
 use Rattle.std.proofs.Common.{◌≡◌, ℕ, ◌<◌, List, length, ◌==◌, Option, None, Some, option_map, Result, Ok, Err, arith}
-use Rattle.std.proofs.lemmas.List.Quantifiers.{position-Some}
+use Rattle.std.{proofs.lemmas.List.Quantifiers.position-Some, specs.Option.ok_or}
 use Rattle.mml_ids.specs.Ids.{rank_in}
 use Rattle.mml_lab.specs.declared.who.Who.{Who}
-use Rattle.mml_lab.specs.declared.who.Who.TheVariants as who
-use Rattle.mml_board.specs.declared.denial.Denial.{Denial}
-use Rattle.mml_board.specs.Clauses.{student, pointer}
+use Rattle.mml_board.specs.{declared.denial.Denial.Denial, Clauses.student, Clauses.pointer}
 use Rattle.mml_rules.specs.declared.rule.Rule.{Rule}
-use Rattle.mml_policy.specs.declared.command.Asked.{Asked}
-use Rattle.std.specs.Option.{ok_or}
-use Rattle.mml_policy.specs.Clauses.{node, rule_of}
+use Rattle.mml_policy.specs.{declared.command.Asked.Asked, Clauses.node, Clauses.rule_of}
+use Rattle.mml_lab.specs.declared.who.Who.TheVariants as who
 
 -- the node that a step found is the one with this identifier
 pub node-ok : (ids : List ℕ) (id : ℕ) (d : Denial) (i : ℕ) → node ids id d ≡ Ok i → rank_in ids id ≡ Some i

@@ -1,33 +1,20 @@
 -- When each command but a move is granted or shown.
 use Rattle.std.proofs.Common.{◌≡◌, ℕ, zero, suc, ◌==◌, Bool, true, not, ◌||◌, List, [], ◌∷◌, Option, Some, is_some, Result, Ok, refl, ap, inl, inr, ◌⊎◌, arith}
-use Rattle.std.specs.Prelude.{◌↔◌}
-use Rattle.std.specs.List.{list_any}
+use Rattle.std.specs.{Prelude.◌↔◌, List.list_any}
 use Rattle.std.proofs.lemmas.Bool.{or_cases, or_left, or_right, eqb-false, ne_eqb, not-true, not_from_false}
 use Rattle.mml_ids.specs.Gives.{◌>>=◌, ◌>>◌, need}
 use Rattle.mml_ids.proofs.GivesLemmas.{bind-ok, bind-from, need-ok, need-from}
-use Rattle.mml_rules.specs.declared.rule.Rule.{Rule}
-use Rattle.mml_rules.specs.Configuration.{IsLawful}
-use Rattle.mml_lab.specs.declared.who.Who.{Who}
-use Rattle.mml_lab.specs.declared.who.Who.TheVariants as who
-use Rattle.mml_lab.specs.Rosters.{RosterValue, owns}
-use Rattle.mml_board.specs.declared.event.Event.{Event}
-use Rattle.mml_board.specs.declared.event.Event.TheVariants as event
-use Rattle.mml_board.specs.World.{World, configuration, chosen_at}
-use Rattle.mml_board.specs.Events.{may_point}
-use Rattle.mml_policy.specs.declared.command.Command.TheVariants as command
-use Rattle.mml_board.specs.declared.denial.Denial.{Denial}
-use Rattle.mml_board.specs.declared.denial.Denial.TheVariants.{NotTeacher, NoNode, BadRegister, Loop, Linked, NotLinked}
-use Rattle.mml_policy.specs.declared.verdict.Verdict.TheVariants as verdicts
-use Rattle.mml_policy.specs.declared.verdict.Leave.{Leave}
-use Rattle.mml_policy.specs.Visible.{is_teacher}
-use Rattle.mml_policy.specs.Clauses.{node}
-use Rattle.mml_policy.proofs.ClausesLemmas.{pointer_step}
-use Rattle.mml_policy.specs.Verdicts.{settled, verdict}
+use Rattle.mml_rules.specs.{declared.rule.Rule.Rule, Configuration.IsLawful}
+use Rattle.mml_lab.specs.{declared.who.Who.Who, Rosters.RosterValue, Rosters.owns}
+use Rattle.mml_board.specs.{declared.event.Event.Event, World.World, World.configuration, World.chosen_at, Events.may_point}
+use Rattle.mml_board.specs.declared.denial.Denial.{Denial, TheVariants.NotTeacher, TheVariants.NoNode, TheVariants.BadRegister, TheVariants.Loop, TheVariants.Linked, TheVariants.NotLinked}
+use Rattle.mml_policy.specs.{declared.verdict.Leave.Leave, Visible.is_teacher, Clauses.node, Verdicts.settled, Verdicts.verdict, Denied.IsAskedOfBoth}
+use Rattle.mml_policy.proofs.{ClausesLemmas.pointer_step, ClausesLemmas.node-ok, VerdictLemmas.act-grant, VisibleLemmas.teacher_is, VisibleLemmas.visible_means}
 use Rattle.mml_policy.specs.Meaning.{MaySee, MayLook, MayClose, MayFault, MayLink, MayCut, MayRelease, IsNamed, IsRegister}
-use Rattle.mml_policy.specs.Denied.{IsAskedOfBoth}
-use Rattle.mml_policy.proofs.ClausesLemmas.{node-ok}
-use Rattle.mml_policy.proofs.VerdictLemmas.{act-grant}
-use Rattle.mml_policy.proofs.VisibleLemmas.{teacher_is, visible_means}
+use Rattle.mml_lab.specs.declared.who.Who.TheVariants as who
+use Rattle.mml_board.specs.declared.event.Event.TheVariants as event
+use Rattle.mml_policy.specs.declared.command.Command.TheVariants as command
+use Rattle.mml_policy.specs.declared.verdict.Verdict.TheVariants as verdicts
 
 pub some-value : {A : Type 0} (o : Option A) → is_some o ≡ true → (x : A) × (o ≡ Some x)
 some-value o h = grind arith

@@ -1,36 +1,21 @@
 -- Why each of the teacher's commands is denied.
 use Rattle.std.proofs.Common.{◌≡◌, ◌≢◌, ◌↔◌, ℕ, Bool, false, List, Option, None, Some, is_some, Result, Ok, Err, sym, ap, ◌∙◌, arith}
-use Rattle.std.specs.List.{list_any}
-use Rattle.std.specs.Option.{ok_or}
-use Rattle.std.specs.Result.{IfErr}
+use Rattle.std.{specs.List.list_any, specs.Option.ok_or, specs.Result.IfErr, proofs.lemmas.Result.IfErr-at_err}
 use Rattle.std.proofs.lemmas.Bool.{both_ways, false_from_ne_true, eqb-true, eqb-false, eq-eqb, ne_eqb, not-true, not-false, not_from_true, not_from_false}
-use Rattle.std.proofs.lemmas.Result.{IfErr-at_err}
-use Rattle.mml_ids.specs.Ids.{rank_in}
-use Rattle.mml_ids.specs.Gives.{◌>>=◌, ◌>>◌, need}
+use Rattle.mml_ids.specs.{Ids.rank_in, Gives.◌>>=◌, Gives.◌>>◌, Gives.need}
 use Rattle.mml_ids.proofs.GivesLemmas.{bind-from, need-from, bind-deny, need-deny}
 use Rattle.mml_rules.specs.declared.rule.Rule.{Rule}
-use Rattle.mml_lab.specs.declared.who.Who.{Who}
-use Rattle.mml_lab.specs.declared.who.Who.TheVariants as who
-use Rattle.mml_lab.specs.Rosters.{RosterValue}
-use Rattle.mml_board.specs.declared.event.Event.{Event}
-use Rattle.mml_board.specs.declared.event.Event.TheVariants as event
-use Rattle.mml_board.specs.World.{World, configuration, chosen_at}
-use Rattle.mml_board.specs.Events.{may_point}
-use Rattle.mml_policy.specs.declared.command.Command.TheVariants as command
-use Rattle.mml_board.specs.declared.denial.Denial.{Denial}
-use Rattle.mml_board.specs.declared.denial.Denial.TheVariants.{NotTeacher, NoNode, BadRegister, Loop}
-use Rattle.mml_policy.specs.declared.verdict.Verdict.TheVariants as verdicts
-use Rattle.mml_policy.specs.Visible.{is_teacher}
-use Rattle.mml_policy.specs.Clauses.{node}
-use Rattle.mml_policy.proofs.ClausesLemmas.{pointer_step}
-use Rattle.mml_policy.specs.Verdicts.{verdict}
-use Rattle.mml_policy.specs.Meaning.{IsNamed, IsRegister}
+use Rattle.mml_lab.specs.{declared.who.Who.Who, Rosters.RosterValue}
+use Rattle.mml_board.specs.{declared.event.Event.Event, World.World, World.configuration, World.chosen_at, Events.may_point}
+use Rattle.mml_board.specs.declared.denial.Denial.{Denial, TheVariants.NotTeacher, TheVariants.NoNode, TheVariants.BadRegister, TheVariants.Loop}
+use Rattle.mml_policy.specs.{Visible.is_teacher, Clauses.node, Verdicts.verdict, Meaning.IsNamed, Meaning.IsRegister}
+use Rattle.mml_policy.proofs.{ClausesLemmas.pointer_step, ClausesLemmas.node-ok, ClausesLemmas.node-err, VerdictLemmas.act-deny, VisibleLemmas.teacher_is}
 use Rattle.mml_policy.specs.Denied.{IsAskedOf, IsAskedOfBoth, DeniesClose, DeniesFault, LacksAnEnd, DeniesLink, DeniesCut, DeniesRelease, DeniesReport}
-use Rattle.mml_policy.proofs.ClausesLemmas.{node-ok, node-err}
-use Rattle.mml_policy.proofs.CommandMeaningLemmas.{chosen-some, some-chosen, named-is, named-from, register-is, register-from, link_at, cut_at}
-use Rattle.mml_policy.proofs.CommandMeaningLemmas.{asked_of_both, both_ends}
-use Rattle.mml_policy.proofs.VerdictLemmas.{act-deny}
-use Rattle.mml_policy.proofs.VisibleLemmas.{teacher_is}
+use Rattle.mml_policy.proofs.CommandMeaningLemmas.{chosen-some, some-chosen, named-is, named-from, register-is, register-from, link_at, cut_at, asked_of_both, both_ends}
+use Rattle.mml_lab.specs.declared.who.Who.TheVariants as who
+use Rattle.mml_board.specs.declared.event.Event.TheVariants as event
+use Rattle.mml_policy.specs.declared.command.Command.TheVariants as command
+use Rattle.mml_policy.specs.declared.verdict.Verdict.TheVariants as verdicts
 
 -- ---- the step that fails
 
@@ -125,8 +110,7 @@ module _ (ids : List ℕ) (r : RosterValue) (w : World) (x : Who) where
     both_deny why rest alone lacks found = grind (arith, need-deny, no_teacher, bind-deny, node-err, teacher_is, node-ok)
 
     -- where an end isn't there, whatever comes next
-    no_end : (rest : ℕ → ℕ → Result Event Denial) → LacksAnEnd ids x first second
-        → asked_of_both ids x first second rest ≡ Err NoNode
+    no_end : (rest : ℕ → ℕ → Result Event Denial) → LacksAnEnd ids x first second → asked_of_both ids x first second rest ≡ Err NoNode
     no_end rest h = grind (arith, need-from, bind-fails, bind-from)
 
     abbrev why_no_link : Denial → Type 0

@@ -1,12 +1,9 @@
 -- Identifiers are names of nodes that come in the order of ranks.
 use Rattle.std.proofs.Common.{◌≡◌, ℕ, ◌<◌, ◌==◌, true, List, length, Option, None, Some, slice_index, refl, arith}
-use Rattle.std.proofs.lemmas.List.{get_or_default}
-use Rattle.std.proofs.lemmas.List.Quantifiers.{position-Some}
+use Rattle.std.proofs.lemmas.List.{get_or_default, Quantifiers.position-Some}
 use Rattle.mml_ids.specs.Ids.{IsTable, rank_in}
 use Rattle.mml_ids.proofs.IdsLemmas.{rank_of_id, id_of_rank}
-use Rattle.mml_rules.specs.Configuration.{Configuration}
-use Rattle.mml_rules.specs.Naming.{IsRenamed}
-use Rattle.mml_rules.specs.UnderNames.{IsNoName, IsEmptyElsewhere}
+use Rattle.mml_rules.specs.{Configuration.Configuration, Naming.IsRenamed, UnderNames.IsNoName, UnderNames.IsEmptyElsewhere}
 use Rattle.mml_policy.specs.Identifiers.{are_linked, with_identifiers}
 
 module _ (ids : List ℕ) (c : Configuration) (table : IsTable ids) (nodes : c.size ≡ length ids) where

@@ -1,21 +1,13 @@
 -- What a look shows is visible to the one who may look.
-use Rattle.std.proofs.lemmas.Bool.Decides.{nat_tests}
-use Rattle.std.proofs.lemmas.Grind.{common_steps}
+use Rattle.std.proofs.lemmas.{Bool.Decides.nat_tests, Grind.common_steps, List.Elements.All-nil, List.Elements.All-cons, List.Elements.All-append}
 use Rattle.std.proofs.Common.{◌≡◌, ℕ, zero, suc, ◌+◌, Bool, true, false, ◌⊎◌, refl, subst, add-one, arith}
 use Rattle.std.specs.List.{All}
-use Rattle.std.proofs.lemmas.List.Elements.{All-nil, All-cons, All-append}
-use Rattle.mml_rules.specs.declared.regs.Regs.{Regs}
-use Rattle.mml_rules.specs.Configuration.{IsLawful}
-use Rattle.mml_rules.specs.Network.{registers_at}
-use Rattle.mml_lab.specs.declared.who.Who.{Who}
-use Rattle.mml_lab.specs.declared.who.Who.TheVariants as who
-use Rattle.mml_lab.specs.Rosters.{RosterValue, owns}
+use Rattle.mml_rules.specs.{declared.regs.Regs.Regs, Configuration.IsLawful, Network.registers_at}
+use Rattle.mml_lab.specs.{declared.who.Who.Who, Rosters.RosterValue, Rosters.owns}
 use Rattle.mml_board.specs.World.{World, size, configuration}
-use Rattle.mml_policy.specs.Visible.{is_visible}
-use Rattle.mml_policy.specs.Shown.{near, near_below, look_of}
-use Rattle.mml_policy.specs.Meaning.{ShowsWhatIsVisible}
-use Rattle.mml_policy.proofs.VisibleLemmas.{from_fact}
-use Rattle.mml_policy.proofs.NearLemmas.{passing_with, passing_without}
+use Rattle.mml_policy.specs.{Visible.is_visible, Shown.near, Shown.near_below, Shown.look_of, Meaning.ShowsWhatIsVisible}
+use Rattle.mml_policy.proofs.{VisibleLemmas.from_fact, NearLemmas.passing_with, NearLemmas.passing_without}
+use Rattle.mml_lab.specs.declared.who.Who.TheVariants as who
 
 near_more : (P : ℕ × Regs → Type 0) (w : World) (i n : ℕ) (b : Bool) → (configuration w).linked i n ≡ b
     → ((j : ℕ) → (configuration w).linked i j ≡ true → P (j, registers_at w.network.registers j)) → All P (near_below w i n) → All P (near_below w i (n + 1))

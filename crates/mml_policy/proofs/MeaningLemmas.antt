@@ -1,35 +1,21 @@
 -- When a move is granted.
-use Rattle.std.proofs.lemmas.Bool.Decides.{nat_tests}
+use Rattle.std.{proofs.lemmas.Bool.Decides.nat_tests, proofs.lemmas.Bool.eqb-true, proofs.lemmas.Bool.eqb-false, proofs.lemmas.Result.IfErr-at_err, specs.Prelude.◌↔◌, specs.Result.IfErr}
 use Rattle.std.proofs.Common.{false, Result, Err, subst, true≢false, ◌≡◌, ℕ, ◌==◌, true, List, Option, None, Some, is_none, Ok, refl, sym, ◌∙◌, arith}
-use Rattle.std.specs.Prelude.{◌↔◌}
-use Rattle.std.proofs.lemmas.Bool.{eqb-true, eqb-false}
-use Rattle.std.proofs.lemmas.Result.{IfErr-at_err}
-use Rattle.std.specs.Result.{IfErr}
 use Rattle.mml_ids.specs.Ids.{rank_in}
-use Rattle.mml_rules.specs.declared.rule.Rule.{Rule}
-use Rattle.mml_rules.specs.Configuration.{IsLawful}
-use Rattle.mml_rules.specs.Rules.{guard}
+use Rattle.mml_rules.specs.{declared.rule.Rule.Rule, Configuration.IsLawful, Rules.guard}
 use Rattle.mml_rules.proofs.MeaningLemmas.{guard-means}
-use Rattle.mml_lab.specs.declared.who.Who.{Who}
-use Rattle.mml_lab.specs.declared.who.Who.TheVariants as who
-use Rattle.mml_lab.specs.Rosters.{RosterValue, owns}
-use Rattle.mml_board.specs.declared.event.Event.{Event}
-use Rattle.mml_board.specs.declared.event.Event.TheVariants as event
-use Rattle.mml_board.specs.World.{World, configuration, chosen_at}
-use Rattle.mml_policy.specs.declared.command.Asked.{Asked}
-use Rattle.mml_policy.specs.declared.command.Command.TheVariants as command
-use Rattle.mml_board.specs.declared.denial.Denial.{Denial}
-use Rattle.mml_board.specs.declared.denial.Denial.TheVariants.{NotOwner, Guard}
-use Rattle.mml_policy.specs.declared.verdict.Verdict.TheVariants as verdicts
-use Rattle.mml_policy.specs.Clauses.{node, rule_of}
-use Rattle.mml_board.specs.declared.act.Act.TheVariants as acts
-use Rattle.mml_board.specs.Clauses.{student, check}
-use Rattle.mml_policy.proofs.ClausesLemmas.{rule_step}
-use Rattle.mml_policy.specs.Verdicts.{verdict}
-use Rattle.mml_policy.specs.Meaning.{IsAsked, IsOwner, IsGuarded, MayMove, DeniesMove}
+use Rattle.mml_lab.specs.{declared.who.Who.Who, Rosters.RosterValue, Rosters.owns}
+use Rattle.mml_board.specs.declared.{event.Event.Event, denial.Denial.Denial, denial.Denial.TheVariants.NotOwner, denial.Denial.TheVariants.Guard}
+use Rattle.mml_board.specs.{World.World, World.configuration, World.chosen_at, Clauses.student, Clauses.check}
+use Rattle.mml_policy.specs.{declared.command.Asked.Asked, Clauses.node, Clauses.rule_of, Verdicts.verdict, Meaning.IsAsked, Meaning.IsOwner, Meaning.IsGuarded, Meaning.MayMove, Meaning.DeniesMove}
+use Rattle.mml_policy.proofs.ClausesLemmas.{rule_step, node-ok, node-err, student-ok, student-err}
 use Rattle.mml_ids.proofs.GivesLemmas.{bind-ok, bind-from, need-ok, bind-deny, need-deny}
-use Rattle.mml_policy.proofs.ClausesLemmas.{node-ok, node-err, student-ok, student-err}
 use Rattle.mml_policy.proofs.VerdictLemmas.{act-grant, act-deny, owner_is}
+use Rattle.mml_lab.specs.declared.who.Who.TheVariants as who
+use Rattle.mml_board.specs.declared.event.Event.TheVariants as event
+use Rattle.mml_policy.specs.declared.command.Command.TheVariants as command
+use Rattle.mml_policy.specs.declared.verdict.Verdict.TheVariants as verdicts
+use Rattle.mml_board.specs.declared.act.Act.TheVariants as acts
 
 none-is : {A : Type 0} (o : Option A) → is_none o ≡ true → o ≡ None
 none-is o h = grind arith

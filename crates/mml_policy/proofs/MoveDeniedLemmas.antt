@@ -1,33 +1,20 @@
 -- Why a move is denied, both ways.
-use Rattle.std.proofs.lemmas.Bool.Decides.{nat_tests}
+use Rattle.std.proofs.lemmas.Bool.{Decides.nat_tests, false_from_ne_true, eq-eqb, ne_eqb}
 use Rattle.std.proofs.Common.{◌≡◌, ◌↔◌, ℕ, ◌==◌, List, is_none, Result, Ok, Err, refl, ap, ◌∙◌, arith}
-use Rattle.std.proofs.lemmas.Bool.{false_from_ne_true, eq-eqb, ne_eqb}
-use Rattle.mml_ids.specs.Gives.{◌>>=◌, ◌>>◌, need}
+use Rattle.mml_ids.specs.{Gives.◌>>=◌, Gives.◌>>◌, Gives.need, Ids.rank_in}
 use Rattle.mml_ids.proofs.GivesLemmas.{bind-from, need-from}
-use Rattle.mml_rules.specs.declared.rule.Rule.{Rule}
-use Rattle.mml_rules.specs.Configuration.{IsLawful}
-use Rattle.mml_rules.specs.Rules.{guard}
+use Rattle.mml_rules.specs.{declared.rule.Rule.Rule, Configuration.IsLawful, Rules.guard}
 use Rattle.mml_rules.proofs.MeaningLemmas.{guard-means}
-use Rattle.mml_lab.specs.declared.who.Who.{Who}
-use Rattle.mml_lab.specs.Rosters.{RosterValue, owns}
-use Rattle.mml_board.specs.declared.event.Event.{Event}
+use Rattle.mml_lab.specs.{declared.who.Who.Who, Rosters.RosterValue, Rosters.owns}
+use Rattle.mml_board.specs.{declared.event.Event.Event, World.World, World.configuration, World.chosen_at, Clauses.check}
+use Rattle.mml_policy.specs.{declared.command.Asked.Asked, Clauses.rule_of, Verdicts.granted, Verdicts.settled, Verdicts.verdict, Meaning.IsOwner, Meaning.IsGuarded, Meaning.DeniesMove}
+use Rattle.mml_board.specs.declared.denial.Denial.{Denial, TheVariants.NotOwner, TheVariants.Stale, TheVariants.Chosen, TheVariants.Guard}
+use Rattle.mml_policy.proofs.{ClausesLemmas.rule_step, DeniedLemmas.need-fails, DeniedLemmas.bind-fails, VerdictLemmas.owner_is}
+use Rattle.mml_policy.proofs.MeaningLemmas.{asked_is, no_rule, move_denied}
 use Rattle.mml_board.specs.declared.event.Event.TheVariants as event
 use Rattle.mml_board.specs.declared.act.Act.TheVariants as acts
-use Rattle.mml_ids.specs.Ids.{rank_in}
-use Rattle.mml_board.specs.World.{World, configuration, chosen_at}
-use Rattle.mml_policy.specs.declared.command.Asked.{Asked}
 use Rattle.mml_policy.specs.declared.command.Command.TheVariants as command
-use Rattle.mml_board.specs.declared.denial.Denial.{Denial}
-use Rattle.mml_board.specs.declared.denial.Denial.TheVariants.{NotOwner, Stale, Chosen, Guard}
 use Rattle.mml_policy.specs.declared.verdict.Verdict.TheVariants as verdicts
-use Rattle.mml_policy.specs.Clauses.{rule_of}
-use Rattle.mml_board.specs.Clauses.{check}
-use Rattle.mml_policy.proofs.ClausesLemmas.{rule_step}
-use Rattle.mml_policy.specs.Verdicts.{granted, settled, verdict}
-use Rattle.mml_policy.specs.Meaning.{IsOwner, IsGuarded, DeniesMove}
-use Rattle.mml_policy.proofs.DeniedLemmas.{need-fails, bind-fails}
-use Rattle.mml_policy.proofs.MeaningLemmas.{asked_is, no_rule, move_denied}
-use Rattle.mml_policy.proofs.VerdictLemmas.{owner_is}
 
 module _ (ids : List ℕ) (r : RosterValue) (w : World) (x : Who) (id : ℕ) (a : Asked) (at : ℕ) (l : IsLawful (configuration w)) where
   abbrev why : Denial → Type 0

@@ -1,10 +1,8 @@
 -- The nodes linked to a node, one after the other.
 use Rattle.std.proofs.Common.{◌≡◌, ℕ, ◌+◌, [], ◌∷◌, ◌++◌, map, Bool, true, false, cond, ap, ◌∙◌, append-nil}
-use Rattle.std.specs.Ordering.{nat_cmp}
-use Rattle.std.specs.FinSet.{FinSet}
+use Rattle.std.specs.{Ordering.nat_cmp, FinSet.FinSet}
 use Rattle.mml_ids.proofs.SetsLemmas.{ranks_in, passing, passing_more}
-use Rattle.mml_rules.specs.declared.regs.Regs.{Regs}
-use Rattle.mml_rules.specs.Network.{neighbours_at, registers_at}
+use Rattle.mml_rules.specs.{declared.regs.Regs.Regs, Network.neighbours_at, Network.registers_at}
 use Rattle.mml_board.specs.World.{World, size}
 use Rattle.mml_policy.specs.Shown.{near}
 

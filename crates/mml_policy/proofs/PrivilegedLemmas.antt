@@ -1,21 +1,17 @@
 -- A privileged node without a chosen move has one that its owners are granted.
 use Rattle.std.proofs.Common.{◌≡◌, ℕ, ◌<◌, true, List, None, Some}
 use Rattle.mml_ids.specs.Ids.{IsTable}
-use Rattle.mml_rules.specs.declared.rule.Rule.{Rule}
-use Rattle.mml_rules.specs.Rules.{kind_of, enabled_kind, is_privileged}
-use Rattle.mml_rules.proofs.EnabledKindLemmas.{guard-kind}
-use Rattle.mml_rules.proofs.MeaningLemmas.{privileged-means}
-use Rattle.mml_lab.specs.declared.who.Who.TheVariants as who
+use Rattle.mml_rules.specs.{declared.rule.Rule.Rule, Rules.kind_of, Rules.enabled_kind, Rules.is_privileged}
+use Rattle.mml_rules.proofs.{EnabledKindLemmas.guard-kind, MeaningLemmas.privileged-means}
 use Rattle.mml_lab.specs.Rosters.{RosterValue, owns}
-use Rattle.mml_board.specs.declared.event.Event.TheVariants as event
 use Rattle.mml_board.specs.World.{World, size, configuration, chosen_at}
 use Rattle.mml_board.proofs.ClausesLemmas.{owned_legal, grant_possible}
+use Rattle.mml_policy.specs.{Alike.IsWorldOf, Asking.id_of, Asking.asked_of, Verdicts.verdict}
+use Rattle.mml_policy.proofs.AskingLemmas.{legal_granted}
+use Rattle.mml_lab.specs.declared.who.Who.TheVariants as who
+use Rattle.mml_board.specs.declared.event.Event.TheVariants as event
 use Rattle.mml_policy.specs.declared.command.Command.TheVariants as command
 use Rattle.mml_policy.specs.declared.verdict.Verdict.TheVariants as verdicts
-use Rattle.mml_policy.specs.Alike.{IsWorldOf}
-use Rattle.mml_policy.specs.Asking.{id_of, asked_of}
-use Rattle.mml_policy.specs.Verdicts.{verdict}
-use Rattle.mml_policy.proofs.AskingLemmas.{legal_granted}
 
 -- a privileged node without a chosen move has a move that each of its owners is granted
 pub privileged_granted : (ids : List ℕ) (r : RosterValue) (w : World) (i : ℕ) → IsTable ids → IsWorldOf ids w → i < size w

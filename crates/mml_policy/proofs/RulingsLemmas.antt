@@ -1,18 +1,10 @@
 -- The event that happens by a ruling.
 use Rattle.std.proofs.Common.{◌≡◌, ℕ, ◌<◌, Bool, true, false, cond, nat_le, List, length, Some, Result, arith}
-use Rattle.std.specs.Result.{IfOk}
-use Rattle.std.proofs.lemmas.Bool.{leb-false}
-use Rattle.mml_lab.specs.declared.who.Who.{Who}
-use Rattle.mml_lab.specs.Rosters.{RosterValue}
-use Rattle.mml_board.specs.declared.event.Event.{Event}
-use Rattle.mml_board.specs.World.{World, size}
-use Rattle.mml_board.specs.Events.{is_legal, done_by}
-use Rattle.mml_policy.specs.declared.command.Command.{Command}
-use Rattle.mml_board.specs.declared.denial.Denial.{Denial}
-use Rattle.mml_policy.specs.declared.ruling.Ruling.TheVariants.{Full, Journal, Granted}
-use Rattle.mml_policy.specs.declared.verdict.Leave.{Leave}
-use Rattle.mml_policy.specs.Verdicts.{clauses}
-use Rattle.mml_policy.specs.Rulings.{ruled, ruling, event_of}
+use Rattle.std.{specs.Result.IfOk, proofs.lemmas.Bool.leb-false}
+use Rattle.mml_lab.specs.{declared.who.Who.Who, Rosters.RosterValue}
+use Rattle.mml_board.specs.{declared.event.Event.Event, declared.denial.Denial.Denial, World.World, World.size, Events.is_legal, Events.done_by}
+use Rattle.mml_policy.specs.declared.{command.Command.Command, ruling.Ruling.TheVariants.Full, ruling.Ruling.TheVariants.Journal, ruling.Ruling.TheVariants.Granted, verdict.Leave.Leave}
+use Rattle.mml_policy.specs.{Verdicts.clauses, Rulings.ruled, Rulings.ruling, Rulings.event_of}
 use Rattle.mml_policy.proofs.VerdictLemmas.{IsFine, fine}
 
 unless_full : (b h : Bool) (limit place : ℕ) (e f : Event) (w : World) → nat_le limit place ≡ b

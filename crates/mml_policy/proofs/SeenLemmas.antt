@@ -4,25 +4,13 @@ use Rattle.std.proofs.lemmas.Bool.{cases_Bool}
 use Rattle.mml_ids.specs.Ids.{rank_in}
 use Rattle.mml_ids.proofs.GivesLemmas.{bind-ok, bind-from, need-ok, need-from}
 use Rattle.mml_rules.specs.Configuration.{IsLawful}
-use Rattle.mml_lab.specs.declared.who.Who.{Who}
-use Rattle.mml_lab.specs.Rosters.{RosterValue}
-use Rattle.mml_board.specs.declared.event.Event.{Event}
-use Rattle.mml_board.specs.World.{World, configuration}
-use Rattle.mml_board.specs.Events.{done_by}
-use Rattle.mml_policy.specs.declared.command.Command.TheVariants as command
-use Rattle.mml_board.specs.declared.denial.Denial.{Denial}
-use Rattle.mml_board.specs.declared.denial.Denial.TheVariants.{Hidden}
+use Rattle.mml_lab.specs.{declared.who.Who.Who, Rosters.RosterValue}
+use Rattle.mml_board.specs.{declared.event.Event.Event, declared.denial.Denial.Denial, declared.denial.Denial.TheVariants.Hidden, World.World, World.configuration, Events.done_by}
 use Rattle.mml_policy.specs.declared.ruling.Ruling.TheVariants.{Seen, Full, Journal, Granted, Denied}
+use Rattle.mml_policy.specs.{declared.verdict.Leave.Leave, declared.verdict.Leave.TheVariants.See, Meaning.MaySee, Rulings.ruled, Rulings.ruling, Shown.see_of, Verdicts.clauses, Visible.IsVisible}
+use Rattle.mml_policy.proofs.{ClausesLemmas.node-ok, VisibleLemmas.visible_means}
+use Rattle.mml_policy.specs.declared.command.Command.TheVariants as command
 use Rattle.mml_policy.specs.declared.see.See as TheSee
-use Rattle.mml_policy.specs.declared.verdict.Leave.{Leave}
-use Rattle.mml_policy.specs.declared.verdict.Leave.TheVariants.{See}
-use Rattle.mml_policy.specs.Meaning.{MaySee}
-use Rattle.mml_policy.specs.Rulings.{ruled, ruling}
-use Rattle.mml_policy.specs.Shown.{see_of}
-use Rattle.mml_policy.specs.Verdicts.{clauses}
-use Rattle.mml_policy.specs.Visible.{IsVisible}
-use Rattle.mml_policy.proofs.ClausesLemmas.{node-ok}
-use Rattle.mml_policy.proofs.VisibleLemmas.{visible_means}
 
 shows_nothing : (full halted : Bool) (w : World) (e : Event) (s : TheSee.See) → cond full Full (cond halted Journal (Granted e (done_by w e))) ≡ Seen s → ⊥
 shows_nothing full halted w e s h = grind arith

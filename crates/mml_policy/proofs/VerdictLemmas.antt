@@ -1,37 +1,21 @@
 -- What a verdict grants is legal, and what it shows is there; acts alone are granted.
-use Rattle.std.proofs.lemmas.Bool.Decides.{nat_tests}
-use Rattle.std.specs.Prelude.{◌||◌}
+use Rattle.std.proofs.lemmas.{Bool.Decides.nat_tests, Result.IfOk-at_ok, List.Quantifiers.position-Some}
+use Rattle.std.specs.{Prelude.◌||◌, Result.IfOk, Result.IfErr, Option.IfSome}
 use Rattle.std.proofs.Common.{◌≡◌, ℕ, ◌<◌, ◌==◌, Bool, true, false, List, length, Option, None, Some, option_map, Result, Ok, Err, refl, sym, ap, ◌∙◌, arith}
-use Rattle.std.specs.Result.{IfOk, IfErr}
-use Rattle.std.proofs.lemmas.Result.{IfOk-at_ok}
-use Rattle.mml_lab.specs.declared.who.Who.{Who}
-use Rattle.mml_lab.specs.declared.who.Who.TheVariants as who
-use Rattle.mml_lab.specs.Rosters.{RosterValue, owns}
-use Rattle.mml_board.specs.declared.event.Event.{Event}
-use Rattle.mml_board.specs.World.{World, size, configuration}
-use Rattle.mml_board.specs.Events.{is_legal}
-use Rattle.mml_policy.specs.Acts.{is_act}
-use Rattle.mml_policy.specs.declared.command.Command.{Command}
-use Rattle.mml_policy.specs.declared.command.Command.TheVariants as command
-use Rattle.mml_board.specs.declared.denial.Denial.{Denial}
-use Rattle.mml_board.specs.declared.denial.Denial.TheVariants.{Hidden, NotOwner}
-use Rattle.mml_policy.specs.Visible.{is_teacher, is_visible}
-use Rattle.mml_policy.specs.declared.verdict.Verdict.TheVariants as verdicts
-use Rattle.mml_policy.specs.declared.verdict.Leave.{Leave}
-use Rattle.mml_policy.specs.declared.verdict.Leave.TheVariants.{See, Look, Report, Grant}
-use Rattle.mml_policy.specs.Clauses.{node, rule_of}
+use Rattle.mml_lab.specs.{declared.who.Who.Who, Rosters.RosterValue, Rosters.owns}
+use Rattle.mml_board.specs.declared.{event.Event.Event, denial.Denial.Denial, denial.Denial.TheVariants.Hidden, denial.Denial.TheVariants.NotOwner, act.Act.Act}
+use Rattle.mml_board.specs.{World.World, World.size, World.configuration, Events.is_legal, Clauses.check, ActNodes.AreAllThere}
+use Rattle.mml_policy.specs.{Acts.is_act, declared.command.Command.Command, Visible.is_teacher, Visible.is_visible, Clauses.node, Clauses.rule_of}
+use Rattle.mml_policy.specs.declared.verdict.Leave.{Leave, TheVariants.See, TheVariants.Look, TheVariants.Report, TheVariants.Grant}
 use Rattle.mml_policy.specs.Verdicts.{granted, clauses, settled, verdict}
 use Rattle.mml_ids.specs.Ids.{rank_in}
-use Rattle.std.specs.Option.{IfSome}
-use Rattle.std.proofs.lemmas.List.Quantifiers.{position-Some}
-use Rattle.mml_board.specs.declared.act.Act.{Act}
-use Rattle.mml_board.specs.declared.act.Act.TheVariants as acts
-use Rattle.mml_board.specs.Clauses.{check}
-use Rattle.mml_board.specs.ActNodes.{AreAllThere}
-use Rattle.mml_board.proofs.ClausesLemmas.{again_legal}
-use Rattle.mml_board.proofs.DenialsLemmas.{is_of_act, of_err, denied_of_act}
+use Rattle.mml_board.proofs.{ClausesLemmas.again_legal, DenialsLemmas.is_of_act, DenialsLemmas.of_err, DenialsLemmas.denied_of_act}
 use Rattle.mml_ids.proofs.GivesLemmas.{bind-if, need-if, bind-deny, need-deny}
 use Rattle.mml_policy.proofs.ClausesLemmas.{node_there}
+use Rattle.mml_lab.specs.declared.who.Who.TheVariants as who
+use Rattle.mml_policy.specs.declared.command.Command.TheVariants as command
+use Rattle.mml_policy.specs.declared.verdict.Verdict.TheVariants as verdicts
+use Rattle.mml_board.specs.declared.act.Act.TheVariants as acts
 
 -- a verdict that grants an event comes of clauses that allow that event
 pub settled-grant : (s : Result Leave Denial) (e : Event) → settled s ≡ verdicts.Grant e → s ≡ Ok (Grant e)

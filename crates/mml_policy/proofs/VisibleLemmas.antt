@@ -1,18 +1,14 @@
 -- To whom a node is shown, as tests and as facts.
 use Rattle.std.proofs.Common.{◌≡◌, ℕ, ◌<◌, Bool, true, false, ◌&&◌, ◌||◌, eqb, inl, inr, ap, sym, ◌∙◌, arith, Option, None, Some}
-use Rattle.std.specs.Prelude.{◌↔◌, IfSome, IfNone, is_some}
+use Rattle.std.specs.{Prelude.◌↔◌, Prelude.IfSome, Prelude.IfNone, Prelude.is_some, Ordering.nat_cmp, Cmp.nat_cmp_total, FinSet.FinSet}
 use Rattle.std.proofs.lemmas.Bool.{eq-eqb, eqb-true, and_parts, and_from, or_cases, or_left, or_right, both_ways, false_from_ne_true, false≢true}
-use Rattle.std.specs.Ordering.{nat_cmp}
-use Rattle.std.specs.Cmp.{nat_cmp_total}
-use Rattle.std.specs.FinSet as sets
-use Rattle.std.specs.FinSet.{FinSet}
 use Rattle.mml_ids.specs.inside.WordsLemmas.{has_empty, has_insert}
 use Rattle.mml_rules.specs.Configuration.{Configuration, IsLawful}
 use Rattle.mml_ids.proofs.SearchLemmas.{some_below-find, some_below-at}
-use Rattle.mml_lab.specs.declared.who.Who.{Who}
-use Rattle.mml_lab.specs.declared.who.Who.TheVariants as who
-use Rattle.mml_lab.specs.Rosters.{RosterValue, owns}
+use Rattle.mml_lab.specs.{declared.who.Who.Who, Rosters.RosterValue, Rosters.owns}
 use Rattle.mml_policy.specs.Visible.{is_teacher, owns_neighbour, is_visible, IsVisible}
+use Rattle.std.specs.FinSet as sets
+use Rattle.mml_lab.specs.declared.who.Who.TheVariants as who
 
 -- one who owns a node linked to i is found to own a neighbour of it
 pub owner_found : (r : RosterValue) (c : Configuration) (x : Who) (i j : ℕ) → j < c.size → (c.linked i j && owns r x j) ≡ true → owns_neighbour r c x i ≡ true

@@ -1,11 +1,8 @@
 -- To whom a node is shown is the same under names that keep the order.
-use Rattle.std.proofs.Common.{◌≡◌, ℕ, ◌<◌, ◌&&◌, ◌||◌, sym, ap, ◌∙◌, arith}
-use Rattle.std.proofs.lemmas.Bool.{and_parts, and_from}
+use Rattle.std.proofs.{Common.◌≡◌, Common.ℕ, Common.◌<◌, Common.◌&&◌, Common.◌||◌, Common.sym, Common.ap, Common.◌∙◌, Common.arith, lemmas.Bool.and_parts, lemmas.Bool.and_from}
 use Rattle.mml_ids.proofs.SearchLemmas.{same_bool, some_below-find, some_below-at}
-use Rattle.mml_rules.specs.Configuration.{Configuration}
-use Rattle.mml_rules.specs.Naming.{IsRenamed}
-use Rattle.mml_lab.specs.declared.who.Who.{Who}
-use Rattle.mml_lab.specs.Rosters.{RosterValue, owns, owners_of}
+use Rattle.mml_rules.specs.{Configuration.Configuration, Naming.IsRenamed}
+use Rattle.mml_lab.specs.{declared.who.Who.Who, Rosters.RosterValue, Rosters.owns, Rosters.owners_of}
 use Rattle.mml_policy.specs.Visible.{is_teacher, owns_neighbour, is_visible}
 
 module _ (f : ℕ → ℕ) (c d : Configuration) (r s : RosterValue) (names : IsRenamed f c d)

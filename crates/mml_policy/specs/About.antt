@@ -1,13 +1,10 @@
 -- The reply to a command names only nodes of the lab.
-use Rattle.std.specs.Prelude.{ℕ, ◌<◌, List, length, IfSome}
-use Rattle.std.specs.List.{All}
+use Rattle.std.specs.{Prelude.ℕ, Prelude.◌<◌, Prelude.List, Prelude.length, Prelude.IfSome, List.All}
 use Rattle.mml_rules.specs.declared.regs.Regs.{Regs}
 use Rattle.mml_board.specs.declared.done.Done.{Done}
+use Rattle.mml_policy.specs.declared.{see.See.See, look.Look.Look}
+use Rattle.mml_policy.specs.declared.ruling.Ruling.{Ruling, TheVariants.Denied, TheVariants.Seen, TheVariants.Looked, TheVariants.Reported, TheVariants.Full, TheVariants.Journal, TheVariants.Granted}
 use Rattle.mml_board.specs.declared.done.Done.TheVariants as done
-use Rattle.mml_policy.specs.declared.see.See.{See}
-use Rattle.mml_policy.specs.declared.look.Look.{Look}
-use Rattle.mml_policy.specs.declared.ruling.Ruling.{Ruling}
-use Rattle.mml_policy.specs.declared.ruling.Ruling.TheVariants.{Denied, Seen, Looked, Reported, Full, Journal, Granted}
 
 -- the node that is shown, and the one that it points at, are the lab's
 pub record IsSeen (ids : List ℕ) (s : See) : Type 0 where

@@ -1,12 +1,11 @@
 -- What a command names, looked up.
-use Rattle.std.specs.Prelude.{ℕ, List, Option, Some, option_map, Result}
-use Rattle.std.specs.Option.{ok_or}
+use Rattle.std.specs.{Prelude.ℕ, Prelude.List, Prelude.Option, Prelude.Some, Prelude.option_map, Prelude.Result, Option.ok_or}
 use Rattle.mml_ids.specs.Ids.{rank_in}
 use Rattle.mml_rules.specs.declared.rule.Rule.{Rule}
-use Rattle.mml_rules.specs.declared.rule.Rule.TheVariants as rules
 use Rattle.mml_policy.specs.declared.command.Asked.{Asked}
-use Rattle.mml_policy.specs.declared.command.Asked.TheVariants as asked
 use Rattle.mml_board.specs.declared.denial.Denial.{Denial}
+use Rattle.mml_rules.specs.declared.rule.Rule.TheVariants as rules
+use Rattle.mml_policy.specs.declared.command.Asked.TheVariants as asked
 
 -- the node with this identifier; the denial if there is none
 abbrev pub node : List ℕ → ℕ → Denial → Result ℕ Denial

@@ -1,13 +1,8 @@
 -- The decision on a command in a course, over what its parts show.
 use Rattle.std.specs.Prelude.{ℕ, ◌≡◌, Bool, length, Result, Ok, Err, MatchResult}
 use Rattle.mml_lab.specs.declared.who.Who.{Who}
-use Rattle.mml_policy.specs.declared.command.Command.{Command}
-use Rattle.mml_policy.specs.declared.course.Course.{Course}
+use Rattle.mml_policy.specs.{declared.command.Command.Command, declared.course.Course.Course, declared.ruling.Ruling.Ruling, declared.verdict.Leave.Leave, Rulings.ruling, Verdicts.clauses}
 use Rattle.mml_board.specs.declared.denial.Denial.{Denial}
-use Rattle.mml_policy.specs.declared.ruling.Ruling.{Ruling}
-use Rattle.mml_policy.specs.declared.verdict.Leave.{Leave}
-use Rattle.mml_policy.specs.Rulings.{ruling}
-use Rattle.mml_policy.specs.Verdicts.{clauses}
 
 -- there are as many identifiers as nodes
 abbrev pub NamesEachNode : Course → Type 0

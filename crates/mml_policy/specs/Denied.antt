@@ -1,17 +1,12 @@
 -- Why a command is denied, stated as facts: the clauses before hold, and this one doesn't.
 use Rattle.std.specs.Prelude.{◌≡◌, ◌≢◌, ◌↔◌, ◌⊎◌, ℕ, true, false, List, Option, None, Some}
 use Rattle.mml_ids.specs.Ids.{rank_in}
-use Rattle.mml_lab.specs.declared.who.Who.{Who}
+use Rattle.mml_lab.specs.{declared.who.Who.Who, Rosters.RosterValue}
+use Rattle.mml_board.specs.{declared.event.Event.Event, declared.denial.Denial.Denial, World.World, World.configuration, World.chosen_at}
+use Rattle.mml_policy.specs.{declared.command.Command.Command, Verdicts.verdict, Meaning.IsNamed, Meaning.IsRegister}
 use Rattle.mml_lab.specs.declared.who.Who.TheVariants as who
-use Rattle.mml_lab.specs.Rosters.{RosterValue}
-use Rattle.mml_board.specs.declared.event.Event.{Event}
-use Rattle.mml_board.specs.World.{World, configuration, chosen_at}
-use Rattle.mml_policy.specs.declared.command.Command.{Command}
-use Rattle.mml_board.specs.declared.denial.Denial.{Denial}
 use Rattle.mml_board.specs.declared.denial.Denial.TheVariants as denial
 use Rattle.mml_policy.specs.declared.verdict.Verdict.TheVariants as verdicts
-use Rattle.mml_policy.specs.Verdicts.{verdict}
-use Rattle.mml_policy.specs.Meaning.{IsNamed, IsRegister}
 
 -- the command of x is granted exactly the events of which May holds, if x is the teacher, and denied exactly by the
 -- denials of which Denies holds

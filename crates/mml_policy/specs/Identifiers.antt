@@ -1,10 +1,7 @@
 -- A configuration whose nodes have their identifiers as names.
-use Rattle.std.specs.Prelude.{ℕ, ◌+◌, Bool, false, List, Option, None, Some, slice_index}
-use Rattle.std.specs.Option.{option_and_then, option_map_or}
-use Rattle.mml_ids.specs.declared.TheConstants.{MAX_ID}
-use Rattle.mml_ids.specs.Ids.{rank_in}
-use Rattle.mml_rules.specs.Configuration.{Configuration}
-use Rattle.mml_rules.specs.Naming.{renamed}
+use Rattle.std.specs.{Prelude.ℕ, Prelude.◌+◌, Prelude.Bool, Prelude.false, Prelude.List, Prelude.Option, Prelude.None, Prelude.Some, Prelude.slice_index, Option.option_and_then, Option.option_map_or}
+use Rattle.mml_ids.specs.{declared.TheConstants.MAX_ID, Ids.rank_in}
+use Rattle.mml_rules.specs.{Configuration.Configuration, Naming.renamed}
 
 -- two ranks, if there are both, are linked
 abbrev pub are_linked : Configuration → Option ℕ → Option ℕ → Bool

@@ -1,22 +1,15 @@
 -- The facts that hold if a command is granted or shown.
 use Rattle.std.specs.Prelude.{◌≡◌, ◌≢◌, ◌⊎◌, ℕ, Bool, true, false, List, Option, None, Some, All}
 use Rattle.mml_ids.specs.Ids.{rank_in}
-use Rattle.mml_rules.specs.declared.rule.Rule.{Rule}
+use Rattle.mml_rules.specs.{declared.rule.Rule.Rule, Meaning.MayApply, Network.registers_at}
+use Rattle.mml_lab.specs.{declared.who.Who.Who, Rosters.RosterValue, Rosters.owns}
+use Rattle.mml_board.specs.{World.World, World.configuration, World.chosen_at, declared.event.Event.Event, declared.denial.Denial.Denial}
+use Rattle.mml_policy.specs.{declared.command.Asked.Asked, declared.look.Look.Look, Visible.IsVisible, Visible.is_visible}
 use Rattle.mml_rules.specs.declared.rule.Rule.TheVariants as rules
-use Rattle.mml_rules.specs.Meaning.{MayApply}
-use Rattle.mml_rules.specs.Network.{registers_at}
-use Rattle.mml_lab.specs.declared.who.Who.{Who}
 use Rattle.mml_lab.specs.declared.who.Who.TheVariants as who
-use Rattle.mml_lab.specs.Rosters.{RosterValue, owns}
-use Rattle.mml_board.specs.World.{World, configuration, chosen_at}
-use Rattle.mml_board.specs.declared.event.Event.{Event}
 use Rattle.mml_board.specs.declared.event.Event.TheVariants as event
-use Rattle.mml_policy.specs.declared.command.Asked.{Asked}
 use Rattle.mml_policy.specs.declared.command.Asked.TheVariants as asked
-use Rattle.mml_board.specs.declared.denial.Denial.{Denial}
 use Rattle.mml_board.specs.declared.denial.Denial.TheVariants as denial
-use Rattle.mml_policy.specs.declared.look.Look.{Look}
-use Rattle.mml_policy.specs.Visible.{IsVisible, is_visible}
 
 -- q is the rule that is asked for; the partner of a marriage is the node with the identifier that was named
 abbrev pub IsAsked : List ℕ → Asked → Rule → Type 0

@@ -1,19 +1,11 @@
 -- The ruling on a command, and the world after it.
 use Rattle.std.specs.Prelude.{ℕ, Bool, true, false, nat_le, if◌then◌else◌, List, Option, None, Some, Result, Ok, Err}
 use Rattle.std.specs.Option.{option_map_or}
-use Rattle.mml_lab.specs.declared.who.Who.{Who}
-use Rattle.mml_lab.specs.Rosters.{RosterValue}
-use Rattle.mml_board.specs.declared.event.Event.{Event}
-use Rattle.mml_board.specs.World.{World}
-use Rattle.mml_board.specs.Events.{after, done_by}
-use Rattle.mml_policy.specs.declared.command.Command.{Command}
-use Rattle.mml_board.specs.declared.denial.Denial.{Denial}
-use Rattle.mml_policy.specs.declared.ruling.Ruling.{Ruling}
-use Rattle.mml_policy.specs.declared.ruling.Ruling.TheVariants.{Denied, Seen, Looked, Reported, Full, Journal, Granted}
-use Rattle.mml_policy.specs.declared.verdict.Leave.{Leave}
-use Rattle.mml_policy.specs.declared.verdict.Leave.TheVariants.{See, Look, Report, Grant}
-use Rattle.mml_policy.specs.Verdicts.{clauses}
-use Rattle.mml_policy.specs.Shown.{see_of, look_of}
+use Rattle.mml_lab.specs.{declared.who.Who.Who, Rosters.RosterValue}
+use Rattle.mml_board.specs.{declared.event.Event.Event, declared.denial.Denial.Denial, World.World, Events.after, Events.done_by}
+use Rattle.mml_policy.specs.{declared.command.Command.Command, Verdicts.clauses, Shown.see_of, Shown.look_of}
+use Rattle.mml_policy.specs.declared.ruling.Ruling.{Ruling, TheVariants.Denied, TheVariants.Seen, TheVariants.Looked, TheVariants.Reported, TheVariants.Full, TheVariants.Journal, TheVariants.Granted}
+use Rattle.mml_policy.specs.declared.verdict.Leave.{Leave, TheVariants.See, TheVariants.Look, TheVariants.Report, TheVariants.Grant}
 
 -- the ruling if the clauses allow something: what is shown; or the event with its effect, but no event if the limit is
 -- reached, nor else if the journal is halted

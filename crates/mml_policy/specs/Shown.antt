@@ -1,12 +1,8 @@
 -- A node as it is shown.
-use Rattle.std.specs.Prelude.{ℕ, List, map, filter, option_map}
-use Rattle.std.specs.List.{range_with_len}
-use Rattle.mml_rules.specs.declared.regs.Regs.{Regs}
-use Rattle.mml_rules.specs.Network.{registers_at}
-use Rattle.mml_rules.specs.Rules.{kind_of, enabled_kind}
+use Rattle.std.specs.{Prelude.ℕ, Prelude.List, Prelude.map, Prelude.filter, Prelude.option_map, List.range_with_len}
+use Rattle.mml_rules.specs.{declared.regs.Regs.Regs, Network.registers_at, Rules.kind_of, Rules.enabled_kind}
 use Rattle.mml_board.specs.World.{World, size, configuration, chosen_at}
-use Rattle.mml_policy.specs.declared.see.See.{See}
-use Rattle.mml_policy.specs.declared.look.Look.{Look}
+use Rattle.mml_policy.specs.declared.{see.See.See, look.Look.Look}
 
 -- what a see shows: the registers of a node, and the number of the configuration that they are of
 abbrev pub see_of : World → ℕ → See

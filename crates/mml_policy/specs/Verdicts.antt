@@ -1,23 +1,14 @@
 -- What is decided of a command: its clauses in the order in which they are tried, and then what it is granted.
 use Rattle.std.specs.Prelude.{ℕ, ◌||◌, List, option_map, Result, Ok, Err}
-use Rattle.mml_ids.specs.Gives.{◌>>=◌, ◌>>◌, need}
-use Rattle.mml_lab.specs.declared.who.Who.{Who}
-use Rattle.mml_lab.specs.Rosters.{RosterValue, owns}
+use Rattle.mml_ids.specs.{Gives.◌>>=◌, Gives.◌>>◌, Gives.need, Ids.rank_in}
+use Rattle.mml_lab.specs.{declared.who.Who.Who, Rosters.RosterValue, Rosters.owns}
+use Rattle.mml_board.specs.declared.{event.Event.Event, denial.Denial.Denial, denial.Denial.TheVariants.Hidden, denial.Denial.TheVariants.NotOwner, denial.Denial.TheVariants.NotTeacher}
+use Rattle.mml_board.specs.{World.World, World.configuration, Clauses.check}
+use Rattle.mml_policy.specs.{declared.command.Command.Command, Visible.is_teacher, Visible.is_visible, Clauses.node, Clauses.rule_of}
+use Rattle.mml_policy.specs.declared.verdict.{Verdict.Verdict, Leave.Leave, Leave.TheVariants.See, Leave.TheVariants.Look, Leave.TheVariants.Report, Leave.TheVariants.Grant}
 use Rattle.mml_board.specs.declared.act.Act.TheVariants as act
-use Rattle.mml_board.specs.declared.event.Event.{Event}
-use Rattle.mml_board.specs.World.{World, configuration}
-use Rattle.mml_board.specs.Clauses.{check}
-use Rattle.mml_policy.specs.declared.command.Command.{Command}
 use Rattle.mml_policy.specs.declared.command.Command.TheVariants as command
-use Rattle.mml_board.specs.declared.denial.Denial.{Denial}
-use Rattle.mml_board.specs.declared.denial.Denial.TheVariants.{Hidden, NotOwner, NotTeacher}
-use Rattle.mml_policy.specs.declared.verdict.Verdict.{Verdict}
 use Rattle.mml_policy.specs.declared.verdict.Verdict.TheVariants as verdicts
-use Rattle.mml_policy.specs.declared.verdict.Leave.{Leave}
-use Rattle.mml_policy.specs.declared.verdict.Leave.TheVariants.{See, Look, Report, Grant}
-use Rattle.mml_policy.specs.Visible.{is_teacher, is_visible}
-use Rattle.mml_policy.specs.Clauses.{node, rule_of}
-use Rattle.mml_ids.specs.Ids.{rank_in}
 
 -- leave for the event that clauses allow, or their denial
 abbrev pub granted : Result Event Denial → Result Leave Denial

@@ -1,12 +1,8 @@
 -- The result of a script that the program answered.
 use Rattle.std.specs.Prelude.{◌≡◌, ℕ, List, Option, Result, Ok, Err}
 use Rattle.mml_lab.specs.Labs.{LabValue}
-use Rattle.mml_hall.specs.declared.script.ScriptFault.{ScriptFault}
-use Rattle.mml_hall.specs.Turns.{State}
-use Rattle.mml_hall.specs.Halls.{HallValue}
-use Rattle.mml_hall.specs.Scripts.{Finished, Stopped}
-use Rattle.mml_program.specs.declared.fault.Fault.{Fault}
-use Rattle.mml_program.specs.Faults.{of_script}
+use Rattle.mml_hall.specs.{declared.script.ScriptFault.ScriptFault, Turns.State, Halls.HallValue, Scripts.Finished, Scripts.Stopped}
+use Rattle.mml_program.specs.{declared.fault.Fault.Fault, Faults.of_script}
 
 -- all lines of the input were answered, or those before an error; the sink's state fits `Leaves`
 abbrev pub AnswersScript : {S : Type 0} → (S → State → Type 0) → Result (HallValue S) Fault → LabValue → Option (List ℕ) → Option (List ℕ) → Option (List ℕ)

@@ -1,7 +1,6 @@
 -- The lines that the program prints of a lab and of a journal that passes.
 use Rattle.std.specs.Prelude.{◌≡◌, ℕ, ◌==◌, Bool, true, false, List, [], ◌∷◌, length, codes, decimal, Option, Ok}
-use Rattle.std.specs.List.{concat}
-use Rattle.std.specs.Io.KnownBytes.{Appends}
+use Rattle.std.specs.{List.concat, Io.KnownBytes.Appends}
 use Rattle.mml_lab.specs.Labs.{LabValue, link_count}
 use Rattle.mml_board.specs.World.{World, configuration, privileged_count}
 use Rattle.mml_audit.specs.Audit.{audited}

@@ -1,41 +1,22 @@
 -- A student who is known in a record is one of the lab, whom only a clause from 1 to 4 denies anything.
 use Rattle.std.proofs.Common.{◌≡◌, ℕ, Bool, true, List, [], ◌∷◌, length, take, refl, sym, subst, Option, None, Some, Result, arith}
 use Rattle.std.specs.Prelude.{IfErr, IfSome, position, option_map, if◌then◌else◌}
-use Rattle.std.proofs.lemmas.List.Quantifiers.{position-Some}
-use Rattle.mml_lab.specs.declared.who.Who.{Who}
-use Rattle.mml_lab.specs.declared.who.Who.TheVariants as who
-use Rattle.mml_lab.specs.Labs.{LabValue}
-use Rattle.mml_lab.specs.Rosters.{RosterValue, IsPrincipal, principal, has_name_and_key}
-use Rattle.mml_board.specs.declared.done.Done.{Done}
-use Rattle.mml_board.specs.declared.event.Event.{Event}
-use Rattle.mml_board.specs.World.{World}
-use Rattle.mml_board.specs.Events.{done_by}
-use Rattle.mml_policy.specs.declared.command.Command.{Command}
-use Rattle.mml_board.specs.declared.denial.Denial.{Denial}
-use Rattle.mml_board.specs.declared.denial.Denial.TheVariants as denial
+use Rattle.std.proofs.lemmas.{List.Quantifiers.position-Some, Bool.Decides.nat_tests}
+use Rattle.mml_lab.specs.{declared.who.Who.Who, Labs.LabValue, Rosters.RosterValue, Rosters.IsPrincipal, Rosters.principal, Rosters.has_name_and_key}
+use Rattle.mml_board.specs.{declared.done.Done.Done, declared.event.Event.Event, declared.denial.Denial.Denial, World.World, Events.done_by, Denials.clause_of, Lists.world_in}
+use Rattle.mml_policy.specs.{declared.command.Command.Command, declared.verdict.Leave.Leave, Rulings.ruled, Rulings.after_ruling, Verdicts.clauses}
 use Rattle.mml_board.proofs.DenialsLemmas.{is_of_act}
-use Rattle.mml_policy.specs.declared.ruling.Ruling.{Ruling}
-use Rattle.mml_policy.specs.declared.ruling.Ruling.TheVariants.{Full, Journal, Granted}
-use Rattle.mml_policy.specs.declared.verdict.Leave.{Leave}
-use Rattle.mml_board.specs.Denials.{clause_of}
-use Rattle.mml_policy.specs.Rulings.{ruled, after_ruling}
-use Rattle.mml_policy.specs.Verdicts.{clauses}
+use Rattle.mml_policy.specs.declared.ruling.Ruling.{Ruling, TheVariants.Full, TheVariants.Journal, TheVariants.Granted}
 use Rattle.mml_policy.proofs.VerdictLemmas.{both_err, denied_of}
-use Rattle.mml_codec.specs.declared.request.LineFault.{LineFault}
-use Rattle.mml_codec.specs.declared.request.Request.{Request}
-use Rattle.mml_codec.specs.declared.request.Request.TheVariants as requests
-use Rattle.mml_codec.specs.declared.reply.Reply.{Reply}
-use Rattle.mml_codec.specs.Greetings.{greeting, admitted}
-use Rattle.mml_codec.specs.Rulings.{reply_of, reply_of_done}
-use Rattle.mml_board.specs.Lists.{world_in}
+use Rattle.mml_codec.specs.declared.{request.LineFault.LineFault, request.Request.Request, reply.Reply.Reply}
+use Rattle.mml_codec.specs.{Greetings.greeting, Greetings.admitted, Rulings.reply_of, Rulings.reply_of_done}
 use Rattle.mml_window.specs.Rulings.{ruling_at}
-use Rattle.mml_tally.specs.declared.ask.Ask.{Ask}
-use Rattle.mml_tally.specs.AskMeaning.{is_numbered, IsKnownOf, AreAsksOf}
-use Rattle.mml_record.specs.declared.kept_entry.Entry.{Entry}
+use Rattle.mml_tally.specs.{declared.ask.Ask.Ask, AskMeaning.is_numbered, AskMeaning.IsKnownOf, AskMeaning.AreAsksOf}
+use Rattle.mml_record.specs.{declared.kept_entry.Entry.Entry, Certified.FitsRuling, Certified.FitsGreeting, Certified.FitsAsked, Certified.Fits, Asks.student_of, Asks.clause_in, Asks.AreAskedOf}
+use Rattle.mml_lab.specs.declared.who.Who.TheVariants as who
+use Rattle.mml_board.specs.declared.denial.Denial.TheVariants as denial
+use Rattle.mml_codec.specs.declared.request.Request.TheVariants as requests
 use Rattle.mml_record.specs.declared.kept_entry.Entry.TheVariants as entry
-use Rattle.mml_record.specs.Certified.{FitsRuling, FitsGreeting, FitsAsked, Fits}
-use Rattle.mml_record.specs.Asks.{student_of, clause_in, AreAskedOf}
-use Rattle.std.proofs.lemmas.Bool.Decides.{nat_tests}
 
 -- ---- a command is denied by a clause from 1 to 4
 
@@ -48,8 +29,7 @@ is_fair w (denial.Stale at) h = refl
 is_fair w _ h = h
 
 fair : (ids : List ℕ) (r : RosterValue) (w : World) (x : Who) (c : Command) → IfErr (clauses ids r w x c) IsFair
-fair ids r w x c =
-    both_err (λ d. is_of_act w d ≡ true) IsFair (clauses ids r w x c) (is_fair w) (denied_of ids r w x c)
+fair ids r w x c = both_err (λ d. is_of_act w d ≡ true) IsFair (clauses ids r w x c) (is_fair w) (denied_of ids r w x c)
 
 -- ---- so is what a student who is known asks
 

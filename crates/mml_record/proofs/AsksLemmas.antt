@@ -1,43 +1,23 @@
 -- What is read of the lines of a record is what was answered by the rules.
-use Rattle.std.proofs.Common.{◌≡◌, ℕ, Bool, true, false, true≢false, cond, List, [], ◌∷◌, ◌++◌, length, take, codes, decimal}
-use Rattle.std.proofs.Common.{inl, inr, refl, sym, ap, ◌∙◌, arith, Option, None, Some, Result}
-use Rattle.std.specs.Prelude.{bytes_eq}
-use Rattle.std.specs.Fmt.{digits}
-use Rattle.std.proofs.lemmas.Bool.Decides.{nat_tests}
-use Rattle.std.proofs.lemmas.Slice.Eq.{bytes_eq-Decides}
+use Rattle.std.proofs.Common.{◌≡◌, ℕ, Bool, true, false, true≢false, cond, List, [], ◌∷◌, ◌++◌, length, take, codes, decimal, inl, inr, refl, sym, ap, ◌∙◌, arith, Option, None, Some, Result}
+use Rattle.std.{specs.Prelude.bytes_eq, specs.Fmt.digits, proofs.lemmas.Bool.Decides.nat_tests, proofs.lemmas.Slice.Eq.bytes_eq-Decides}
 use Rattle.mml_ids.specs.Lines.{ended}
-use Rattle.mml_lab.specs.declared.who.Who.{Who}
-use Rattle.mml_lab.specs.Labs.{LabValue}
-use Rattle.mml_lab.specs.Rosters.{RosterValue}
-use Rattle.mml_board.specs.declared.event.Event.{Event}
-use Rattle.mml_board.specs.declared.denial.Denial.{Denial}
-use Rattle.mml_board.specs.declared.denial.Denial.TheVariants as denial
-use Rattle.mml_board.specs.Denials.{clause_of}
-use Rattle.mml_codec.specs.declared.request.LineFault.{LineFault}
-use Rattle.mml_codec.specs.declared.request.Request.{Request}
-use Rattle.mml_codec.specs.declared.greeting.Greeting.{Greeting}
-use Rattle.mml_codec.specs.declared.reply.Refused.TheVariants as refused
-use Rattle.mml_codec.specs.declared.reply.Reply.{Reply}
-use Rattle.mml_codec.specs.declared.reply.Reply.TheVariants as replies
-use Rattle.mml_codec.specs.Facts.{object_text}
-use Rattle.mml_codec.specs.Lines.{request_in}
-use Rattle.mml_codec.specs.Replies.{text, reply_line, place_in}
+use Rattle.mml_lab.specs.{declared.who.Who.Who, Labs.LabValue, Rosters.RosterValue}
+use Rattle.mml_board.specs.{declared.event.Event.Event, declared.denial.Denial.Denial, Denials.clause_of}
+use Rattle.mml_codec.specs.declared.{request.LineFault.LineFault, request.Request.Request, greeting.Greeting.Greeting, reply.Reply.Reply}
+use Rattle.mml_codec.specs.{Facts.object_text, Lines.request_in, Replies.text, Replies.reply_line, Replies.place_in}
 use Rattle.mml_session.specs.Turns.{is_bye}
-use Rattle.mml_record.specs.declared.kept_entry.Entry.{Entry}
-use Rattle.mml_record.specs.declared.kept_entry.Entry.TheVariants as entry
-use Rattle.mml_record.specs.declared.stage.Stage.{Stage}
-use Rattle.mml_record.specs.declared.stage.Stage.TheVariants as stages
+use Rattle.mml_record.specs.{declared.kept_entry.Entry.Entry, declared.stage.Stage.Stage, DenialNames.denial_told, DenialNames.denial_in, Refusals.reason_told, Refusals.reason_in}
 use Rattle.mml_record.specs.Certified.{seen_after, stage_after, FitsGreeting, FitsAsked, Fits, GoesOn}
-use Rattle.mml_record.specs.Asks.{unended, clause_first, clause_second, clause_member, clause_told, memory_text, known_by, known_asked, known_after, line_of, student_of}
-use Rattle.mml_record.specs.Asks.{asks_from, clause_in, AreAskedOf}
-use Rattle.mml_record.specs.DenialNames.{denial_told, denial_in}
-use Rattle.mml_record.specs.Refusals.{reason_told, reason_in}
+use Rattle.mml_record.specs.Asks.{unended, clause_first, clause_second, clause_member, clause_told, memory_text, known_by, known_asked, known_after, line_of, student_of, asks_from, clause_in}
+use Rattle.mml_record.specs.Asks.{AreAskedOf}
 use Rattle.mml_journal.proofs.CuttingLemmas.{cut_here}
-use Rattle.mml_record.proofs.TextLineLemmas.{front_of}
-use Rattle.mml_record.proofs.OnceLemmas.{fits_once}
-use Rattle.mml_record.proofs.NumberedLemmas.{no_comma, numbered}
-use Rattle.mml_record.proofs.RefusalsLemmas.{reason_is}
-use Rattle.mml_record.proofs.DenialNamesLemmas.{named_is}
+use Rattle.mml_record.proofs.{TextLineLemmas.front_of, OnceLemmas.fits_once, NumberedLemmas.no_comma, NumberedLemmas.numbered, RefusalsLemmas.reason_is, DenialNamesLemmas.named_is}
+use Rattle.mml_board.specs.declared.denial.Denial.TheVariants as denial
+use Rattle.mml_codec.specs.declared.reply.Refused.TheVariants as refused
+use Rattle.mml_codec.specs.declared.reply.Reply.TheVariants as replies
+use Rattle.mml_record.specs.declared.kept_entry.Entry.TheVariants as entry
+use Rattle.mml_record.specs.declared.stage.Stage.TheVariants as stages
 
 -- ---- the clause in a reply's text
 

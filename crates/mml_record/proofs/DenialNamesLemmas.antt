@@ -3,17 +3,14 @@ use Rattle.std.proofs.Common.{◌≡◌, ℕ, List, ◌∷◌, ◌++◌, codes, 
 use Rattle.std.specs.Fmt.{digits}
 use Rattle.mml_lab.specs.Rosters.{RosterValue}
 use Rattle.mml_board.specs.declared.denial.Denial.{Denial}
-use Rattle.mml_board.specs.declared.denial.Denial.TheVariants as denial
-use Rattle.mml_codec.specs.declared.reply.Reply.{Reply}
-use Rattle.mml_codec.specs.declared.reply.Reply.TheVariants as replies
-use Rattle.mml_codec.specs.Facts.{object_text}
-use Rattle.mml_codec.specs.Replies.{text}
-use Rattle.mml_tally.specs.declared.student_denials.StudentDenial.{StudentDenial}
-use Rattle.mml_tally.specs.declared.student_denials.StudentDenial.TheVariants as named
-use Rattle.mml_tally.specs.StudentDenials.{student_denial}
+use Rattle.mml_codec.specs.{declared.reply.Reply.Reply, Facts.object_text, Replies.text}
+use Rattle.mml_tally.specs.{declared.student_denials.StudentDenial.StudentDenial, StudentDenials.student_denial}
 use Rattle.mml_journal.proofs.CuttingLemmas.{cut_here}
 use Rattle.mml_record.specs.DenialNames.{denial_word, denial_after, denial_first, denial_second, denial_member, denial_told, denial_in}
 use Rattle.mml_record.proofs.NumberedLemmas.{no_comma, numbered}
+use Rattle.mml_board.specs.declared.denial.Denial.TheVariants as denial
+use Rattle.mml_codec.specs.declared.reply.Reply.TheVariants as replies
+use Rattle.mml_tally.specs.declared.student_denials.StudentDenial.TheVariants as named
 
 second : (n : ℕ) (rest : List ℕ) → denial_second (34 ∷ 97 ∷ 116 ∷ 34 ∷ 58 ∷ (decimal n ++ 44 ∷ rest)) ≡ denial_first rest
 unfolding denial_second
@@ -38,8 +35,7 @@ stale_first rest = refl
 
 stale_is : (at : ℕ) (rest : List ℕ)
     → denial_told (numbered at (codes "\"clause\":" ++ (decimal 2 ++ (codes ",\"deny\":\"stale\"," ++ rest)))) ≡ Some named.Stale
-stale_is at rest =
-    behind_number at (codes "\"clause\":" ++ (decimal 2 ++ (codes ",\"deny\":\"stale\"," ++ rest))) (Some named.Stale) (stale_first rest)
+stale_is at rest = behind_number at (codes "\"clause\":" ++ (decimal 2 ++ (codes ",\"deny\":\"stale\"," ++ rest))) (Some named.Stale) (stale_first rest)
 
 stale_denied : (ids : List ℕ) (roster : RosterValue) (at : ℕ) → denial_told (text ids roster (replies.Deny (denial.Stale at))) ≡ Some named.Stale
 unfolding object_text

@@ -1,52 +1,29 @@
 -- A student who is known in a record is denied by a denial that the tally names, and by its clause.
 use Rattle.std.proofs.Common.{◌≡◌, ℕ, Bool, true, List, [], ◌∷◌, take, refl, sym, subst, Option, None, Some, Result, Err, arith}
-use Rattle.std.specs.Prelude.{IfErr, is_some, option_map, if◌then◌else◌}
-use Rattle.std.specs.Option.{ok_or}
-use Rattle.std.proofs.lemmas.Bool.Decides.{nat_tests}
+use Rattle.std.{specs.Prelude.IfErr, specs.Prelude.is_some, specs.Prelude.option_map, specs.Prelude.if◌then◌else◌, specs.Option.ok_or, proofs.lemmas.Bool.Decides.nat_tests}
 use Rattle.mml_ids.specs.Ids.{rank_in}
 use Rattle.mml_ids.proofs.GivesLemmas.{bind-deny, need-deny}
 use Rattle.mml_rules.specs.declared.rule.Rule.{Rule}
-use Rattle.mml_lab.specs.declared.who.Who.{Who}
-use Rattle.mml_lab.specs.declared.who.Who.TheVariants as who
-use Rattle.mml_lab.specs.Labs.{LabValue}
-use Rattle.mml_lab.specs.Rosters.{RosterValue, owns}
-use Rattle.mml_board.specs.declared.act.Act.TheVariants as acts
-use Rattle.mml_board.specs.declared.denial.Denial.{Denial}
-use Rattle.mml_board.specs.declared.denial.Denial.TheVariants as denial
-use Rattle.mml_board.specs.declared.done.Done.{Done}
-use Rattle.mml_board.specs.declared.event.Event.{Event}
-use Rattle.mml_board.specs.Clauses.{check}
-use Rattle.mml_board.specs.Events.{done_by}
-use Rattle.mml_board.specs.Lists.{world_in}
-use Rattle.mml_board.specs.World.{World, configuration}
+use Rattle.mml_lab.specs.{declared.who.Who.Who, Labs.LabValue, Rosters.RosterValue, Rosters.owns}
+use Rattle.mml_board.specs.{declared.denial.Denial.Denial, declared.done.Done.Done, declared.event.Event.Event, Clauses.check, Events.done_by, Lists.world_in, World.World, World.configuration}
 use Rattle.mml_board.proofs.DenialsLemmas.{of_err}
-use Rattle.mml_policy.specs.declared.command.Command.{Command}
-use Rattle.mml_policy.specs.declared.command.Command.TheVariants as command
-use Rattle.mml_policy.specs.declared.ruling.Ruling.{Ruling}
-use Rattle.mml_policy.specs.declared.ruling.Ruling.TheVariants.{Full, Journal, Granted}
-use Rattle.mml_policy.specs.declared.verdict.Leave.{Leave}
-use Rattle.mml_policy.specs.Clauses.{node, rule_of}
-use Rattle.mml_policy.specs.Rulings.{ruled, after_ruling}
-use Rattle.mml_policy.specs.Verdicts.{clauses}
-use Rattle.mml_policy.specs.Visible.{is_visible}
+use Rattle.mml_policy.specs.{declared.command.Command.Command, declared.verdict.Leave.Leave, Clauses.node, Clauses.rule_of, Rulings.ruled, Rulings.after_ruling, Verdicts.clauses, Visible.is_visible}
+use Rattle.mml_policy.specs.declared.ruling.Ruling.{Ruling, TheVariants.Full, TheVariants.Journal, TheVariants.Granted}
 use Rattle.mml_policy.proofs.VerdictLemmas.{granted-deny}
-use Rattle.mml_codec.specs.declared.request.LineFault.{LineFault}
-use Rattle.mml_codec.specs.declared.request.Request.{Request}
-use Rattle.mml_codec.specs.declared.request.Request.TheVariants as requests
-use Rattle.mml_codec.specs.declared.reply.Reply.{Reply}
-use Rattle.mml_codec.specs.declared.reply.Reply.TheVariants as replies
-use Rattle.mml_codec.specs.Greetings.{greeting}
-use Rattle.mml_codec.specs.Rulings.{reply_of, reply_of_done}
+use Rattle.mml_codec.specs.{declared.request.LineFault.LineFault, declared.request.Request.Request, declared.reply.Reply.Reply, Greetings.greeting, Rulings.reply_of, Rulings.reply_of_done}
 use Rattle.mml_window.specs.Rulings.{ruling_at}
-use Rattle.mml_tally.specs.declared.ask.Ask.{Ask}
-use Rattle.mml_tally.specs.StudentDenials.{student_denial, clause_named, IsNamed, AreNamed}
-use Rattle.mml_record.specs.declared.kept_entry.Entry.{Entry}
+use Rattle.mml_tally.specs.{declared.ask.Ask.Ask, StudentDenials.student_denial, StudentDenials.clause_named, StudentDenials.IsNamed, StudentDenials.AreNamed}
+use Rattle.mml_record.specs.{declared.kept_entry.Entry.Entry, Asks.student_of, Asks.clause_in, Asks.asks_in, Asks.AreAskedOf, DenialNames.denial_in}
+use Rattle.mml_record.specs.Certified.{FitsRuling, FitsGreeting, FitsAsked, Fits, IsRecordOf}
+use Rattle.mml_record.proofs.AsksLemmas.{asked_of_rules}
+use Rattle.mml_lab.specs.declared.who.Who.TheVariants as who
+use Rattle.mml_board.specs.declared.act.Act.TheVariants as acts
+use Rattle.mml_board.specs.declared.denial.Denial.TheVariants as denial
+use Rattle.mml_policy.specs.declared.command.Command.TheVariants as command
+use Rattle.mml_codec.specs.declared.request.Request.TheVariants as requests
+use Rattle.mml_codec.specs.declared.reply.Reply.TheVariants as replies
 use Rattle.mml_record.specs.declared.kept_entry.Entry.TheVariants as entry
 use Rattle.mml_record.specs.declared.stage.Stage.TheVariants as stages
-use Rattle.mml_record.specs.Asks.{student_of, clause_in, asks_in, AreAskedOf}
-use Rattle.mml_record.specs.Certified.{FitsRuling, FitsGreeting, FitsAsked, Fits, IsRecordOf}
-use Rattle.mml_record.specs.DenialNames.{denial_in}
-use Rattle.mml_record.proofs.AsksLemmas.{asked_of_rules}
 
 -- ---- what the clauses deny a student with
 

@@ -1,9 +1,6 @@
 -- Replies that begin with a current number, in which there is no comma.
 use Rattle.std.proofs.Common.{◌≡◌, ℕ, zero, suc, ◌+◌, ◌/◌, ◌%◌, Bool, true, false, cond, not, eqb, List, [], ◌∷◌, ◌++◌, decimal, refl, arith}
-use Rattle.std.specs.Prelude.{nat_lt}
-use Rattle.std.specs.Fmt.{digits, digits_onto, digit_glyph}
-use Rattle.std.proofs.lemmas.Bool.{and_from}
-use Rattle.std.proofs.lemmas.Bool.Decides.{nat_tests}
+use Rattle.std.{specs.Prelude.nat_lt, specs.Fmt.digits, specs.Fmt.digits_onto, specs.Fmt.digit_glyph, proofs.lemmas.Bool.and_from, proofs.lemmas.Bool.Decides.nat_tests}
 use Rattle.mml_journal.proofs.CuttingLemmas.{avoids}
 
 glyph_other : (b : Bool) (d : ℕ) → not (eqb (cond b (48 + d) (87 + d)) 44) ≡ true

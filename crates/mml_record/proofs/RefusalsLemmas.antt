@@ -2,14 +2,11 @@
 use Rattle.std.proofs.Common.{◌≡◌, ℕ, List, refl}
 use Rattle.mml_lab.specs.Rosters.{RosterValue}
 use Rattle.mml_board.specs.declared.denial.Denial.{Denial}
-use Rattle.mml_board.specs.declared.denial.Denial.TheVariants as denial
-use Rattle.mml_codec.specs.declared.reply.Refused.{Refused}
-use Rattle.mml_codec.specs.declared.reply.Refused.TheVariants as refused
-use Rattle.mml_codec.specs.declared.reply.Reply.{Reply}
-use Rattle.mml_codec.specs.declared.reply.Reply.TheVariants as replies
-use Rattle.mml_codec.specs.Facts.{object_text}
-use Rattle.mml_codec.specs.Replies.{text}
+use Rattle.mml_codec.specs.{declared.reply.Refused.Refused, declared.reply.Reply.Reply, Facts.object_text, Replies.text}
 use Rattle.mml_record.specs.Refusals.{reason_told, reason_in}
+use Rattle.mml_board.specs.declared.denial.Denial.TheVariants as denial
+use Rattle.mml_codec.specs.declared.reply.Refused.TheVariants as refused
+use Rattle.mml_codec.specs.declared.reply.Reply.TheVariants as replies
 
 denied_is : (ids : List ℕ) (roster : RosterValue) (d : Denial) → reason_told (text ids roster (replies.Deny d)) ≡ reason_in (replies.Deny d)
 unfolding object_text reason_told

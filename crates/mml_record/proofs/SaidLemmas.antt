@@ -1,46 +1,27 @@
 -- An entry that is accepted is a turn.
 use Rattle.std.proofs.Common.{◌≡◌, ◌⊎◌, ℕ, ◌≤◌, suc, Bool, true, false, true≢false, List, [], ◌∷◌, ◌++◌, length, take, drop, refl, sym, ap, ◌∙◌, subst, inl, inr, Option, None, Some, Result, Ok, Err}
 use Rattle.std.proofs.Common.{arith, append-nil, length-append}
-use Rattle.std.proofs.lemmas.List.{take-append-drop, length-take-le}
-use Rattle.std.proofs.lemmas.Bool.Decides.{nat_tests}
+use Rattle.std.proofs.lemmas.{List.take-append-drop, List.length-take-le, Bool.Decides.nat_tests}
 use mathlib.Core.List.{IsPrefix}
-use Rattle.mml_lab.specs.declared.who.Who.{Who}
-use Rattle.mml_lab.specs.Labs.{LabValue}
+use Rattle.mml_lab.specs.{declared.who.Who.Who, Labs.LabValue}
 use Rattle.mml_lines.specs.LinesOf.{IsWithinLimit}
-use Rattle.mml_board.specs.World.{World, opening_of}
-use Rattle.mml_board.specs.declared.event.Event.{Event}
-use Rattle.mml_board.specs.declared.done.Done.{Done}
-use Rattle.mml_board.specs.Lists.{is_legal_in, world_in}
+use Rattle.mml_board.specs.{World.World, World.opening_of, declared.event.Event.Event, declared.done.Done.Done, Lists.is_legal_in, Lists.world_in}
 use Rattle.mml_board.proofs.RunsLemmas.{legal-beginning}
-use Rattle.mml_policy.specs.declared.command.Command.{Command}
-use Rattle.mml_policy.specs.declared.refusal.Refusal.{Refusal}
-use Rattle.mml_policy.specs.declared.refusal.Refusal.TheVariants as cause
-use Rattle.mml_policy.specs.declared.ruling.Ruling.{Ruling}
-use Rattle.mml_policy.specs.declared.ruling.Ruling.TheVariants.{Denied, Seen, Looked, Reported, Full, Journal, Granted}
-use Rattle.mml_policy.specs.Rulings.{event_of, after_ruling}
-use Rattle.mml_codec.specs.declared.TheConstants.{MAX_REQUEST}
-use Rattle.mml_codec.specs.declared.request.LineFault.{LineFault}
-use Rattle.mml_codec.specs.declared.request.Request.{Request}
-use Rattle.mml_codec.specs.declared.request.Request.TheVariants as requests
-use Rattle.mml_codec.specs.declared.greeting.Greeting.{Greeting}
-use Rattle.mml_codec.specs.declared.greeting.Greeting.TheVariants.{Answered, LeftToJudge}
-use Rattle.mml_codec.specs.declared.reply.Refused.{Refused}
-use Rattle.mml_codec.specs.declared.reply.Refused.TheVariants as refused
-use Rattle.mml_codec.specs.declared.reply.Reply.{Reply}
-use Rattle.mml_codec.specs.Greetings.{greeting}
-use Rattle.mml_codec.specs.Lines.{request_in}
-use Rattle.mml_codec.specs.Replies.{place_in, as_list}
-use Rattle.mml_codec.specs.Rulings.{reply_of, reply_of_done}
+use Rattle.mml_policy.specs.{declared.command.Command.Command, declared.refusal.Refusal.Refusal, Rulings.event_of, Rulings.after_ruling}
+use Rattle.mml_policy.specs.declared.ruling.Ruling.{Ruling, TheVariants.Denied, TheVariants.Seen, TheVariants.Looked, TheVariants.Reported, TheVariants.Full, TheVariants.Journal, TheVariants.Granted}
+use Rattle.mml_codec.specs.declared.{TheConstants.MAX_REQUEST, request.LineFault.LineFault, request.Request.Request, reply.Refused.Refused, reply.Reply.Reply}
+use Rattle.mml_codec.specs.declared.greeting.Greeting.{Greeting, TheVariants.Answered, TheVariants.LeftToJudge}
+use Rattle.mml_codec.specs.{Greetings.greeting, Lines.request_in, Replies.place_in, Replies.as_list, Rulings.reply_of, Rulings.reply_of_done}
 use Rattle.mml_codec.proofs.RulingsLemmas.{place_of_done}
-use Rattle.mml_window.specs.Rulings.{ruling_at}
-use Rattle.mml_window.specs.Windows.{WindowValue, window, window_with}
+use Rattle.mml_window.specs.{Rulings.ruling_at, Windows.WindowValue, Windows.window, Windows.window_with}
 use Rattle.mml_window.proofs.PrefixLemmas.{prefix_length}
-use Rattle.mml_session.specs.Turns.{standing, entered, places_in, MayRefuse, Told, Settles, Asked, Turn}
-use Rattle.mml_session.specs.Records.{judged_at, is_shown}
+use Rattle.mml_session.specs.{Turns.standing, Turns.entered, Turns.places_in, Turns.MayRefuse, Turns.Told, Turns.Settles, Turns.Asked, Turns.Turn, Records.judged_at, Records.is_shown}
 use Rattle.mml_session.proofs.GreetingLemmas.{IsPlain, plain_greeting}
 use Rattle.mml_record.specs.Certified.{IsNext, may_refuse, FitsRuling, FitsGreeting, FitsAsked, Fits, seen_after, is_left, asks_window}
-use Rattle.mml_record.proofs.FitLemmas.{first_of}
-use Rattle.mml_record.proofs.ShownLemmas.{CanBeShown}
+use Rattle.mml_record.proofs.{FitLemmas.first_of, ShownLemmas.CanBeShown}
+use Rattle.mml_policy.specs.declared.refusal.Refusal.TheVariants as cause
+use Rattle.mml_codec.specs.declared.request.Request.TheVariants as requests
+use Rattle.mml_codec.specs.declared.reply.Refused.TheVariants as refused
 
 -- the cause that a window keeps, for this refusal
 abbrev kept_for : Refused → Option Refusal
@@ -62,8 +43,7 @@ module _ (lab : LabValue) (l : List Event) (legal : is_legal_in lab l ≡ true) 
 
   -- the state of a window after a reply that was judged at p events
   abbrev IsAfter : WindowValue → Reply → WindowValue → Type 0
-  IsAfter w r new =
-      (new.seen ≡ take (seen_after p (place_in r)) l) × (new.places ≡ w.places ++ places_in r) × (seen_after p (place_in r) ≤ length l)
+  IsAfter w r new = (new.seen ≡ take (seen_after p (place_in r)) l) × (new.places ≡ w.places ++ places_in r) × (seen_after p (place_in r) ≤ length l)
 
   stays_after : (w : WindowValue) (r : Reply) → w.seen ≡ take p l → place_in r ≡ None → IsAfter w r w
   stays_after w r seen none = (
@@ -85,8 +65,7 @@ module _ (lab : LabValue) (l : List Event) (legal : is_legal_in lab l ≡ true) 
   below w Journal next = few
 
   one_more : (e : Event) → IsNext l (take p l) (Some e) → take p l ++ e ∷ [] ≡ take (suc p) l
-  one_more e next =
-      sym (first_of (take p l ++ e ∷ []) l (suc p) (omega (arith, length-append (take p l) (e ∷ []), length-take-le p l few)) next)
+  one_more e next = sym (first_of (take p l ++ e ∷ []) l (suc p) (omega (arith, length-append (take p l) (e ∷ []), length-take-le p l few)) next)
 
   enters : (w : World) (ruled : Ruling) → IsNext l (take p l) (event_of ruled)
       → entered (take p l) (event_of ruled) ≡ take (seen_after p (place_in (reply_of w ruled))) l
@@ -142,8 +121,7 @@ module _ (lab : LabValue) (l : List Event) (legal : is_legal_in lab l ≡ true) 
     (fits.0, ap (λ (k : Option Who). standing k w) fits.1),
     stays_after w r (sees_all w before) (unnamed r (ap places_in fits.0 ∙ plain.1)),
   )
-  settles w known known' (LeftToJudge who c) r plain before fits =
-      let t = tells w who c r (begins w true before) fits.1 in (t.0, (fits.0, t.1), t.2)
+  settles w known known' (LeftToJudge who c) r plain before fits = let t = tells w who c r (begins w true before) fits.1 in (t.0, (fits.0, t.1), t.2)
 
   asked : (w : WindowValue) (known known' : Option Who) (q : Result Request LineFault) (r : Reply) → IsBefore w (asks_window lab.roster known q)
       → FitsAsked lab l (take p l) known q r known'
@@ -159,20 +137,14 @@ module _ (lab : LabValue) (l : List Event) (legal : is_legal_in lab l ≡ true) 
   pub turns_all : (w : WindowValue) (known known' : Option Who) (line : List ℕ) (r : Reply) → w.seen ≡ take p l
       → Fits lab l (take p l) known line r known'
       → (new : WindowValue) × Turn lab (standing known w) line r (standing known' new) × IsAfter w r new
-  turns_all w known known' line r same (inl fits) =
-      let t = asked w known known' (request_in line) r (inl same) fits in (t.0, inl t.1, t.2)
-  turns_all w known known' line r same (inr fits) = (
-    w,
-    inr (fits.0, ap (λ (k : Option Who). standing k w) fits.1),
-    stays_after w r same (ap place_in fits.0),
-  )
+  turns_all w known known' line r same (inl fits) = let t = asked w known known' (request_in line) r (inl same) fits in (t.0, inl t.1, t.2)
+  turns_all w known known' line r same (inr fits) = (w, inr (fits.0, ap (λ (k : Option Who). standing k w) fits.1), stays_after w r same (ap place_in fits.0))
 
   -- or fewer, and is asked
   pub turns_asked : (w : WindowValue) (known known' : Option Who) (line : List ℕ) (r : Reply) → IsPrefix w.seen (take p l)
       → asks_window lab.roster known (request_in line) ≡ true → FitsAsked lab l (take p l) known (request_in line) r known'
       → (new : WindowValue) × Turn lab (standing known w) line r (standing known' new) × IsAfter w r new
-  turns_asked w known known' line r later asks fits =
-      let t = asked w known known' (request_in line) r (inr (later, asks)) fits in (t.0, inl t.1, t.2)
+  turns_asked w known known' line r later asks fits = let t = asked w known known' (request_in line) r (inr (later, asks)) fits in (t.0, inl t.1, t.2)
 
   -- its entry names p
   pub judged_there : (w new : WindowValue) (r : Reply) → IsAfter w r new → judged_at (length new.seen) r ≡ p

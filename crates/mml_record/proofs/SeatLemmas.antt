@@ -1,52 +1,31 @@
 -- A record, made by sessions.
-use Rattle.std.proofs.Common.{◌≡◌, ◌⊎◌, ℕ, ◌≤◌, Bool, true, false, ◌&&◌, not, List, [], ◌∷◌, ◌++◌, length, take, drop, refl, sym, ap, ◌∙◌, subst, inl, inr, Option, None, Some, Result, Ok, Err}
-use Rattle.std.proofs.Common.{arith, append-nil, append_assoc, if◌then◌else◌}
-use Rattle.std.proofs.lemmas.List.{take-append-drop, length-take-le}
-use Rattle.std.proofs.lemmas.Bool.{and_parts, or_cases, false≢true}
-use Rattle.std.proofs.lemmas.Bool.Decides.{nat_tests}
-use Rattle.std.proofs.lemmas.Slice.Eq.{bytes_eq-Decides}
+use Rattle.std.proofs.Common.{◌≡◌, ◌⊎◌, ℕ, ◌≤◌, Bool, true, false, ◌&&◌, not, List, [], ◌∷◌, ◌++◌, length, take, drop, refl, sym, ap, ◌∙◌, subst, inl, inr, Option, None, Some, Result, Ok, Err, arith}
+use Rattle.std.proofs.Common.{append-nil, append_assoc, if◌then◌else◌}
+use Rattle.std.proofs.lemmas.{List.take-append-drop, List.length-take-le, Bool.and_parts, Bool.or_cases, Bool.false≢true, Bool.Decides.nat_tests, Slice.Eq.bytes_eq-Decides}
 use mathlib.Core.List.{IsPrefix}
-use Rattle.mml_lab.specs.declared.who.Who.{Who}
-use Rattle.mml_lab.specs.Labs.{LabValue, IsLab}
-use Rattle.mml_lab.specs.Rosters.{RosterValue, principal}
-use Rattle.mml_lines.specs.LinesOf.{IsWithinLimit}
-use Rattle.mml_lines.specs.Runs.{Chain}
-use Rattle.mml_board.specs.declared.event.Event.{Event}
-use Rattle.mml_board.specs.Lists.{is_legal_in, world_in}
-use Rattle.mml_codec.specs.declared.TheConstants.{MAX_REQUEST}
-use Rattle.mml_codec.specs.declared.request.LineFault.{LineFault}
-use Rattle.mml_codec.specs.declared.request.Request.{Request}
-use Rattle.mml_codec.specs.declared.request.Request.TheVariants as requests
-use Rattle.mml_codec.specs.declared.greeting.Greeting.{Greeting}
-use Rattle.mml_codec.specs.declared.greeting.Greeting.TheVariants.{Answered, LeftToJudge}
-use Rattle.mml_codec.specs.declared.reply.Refused.TheVariants as refused
-use Rattle.mml_codec.specs.declared.reply.Reply.{Reply}
-use Rattle.mml_codec.specs.declared.reply.Reply.TheVariants as reply
-use Rattle.mml_codec.specs.Greetings.{greeting, admitted}
-use Rattle.mml_codec.specs.Lines.{request_in}
-use Rattle.mml_codec.specs.Replies.{reply_line, place_in}
-use Rattle.mml_window.specs.Rulings.{ruling_at}
-use Rattle.mml_window.specs.Windows.{WindowValue, window}
+use Rattle.mml_lab.specs.{declared.who.Who.Who, Labs.LabValue, Labs.IsLab, Rosters.RosterValue, Rosters.principal}
+use Rattle.mml_lines.specs.{LinesOf.IsWithinLimit, Runs.Chain}
+use Rattle.mml_board.specs.{declared.event.Event.Event, Lists.is_legal_in, Lists.world_in}
+use Rattle.mml_codec.specs.declared.{TheConstants.MAX_REQUEST, request.LineFault.LineFault, request.Request.Request, reply.Reply.Reply}
+use Rattle.mml_codec.specs.declared.greeting.Greeting.{Greeting, TheVariants.Answered, TheVariants.LeftToJudge}
+use Rattle.mml_codec.specs.{Greetings.greeting, Greetings.admitted, Lines.request_in, Replies.reply_line, Replies.place_in}
+use Rattle.mml_window.specs.{Rulings.ruling_at, Windows.WindowValue, Windows.window}
 use Rattle.mml_window.proofs.PrefixLemmas.{prefix_shorter, prefix_length}
-use Rattle.mml_session.specs.declared.recorder.Entry.{Entry}
-use Rattle.mml_session.specs.declared.recorder.Entry.TheVariants as entry
-use Rattle.mml_session.specs.declared.session.SessionEnd.{SessionEnd}
-use Rattle.mml_session.specs.declared.session.SessionEnd.TheVariants as ends
+use Rattle.mml_session.specs.{declared.recorder.Entry.Entry, declared.session.SessionEnd.SessionEnd, Talks.Talk, Talks.LineTurn, Talks.nobody_known}
 use Rattle.mml_session.specs.Turns.{Standing, standing, places_in, Turn, is_bye}
-use Rattle.mml_session.specs.Talks.{Talk, LineTurn, nobody_known}
 use Rattle.mml_session.specs.Records.{Kept, stand, judged_at, is_shown, turn_entries, entries_of, line_entries, left_at, said, entry_text, record_text}
-use Rattle.mml_record.specs.declared.kept_entry.Entry.{Entry as KeptEntry}
-use Rattle.mml_record.specs.declared.kept_entry.Entry.TheVariants as kept
-use Rattle.mml_record.specs.declared.stage.Stage.{Stage}
-use Rattle.mml_record.specs.declared.stage.Stage.TheVariants as stages
+use Rattle.mml_record.specs.{declared.kept_entry.Entry.Entry as KeptEntry, declared.stage.Stage.Stage, RecordedSeats.Held, RecordedSeats.RecordedSeat, RecordedSeats.IsResumedSeat}
 use Rattle.mml_record.specs.Entries.{all_kept, are_whole, are_ended, record_text as kept_texts}
 use Rattle.mml_record.specs.Certified.{Fits, FitsAsked, FitsGreeting, seen_after, stage_after, is_paused, is_line, sees_some, asks_window, may_rise, GoesOn, IsRecordOf}
-use Rattle.mml_record.specs.RecordedSeats.{Held, RecordedSeat, IsResumedSeat}
-use Rattle.mml_record.proofs.FitLemmas.{first_of}
-use Rattle.mml_record.proofs.OnceLemmas.{ruling_no_bye}
-use Rattle.mml_record.proofs.RecordLemmas.{same_text}
+use Rattle.mml_record.proofs.{FitLemmas.first_of, OnceLemmas.ruling_no_bye, RecordLemmas.same_text, ShownLemmas.sees_shown}
 use Rattle.mml_record.proofs.SaidLemmas.{turns_all, turns_asked, judged_there, quiet}
-use Rattle.mml_record.proofs.ShownLemmas.{sees_shown}
+use Rattle.mml_codec.specs.declared.request.Request.TheVariants as requests
+use Rattle.mml_codec.specs.declared.reply.Refused.TheVariants as refused
+use Rattle.mml_codec.specs.declared.reply.Reply.TheVariants as reply
+use Rattle.mml_session.specs.declared.recorder.Entry.TheVariants as entry
+use Rattle.mml_session.specs.declared.session.SessionEnd.TheVariants as ends
+use Rattle.mml_record.specs.declared.kept_entry.Entry.TheVariants as kept
+use Rattle.mml_record.specs.declared.stage.Stage.TheVariants as stages
 
 bye_is : (r : Reply) → is_bye r ≡ true → r ≡ reply.Bye
 bye_is r is = grind (arith, nat_tests)
@@ -80,8 +59,7 @@ forgets roster (Some who) (requests.Do c) = tt
 module _ (lab : LabValue) (l first : List Event) (known : Option Who) (r : Reply) (known' : Option Who) (is : is_bye r ≡ true) where
   bye_greeted : (g : Greeting) → ForgetsAtBye g → FitsGreeting lab l first known g r known' → known' ≡ None
   bye_greeted (Answered q x) own h = h.1 ∙ own (ap is_bye (sym h.0) ∙ is)
-  bye_greeted (LeftToJudge who c) own h =
-      absurd (false≢true (sym (ruling_no_bye lab l first (ruling_at lab (world_in lab first) who c) r h.1) ∙ is))
+  bye_greeted (LeftToJudge who c) own h = absurd (false≢true (sym (ruling_no_bye lab l first (ruling_at lab (world_in lab first) who c) r h.1) ∙ is))
 
   bye_asked : (q : Result Request LineFault) → FitsAsked lab l first known q r known' → known' ≡ None
   bye_asked (Err fault) h = absurd (false≢true (ap is_bye (sym h.0) ∙ is))
@@ -119,8 +97,7 @@ module _ (lab : LabValue) (is : IsLab lab) (l : List Event) (number : ℕ) where
       inl (
         talk_first st next line r turn valid goes x.0,
         x.1,
-        ap (λ y. turn_entries lab line r next.window ++ y) x.2
-            ∙ sym (append_assoc (turn_entries lab line r next.window) (entries_of x.0) (left_at mid)),
+        ap (λ y. turn_entries lab line r next.window ++ y) x.2 ∙ sym (append_assoc (turn_entries lab line r next.window) (entries_of x.0) (left_at mid)),
       )
   tail_first st next line r turn valid goes mid es (inr x) =
       inr (
@@ -224,8 +201,7 @@ module _ (lab : LabValue) (is : IsLab lab) (l : List Event) (number : ℕ) where
         first = turn_entries lab line r next.window ++ x.first;
         later = x.later;
         tail = tail_first st next line r turn valid goes x.mid x.first x.tail;
-        parts = ap (λ y. turn_entries lab line r next.window ++ y) x.parts
-            ∙ sym (append_assoc (turn_entries lab line r next.window) x.first x.later);
+        parts = ap (λ y. turn_entries lab line r next.window ++ y) x.parts ∙ sym (append_assoc (turn_entries lab line r next.window) x.first x.later);
         leads = x.leads;
         places = x.places ∙ ap (λ (y : List ℕ). y ++ ps) granted ∙ append_assoc st.window.places (places_in r) ps;
         begins = x.begins;
@@ -251,8 +227,7 @@ module _ (lab : LabValue) (is : IsLab lab) (l : List Event) (number : ℕ) where
       absurd (false≢true (ap not (sym ((bytes_eq-Decides out (reply_line lab.ids lab.roster (reply.Refuse refused.Memory))).1 same)) ∙ other))
 
   none_of : (line : List ℕ) (r : Reply) (new : WindowValue) → is_shown r ≡ true → turn_entries lab line r new ≡ []
-  none_of line r new shown =
-      ap (λ (b : Bool). if b then [] else said (judged_at (length new.seen) r) line (reply_line lab.ids lab.roster r)) shown
+  none_of line r new shown = ap (λ (b : Bool). if b then [] else said (judged_at (length new.seen) r) line (reply_line lab.ids lab.roster r)) shown
 
   module _ (legal : is_legal_in lab l ≡ true) where
     take_in : (least p : ℕ) (w : WindowValue) → least ≤ p → p ≤ length l → w.seen ≡ take least l → IsPrefix w.seen (take p l)
@@ -327,14 +302,7 @@ module _ (lab : LabValue) (is : IsLab lab) (l : List Event) (number : ℕ) where
           new = g.2.new;
           first = turn_entries lab line r new ++ left_at new;
           later = g.0;
-          tail = inr (
-            silence st,
-            standing known new,
-            record { line = line; reply = r; valid = valid; turn = turn },
-            bye_is r bye,
-            refl,
-            refl,
-          );
+          tail = inr (silence st, standing known new, record { line = line; reply = r; valid = valid; turn = turn }, bye_is r bye, refl, refl);
           parts = ap (λ y. turn_entries lab line r new ++ y) g.1 ∙ sym (append_assoc (turn_entries lab line r new) (left_at new) g.0);
           leads = g.2.leads;
           places = g.2.places ∙ ap (λ (y : List ℕ). y ++ ps) granted ∙ append_assoc st.window.places (places_in r) ps;
@@ -451,11 +419,7 @@ given_of lab l known stage least (kept.Resumed p missed ∷ es) ps h whole none 
 begins_after : (lab : LabValue) (l : List Event) (es : List KeptEntry) (ps : List ℕ) → IsRecordOf lab l es ps → are_whole es ≡ true
     → (n : ℕ) × (n ≤ length l) × GoesOn lab l None stages.Open n es ps
 begins_after lab l [] ps h whole = (0, omega arith, h)
-begins_after lab l (kept.Said p line out ∷ es) ps h whole = (
-  p,
-  h.1,
-  ((omega arith, inl refl), h.1, h.2, h.3, h.4, h.5, refl, h.7, h.8, h.9, h.10),
-)
+begins_after lab l (kept.Said p line out ∷ es) ps h whole = (p, h.1, ((omega arith, inl refl), h.1, h.2, h.3, h.4, h.5, refl, h.7, h.8, h.9, h.10))
 begins_after lab l (kept.Left p ∷ es) ps h whole = (p, h.1, ((omega arith, inl refl), h.1, h.2))
 begins_after lab l (kept.Unrecorded p ∷ es) ps h whole = absurd (false≢true whole)
 begins_after lab l (kept.Paused p ∷ es) ps h whole = absurd (false≢true whole)

@@ -1,42 +1,24 @@
 -- One who sees a node can be shown something at any time.
-use Rattle.std.proofs.Common.{◌≡◌, ◌≢◌, ℕ, ◌<◌, ◌≤◌, ◌^◌, true, false, ◌||◌, List, ◌∷◌, [], ◌++◌, codes, decimal, length, slice_index, refl, sym, ap, subst}
-use Rattle.std.proofs.Common.{Option, None, Some, Ok, ok_or, arith, length-append}
-use Rattle.std.specs.List.{All}
-use Rattle.std.proofs.lemmas.Bool.{or_right, false≢true}
-use Rattle.std.proofs.lemmas.Fmt.{length-decimal-le}
-use Rattle.std.proofs.lemmas.List.{get_or_default}
-use Rattle.mml_ids.specs.Lines.{IsUnbroken}
-use Rattle.mml_ids.specs.Ids.{rank_in}
-use Rattle.mml_ids.proofs.SearchLemmas.{some_below-find}
-use Rattle.mml_ids.proofs.GivesLemmas.{bind-from, need-from}
-use Rattle.mml_ids.proofs.IdsLemmas.{rank_of_id}
-use Rattle.mml_lab.specs.declared.who.Who.{Who}
-use Rattle.mml_lab.specs.declared.who.Who.TheVariants as who
-use Rattle.mml_lab.specs.Labs.{LabValue, IsLab}
-use Rattle.mml_lab.specs.Rosters.{owns}
+use Rattle.std.proofs.Common.{◌≡◌, ◌≢◌, ℕ, ◌<◌, ◌≤◌, ◌^◌, true, false, ◌||◌, List, ◌∷◌, [], ◌++◌, codes, decimal, length, slice_index, refl, sym, ap, subst, Option, None, Some, Ok, ok_or, arith}
+use Rattle.std.proofs.Common.{length-append}
+use Rattle.std.{specs.List.All, proofs.lemmas.Bool.or_right, proofs.lemmas.Bool.false≢true, proofs.lemmas.Fmt.length-decimal-le, proofs.lemmas.List.get_or_default}
+use Rattle.mml_ids.specs.{Lines.IsUnbroken, Ids.rank_in}
+use Rattle.mml_ids.proofs.{SearchLemmas.some_below-find, GivesLemmas.bind-from, GivesLemmas.need-from, IdsLemmas.rank_of_id}
+use Rattle.mml_lab.specs.{declared.who.Who.Who, Labs.LabValue, Labs.IsLab, Rosters.owns}
 use Rattle.mml_lines.specs.LinesOf.{IsWithinLimit}
-use Rattle.mml_board.specs.declared.event.Event.{Event}
-use Rattle.mml_board.specs.Lists.{world_in}
-use Rattle.mml_policy.specs.declared.command.Command.{Command}
-use Rattle.mml_policy.specs.declared.command.Command.TheVariants as command
-use Rattle.mml_board.specs.declared.denial.Denial.TheVariants.{NotOwner}
-use Rattle.mml_policy.specs.declared.ruling.Ruling.{Ruling}
-use Rattle.mml_policy.specs.declared.verdict.Leave.TheVariants.{Look}
-use Rattle.mml_policy.specs.Clauses.{node}
-use Rattle.mml_policy.specs.Rulings.{ruled, after_ruling}
-use Rattle.mml_policy.specs.Verdicts.{clauses}
-use Rattle.mml_policy.specs.Visible.{is_teacher}
-use Rattle.mml_codec.specs.declared.TheConstants.{MAX_REQUEST}
-use Rattle.mml_codec.specs.declared.request.Request.TheVariants as requests
-use Rattle.mml_codec.specs.Canonical.{canonical, IsWritable}
-use Rattle.mml_codec.specs.Lines.{request_in}
-use Rattle.mml_codec.specs.Rulings.{reply_of}
+use Rattle.mml_board.specs.{declared.event.Event.Event, declared.denial.Denial.TheVariants.NotOwner, Lists.world_in}
+use Rattle.mml_policy.specs.declared.{command.Command.Command, ruling.Ruling.Ruling, verdict.Leave.TheVariants.Look}
+use Rattle.mml_policy.specs.{Clauses.node, Rulings.ruled, Rulings.after_ruling, Verdicts.clauses, Visible.is_teacher}
+use Rattle.mml_codec.specs.{declared.TheConstants.MAX_REQUEST, Canonical.canonical, Canonical.IsWritable, Lines.request_in, Rulings.reply_of}
 use Rattle.mml_codec.proofs.CanonicalLemmas.{canonical_line, request_in-canonical}
 use Rattle.json.specs.Print.{escape_byte}
 use Rattle.mml_window.specs.Rulings.{ruling_at}
 use Rattle.mml_session.specs.Records.{is_shown}
 use Rattle.mml_record.specs.Certified.{sees_some}
 use Rattle.mml_record.proofs.RiseLemmas.{owned_within}
+use Rattle.mml_lab.specs.declared.who.Who.TheVariants as who
+use Rattle.mml_policy.specs.declared.command.Command.TheVariants as command
+use Rattle.mml_codec.specs.declared.request.Request.TheVariants as requests
 
 -- the command, asked after these events, is answered by a view
 abbrev Shows : LabValue → List Event → Who → Command → Type 0

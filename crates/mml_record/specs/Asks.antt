@@ -3,36 +3,22 @@
 use Rattle.std.specs.Prelude.{◌≡◌, ℕ, ◌-◌, List, [], ◌∷◌, ◌++◌, codes, length, take, bytes_eq, Option, None, Some, Result, Ok, Err, if◌then◌else◌}
 use Rattle.std.specs.List.{slice_get}
 use Rattle.mml_rules.specs.declared.rule.Kind.{Kind}
-use Rattle.mml_rules.specs.declared.rule.Kind.TheVariants as kind
-use Rattle.mml_lab.specs.declared.who.Who.{Who}
-use Rattle.mml_lab.specs.declared.who.Who.TheVariants as who
-use Rattle.mml_lab.specs.Labs.{LabValue}
-use Rattle.mml_lab.specs.Rosters.{RosterValue}
-use Rattle.mml_board.specs.declared.event.Event.{Event}
-use Rattle.mml_policy.specs.declared.command.Asked.{Asked}
-use Rattle.mml_policy.specs.declared.command.Asked.TheVariants as asked
-use Rattle.mml_policy.specs.declared.command.Command.{Command}
-use Rattle.mml_policy.specs.declared.command.Command.TheVariants as command
-use Rattle.mml_board.specs.Denials.{clause_of}
-use Rattle.mml_codec.specs.declared.request.LineFault.{LineFault}
-use Rattle.mml_codec.specs.declared.request.Request.{Request}
-use Rattle.mml_codec.specs.declared.request.Request.TheVariants as requests
-use Rattle.mml_codec.specs.declared.greeting.Greeting.{Greeting}
-use Rattle.mml_codec.specs.declared.greeting.Greeting.TheVariants.{Answered, LeftToJudge}
-use Rattle.mml_codec.specs.declared.reply.Reply.{Reply}
-use Rattle.mml_codec.specs.declared.reply.Reply.TheVariants as reply
-use Rattle.mml_codec.specs.Greetings.{greeting}
-use Rattle.mml_codec.specs.Lines.{request_in}
-use Rattle.mml_codec.specs.Replies.{reply_line}
+use Rattle.mml_lab.specs.{declared.who.Who.Who, Labs.LabValue, Rosters.RosterValue}
+use Rattle.mml_board.specs.{declared.event.Event.Event, Denials.clause_of}
+use Rattle.mml_policy.specs.declared.command.{Asked.Asked, Command.Command}
+use Rattle.mml_codec.specs.{declared.request.LineFault.LineFault, declared.request.Request.Request, declared.reply.Reply.Reply, Greetings.greeting, Lines.request_in, Replies.reply_line}
+use Rattle.mml_codec.specs.declared.greeting.Greeting.{Greeting, TheVariants.Answered, TheVariants.LeftToJudge}
 use Rattle.mml_journal.specs.Words.{◌>>=◌, split_at_byte, is_word}
-use Rattle.mml_tally.specs.declared.ask.Ask.{Ask}
-use Rattle.mml_tally.specs.declared.ask.Line.{Line}
+use Rattle.mml_tally.specs.declared.ask.{Ask.Ask, Line.Line}
+use Rattle.mml_record.specs.{declared.kept_entry.Entry.Entry, Certified.Fits, DenialNames.denial_told, DenialNames.denial_in, Refusals.reason_told, Refusals.reason_in}
+use Rattle.mml_rules.specs.declared.rule.Kind.TheVariants as kind
+use Rattle.mml_lab.specs.declared.who.Who.TheVariants as who
+use Rattle.mml_policy.specs.declared.command.Asked.TheVariants as asked
+use Rattle.mml_policy.specs.declared.command.Command.TheVariants as command
+use Rattle.mml_codec.specs.declared.request.Request.TheVariants as requests
+use Rattle.mml_codec.specs.declared.reply.Reply.TheVariants as reply
 use Rattle.mml_tally.specs.declared.ask.Line.TheVariants as lines
-use Rattle.mml_record.specs.declared.kept_entry.Entry.{Entry}
 use Rattle.mml_record.specs.declared.kept_entry.Entry.TheVariants as entry
-use Rattle.mml_record.specs.Certified.{Fits}
-use Rattle.mml_record.specs.DenialNames.{denial_told, denial_in}
-use Rattle.mml_record.specs.Refusals.{reason_told, reason_in}
 
 -- ---- what a line is
 

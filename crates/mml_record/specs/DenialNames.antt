@@ -1,11 +1,10 @@
 -- Which denial of a student's the lines of a record had, found in the bytes of their replies.
 use Rattle.std.specs.Prelude.{ℕ, List, codes, Option, None, Some, if◌then◌else◌}
 use Rattle.mml_codec.specs.declared.reply.Reply.{Reply}
-use Rattle.mml_codec.specs.declared.reply.Reply.TheVariants as reply
 use Rattle.mml_journal.specs.Words.{◌>>=◌, split_at_byte, is_word}
-use Rattle.mml_tally.specs.declared.student_denials.StudentDenial.{StudentDenial}
+use Rattle.mml_tally.specs.{declared.student_denials.StudentDenial.StudentDenial, StudentDenials.student_denial}
+use Rattle.mml_codec.specs.declared.reply.Reply.TheVariants as reply
 use Rattle.mml_tally.specs.declared.student_denials.StudentDenial.TheVariants as named
-use Rattle.mml_tally.specs.StudentDenials.{student_denial}
 
 -- the denial that a member of a reply names
 unfoldable pub denial_word : List ℕ → Option StudentDenial

@@ -1,11 +1,9 @@
 -- The participants of whom a record may lack lines.
 use Rattle.std.specs.Prelude.{Bool, true, false, ◌||◌, ◌==◌, List, [], ◌∷◌, Option, None, Some}
-use Rattle.mml_lab.specs.declared.who.Who.{Who}
+use Rattle.mml_lab.specs.{declared.who.Who.Who, Rosters.RosterValue}
+use Rattle.mml_record.specs.{declared.kept_entry.Entry.Entry, Asks.known_behind}
 use Rattle.mml_lab.specs.declared.who.Who.TheVariants as who
-use Rattle.mml_lab.specs.Rosters.{RosterValue}
-use Rattle.mml_record.specs.declared.kept_entry.Entry.{Entry}
 use Rattle.mml_record.specs.declared.kept_entry.Entry.TheVariants as entry
-use Rattle.mml_record.specs.Asks.{known_behind}
 
 -- the first is the second
 abbrev pub is_who : Who → Who → Bool

@@ -1,8 +1,6 @@
 -- Moves under other names, and the numbers that name no node.
 use Rattle.std.specs.Prelude.{◌≡◌, ◌≢◌, ℕ, ◌<◌, false, Option, None, Some}
-use Rattle.mml_rules.specs.declared.rule.Rule.{Rule}
-use Rattle.mml_rules.specs.Configuration.{Configuration}
-use Rattle.mml_rules.specs.Naming.{renamed_rule}
+use Rattle.mml_rules.specs.{declared.rule.Rule.Rule, Configuration.Configuration, Naming.renamed_rule}
 
 -- the chosen move under the names
 abbrev pub renamed_move : (ℕ → ℕ) → Option Rule → Option Rule

@@ -1,20 +1,11 @@
 -- How houses fail.
-use Rattle.std.proofs.Common.{◌≡◌, ℕ, List, length, Option, subst}
-use Rattle.std.proofs.KnownBytes.{Appends-nil}
+use Rattle.std.proofs.{Common.◌≡◌, Common.ℕ, Common.List, Common.length, Common.Option, Common.subst, KnownBytes.Appends-nil}
 use Rattle.mml_lab.specs.Labs.{LabValue}
 use Rattle.mml_board.specs.World.{World}
-use Rattle.mml_window.specs.declared.log.Log.{Log}
-use Rattle.mml_window.specs.declared.log.Astray.{Astray}
-use Rattle.mml_window.specs.Books.{BookValue, IsBook}
-use Rattle.mml_window.specs.Logs.{IsAstray}
-use Rattle.mml_window.specs.Tallies.{IsEachOnce, told_of}
-use Rattle.mml_window.specs.Windows.{WindowValue}
-use Rattle.mml_serving.specs.declared.connection.EndedSession.{EndedSession}
-use Rattle.mml_serving.specs.declared.serving.ServeFault.{ServeFault}
+use Rattle.mml_window.specs.{declared.log.Log.Log, declared.log.Astray.Astray, Books.BookValue, Books.IsBook, Logs.IsAstray, Tallies.IsEachOnce, Tallies.told_of, Windows.WindowValue}
+use Rattle.mml_serving.specs.{declared.connection.EndedSession.EndedSession, declared.serving.ServeFault.ServeFault, Closings.IsCutShort, Closings.LacksLastLine, Closings.done_line, Endings.EndsBadly}
+use Rattle.mml_serving.specs.{Endings.EndsEarly, Endings.EndsWithout, Endings.WentAstray, Serving.ServesHouse, Serving.ServesWindows}
 use Rattle.mml_serving.specs.declared.serving.ServeFault.TheVariants as fault
-use Rattle.mml_serving.specs.Closings.{IsCutShort, LacksLastLine, done_line}
-use Rattle.mml_serving.specs.Endings.{EndsBadly, EndsEarly, EndsWithout, WentAstray}
-use Rattle.mml_serving.specs.Serving.{ServesHouse, ServesWindows}
 
 -- the list from which the windows went astray is the book's
 pub went_astray : {S : Type 0} (lab : LabValue) (sink : S → Option (List ℕ)) (b : BookValue S) (windows : List WindowValue) (astray : Astray)

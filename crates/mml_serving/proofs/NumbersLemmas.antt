@@ -1,7 +1,6 @@
 -- What reading a text as a number says of the number that it spells.
-use Rattle.std.proofs.Common.{◌≡◌, ℕ, ◌<◌, ◌^◌, List, Result, Ok, arith}
+use Rattle.std.proofs.{Common.◌≡◌, Common.ℕ, Common.◌<◌, Common.◌^◌, Common.List, Common.Result, Common.Ok, Common.arith, lemmas.Fmt.parse-decimal}
 use Rattle.std.specs.Str.Parse.{ParsesUnsigned}
-use Rattle.std.proofs.lemmas.Fmt.{parse-decimal}
 use Rattle.mml_serving.specs.Numbers.{Spells}
 
 -- a text that spells a number is read as that

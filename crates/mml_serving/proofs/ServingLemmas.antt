@@ -1,13 +1,9 @@
 -- Connections that came and were served, one more at a time.
-use Rattle.std.proofs.Common.{◌≡◌, ◌≤◌, ℕ, ◌+◌, List, [], ◌∷◌, ◌++◌, All, drop, map, length, append_assoc, length-append, length-drop, arith, refl, Option}
-use Rattle.std.proofs.Common.{IfOk, Result, Ok, Err}
-use Rattle.std.proofs.lemmas.List.{map-append, length-map}
-use Rattle.std.proofs.lemmas.List.Elements.{All-drop}
+use Rattle.std.proofs.Common.{◌≡◌, ◌≤◌, ℕ, ◌+◌, List, [], ◌∷◌, ◌++◌, All, drop, map, length, append_assoc, length-append, length-drop, arith, refl, Option, IfOk, Result, Ok, Err}
+use Rattle.std.proofs.lemmas.List.{map-append, length-map, Elements.All-drop}
 use Rattle.mml_lab.specs.Labs.{LabValue}
 use Rattle.mml_window.specs.Windows.{WindowValue, window}
-use Rattle.mml_serving.specs.declared.connection.Connection.{Connection}
-use Rattle.mml_serving.specs.declared.connection.EndedSession.{EndedSession}
-use Rattle.mml_serving.specs.Arriving.{Takes}
+use Rattle.mml_serving.specs.{declared.connection.Connection.Connection, declared.connection.EndedSession.EndedSession, Arriving.Takes}
 use Rattle.mml_serving.specs.Serving.{Each, IsServed, Numbered, ServesAll, ServesWindows, ends_of}
 
 numbered_more : {R W : Type 0} (n : ℕ) (cs : List (Connection R W)) (c : Connection R W) → Numbered n cs → c.number ≡ n + length cs → Numbered n (cs ++ c ∷ [])

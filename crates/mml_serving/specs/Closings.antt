@@ -1,10 +1,8 @@
 -- A server's messages at its beginning and at its end.
 use Rattle.std.specs.Prelude.{◌≡◌, ◌<◌, ℕ, Bool, true, false, List, [], ◌∷◌, length, take, codes, decimal, Option}
-use Rattle.std.specs.List.{concat}
-use Rattle.std.specs.Io.KnownBytes.{Appends}
+use Rattle.std.specs.{List.concat, Io.KnownBytes.Appends}
 use Rattle.mml_lab.specs.Labs.{LabValue}
-use Rattle.mml_board.specs.declared.event.Event.{Event}
-use Rattle.mml_board.specs.Lists.{is_legal_in, world_in}
+use Rattle.mml_board.specs.{declared.event.Event.Event, Lists.is_legal_in, Lists.world_in}
 use Rattle.mml_serving.specs.declared.serving.ServeFault.{ServeFault}
 use Rattle.mml_serving.specs.declared.serving.ServeFault.TheVariants as fault
 

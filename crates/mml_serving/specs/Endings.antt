@@ -1,19 +1,11 @@
 -- Houses that fail.
-use Rattle.std.specs.Prelude.{◌≡◌, ◌≤◌, ℕ, true, false, List, [], length, Option, None}
-use Rattle.std.specs.List.{list_all}
-use Rattle.std.specs.Io.KnownBytes.{Appends}
+use Rattle.std.specs.{Prelude.◌≡◌, Prelude.◌≤◌, Prelude.ℕ, Prelude.true, Prelude.false, Prelude.List, Prelude.[], Prelude.length, Prelude.Option, Prelude.None, List.list_all, Io.KnownBytes.Appends}
 use Rattle.mml_lab.specs.Labs.{LabValue}
-use Rattle.mml_board.specs.declared.event.Event.{Event}
-use Rattle.mml_window.specs.declared.log.Log.{Log}
-use Rattle.mml_board.specs.Lists.{is_legal_in, world_in}
-use Rattle.mml_window.specs.Tallies.{IsEachOnce, told_of}
-use Rattle.mml_window.specs.Windows.{WindowValue}
-use Rattle.mml_serving.specs.declared.connection.EndedSession.{EndedSession}
-use Rattle.mml_serving.specs.declared.serving.ServeFault.{ServeFault}
+use Rattle.mml_board.specs.{declared.event.Event.Event, Lists.is_legal_in, Lists.world_in}
+use Rattle.mml_window.specs.{declared.log.Log.Log, Tallies.IsEachOnce, Tallies.told_of, Windows.WindowValue}
+use Rattle.mml_serving.specs.declared.{connection.EndedSession.EndedSession, serving.ServeFault.ServeFault, socket.Socket.Socket}
+use Rattle.mml_serving.specs.{Closings.IsCutShort, Closings.done_line, Serving.ServesWindows, Serving.ServesHouse, Serving.had_memory}
 use Rattle.mml_serving.specs.declared.serving.ServeFault.TheVariants as fault
-use Rattle.mml_serving.specs.Closings.{IsCutShort, done_line}
-use Rattle.mml_serving.specs.declared.socket.Socket.{Socket}
-use Rattle.mml_serving.specs.Serving.{ServesWindows, ServesHouse, had_memory}
 
 -- the places that the windows were given aren't those of the house's legal list of events, each once
 pub record WentAstray (lab : LabValue) (windows : List WindowValue) : Type 0 where

@@ -1,16 +1,10 @@
 -- Connections that were served as they came.
 use Rattle.std.specs.Prelude.{◌≡◌, ℕ, Bool, true, false, not, ◌&&◌, ◌+◌, List, [], ◌∷◌, ◌++◌, All, length, map, ⊤, Option}
 use Rattle.mml_lab.specs.Labs.{LabValue}
-use Rattle.mml_window.specs.declared.log.Log.{Log}
-use Rattle.mml_window.specs.Logs.{IsLog}
-use Rattle.mml_window.specs.Windows.{WindowValue, window}
-use Rattle.mml_session.specs.declared.session.SessionEnd.{SessionEnd}
+use Rattle.mml_window.specs.{declared.log.Log.Log, Logs.IsLog, Windows.WindowValue, Windows.window}
+use Rattle.mml_session.specs.{declared.session.SessionEnd.SessionEnd, Ends.Ended}
+use Rattle.mml_serving.specs.{declared.connection.Connection.Connection, declared.connection.EndedSession.EndedSession, declared.socket.Socket.Socket, Arriving.Takes}
 use Rattle.mml_session.specs.declared.session.SessionEnd.TheVariants as end
-use Rattle.mml_session.specs.Ends.{Ended}
-use Rattle.mml_serving.specs.declared.connection.Connection.{Connection}
-use Rattle.mml_serving.specs.declared.connection.EndedSession.{EndedSession}
-use Rattle.mml_serving.specs.declared.socket.Socket.{Socket}
-use Rattle.mml_serving.specs.Arriving.{Takes}
 
 -- the three lists have one length, and P is true of the elements at each index
 abbrev pub Each : {A B C : Type 0} → (A → B → C → Type 0) → List A → List B → List C → Type 0

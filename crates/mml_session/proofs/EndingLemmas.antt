@@ -1,30 +1,20 @@
 -- What has been answered so far, and how it ends.
 use Rattle.std.proofs.Common.{◌≡◌, ◌⊎◌, inl, inr, ℕ, ◌<◌, List, [], ◌++◌, length, take, refl, sym, ◌∙◌, ap, append_assoc, append-nil, Option, subst}
-use Rattle.std.proofs.KnownBytes.{Appends-trans, Consumes-trans}
-use Rattle.std.specs.Io.KnownBytes.{Consumes, Appends, prepend_known}
-use Rattle.mml_lab.specs.declared.who.Who.{Who}
-use Rattle.mml_lab.specs.Labs.{LabValue}
+use Rattle.std.{proofs.KnownBytes.Appends-trans, proofs.KnownBytes.Consumes-trans, specs.Io.KnownBytes.Consumes, specs.Io.KnownBytes.Appends, specs.Io.KnownBytes.prepend_known}
+use Rattle.mml_lab.specs.{declared.who.Who.Who, Labs.LabValue}
 use Rattle.mml_ids.specs.Lines.{ended}
 use Rattle.mml_lines.specs.declared.lines.TheConstants.{READ_SIZE}
-use Rattle.mml_lines.proofs.KnownBytesLemmas.{nothing_held, none_taken, put_back}
-use Rattle.mml_lines.proofs.RunsLemmas.{empty, longer, flat_longer}
+use Rattle.mml_lines.proofs.{KnownBytesLemmas.nothing_held, KnownBytesLemmas.none_taken, KnownBytesLemmas.put_back, RunsLemmas.empty, RunsLemmas.longer, RunsLemmas.flat_longer}
 use Rattle.mml_codec.specs.Replies.{reply_line}
 use Rattle.mml_window.specs.Windows.{WindowValue}
-use Rattle.mml_session.specs.declared.session.SessionEnd.{SessionEnd}
-use Rattle.mml_session.specs.declared.session.SessionEnd.TheVariants as ends
-use Rattle.mml_session.specs.declared.session.Ending.{Ending}
-use Rattle.mml_session.specs.declared.session.Next.{Next}
-use Rattle.mml_session.specs.declared.session.Next.TheVariants as next
-use Rattle.mml_session.specs.Turns.{Standing}
+use Rattle.mml_session.specs.declared.{session.SessionEnd.SessionEnd, session.Ending.Ending, session.Next.Next, recorder.Entry.Entry}
+use Rattle.mml_session.specs.{Turns.Standing, Ends.AllAnswered, Ends.LastAnswered, Ends.IsView, Holding.HoldsBack, Holding.BreaksOff, Holding.LetsOut, Serving.ServesNext}
 use Rattle.mml_session.specs.Talks.{Talk, LineTurn, nobody_known, bytes_read, bytes_written, line_read, line_written}
-use Rattle.mml_session.specs.Ends.{AllAnswered, LastAnswered, IsView}
-use Rattle.mml_session.specs.Holding.{HoldsBack, BreaksOff, LetsOut}
-use Rattle.mml_session.specs.declared.recorder.Entry.{Entry}
 use Rattle.mml_session.specs.Records.{Kept, Records, EndedRecorded, entries_of, line_entries, left_at}
-use Rattle.mml_session.specs.Serving.{ServesNext}
-use Rattle.mml_session.proofs.LongerLemmas.{longer_entries}
+use Rattle.mml_session.proofs.{LongerLemmas.longer_entries, RecordLemmas.records_nil, RecordLemmas.records_trans}
 use Rattle.mml_session.proofs.HoldingLemmas.{none_back, back_more, back_out, back_on, back_off, off_some, back_some, out_alike, off_alike}
-use Rattle.mml_session.proofs.RecordLemmas.{records_nil, records_trans}
+use Rattle.mml_session.specs.declared.session.SessionEnd.TheVariants as ends
+use Rattle.mml_session.specs.declared.session.Next.TheVariants as next
 
 -- the last line of a talk, before which this one was known
 pub record LastLine (lab : LabValue) (old : WindowValue) (st : Standing) (before : Option Who) (talk : Talk lab (nobody_known old)) : Type 0 where

@@ -1,31 +1,17 @@
 -- A session's window replies as an engine does.
 use Rattle.std.proofs.Common.{◌≡◌, ◌⊎◌, ℕ, List, [], Option, Some, None, Result, Ok, Err, refl, ap, ◌∙◌, inl, inr}
-use Rattle.mml_lab.specs.declared.who.Who.{Who}
-use Rattle.mml_lab.specs.Labs.{LabValue}
-use Rattle.mml_board.specs.declared.event.Event.{Event}
-use Rattle.mml_board.specs.Lists.{world_in}
-use Rattle.mml_policy.specs.declared.command.Command.{Command}
-use Rattle.mml_policy.specs.declared.refusal.Refusal.{Refusal}
-use Rattle.mml_policy.specs.declared.ruling.Ruling.{Ruling}
-use Rattle.mml_policy.specs.declared.ruling.Ruling.TheVariants.{Denied, Seen, Looked, Reported, Full, Journal, Granted}
-use Rattle.mml_policy.specs.Rulings.{event_of}
-use Rattle.mml_codec.specs.declared.request.LineFault.{LineFault}
-use Rattle.mml_codec.specs.declared.request.Request.{Request}
-use Rattle.mml_codec.specs.declared.greeting.Greeting.{Greeting}
-use Rattle.mml_codec.specs.declared.greeting.Greeting.TheVariants.{Answered, LeftToJudge}
-use Rattle.mml_codec.specs.declared.reply.Refused.{Refused}
+use Rattle.mml_lab.specs.{declared.who.Who.Who, Labs.LabValue}
+use Rattle.mml_board.specs.{declared.event.Event.Event, Lists.world_in}
+use Rattle.mml_policy.specs.{declared.command.Command.Command, declared.refusal.Refusal.Refusal, Rulings.event_of}
+use Rattle.mml_policy.specs.declared.ruling.Ruling.{Ruling, TheVariants.Denied, TheVariants.Seen, TheVariants.Looked, TheVariants.Reported, TheVariants.Full, TheVariants.Journal, TheVariants.Granted}
+use Rattle.mml_codec.specs.{declared.request.LineFault.LineFault, declared.request.Request.Request, declared.reply.Refused.Refused, declared.reply.Reply.Reply, declared.greeting.Greeting.Greeting}
+use Rattle.mml_codec.specs.{declared.greeting.Greeting.TheVariants.Answered, declared.greeting.Greeting.TheVariants.LeftToJudge, Greetings.greeting, Lines.request_in}
+use Rattle.mml_window.specs.{Rulings.ruling_at, Windows.WindowValue}
+use Rattle.mml_session.specs.{Ends.IsView, Engines.OverWindow, Turns.Told, Turns.Plainly, Turns.Refuses, Turns.MayRefuse, Turns.Settles, Turns.Asked, Turns.Turn, Turns.entered, Turns.standing}
 use Rattle.mml_codec.specs.declared.reply.Refused.TheVariants as refused
-use Rattle.mml_codec.specs.declared.reply.Reply.{Reply}
-use Rattle.mml_codec.specs.Greetings.{greeting}
-use Rattle.mml_codec.specs.Lines.{request_in}
 use Rattle.mml_engine.specs.Told as engine
 use Rattle.mml_engine.specs.Asking as asking
 use Rattle.mml_engine.specs.Turns as turns
-use Rattle.mml_window.specs.Rulings.{ruling_at}
-use Rattle.mml_window.specs.Windows.{WindowValue}
-use Rattle.mml_session.specs.Ends.{IsView}
-use Rattle.mml_session.specs.Engines.{OverWindow}
-use Rattle.mml_session.specs.Turns.{Told, Plainly, Refuses, MayRefuse, Settles, Asked, Turn, entered, standing}
 
 -- ---- the window's reply is about the events that it has seen
 

@@ -1,14 +1,10 @@
 -- The reply to a greeting.
 use Rattle.std.proofs.Common.{◌≡◌, true, [], refl, Option, Some, None}
-use Rattle.mml_lab.specs.declared.who.Who.{Who}
-use Rattle.mml_lab.specs.Rosters.{RosterValue, principal}
-use Rattle.mml_codec.specs.declared.request.Request.{Request}
-use Rattle.mml_codec.specs.declared.request.Request.TheVariants as requests
-use Rattle.mml_codec.specs.declared.greeting.Greeting.{Greeting}
-use Rattle.mml_codec.specs.declared.greeting.Greeting.TheVariants.{Answered, LeftToJudge}
-use Rattle.mml_codec.specs.Greetings.{greeting, admitted}
-use Rattle.mml_codec.specs.Replies.{is_short}
+use Rattle.mml_lab.specs.{declared.who.Who.Who, Rosters.RosterValue, Rosters.principal}
+use Rattle.mml_codec.specs.declared.{request.Request.Request, greeting.Greeting.Greeting, greeting.Greeting.TheVariants.Answered, greeting.Greeting.TheVariants.LeftToJudge}
+use Rattle.mml_codec.specs.{Greetings.greeting, Greetings.admitted, Replies.is_short}
 use Rattle.mml_session.specs.Turns.{places_in}
+use Rattle.mml_codec.specs.declared.request.Request.TheVariants as requests
 
 -- the reply of a greeting is short and names no place
 abbrev pub IsPlain : Greeting → Type 0

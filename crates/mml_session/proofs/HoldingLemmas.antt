@@ -1,8 +1,6 @@
 -- Bytes that are written together, over several steps.
 use Rattle.std.proofs.Common.{◌≡◌, ◌≢◌, inl, inr, ℕ, ◌+◌, List, [], ◌++◌, length, take, sym, ◌∙◌, ap, append_assoc, append-nil, length-append, arith, subst, Option}
-use Rattle.std.proofs.Math.Seq.{take-append-add}
-use Rattle.std.proofs.KnownBytes.{Appends-nil, Appends-trans}
-use Rattle.std.specs.Io.KnownBytes.{Appends}
+use Rattle.std.{proofs.Math.Seq.take-append-add, proofs.KnownBytes.Appends-nil, proofs.KnownBytes.Appends-trans, specs.Io.KnownBytes.Appends}
 use Rattle.mml_session.specs.Holding.{IsHeldOrOut, HoldsBack, BreaksOff}
 
 -- there were no bytes
@@ -19,10 +17,8 @@ back_out a b c bytes held h k = subst (λ (t : List ℕ). Appends a c t) (sym h.
 
 -- or stays
 pub back_on : (a b c : Option (List ℕ)) (bytes held held' : List ℕ) → HoldsBack a b bytes held → IsHeldOrOut b c held held' → HoldsBack a c bytes held'
-back_on a b c bytes held held' h (inl k) =
-    (h.0, h.1 ∙ ap (λ l. h.0 ++ l) (sym k.0), subst (λ (t : Option (List ℕ)). Appends a t h.0) (sym k.1) h.2)
-back_on a b c bytes held held' h (inr k) =
-    (bytes, sym (ap (λ l. bytes ++ l) k.0 ∙ append-nil bytes), back_out a b c bytes held h k.1)
+back_on a b c bytes held held' h (inl k) = (h.0, h.1 ∙ ap (λ l. h.0 ++ l) (sym k.0), subst (λ (t : Option (List ℕ)). Appends a t h.0) (sym k.1) h.2)
+back_on a b c bytes held held' h (inr k) = (bytes, sym (ap (λ l. bytes ++ l) k.0 ∙ append-nil bytes), back_out a b c bytes held h k.1)
 
 -- or breaks off
 pub back_off : (a b c : Option (List ℕ)) (bytes held : List ℕ) → HoldsBack a b bytes held → BreaksOff b c held → BreaksOff a c bytes

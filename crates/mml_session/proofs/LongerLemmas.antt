@@ -3,8 +3,7 @@ use Rattle.std.proofs.Common.{◌≡◌, ℕ, List, [], ◌∷◌, ◌++◌, sym
 use Rattle.mml_lab.specs.Labs.{LabValue}
 use Rattle.mml_lines.proofs.RunsLemmas.{run_longer}
 use Rattle.mml_codec.specs.declared.reply.Reply.{Reply}
-use Rattle.mml_session.specs.Turns.{Standing, Turn, Run}
-use Rattle.mml_session.specs.Records.{run_entries, turn_entries}
+use Rattle.mml_session.specs.{Turns.Standing, Turns.Turn, Turns.Run, Records.run_entries, Records.turn_entries}
 
 -- what is recorded of a run with one line more comes after what is recorded of it
 pub longer_entries : (lab : LabValue) (st mid after : Standing) (ls : List (List ℕ)) (rs : List Reply) (line : List ℕ) (r : Reply)

@@ -1,8 +1,7 @@
 -- What was given to a recorder, put together.
 use Rattle.std.proofs.Common.{◌≡◌, ℕ, Bool, true, false, List, [], ◌∷◌, ◌++◌, refl, sym, ap, ◌∙◌, append_assoc, append-nil, Option, None, Some, subst}
 use mathlib.Core.List.{IsPrefix}
-use Rattle.mml_session.specs.declared.recorder.Entry.{Entry}
-use Rattle.mml_session.specs.Records.{Kept, AddsTo, Adds, Records, record_text, entry_text}
+use Rattle.mml_session.specs.{declared.recorder.Entry.Entry, Records.Kept, Records.AddsTo, Records.Adds, Records.Records, Records.record_text, Records.entry_text}
 
 adds_to_nil : (b : Bool) (xs : List ℕ) → AddsTo b b xs xs []
 adds_to_nil true xs = sym (append-nil xs)
@@ -20,8 +19,7 @@ begins_after bs first cs p = (p.0, append_assoc bs first p.0 ∙ ap (λ l. bs ++
 
 adds_to_trans : (a b c : Bool) (xs ys zs bs cs : List ℕ) → AddsTo a b xs ys bs → AddsTo b c ys zs cs → AddsTo a c xs zs (bs ++ cs)
 adds_to_trans true true true xs ys zs bs cs p q = q ∙ ap (λ l. l ++ cs) p ∙ append_assoc xs bs cs
-adds_to_trans true true false xs ys zs bs cs p q =
-    (bs ++ q.0, begins_after bs q.0 cs q.1, q.2 ∙ ap (λ l. l ++ q.0) p ∙ append_assoc xs bs q.0)
+adds_to_trans true true false xs ys zs bs cs p q = (bs ++ q.0, begins_after bs q.0 cs q.1, q.2 ∙ ap (λ l. l ++ q.0) p ∙ append_assoc xs bs q.0)
 adds_to_trans true false true xs ys zs bs cs p q = absurd q
 adds_to_trans true false false xs ys zs bs cs p q = (p.0, begins_more p.0 bs cs p.1, q ∙ p.2)
 adds_to_trans false true c xs ys zs bs cs p q = absurd p

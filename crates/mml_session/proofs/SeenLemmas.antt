@@ -4,12 +4,9 @@ use mathlib.Core.List.{IsPrefix}
 use Rattle.mml_lab.specs.Labs.{LabValue}
 use Rattle.mml_window.specs.Windows.{WindowValue}
 use Rattle.mml_window.proofs.PrefixLemmas.{prefix_self, prefix_trans}
-use Rattle.mml_session.specs.declared.session.SessionEnd.{SessionEnd}
-use Rattle.mml_session.specs.declared.session.SessionEnd.TheVariants as end
-use Rattle.mml_session.specs.Turns.{Standing}
-use Rattle.mml_session.specs.Ends.{Ended}
-use Rattle.mml_session.specs.Talks.{LineTurn, Talk, nobody_known}
+use Rattle.mml_session.specs.{declared.session.SessionEnd.SessionEnd, Turns.Standing, Ends.Ended, Talks.LineTurn, Talks.Talk, Talks.nobody_known}
 use Rattle.mml_session.proofs.TalkLemmas.{talk_seen, turn_seen}
+use Rattle.mml_session.specs.declared.session.SessionEnd.TheVariants as end
 
 abbrev pub Sees : WindowValue → WindowValue → Type 0
 Sees old new = IsPrefix old.seen new.seen

@@ -1,20 +1,14 @@
 -- The result of a line, from what its parts say.
 use Rattle.std.proofs.Common.{◌≡◌, ◌≢◌, ℕ, ◌+◌, ◌-◌, ◌*◌, ◌<◌, ◌≤◌, arith, true, true≢false, List, [], ◌++◌, length, sym, refl, Option, Result, Ok, Err, subst}
-use Rattle.std.proofs.Math.Nat.{lt_of_not-le}
-use Rattle.std.specs.Io.KnownBytes.{Consumes, prepend_known}
+use Rattle.std.{proofs.Math.Nat.lt_of_not-le, specs.Io.KnownBytes.Consumes, specs.Io.KnownBytes.prepend_known}
 use Rattle.mml_lab.specs.Labs.{LabValue}
 use Rattle.mml_ids.specs.Lines.{ended}
-use Rattle.mml_lines.specs.LinesOf.{IsWithinLimit}
-use Rattle.mml_lines.specs.declared.lines.TheConstants.{READ_SIZE}
-use Rattle.mml_codec.specs.declared.TheConstants.{MAX_REQUEST}
-use Rattle.mml_codec.specs.declared.reply.Reply.{Reply}
-use Rattle.mml_codec.specs.declared.reply.Reply.TheVariants as replies
+use Rattle.mml_lines.specs.{LinesOf.IsWithinLimit, declared.lines.TheConstants.READ_SIZE}
+use Rattle.mml_codec.specs.declared.{TheConstants.MAX_REQUEST, reply.Reply.Reply}
 use Rattle.mml_window.specs.declared.sight.Closed.{Closed}
-use Rattle.mml_session.specs.declared.session.Sent.{Sent}
+use Rattle.mml_session.specs.{declared.session.Sent.Sent, Turns.Standing, Turns.is_bye, Records.Kept, Serving.SendsReply, Serving.ServesLine, Serving.ServesNext, Serving.next_after}
+use Rattle.mml_codec.specs.declared.reply.Reply.TheVariants as replies
 use Rattle.mml_session.specs.declared.session.Sent.TheVariants as says
-use Rattle.mml_session.specs.Turns.{Standing, is_bye}
-use Rattle.mml_session.specs.Records.{Kept}
-use Rattle.mml_session.specs.Serving.{SendsReply, ServesLine, ServesNext, next_after}
 
 taken_by : (a b : Option (List ℕ)) (line line' : List ℕ) → Consumes a b (ended line) → line' ≡ line → Consumes a b (ended line')
 taken_by a b line line' taken same = subst (λ (t : List ℕ). Consumes a b (ended t)) (sym same) taken
@@ -46,8 +40,7 @@ unread_before limit old new old_reads new_reads taken unread unsent out needed g
 -- a reply's line that stands after what was held is sent with it
 pub sent_behind : (said : Sent) (r : Reply) (unsent whole bytes unsent' : List ℕ) (wrote wrote' : Option (List ℕ)) → bytes ≡ unsent ++ whole
     → SendsReply said r bytes [] unsent' wrote wrote' → SendsReply said r whole unsent unsent' wrote wrote'
-sent_behind said r unsent whole bytes unsent' wrote wrote' e h =
-    behind said (subst (λ (t : List ℕ). SendsReply said r t [] unsent' wrote wrote') e h)
+sent_behind said r unsent whole bytes unsent' wrote wrote' e h = behind said (subst (λ (t : List ℕ). SendsReply said r t [] unsent' wrote wrote') e h)
   where
     behind : (said : Sent) → SendsReply said r (unsent ++ whole) [] unsent' wrote wrote' → SendsReply said r whole unsent unsent' wrote wrote'
     behind says.Told h = h

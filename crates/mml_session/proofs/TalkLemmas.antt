@@ -1,29 +1,16 @@
 -- The window that a talk leaves, and the lines that it answers.
-use Rattle.std.proofs.Common.{◌≡◌, ◌⊎◌, ℕ, List, [], ◌∷◌, ◌++◌, flat_map, sym, ◌∙◌, ap, append_assoc, append-nil, subst, inl, inr, Option}
-use Rattle.std.proofs.Common.{Some, None, Result, Ok, Err, All}
-use Rattle.std.specs.List.{AllByRecursion}
-use Rattle.std.proofs.lemmas.List.Elements.{All-nil, All-cons}
+use Rattle.std.proofs.Common.{◌≡◌, ◌⊎◌, ℕ, List, [], ◌∷◌, ◌++◌, flat_map, sym, ◌∙◌, ap, append_assoc, append-nil, subst, inl, inr, Option, Some, None, Result, Ok, Err, All}
+use Rattle.std.{specs.List.AllByRecursion, proofs.lemmas.List.Elements.All-nil, proofs.lemmas.List.Elements.All-cons}
 use mathlib.Core.List.{IsPrefix}
-use Rattle.mml_lab.specs.declared.who.Who.{Who}
-use Rattle.mml_lab.specs.Labs.{LabValue}
+use Rattle.mml_lab.specs.{declared.who.Who.Who, Labs.LabValue}
 use Rattle.mml_ids.specs.Lines.{IsUnbroken}
 use Rattle.mml_lines.specs.LinesOf.{IsWithinLimit, lines_of}
-use Rattle.mml_lines.proofs.RunsLemmas.{by_steps, run_keeps}
-use Rattle.mml_lines.proofs.LinesOfLemmas.{all_lines, lines_first}
-use Rattle.mml_board.specs.declared.event.Event.{Event}
-use Rattle.mml_policy.specs.declared.command.Command.{Command}
-use Rattle.mml_policy.specs.Rulings.{event_of}
-use Rattle.mml_codec.specs.declared.TheConstants.{MAX_REQUEST}
-use Rattle.mml_codec.specs.declared.request.LineFault.{LineFault}
-use Rattle.mml_codec.specs.declared.request.Request.{Request}
-use Rattle.mml_codec.specs.declared.greeting.Greeting.{Greeting}
-use Rattle.mml_codec.specs.declared.greeting.Greeting.TheVariants.{Answered, LeftToJudge}
-use Rattle.mml_codec.specs.declared.reply.Reply.{Reply}
-use Rattle.mml_codec.specs.Greetings.{greeting}
-use Rattle.mml_codec.specs.Lines.{request_in}
-use Rattle.mml_board.specs.Lists.{world_in}
-use Rattle.mml_window.specs.Rulings.{ruling_at}
-use Rattle.mml_window.specs.Windows.{WindowValue}
+use Rattle.mml_lines.proofs.{RunsLemmas.by_steps, RunsLemmas.run_keeps, LinesOfLemmas.all_lines, LinesOfLemmas.lines_first}
+use Rattle.mml_board.specs.{declared.event.Event.Event, Lists.world_in}
+use Rattle.mml_policy.specs.{declared.command.Command.Command, Rulings.event_of}
+use Rattle.mml_codec.specs.{declared.TheConstants.MAX_REQUEST, declared.request.LineFault.LineFault, declared.request.Request.Request, declared.reply.Reply.Reply, declared.greeting.Greeting.Greeting}
+use Rattle.mml_codec.specs.{declared.greeting.Greeting.TheVariants.Answered, declared.greeting.Greeting.TheVariants.LeftToJudge, Greetings.greeting, Lines.request_in}
+use Rattle.mml_window.specs.{Rulings.ruling_at, Windows.WindowValue}
 use Rattle.mml_window.proofs.PrefixLemmas.{prefix_self, prefix_trans, prefix_more}
 use Rattle.mml_session.specs.Turns.{Standing, places_in, entered, Plainly, Refuses, Told, Settles, Asked, Turn}
 use Rattle.mml_session.specs.Talks.{Talk, LineTurn, bytes_read}

@@ -1,28 +1,17 @@
 -- The reply to a command, by the window's answer.
 use Rattle.std.proofs.Common.{◌≡◌, ◌⊎◌, ℕ, List, [], ◌++◌, refl, sym, ap, ◌∙◌, subst, inl, inr, append-nil, Option}
-use Rattle.mml_lab.specs.declared.who.Who.{Who}
-use Rattle.mml_lab.specs.Labs.{LabValue}
-use Rattle.mml_board.specs.declared.event.Event.{Event}
-use Rattle.mml_board.specs.declared.done.Done.{Done}
-use Rattle.mml_board.specs.World.{World}
-use Rattle.mml_board.specs.Events.{after}
-use Rattle.mml_policy.specs.declared.command.Command.{Command}
-use Rattle.mml_board.specs.declared.denial.Denial.{Denial}
-use Rattle.mml_policy.specs.declared.refusal.Refusal.{Refusal}
-use Rattle.mml_policy.specs.declared.refusal.Refusal.TheVariants.{Full, Journal, Memory}
-use Rattle.mml_policy.specs.declared.ruling.Ruling.{Ruling}
-use Rattle.mml_codec.specs.declared.reply.Refused.TheVariants as refused
-use Rattle.mml_codec.specs.declared.reply.Reply.TheVariants as replies
-use Rattle.mml_codec.specs.Replies.{as_list}
-use Rattle.mml_codec.specs.Rulings.{reply_of_done, refusal_for}
+use Rattle.mml_lab.specs.{declared.who.Who.Who, Labs.LabValue}
+use Rattle.mml_board.specs.{declared.event.Event.Event, declared.done.Done.Done, declared.denial.Denial.Denial, World.World, Events.after, Lists.world_in}
+use Rattle.mml_policy.specs.declared.{command.Command.Command, ruling.Ruling.Ruling}
+use Rattle.mml_policy.specs.declared.refusal.Refusal.{Refusal, TheVariants.Full, TheVariants.Journal, TheVariants.Memory}
+use Rattle.mml_codec.specs.{Replies.as_list, Rulings.reply_of_done, Rulings.refusal_for}
 use Rattle.mml_codec.proofs.RulingsLemmas.{place_of_done}
 use Rattle.mml_window.specs.declared.answer.Answer.TheVariants.{Denied, Granted, Refused}
-use Rattle.mml_window.specs.Answers.{Answers, Says}
-use Rattle.mml_board.specs.Lists.{world_in}
-use Rattle.mml_window.specs.Rulings.{ruling_at}
-use Rattle.mml_window.specs.Windows.{WindowValue, HasSeen, window_with}
+use Rattle.mml_window.specs.{Answers.Answers, Answers.Says, Rulings.ruling_at, Windows.WindowValue, Windows.HasSeen, Windows.window_with}
 use Rattle.mml_window.proofs.ListLemmas.{world-one_more}
 use Rattle.mml_session.specs.Turns.{Told, Plainly, Refuses}
+use Rattle.mml_codec.specs.declared.reply.Refused.TheVariants as refused
+use Rattle.mml_codec.specs.declared.reply.Reply.TheVariants as replies
 
 -- the reply to what the window granted names it
 pub granted_told : (lab : LabValue) (old new : WindowValue) (who : Who) (c : Command) (place number : ℕ) (done : Done)

@@ -1,22 +1,17 @@
 -- The end of a session: its input, the output that was written, and its window.
 use Rattle.std.specs.Prelude.{◌≡◌, ℕ, ◌<◌, false, List, [], ◌++◌, length, take, Option, None, Some, Ok}
 use Rattle.std.specs.Io.KnownBytes.{Appends, Consumes, IsAtEnd, prepend_known}
-use Rattle.mml_lab.specs.declared.who.Who.{Who}
-use Rattle.mml_lab.specs.Labs.{LabValue}
+use Rattle.mml_lab.specs.{declared.who.Who.Who, Labs.LabValue}
 use Rattle.mml_ids.specs.Lines.{ended}
-use Rattle.mml_lines.specs.LinesOf.{IsWithinLimit, IsTooLong}
-use Rattle.mml_lines.specs.declared.lines.TheConstants.{READ_SIZE}
-use Rattle.mml_policy.specs.declared.command.Command.{Command}
-use Rattle.mml_policy.specs.Acts.{is_act}
-use Rattle.mml_codec.specs.declared.TheConstants.{MAX_REQUEST}
+use Rattle.mml_lines.specs.{LinesOf.IsWithinLimit, LinesOf.IsTooLong, declared.lines.TheConstants.READ_SIZE}
+use Rattle.mml_policy.specs.{declared.command.Command.Command, Acts.is_act}
+use Rattle.mml_codec.specs.{declared.TheConstants.MAX_REQUEST, Lines.request_in}
+use Rattle.mml_window.specs.Windows.{WindowValue}
+use Rattle.mml_session.specs.{declared.session.SessionEnd.SessionEnd, Turns.Standing}
+use Rattle.mml_session.specs.Talks.{Talk, LineTurn, nobody_known, bytes_read, bytes_written, line_read, line_written}
 use Rattle.mml_codec.specs.declared.request.Request.TheVariants as requests
 use Rattle.mml_codec.specs.declared.reply.Reply.TheVariants as reply
-use Rattle.mml_codec.specs.Lines.{request_in}
-use Rattle.mml_window.specs.Windows.{WindowValue}
-use Rattle.mml_session.specs.declared.session.SessionEnd.{SessionEnd}
 use Rattle.mml_session.specs.declared.session.SessionEnd.TheVariants as end
-use Rattle.mml_session.specs.Turns.{Standing}
-use Rattle.mml_session.specs.Talks.{Talk, LineTurn, nobody_known, bytes_read, bytes_written, line_read, line_written}
 
 -- the line is a command of a known participant, and asks only to be shown something
 pub record IsView (st : Standing) (line : List ℕ) : Type 0 where

@@ -1,6 +1,5 @@
 -- A window as an engine: its reply to a command.
-use Rattle.mml_lab.specs.declared.who.Who.{Who}
-use Rattle.mml_lab.specs.Labs.{LabValue}
+use Rattle.mml_lab.specs.{declared.who.Who.Who, Labs.LabValue}
 use Rattle.mml_policy.specs.declared.command.Command.{Command}
 use Rattle.mml_codec.specs.declared.reply.Reply.{Reply}
 use Rattle.mml_window.specs.Windows.{WindowValue}

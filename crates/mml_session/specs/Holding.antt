@@ -1,9 +1,8 @@
 -- The output buffer: which bytes are written, and which are held.
-use Rattle.std.specs.Prelude.{◌≡◌, ◌⊎◌, ℕ, ◌<◌, List, [], ◌++◌, length, take, Option}
-use Rattle.std.specs.Io.KnownBytes.{Appends}
+use Rattle.std.specs.{Prelude.◌≡◌, Prelude.◌⊎◌, Prelude.ℕ, Prelude.◌<◌, Prelude.List, Prelude.[], Prelude.◌++◌, Prelude.length, Prelude.take, Prelude.Option, Io.KnownBytes.Appends}
 use Rattle.mml_lab.specs.declared.who.Who.{Who}
-use Rattle.mml_session.specs.declared.session.SessionEnd.TheVariants as end
 use Rattle.mml_session.specs.declared.session.Ending.{Ending}
+use Rattle.mml_session.specs.declared.session.SessionEnd.TheVariants as end
 
 -- the bytes are all buffered (`held`), or all written
 abbrev pub IsHeldOrOut : Option (List ℕ) → Option (List ℕ) → List ℕ → List ℕ → Type 0

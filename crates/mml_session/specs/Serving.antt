@@ -3,24 +3,15 @@ use Rattle.std.specs.Prelude.{◌≡◌, ◌≢◌, ℕ, ◌<◌, Bool, false, t
 use Rattle.std.specs.Io.KnownBytes.{Appends, Consumes, IsAtEnd, prepend_known}
 use Rattle.mml_lab.specs.Labs.{LabValue}
 use Rattle.mml_ids.specs.Lines.{ended}
-use Rattle.mml_lines.specs.LinesOf.{IsWithinLimit, IsTooLong}
-use Rattle.mml_lines.specs.declared.lines.TheConstants.{READ_SIZE}
-use Rattle.mml_lines.specs.declared.write_fault.WriteFault.{WriteFault}
-use Rattle.mml_codec.specs.declared.TheConstants.{MAX_REQUEST}
-use Rattle.mml_codec.specs.declared.reply.Reply.{Reply}
-use Rattle.mml_codec.specs.declared.reply.Reply.TheVariants as reply
-use Rattle.mml_codec.specs.Replies.{reply_line, TellsFor}
+use Rattle.mml_lines.specs.{LinesOf.IsWithinLimit, LinesOf.IsTooLong, declared.lines.TheConstants.READ_SIZE, declared.write_fault.WriteFault.WriteFault}
+use Rattle.mml_codec.specs.{declared.TheConstants.MAX_REQUEST, declared.reply.Reply.Reply, Replies.reply_line, Replies.TellsFor}
 use Rattle.mml_window.specs.declared.sight.Closed.{Closed}
+use Rattle.mml_session.specs.{declared.session.Next.Next, declared.session.Sent.Sent, Turns.Standing, Turns.is_bye, Talks.LineTurn, Talks.line_read, Talks.line_written, Ends.IsView}
+use Rattle.mml_session.specs.{Holding.IsHeldOrOut, Holding.BreaksOff, Records.Kept, Records.Records, Records.entry_for, Records.line_entries}
+use Rattle.mml_codec.specs.declared.reply.Reply.TheVariants as reply
 use Rattle.mml_session.specs.declared.session.SessionEnd.TheVariants as end
-use Rattle.mml_session.specs.declared.session.Next.{Next}
 use Rattle.mml_session.specs.declared.session.Next.TheVariants as next
-use Rattle.mml_session.specs.declared.session.Sent.{Sent}
 use Rattle.mml_session.specs.declared.session.Sent.TheVariants as sent
-use Rattle.mml_session.specs.Turns.{Standing, is_bye}
-use Rattle.mml_session.specs.Talks.{LineTurn, line_read, line_written}
-use Rattle.mml_session.specs.Ends.{IsView}
-use Rattle.mml_session.specs.Holding.{IsHeldOrOut, BreaksOff}
-use Rattle.mml_session.specs.Records.{Kept, Records, entry_for, line_entries}
 
 -- what happened to a reply whose line is `whole`, after the buffered bytes `unsent`: all are buffered or all written;
 -- if it is the reply to a bye, all are written; if a write failed, only a beginning is written, and the buffer is empty

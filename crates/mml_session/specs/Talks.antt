@@ -2,10 +2,8 @@
 use Rattle.std.specs.Prelude.{◌≡◌, ℕ, false, List, flat_map, None}
 use Rattle.mml_lab.specs.Labs.{LabValue}
 use Rattle.mml_ids.specs.Lines.{ended}
-use Rattle.mml_lines.specs.LinesOf.{IsWithinLimit}
-use Rattle.mml_lines.specs.Runs.{Exchange, OneStep}
-use Rattle.mml_codec.specs.declared.TheConstants.{MAX_REQUEST}
-use Rattle.mml_codec.specs.Replies.{reply_line}
+use Rattle.mml_lines.specs.{LinesOf.IsWithinLimit, Runs.Exchange, Runs.OneStep}
+use Rattle.mml_codec.specs.{declared.TheConstants.MAX_REQUEST, Replies.reply_line}
 use Rattle.mml_window.specs.Windows.{WindowValue}
 use Rattle.mml_session.specs.Turns.{Standing, standing, Turn, is_bye}
 

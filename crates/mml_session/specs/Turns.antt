@@ -1,31 +1,18 @@
 -- The turns of lines in a session, one and many.
 use Rattle.std.specs.Prelude.{◌≡◌, ◌⊎◌, ℕ, Bool, true, false, List, [], ◌∷◌, ◌++◌, Option, None, Some, Result, Ok, Err}
 use mathlib.Core.List.{IsPrefix}
-use Rattle.mml_lab.specs.declared.who.Who.{Who}
-use Rattle.mml_lab.specs.Labs.{LabValue}
-use Rattle.mml_board.specs.declared.event.Event.{Event}
+use Rattle.mml_lab.specs.{declared.who.Who.Who, Labs.LabValue}
+use Rattle.mml_board.specs.{declared.event.Event.Event, Lists.is_legal_in, Lists.world_in}
 use Rattle.mml_lines.specs.Runs.{Runs}
-use Rattle.mml_policy.specs.declared.command.Command.{Command}
-use Rattle.mml_policy.specs.declared.refusal.Refusal.{Refusal}
+use Rattle.mml_policy.specs.{declared.command.Command.Command, declared.refusal.Refusal.Refusal, Rulings.event_of, Rulings.after_ruling}
+use Rattle.mml_policy.specs.declared.ruling.Ruling.{Ruling, TheVariants.Looked, TheVariants.Reported, TheVariants.Granted}
+use Rattle.mml_codec.specs.declared.{request.LineFault.LineFault, request.Request.Request, reply.Refused.Refused, reply.Reply.Reply}
+use Rattle.mml_codec.specs.declared.greeting.Greeting.{Greeting, TheVariants.Answered, TheVariants.LeftToJudge}
+use Rattle.mml_codec.specs.{Greetings.greeting, Greetings.refusal_of, Lines.request_in, Replies.as_list, Replies.place_in, Rulings.reply_of}
+use Rattle.mml_window.specs.{Rulings.ruling_at, Windows.WindowValue, Windows.HasSeen}
 use Rattle.mml_policy.specs.declared.refusal.Refusal.TheVariants as cause
-use Rattle.mml_policy.specs.declared.ruling.Ruling.{Ruling}
-use Rattle.mml_policy.specs.declared.ruling.Ruling.TheVariants.{Looked, Reported, Granted}
-use Rattle.mml_policy.specs.Rulings.{event_of, after_ruling}
-use Rattle.mml_codec.specs.declared.request.LineFault.{LineFault}
-use Rattle.mml_codec.specs.declared.request.Request.{Request}
-use Rattle.mml_codec.specs.declared.greeting.Greeting.{Greeting}
-use Rattle.mml_codec.specs.declared.greeting.Greeting.TheVariants.{Answered, LeftToJudge}
-use Rattle.mml_codec.specs.declared.reply.Refused.{Refused}
 use Rattle.mml_codec.specs.declared.reply.Refused.TheVariants as refused
-use Rattle.mml_codec.specs.declared.reply.Reply.{Reply}
 use Rattle.mml_codec.specs.declared.reply.Reply.TheVariants as reply
-use Rattle.mml_codec.specs.Greetings.{greeting, refusal_of}
-use Rattle.mml_codec.specs.Lines.{request_in}
-use Rattle.mml_codec.specs.Replies.{as_list, place_in}
-use Rattle.mml_codec.specs.Rulings.{reply_of}
-use Rattle.mml_board.specs.Lists.{is_legal_in, world_in}
-use Rattle.mml_window.specs.Rulings.{ruling_at}
-use Rattle.mml_window.specs.Windows.{WindowValue, HasSeen}
 
 -- the state of a session: who is known on its connection, if anyone is, and what its window has seen and was granted
 pub record Standing : Type 0 where

@@ -1,13 +1,7 @@
 -- The items of a report's lists, as facts.
 use Rattle.std.specs.Prelude.{◌≡◌, ℕ, ◌<◌, ◌⊎◌, true, List, [], ◌∷◌, All, Contains}
-use Rattle.mml_rules.specs.declared.rule.Kind.{Kind}
-use Rattle.mml_rules.specs.declared.rule.Rule.{Rule}
-use Rattle.mml_rules.specs.Configuration.{Configuration}
-use Rattle.mml_rules.specs.Rules.{kind_of}
-use Rattle.mml_rules.specs.Matching.{IsPair}
-use Rattle.mml_rules.specs.Meaning.{IsMarried, MayApply}
-use Rattle.mml_stable.specs.declared.open_link.OpenLink.{OpenLink}
-use Rattle.mml_stable.specs.Walk.{certificate}
+use Rattle.mml_rules.specs.{declared.rule.Kind.Kind, declared.rule.Rule.Rule, Configuration.Configuration, Rules.kind_of, Matching.IsPair, Meaning.IsMarried, Meaning.MayApply}
+use Rattle.mml_stable.specs.{declared.open_link.OpenLink.OpenLink, Walk.certificate}
 
 -- two nodes that point at each other, the lower one first
 abbrev pub IsPairInOrder : Configuration → ℕ × ℕ → Type 0

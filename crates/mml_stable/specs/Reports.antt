@@ -1,13 +1,9 @@
 -- The report on a world.
 use Rattle.std.specs.Prelude.{ℕ, ◌<◌, All, zero, suc, Bool, true, false, not, ◌&&◌, nat_lt, Option, None, Some, List, [], ◌∷◌, ◌++◌}
 use Rattle.mml_ids.specs.Search.{some_below}
-use Rattle.mml_rules.specs.declared.rule.Kind.{Kind}
-use Rattle.mml_rules.specs.Configuration.{Configuration, holds}
-use Rattle.mml_rules.specs.Rules.{is_married, enabled_kind, is_privileged}
+use Rattle.mml_rules.specs.{declared.rule.Kind.Kind, Configuration.Configuration, Configuration.holds, Rules.is_married, Rules.enabled_kind, Rules.is_privileged}
 use Rattle.mml_board.specs.World.{World, configuration}
-use Rattle.mml_stable.specs.declared.open_link.OpenLink.{OpenLink}
-use Rattle.mml_stable.specs.declared.stability_report.Report.{Report}
-use Rattle.mml_stable.specs.Walk.{certificate}
+use Rattle.mml_stable.specs.{declared.open_link.OpenLink.OpenLink, declared.stability_report.Report.Report, Walk.certificate}
 
 -- the lists of 0, of 1, and so on below n, one after another
 abbrev pub each_below : {A : Type 0} → ℕ → (ℕ → List A) → List A

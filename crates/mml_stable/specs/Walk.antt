@@ -1,8 +1,6 @@
 -- From a node along the pointers, to one at which a rule may be applied.
 use Rattle.std.specs.Prelude.{◌≡◌, ℕ, zero, suc, true, false, if◌then◌else◌, Option, None, Some, unwrap_or}
-use Rattle.mml_rules.specs.declared.rule.Kind.{Kind}
-use Rattle.mml_rules.specs.Configuration.{Configuration}
-use Rattle.mml_rules.specs.Rules.{enabled_kind, is_privileged}
+use Rattle.mml_rules.specs.{declared.rule.Kind.Kind, Configuration.Configuration, Rules.enabled_kind, Rules.is_privileged}
 
 -- the first of i, p(i), p(p(i)), .. that is privileged or points at no node; if none comes within n steps, the node
 -- after n steps

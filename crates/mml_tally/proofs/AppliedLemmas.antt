@@ -1,25 +1,17 @@
 -- The moves that closes apply, counted by worlds and by the moves themselves.
-use Rattle.std.proofs.Common.{◌≡◌, ℕ, ◌+◌, ◌<◌, ◌≤◌, zero, suc, Bool, true, false, cond, ◌&&◌, eqb, List, [], ◌∷◌, Some, None, is_some, is_none}
-use Rattle.std.proofs.Common.{replicate, refl, ap, ◌∙◌, arith}
-use Rattle.std.specs.Prelude.{count_by}
-use Rattle.std.proofs.lemmas.Bool.{and_parts, and_right, ltb-true}
-use Rattle.std.proofs.lemmas.Bool.Decides.{nat_tests}
+use Rattle.std.proofs.Common.{◌≡◌, ℕ, ◌+◌, ◌<◌, ◌≤◌, zero, suc, Bool, true, false, cond, ◌&&◌, eqb, List, [], ◌∷◌, Some, None, is_some, is_none, replicate, refl, ap, ◌∙◌, arith}
+use Rattle.std.{specs.Prelude.count_by, proofs.lemmas.Bool.and_parts, proofs.lemmas.Bool.and_right, proofs.lemmas.Bool.ltb-true, proofs.lemmas.Bool.Decides.nat_tests}
 use Rattle.mml_ids.specs.Search.{count_below}
-use Rattle.mml_rules.specs.declared.rule.Rule.{Rule}
-use Rattle.mml_rules.specs.Rules.{guard, kind_of}
+use Rattle.mml_rules.specs.{declared.rule.Rule.Rule, Rules.guard, Rules.kind_of}
 use Rattle.mml_lab.specs.Rosters.{RosterValue}
-use Rattle.mml_board.specs.declared.event.Event.{Event}
-use Rattle.mml_board.specs.declared.event.Event.TheVariants as event
-use Rattle.mml_board.specs.World.{World, size, configuration, chosen_at, IsWorld}
+use Rattle.mml_board.specs.{declared.event.Event.Event, World.World, World.size, World.configuration, World.chosen_at, World.IsWorld, Runs.is_legal_list}
 use Rattle.mml_board.specs.Events.{is_legal, is_node, is_chosen, after, chosen_count}
-use Rattle.mml_board.specs.Runs.{is_legal_list}
-use Rattle.mml_board.proofs.WorldLemmas.{none_at, chosen_at-set, chosen_node, after-world}
-use Rattle.mml_board.proofs.ClausesLemmas.{is_fit, fit, legal_possible}
+use Rattle.mml_board.proofs.{WorldLemmas.none_at, WorldLemmas.chosen_at-set, WorldLemmas.chosen_node, WorldLemmas.after-world, ClausesLemmas.is_fit, ClausesLemmas.fit, ClausesLemmas.legal_possible}
 use Rattle.mml_convergence.specs.Moves.{applied_over}
 use Rattle.mml_convergence.proofs.SumsLemmas.{count_none, count_same}
-use Rattle.mml_tally.specs.Moves.{fate_of, moves_from}
-use Rattle.mml_tally.specs.Marks.{is_fate_applied, is_applied}
+use Rattle.mml_tally.specs.{Moves.fate_of, Moves.moves_from, Marks.is_fate_applied, Marks.is_applied}
 use Rattle.mml_tally.proofs.CountsLemmas.{one, more, count_split}
+use Rattle.mml_board.specs.declared.event.Event.TheVariants as event
 
 -- a close to come applies what is chosen at i
 abbrev pub will : World → ℕ → List Event → ℕ → Bool

@@ -1,19 +1,13 @@
 -- Each line is of one student, or of others; and other names change nothing.
-use Rattle.std.proofs.Common.{◌≡◌, ℕ, ◌+◌, Bool, true, cond, ◌&&◌, eqb, List, [], ◌∷◌, map, Option, None, Some, is_some, is_none, option_map, ◌↔◌}
-use Rattle.std.proofs.Common.{refl, ◌∙◌, arith}
-use Rattle.std.specs.Prelude.{count_by}
-use Rattle.std.proofs.lemmas.Bool.{cases_eq, ne_eqb}
-use Rattle.std.proofs.lemmas.Bool.Decides.{nat_tests}
+use Rattle.std.proofs.Common.{◌≡◌, ℕ, ◌+◌, Bool, true, cond, ◌&&◌, eqb, List, [], ◌∷◌, map, Option, None, Some, is_some, is_none, option_map, ◌↔◌, refl, ◌∙◌, arith}
+use Rattle.std.{specs.Prelude.count_by, proofs.lemmas.Bool.cases_eq, proofs.lemmas.Bool.ne_eqb, proofs.lemmas.Bool.Decides.nat_tests}
 use Rattle.mml_convergence.specs.Potential.{sum_below}
 use Rattle.mml_convergence.proofs.SumsLemmas.{sum_zero, sum_split, sum_of_tests}
 use Rattle.mml_policy.specs.declared.refusal.Refusal.{Refusal}
-use Rattle.mml_tally.specs.declared.ask.Ask.{Ask}
-use Rattle.mml_tally.specs.declared.ask.Line.{Line}
-use Rattle.mml_tally.specs.declared.student_denials.StudentDenial.{StudentDenial}
+use Rattle.mml_tally.specs.declared.{ask.Ask.Ask, ask.Line.Line, student_denials.StudentDenial.StudentDenial}
 use Rattle.mml_tally.specs.Asks.{is_student, asks_by, is_clause, denials_in, denials_of}
 use Rattle.mml_tally.specs.AskMeaning.{asks_of_others, is_denied, total_denied, is_numbered, IsKnownOf, AreAsksOf, asked_under}
-use Rattle.mml_tally.proofs.CountsLemmas.{one, more}
-use Rattle.mml_tally.proofs.AppliedLemmas.{only_one}
+use Rattle.mml_tally.proofs.{CountsLemmas.one, CountsLemmas.more, AppliedLemmas.only_one}
 
 -- a line that is left out, or kept, by a test
 kept : (test : Ask → Bool) (a : Ask) (asks : List Ask) (b : Bool) → count_by test (cond b (a ∷ asks) asks) ≡ one (b && test a) + count_by test asks
@@ -21,11 +15,9 @@ kept test a asks b = grind (arith, nat_tests, more)
 
 -- ---- each line is of one student, or of others
 
-own : (n : ℕ) (w : Option ℕ) (d : Option ℕ) (b : Bool) → IsKnownOf n w d
-    → sum_below n (λ s. one (is_student s w && b)) + one (is_none w && b) ≡ one b
+own : (n : ℕ) (w : Option ℕ) (d : Option ℕ) (b : Bool) → IsKnownOf n w d → sum_below n (λ s. one (is_student s w && b)) + one (is_none w && b) ≡ one b
 own n None d b h = omega (arith, sum_zero n)
-own n (Some t) d b h =
-    let its : sum_below n (λ s. one (eqb t s && b)) ≡ one b = sum_of_tests n (λ s. eqb t s && b) ∙ only_one n t b h.0 in omega (arith, its)
+own n (Some t) d b h = let its : sum_below n (λ s. one (eqb t s && b)) ≡ one b = sum_of_tests n (λ s. eqb t s && b) ∙ only_one n t b h.0 in omega (arith, its)
 
 pub asks_sum : (test : Ask → Bool) (n : ℕ) (asks : List Ask) → AreAsksOf n asks
     → sum_below n (λ s. count_by test (asks_by s asks)) + count_by test (asks_of_others asks) ≡ count_by test asks
@@ -40,8 +32,7 @@ asks_sum test n (a ∷ asks) h =
 
 -- ---- a clause from 1 to 4 denied it
 
-one_clause : (d : Option ℕ) → is_numbered d ≡ true
-    → one (is_clause 1 d) + one (is_clause 2 d) + one (is_clause 3 d) + one (is_clause 4 d) ≡ one (is_some d)
+one_clause : (d : Option ℕ) → is_numbered d ≡ true → one (is_clause 1 d) + one (is_clause 2 d) + one (is_clause 3 d) + one (is_clause 4 d) ≡ one (is_some d)
 one_clause d h = grind (arith, nat_tests)
 
 numbered : (s n : ℕ) (w : Option ℕ) (d : Option ℕ) → IsKnownOf n w d → is_student s w ≡ true → is_numbered d ≡ true

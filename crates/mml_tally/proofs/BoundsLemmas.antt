@@ -1,7 +1,6 @@
 -- The bounds as numbers.
 use Rattle.std.proofs.Common.{◌≡◌, ◌⊎◌, inl, inr, ℕ, zero, suc, ◌+◌, ◌-◌, ◌*◌, ◌/◌, ◌%◌, refl, sym, ap, ◌∙◌, arith}
-use Rattle.mml_convergence.specs.Rounds.{rounds_for}
-use Rattle.mml_convergence.specs.Courtships.{most_courtships}
+use Rattle.mml_convergence.specs.{Rounds.rounds_for, Courtships.most_courtships}
 use Rattle.mml_convergence.proofs.NumbersLemmas.{courtships_even, courtships_odd}
 
 -- twice the half, and one more if the number is odd
@@ -9,9 +8,7 @@ halved : (n : ℕ) → (n ≡ 2 * (n / 2)) ⊎ (n ≡ 2 * (n / 2) + 1)
 halved n = grind arith
 
 at_half : (n k : ℕ) → (n ≡ 2 * k) ⊎ (n ≡ 2 * k + 1) → k * (n - k) ≡ most_courtships n
-at_half n k (inl even) =
-    let rest : n - k ≡ k = omega (arith, even) in
-    ap (λ z. k * z) rest ∙ sym (courtships_even k) ∙ ap most_courtships (sym even)
+at_half n k (inl even) = let rest : n - k ≡ k = omega (arith, even) in ap (λ z. k * z) rest ∙ sym (courtships_even k) ∙ ap most_courtships (sym even)
 at_half n k (inr odd) =
     let rest : n - k ≡ k + 1 = omega (arith, odd) in
     let grown : k * (k + 1) ≡ k * k + k = omega arith in

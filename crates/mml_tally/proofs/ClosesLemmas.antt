@@ -1,20 +1,15 @@
 -- The closes that applied moves come in order, so one pass counts each once.
-use Rattle.std.proofs.Common.{◌≡◌, ◌⊎◌, ℕ, ◌+◌, ◌<◌, ◌≤◌, Bool, true, false, cond, ◌&&◌, ◌||◌, eqb, ltb, List, [], ◌∷◌, length}
-use Rattle.std.proofs.Common.{inl, inr, refl, ap, ◌∙◌, sym, arith}
+use Rattle.std.proofs.Common.{◌≡◌, ◌⊎◌, ℕ, ◌+◌, ◌<◌, ◌≤◌, Bool, true, false, cond, ◌&&◌, ◌||◌, eqb, ltb, List, [], ◌∷◌, length, inl, inr, refl, ap, ◌∙◌, sym, arith}
 use Rattle.std.specs.List.{filter, list_any}
-use Rattle.std.proofs.lemmas.Bool.{cases_eq, or_cases, eqb-true, and_right}
-use Rattle.std.proofs.lemmas.Bool.Decides.{nat_tests}
+use Rattle.std.proofs.lemmas.Bool.{cases_eq, or_cases, eqb-true, and_right, Decides.nat_tests}
 use Rattle.mml_ids.specs.Search.{count_below}
 use Rattle.mml_board.specs.declared.event.Event.{Event}
-use Rattle.mml_board.specs.declared.event.Event.TheVariants as event
 use Rattle.mml_convergence.proofs.SumsLemmas.{count_same, count_none}
-use Rattle.mml_tally.specs.declared.fate.Fate.{Fate}
-use Rattle.mml_tally.specs.declared.fate.Fate.TheVariants as fate
-use Rattle.mml_tally.specs.declared.granted_move.Move.{Move}
-use Rattle.mml_tally.specs.Moves.{fate_of, moves_from, moves}
+use Rattle.mml_tally.specs.{declared.fate.Fate.Fate, declared.granted_move.Move.Move, Moves.fate_of, Moves.moves_from, Moves.moves, inside.Closes.close_of, inside.Closes.count_new}
 use Rattle.mml_tally.specs.Marks.{is_fate_at, is_applied_at, is_applied, count_applying_closes}
-use Rattle.mml_tally.specs.inside.Closes.{close_of, count_new}
 use Rattle.mml_tally.proofs.CountsLemmas.{one, count_split, count_one}
+use Rattle.mml_board.specs.declared.event.Event.TheVariants as event
+use Rattle.mml_tally.specs.declared.fate.Fate.TheVariants as fate
 
 -- ---- a move is applied by the close that comes next, or by none
 

@@ -1,8 +1,6 @@
 -- Counts that are split in two.
 use Rattle.std.proofs.Common.{◌≡◌, ℕ, zero, suc, ◌+◌, ◌<◌, Bool, cond, eqb, List, ◌∷◌, refl, sym, arith}
-use Rattle.std.specs.Prelude.{count_by}
-use Rattle.std.proofs.lemmas.Bool.{eq-eqb, eqb-true}
-use Rattle.std.proofs.lemmas.List.Sums.{sum_by-cons}
+use Rattle.std.{specs.Prelude.count_by, proofs.lemmas.Bool.eq-eqb, proofs.lemmas.Bool.eqb-true, proofs.lemmas.List.Sums.sum_by-cons}
 use Rattle.mml_ids.specs.Search.{count_below}
 use Rattle.mml_convergence.proofs.SumsLemmas.{count_some, count_one_at_most}
 
@@ -14,13 +12,10 @@ pub more : {A : Type 0} (p : A → Bool) (x : A) (xs : List A) → count_by p (x
 more p x xs = sum_by-cons (λ x. cond (p x) 1 0) x xs
 
 -- a test that is one of two that exclude each other
-pub count_split : (n : ℕ) (t u v : ℕ → Bool) → ((j : ℕ) → j < n → one (t j) ≡ one (u j) + one (v j))
-    → count_below n t ≡ count_below n u + count_below n v
+pub count_split : (n : ℕ) (t u v : ℕ → Bool) → ((j : ℕ) → j < n → one (t j) ≡ one (u j) + one (v j)) → count_below n t ≡ count_below n u + count_below n v
 count_split zero t u v apart = refl
 count_split (suc n) t u v apart = omega (arith, count_split n t u v (λ j lt. apart j (omega arith)), apart n (omega arith))
 
 -- one number below n is k
 pub count_one : (n k : ℕ) → k < n → count_below n (eqb k) ≡ 1
-count_one n k lt =
-    let most = count_one_at_most n k (eqb k) (λ j e. sym (eqb-true k j e)) in
-    omega (arith, count_some n k (eqb k) lt (eq-eqb k k refl), most)
+count_one n k lt = let most = count_one_at_most n k (eqb k) (λ j e. sym (eqb-true k j e)) in omega (arith, count_some n k (eqb k) lt (eq-eqb k k refl), most)

@@ -1,13 +1,10 @@
 -- A move is applied by a close exactly if what comes between leaves it.
-use Rattle.std.proofs.Common.{◌≡◌, ◌↔◌, ℕ, ◌+◌, Bool, true, false, not, cond, ◌&&◌, eqb, List, [], ◌∷◌, ◌++◌, Some, None, unwrap_or}
-use Rattle.std.proofs.Common.{refl, ap, ◌∙◌, sym, arith, length}
-use Rattle.std.specs.List.{list_all}
-use Rattle.std.proofs.lemmas.Bool.{and_parts, not-true, false≢true}
+use Rattle.std.proofs.Common.{◌≡◌, ◌↔◌, ℕ, ◌+◌, Bool, true, false, not, cond, ◌&&◌, eqb, List, [], ◌∷◌, ◌++◌, Some, None, unwrap_or, refl, ap, ◌∙◌, sym, arith, length}
+use Rattle.std.{specs.List.list_all, proofs.lemmas.Bool.and_parts, proofs.lemmas.Bool.not-true, proofs.lemmas.Bool.false≢true}
 use Rattle.mml_board.specs.declared.event.Event.{Event}
+use Rattle.mml_tally.specs.{Moves.fate_of, Meaning.leaves, Meaning.IsNextClose}
 use Rattle.mml_board.specs.declared.event.Event.TheVariants as event
 use Rattle.mml_tally.specs.declared.fate.Fate.TheVariants as fate
-use Rattle.mml_tally.specs.Moves.{fate_of}
-use Rattle.mml_tally.specs.Meaning.{leaves, IsNextClose}
 
 -- one event more between
 earlier : (i q p : ℕ) (e : Event) (es : List Event) → leaves i e ≡ true → IsNextClose i (q + 1) p es → IsNextClose i q p (e ∷ es)
@@ -28,9 +25,7 @@ close_found i q p (event.Release j ∷ es) h = go (eqb j i) refl h (close_found 
         → (fate_of i (q + 1) es ≡ fate.Applied p → IsNextClose i (q + 1) p es) → IsNextClose i q p (event.Release j ∷ es)
     go true e h more = cc
     go false e h more = earlier i q p (event.Release j) es (ap not e) (more h)
-close_found i q p (event.Close ∷ es) h =
-    let same : q ≡ p = cc in
-    record { between = []; later = es; events = refl; leave = refl; place = omega (arith, same) }
+close_found i q p (event.Close ∷ es) h = let same : q ≡ p = cc in record { between = []; later = es; events = refl; leave = refl; place = omega (arith, same) }
 close_found i q p (_ ∷ es) h = cc
 
 applied_past : (i q : ℕ) (between later : List Event) → list_all (leaves i) between ≡ true
@@ -44,7 +39,4 @@ applied_past i q (event.Release j ∷ between) later h =
 applied_past i q (_ ∷ between) later h = absurd (false≢true h)
 
 pub applied_by_close : (i q p : ℕ) (es : List Event) → (fate_of i q es ≡ fate.Applied p) ↔ IsNextClose i q p es
-applied_by_close i q p es = (
-  close_found i q p es,
-  λ h. ap (fate_of i q) h.events ∙ applied_past i q h.between h.later h.leave ∙ ap fate.Applied (sym h.place),
-)
+applied_by_close i q p es = (close_found i q p es, λ h. ap (fate_of i q) h.events ∙ applied_past i q h.between h.later h.leave ∙ ap fate.Applied (sym h.place))

@@ -1,23 +1,16 @@
 -- What students' marks add up to, and what they don't depend on.
 use Rattle.std.proofs.Common.{◌≡◌, ◌↔◌, ℕ, suc, ◌+◌, ◌<◌, Bool, cond, ◌&&◌, eqb, List, [], ◌∷◌, unwrap_or, map, inl, inr, refl, ap, ◌∙◌, sym, arith, length}
-use Rattle.std.specs.Prelude.{count_by}
-use Rattle.std.proofs.lemmas.Bool.{cases_eq, ne_eqb}
-use Rattle.std.proofs.lemmas.List.Sums.{length-filter}
-use Rattle.mml_rules.specs.declared.rule.Kind.{Kind}
-use Rattle.mml_rules.specs.declared.rule.Kind.TheVariants as kind
-use Rattle.mml_rules.specs.Rules.{kind_of}
+use Rattle.std.{specs.Prelude.count_by, proofs.lemmas.Bool.cases_eq, proofs.lemmas.Bool.ne_eqb, proofs.lemmas.Bool.Decides.nat_tests, proofs.lemmas.List.Sums.length-filter}
+use Rattle.mml_rules.specs.{declared.rule.Kind.Kind, Rules.kind_of}
 use Rattle.mml_board.specs.declared.event.Event.{Event}
-use Rattle.mml_board.specs.declared.event.Event.TheVariants as event
 use Rattle.mml_convergence.specs.Potential.{sum_below}
 use Rattle.mml_convergence.proofs.SumsLemmas.{sum_zero, sum_split, sum_of_tests}
-use Rattle.mml_tally.specs.declared.fate.Fate.{Fate}
-use Rattle.mml_tally.specs.declared.granted_move.Move.{Move}
-use Rattle.mml_tally.specs.Moves.{ended_by, fate_of, moves_from}
+use Rattle.mml_tally.specs.{declared.fate.Fate.Fate, declared.granted_move.Move.Move, Moves.ended_by, Moves.fate_of, Moves.moves_from}
 use Rattle.mml_tally.specs.Marks.{is_kind, is_fate_applied, is_applied, applied, by_rule, moves_by}
 use Rattle.mml_tally.specs.Meaning.{total, is_fate_released, is_fate_dropped, is_fate_left, is_released, is_dropped, is_left, asked_as}
-use Rattle.mml_tally.proofs.CountsLemmas.{one, more}
-use Rattle.mml_tally.proofs.AppliedLemmas.{only_one}
-use Rattle.std.proofs.lemmas.Bool.Decides.{nat_tests}
+use Rattle.mml_tally.proofs.{CountsLemmas.one, CountsLemmas.more, AppliedLemmas.only_one}
+use Rattle.mml_rules.specs.declared.rule.Kind.TheVariants as kind
+use Rattle.mml_board.specs.declared.event.Event.TheVariants as event
 
 -- ---- each move is of one rule
 
@@ -40,8 +33,7 @@ one_fate f = grind arith
 
 pub all_fates : (ms : List Move) → length ms ≡ count_by is_applied ms + count_by is_released ms + count_by is_dropped ms + count_by is_left ms
 all_fates [] = refl
-all_fates (m ∷ ms) =
-    omega (arith, all_fates ms, more is_applied m ms, more is_released m ms, more is_dropped m ms, more is_left m ms, one_fate m.fate)
+all_fates (m ∷ ms) = omega (arith, all_fates ms, more is_applied m ms, more is_released m ms, more is_dropped m ms, more is_left m ms, one_fate m.fate)
 
 -- ---- and was asked for by one student
 

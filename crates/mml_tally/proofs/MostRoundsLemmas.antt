@@ -3,15 +3,10 @@ use Rattle.std.proofs.Common.{◌≡◌, ℕ, zero, suc, ◌+◌, ◌≤◌, Boo
 use Rattle.std.proofs.lemmas.Bool.{or_right, eq-eqb, not-true}
 use Rattle.mml_rules.specs.Matching.{IsStable}
 use Rattle.mml_lab.specs.Rosters.{RosterValue}
-use Rattle.mml_board.specs.declared.event.Event.{Event}
-use Rattle.mml_board.specs.World.{World, size, configuration}
-use Rattle.mml_board.specs.Events.{after}
-use Rattle.mml_board.specs.Runs.{world_of}
+use Rattle.mml_board.specs.{declared.event.Event.Event, World.World, World.size, World.configuration, Events.after, Runs.world_of}
 use Rattle.mml_board.proofs.RunsLemmas.{world_of-append}
 use Rattle.mml_convergence.specs.Rounds.{is_served, IsRound, Rounds}
-use Rattle.mml_convergence.proofs.SumsLemmas.{count_none}
-use Rattle.mml_convergence.proofs.RestLemmas.{same_size}
-use Rattle.mml_convergence.proofs.ServedLemmas.{IsRun, run_parts, stable_end}
+use Rattle.mml_convergence.proofs.{SumsLemmas.count_none, RestLemmas.same_size, ServedLemmas.IsRun, ServedLemmas.run_parts, ServedLemmas.stable_end}
 use Rattle.mml_tally.specs.Rounds.{is_round, rounds_from, rounds_in}
 use Rattle.mml_tally.proofs.RoundsLemmas.{round_is}
 

@@ -1,14 +1,10 @@
 -- Each close, fault, link and cut makes the next configuration, and nothing else does.
-use Rattle.std.proofs.Common.{◌≡◌, ℕ, ◌+◌, List, [], ◌∷◌, arith}
-use Rattle.std.specs.Prelude.{count_by}
-use Rattle.mml_board.specs.declared.event.Event.{Event}
-use Rattle.mml_board.specs.declared.event.Event.TheVariants as event
-use Rattle.mml_board.specs.World.{World}
-use Rattle.mml_board.specs.Events.{after}
-use Rattle.mml_board.specs.Runs.{world_of}
+use Rattle.std.{proofs.Common.◌≡◌, proofs.Common.ℕ, proofs.Common.◌+◌, proofs.Common.List, proofs.Common.[], proofs.Common.◌∷◌, proofs.Common.arith, specs.Prelude.count_by}
+use Rattle.mml_board.specs.{declared.event.Event.Event, World.World, Events.after, Runs.world_of}
 use Rattle.mml_convergence.specs.Moves.{is_close}
 use Rattle.mml_tally.specs.Runs.{is_fault, is_link, is_cut}
 use Rattle.mml_tally.proofs.CountsLemmas.{one, more}
+use Rattle.mml_board.specs.declared.event.Event.TheVariants as event
 
 -- the closes, faults, links and cuts together
 abbrev pub changes : List Event → ℕ
@@ -20,12 +16,9 @@ one_more e es = omega (arith, more is_close e es, more is_fault e es, more is_li
 
 pub numbers_are : (w : World) (es : List Event) → (world_of w es).number ≡ w.number + changes es
 numbers_are w [] = omega arith
-numbers_are w (event.Grant s i rule ∷ es) =
-    omega (arith, numbers_are (after w (event.Grant s i rule)) es, one_more (event.Grant s i rule) es)
-numbers_are w (event.Release i ∷ es) =
-    omega (arith, numbers_are (after w (event.Release i)) es, one_more (event.Release i) es)
+numbers_are w (event.Grant s i rule ∷ es) = omega (arith, numbers_are (after w (event.Grant s i rule)) es, one_more (event.Grant s i rule) es)
+numbers_are w (event.Release i ∷ es) = omega (arith, numbers_are (after w (event.Release i)) es, one_more (event.Release i) es)
 numbers_are w (event.Close ∷ es) = let rest = numbers_are (after w event.Close) es in let here = one_more event.Close es in omega (arith, rest, here)
-numbers_are w (event.Fault i registers ∷ es) =
-    omega (arith, numbers_are (after w (event.Fault i registers)) es, one_more (event.Fault i registers) es)
+numbers_are w (event.Fault i registers ∷ es) = omega (arith, numbers_are (after w (event.Fault i registers)) es, one_more (event.Fault i registers) es)
 numbers_are w (event.Link a b ∷ es) = omega (arith, numbers_are (after w (event.Link a b)) es, one_more (event.Link a b) es)
 numbers_are w (event.Cut a b ∷ es) = omega (arith, numbers_are (after w (event.Cut a b)) es, one_more (event.Cut a b) es)

@@ -1,12 +1,8 @@
 -- A text of refusals with one line more.
-use Rattle.std.proofs.Common.{◌≡◌, ℕ, ◌+◌, add-one, List, ◌++◌, append_assoc, arith}
-use Rattle.std.proofs.lemmas.Bool.Decides.{nat_tests}
+use Rattle.std.proofs.{Common.◌≡◌, Common.ℕ, Common.◌+◌, Common.add-one, Common.List, Common.◌++◌, Common.append_assoc, Common.arith, lemmas.Bool.Decides.nat_tests}
+use Rattle.mml_lab.specs.{Labs.LabValue, Rosters.RosterValue, Rosters.name_of}
+use Rattle.mml_tally.specs.{declared.ask.Ask.Ask, declared.refusals.Refusals.Refusals, Refusals.refusals_of, Refusals.refused_line, Refusals.refused_text}
 use Rattle.mml_lab.specs.declared.who.Who.TheVariants as who
-use Rattle.mml_lab.specs.Labs.{LabValue}
-use Rattle.mml_lab.specs.Rosters.{RosterValue, name_of}
-use Rattle.mml_tally.specs.declared.ask.Ask.{Ask}
-use Rattle.mml_tally.specs.declared.refusals.Refusals.{Refusals}
-use Rattle.mml_tally.specs.Refusals.{refusals_of, refused_line, refused_text}
 
 pub next_refused : (lab : LabValue) (asks : List Ask) (now before first : List ℕ) (r : RosterValue) (s place : ℕ) (name : List ℕ) (refused : Refusals)
     → before ≡ first ++ refused_text lab asks place → now ≡ before ++ refused_line name refused → r ≡ lab.roster → s ≡ place

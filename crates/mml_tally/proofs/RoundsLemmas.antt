@@ -1,28 +1,19 @@
 -- The rounds since the last fault, link or cut are rounds of a run of grants, releases and closes, and so are within
 -- their bound.
-use Rattle.std.proofs.Common.{◌≡◌, ℕ, zero, suc, ◌+◌, ◌≤◌, ◌⊎◌, inl, inr, Bool, true, false, not, cond, List, [], ◌∷◌, ◌++◌, take, drop, refl, sym, ap, ◌∙◌, subst, arith, append_assoc, take-append-drop}
-use Rattle.std.specs.List.{list_all}
-use Rattle.std.proofs.lemmas.Bool.{and_parts, eqb-true, both_ways, false_from_ne_true, false≢true}
+use Rattle.std.proofs.Common.{◌≡◌, ℕ, zero, suc, ◌+◌, ◌≤◌, ◌⊎◌, inl, inr, Bool, true, false, not, cond, List, [], ◌∷◌, ◌++◌, take, drop, refl, sym, ap, ◌∙◌, subst, arith, append_assoc}
+use Rattle.std.proofs.Common.{take-append-drop}
+use Rattle.std.{specs.List.list_all, proofs.lemmas.Bool.and_parts, proofs.lemmas.Bool.eqb-true, proofs.lemmas.Bool.both_ways, proofs.lemmas.Bool.false_from_ne_true, proofs.lemmas.Bool.false≢true}
 use Rattle.mml_ids.specs.Search.{count_below}
 use Rattle.mml_rules.specs.Matching.{IsStable}
-use Rattle.mml_lab.specs.Labs.{LabValue, IsLab}
-use Rattle.mml_lab.specs.Rosters.{RosterValue}
-use Rattle.mml_board.specs.declared.event.Event.{Event}
-use Rattle.mml_board.specs.declared.event.Event.TheVariants as event
-use Rattle.mml_board.specs.World.{World, IsWorld, size, configuration, opening_of}
-use Rattle.mml_board.specs.Events.{is_legal}
-use Rattle.mml_board.specs.Runs.{is_legal_list, world_of}
+use Rattle.mml_lab.specs.{Labs.LabValue, Labs.IsLab, Rosters.RosterValue}
+use Rattle.mml_board.specs.{declared.event.Event.Event, World.World, World.IsWorld, World.size, World.configuration, World.opening_of, Events.is_legal, Runs.is_legal_list, Runs.world_of}
 use Rattle.mml_board.proofs.RunsLemmas.{world_of-append, legal-append, list-world}
-use Rattle.mml_convergence.specs.Runs.{is_of_step}
-use Rattle.mml_convergence.specs.Rounds.{is_served, IsRound, Rounds, rounds_for}
-use Rattle.mml_convergence.proofs.SumsLemmas.{count_some}
-use Rattle.mml_convergence.proofs.RestLemmas.{same_size, stable_final}
+use Rattle.mml_convergence.specs.{Runs.is_of_step, Rounds.is_served, Rounds.IsRound, Rounds.Rounds, Rounds.rounds_for}
+use Rattle.mml_convergence.proofs.{SumsLemmas.count_some, RestLemmas.same_size, RestLemmas.stable_final, RoundsLemmas.rounds_end, RoundsLemmas.rounds_fewer}
 use Rattle.mml_convergence.proofs.ServedLemmas.{IsRun, run_parts, first_legal, first_of_step}
-use Rattle.mml_convergence.proofs.RoundsLemmas.{rounds_end, rounds_fewer}
-use Rattle.mml_tally.specs.Runs.{last_change}
-use Rattle.mml_tally.specs.Bounds.{bounds_of}
-use Rattle.mml_tally.specs.Rounds.{is_round, rounds_from, rounds_in, rounds_since}
+use Rattle.mml_tally.specs.{Runs.last_change, Bounds.bounds_of, Rounds.is_round, Rounds.rounds_from, Rounds.rounds_in, Rounds.rounds_since}
 use Rattle.mml_tally.proofs.StudentsLemmas.{opening-world}
+use Rattle.mml_board.specs.declared.event.Event.TheVariants as event
 
 -- ---- what is counted are rounds
 
@@ -37,8 +28,7 @@ round_is w es h i lt =
     let some = count_some (size w) i (λ j. not (is_served j w es)) lt waits in absurd (omega (arith, some, none))))
 
 one_round : (k : ℕ) (w : World) (fs gs es : List Event) → es ≡ fs ++ gs → IsRound w fs → Rounds k (world_of w fs) gs → Rounds (1 + k) w es
-one_round k w fs gs es same round rest =
-    let more : suc k ≡ 1 + k = omega arith in subst (λ n. Rounds n w es) more (fs, gs, same, round, rest)
+one_round k w fs gs es same round rest = let more : suc k ≡ 1 + k = omega arith in subst (λ n. Rounds n w es) more (fs, gs, same, round, rest)
 
 pub rounds_there : (w : World) (fs es : List Event) → Rounds (rounds_from w fs es) w (fs ++ es)
 rounds_there w fs [] = tt
@@ -139,11 +129,7 @@ module _ (r : RosterValue) (w : World) (es : List Event) (known : IsWorld w) (le
       (sym (legal-append r w (take last es) (drop last es)) ∙ ap (is_legal_list r w) (take-append-drop last es) ∙ legal)
 
   run_since : IsRun r from (drop last es)
-  run_since = record {
-    world = list-world r w (take last es) known parts.0;
-    legal = parts.1;
-    of_step = steps_after es;
-  }
+  run_since = record { world = list-world r w (take last es) known parts.0; legal = parts.1; of_step = steps_after es }
 
   end : world_of from (drop last es) ≡ world_of w es
   end = sym (world_of-append w (take last es) (drop last es)) ∙ ap (world_of w) (take-append-drop last es)

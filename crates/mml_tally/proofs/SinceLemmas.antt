@@ -1,45 +1,21 @@
 -- The moves since the last fault, link or cut are those of a run of grants, releases and closes, and so are within its
 -- bound.
 use Rattle.std.proofs.Common.{◌≡◌, ℕ, ◌+◌, ◌*◌, ◌≤◌, Bool, true, false, cond, eqb, ltb, List, [], ◌∷◌, None, Some, is_some, refl, ap, sym, ◌∙◌, arith, inl, inr, min, ◌⊎◌, unwrap_or, subst}
-use Rattle.std.specs.Prelude.{count_by}
-use Rattle.std.specs.List.{list_all}
-use Rattle.std.proofs.lemmas.Bool.{and_parts, cases_Bool, eqb-true, eq-eqb, false≢true, false_from_ne_true}
-use Rattle.std.proofs.lemmas.Bool.Decides.{nat_tests}
-use Rattle.mml_rules.specs.declared.rule.Rule.{Rule}
-use Rattle.mml_rules.specs.Configuration.{Configuration, IsLawful}
-use Rattle.mml_rules.specs.Rules.{guard, is_privileged, step, AllHold, kind_of}
-use Rattle.mml_rules.specs.Matching.{IsStable}
+use Rattle.std.specs.{Prelude.count_by, List.list_all}
+use Rattle.std.proofs.lemmas.Bool.{and_parts, cases_Bool, eqb-true, eq-eqb, false≢true, false_from_ne_true, Decides.nat_tests}
+use Rattle.mml_rules.specs.{declared.rule.Rule.Rule, Configuration.Configuration, Configuration.IsLawful, Rules.guard, Rules.is_privileged, Rules.step, Rules.AllHold, Rules.kind_of, Matching.IsStable}
 use Rattle.mml_rules.proofs.MeaningLemmas.{privileged-means}
-use Rattle.mml_lab.specs.Labs.{LabValue, IsLab, link_count, links_below}
-use Rattle.mml_lab.specs.Rosters.{RosterValue}
-use Rattle.mml_board.specs.declared.event.Event.{Event}
-use Rattle.mml_board.specs.declared.event.Event.TheVariants as event
-use Rattle.mml_board.specs.World.{World, IsWorld, size, configuration, opening_of}
-use Rattle.mml_board.specs.Events.{after, is_legal}
-use Rattle.mml_board.specs.Runs.{is_legal_list, world_of}
-use Rattle.mml_board.proofs.WorldLemmas.{after-world, length-moved_registers}
-use Rattle.mml_board.proofs.ClausesLemmas.{legal_possible}
-use Rattle.mml_board.proofs.RunsLemmas.{list-world}
-use Rattle.mml_convergence.specs.Runs.{is_of_step}
-use Rattle.mml_convergence.specs.Moves.{applied_by, applied_over}
-use Rattle.mml_convergence.specs.Potential.{whole_potential}
+use Rattle.mml_lab.specs.{Labs.LabValue, Labs.IsLab, Labs.link_count, Labs.links_below, Rosters.RosterValue}
+use Rattle.mml_board.specs.{declared.event.Event.Event, World.World, World.IsWorld, World.size, World.configuration, World.opening_of, Events.after, Events.is_legal, Runs.is_legal_list, Runs.world_of}
+use Rattle.mml_board.proofs.{WorldLemmas.after-world, WorldLemmas.length-moved_registers, ClausesLemmas.legal_possible, RunsLemmas.list-world}
+use Rattle.mml_convergence.specs.{Runs.is_of_step, Moves.applied_by, Moves.applied_over, Potential.whole_potential, Courtships.most_courtships, Courtships.courting_potential, Most.most_moves}
 use Rattle.mml_convergence.proofs.AppliedLemmas.{Falls, close_paid, network_most}
-use Rattle.mml_convergence.proofs.WholePotentialLemmas.{whole_fell}
-use Rattle.mml_convergence.proofs.RestLemmas.{same_size}
-use Rattle.mml_convergence.proofs.SumsLemmas.{count_some}
-use Rattle.mml_convergence.specs.Courtships.{most_courtships, courting_potential}
-use Rattle.mml_convergence.specs.Most.{most_moves}
-use Rattle.mml_convergence.proofs.WholeLemmas.{courting_fell, courting_most}
-use Rattle.mml_tally.specs.Moves.{fate_of, moves_from}
-use Rattle.mml_tally.specs.declared.fate.Fate.{Fate}
-use Rattle.mml_tally.specs.declared.fate.Fate.TheVariants as fate
-use Rattle.mml_tally.specs.declared.granted_move.Move.{Move}
-use Rattle.mml_tally.specs.Marks.{is_applied, is_fate_applied}
+use Rattle.mml_convergence.proofs.{WholePotentialLemmas.whole_fell, RestLemmas.same_size, SumsLemmas.count_some, WholeLemmas.courting_fell, WholeLemmas.courting_most}
+use Rattle.mml_tally.specs.{Moves.fate_of, Moves.moves_from, declared.fate.Fate.Fate, declared.granted_move.Move.Move, Marks.is_applied, Marks.is_fate_applied, Bounds.bounds_of}
 use Rattle.mml_tally.specs.Runs.{last_change, is_fate_after, is_applied_after, run_of}
-use Rattle.mml_tally.specs.Bounds.{bounds_of}
-use Rattle.mml_tally.proofs.AppliedLemmas.{applied_is}
-use Rattle.mml_tally.proofs.CountsLemmas.{more, one}
-use Rattle.mml_tally.proofs.StudentsLemmas.{opening-world}
+use Rattle.mml_tally.proofs.{AppliedLemmas.applied_is, CountsLemmas.more, CountsLemmas.one, StudentsLemmas.opening-world}
+use Rattle.mml_board.specs.declared.event.Event.TheVariants as event
+use Rattle.mml_tally.specs.declared.fate.Fate.TheVariants as fate
 
 -- ---- the last fault, link or cut
 

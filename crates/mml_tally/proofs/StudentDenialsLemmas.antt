@@ -1,17 +1,13 @@
 -- What the clauses denied is the sum over their denials; and a text of denials with one line more.
 use Rattle.std.proofs.Common.{◌≡◌, ℕ, ◌+◌, add-one, Bool, true, false, cond, List, [], ◌∷◌, ◌++◌, append_assoc, Option, None, Some, refl, sym, ap, ◌∙◌, arith}
-use Rattle.std.specs.Prelude.{option_map}
-use Rattle.std.proofs.lemmas.Bool.Decides.{nat_tests}
-use Rattle.mml_lab.specs.declared.who.Who.TheVariants as who
-use Rattle.mml_lab.specs.Labs.{LabValue}
-use Rattle.mml_lab.specs.Rosters.{RosterValue, name_of}
-use Rattle.mml_tally.specs.declared.ask.Ask.{Ask}
-use Rattle.mml_tally.specs.declared.student_denials.StudentDenial.{StudentDenial}
-use Rattle.mml_tally.specs.declared.student_denials.StudentDenial.TheVariants as named
-use Rattle.mml_tally.specs.declared.student_denials.NamedDenials.{NamedDenials}
+use Rattle.std.{specs.Prelude.option_map, proofs.lemmas.Bool.Decides.nat_tests}
+use Rattle.mml_lab.specs.{Labs.LabValue, Rosters.RosterValue, Rosters.name_of}
+use Rattle.mml_tally.specs.declared.{ask.Ask.Ask, student_denials.StudentDenial.StudentDenial, student_denials.NamedDenials.NamedDenials}
 use Rattle.mml_tally.specs.Asks.{is_student, asks_by, is_clause, denials_in, denials_of}
 use Rattle.mml_tally.specs.StudentDenials.{clause_named, is_named, named_in, named_of, denials_line, denials_text, IsNamed, AreNamed, AreSums}
 use Rattle.mml_tally.proofs.CountsLemmas.{one, more}
+use Rattle.mml_lab.specs.declared.who.Who.TheVariants as who
+use Rattle.mml_tally.specs.declared.student_denials.StudentDenial.TheVariants as named
 
 -- ---- a line more
 

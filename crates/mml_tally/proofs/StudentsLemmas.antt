@@ -1,25 +1,14 @@
 -- Each asker in a legal list is a student of the lab, so all their marks together are the list's.
-use Rattle.std.proofs.Common.{◌≡◌, ℕ, ◌+◌, true, List, [], ◌∷◌, ◌∙◌, arith, length}
+use Rattle.std.proofs.{Common.◌≡◌, Common.ℕ, Common.◌+◌, Common.true, Common.List, Common.[], Common.◌∷◌, Common.◌∙◌, Common.arith, Common.length, lemmas.Bool.and_parts, lemmas.Bool.Decides.nat_tests}
 use Rattle.std.specs.Prelude.{count_by}
-use Rattle.std.proofs.lemmas.Bool.{and_parts}
-use Rattle.mml_lab.specs.Labs.{LabValue, IsLab}
-use Rattle.mml_lab.specs.Rosters.{RosterValue, IsRoster}
+use Rattle.mml_lab.specs.{Labs.LabValue, Labs.IsLab, Rosters.RosterValue, Rosters.IsRoster}
 use Rattle.mml_lab.proofs.RosterMeaningLemmas.{owner_there}
-use Rattle.mml_board.specs.declared.event.Event.{Event}
-use Rattle.mml_board.specs.declared.event.Event.TheVariants as event
-use Rattle.mml_board.specs.World.{World, IsWorld, size, opening_of}
-use Rattle.mml_board.specs.Events.{is_legal, after}
-use Rattle.mml_board.specs.Runs.{is_legal_list}
+use Rattle.mml_board.specs.{declared.event.Event.Event, World.World, World.IsWorld, World.size, World.opening_of, Events.is_legal, Events.after, Runs.is_legal_list}
 use Rattle.mml_board.proofs.{WorldLemmas.length-none, WorldLemmas.hold-none, ClausesLemmas.right_owner}
-use Rattle.mml_convergence.specs.Potential.{sum_below}
-use Rattle.mml_convergence.specs.Moves.{applied_over}
-use Rattle.mml_tally.specs.Moves.{moves_from, moves}
-use Rattle.mml_tally.specs.Marks.{is_applied, moves_by, marks_of}
-use Rattle.mml_tally.specs.Runs.{run_of}
-use Rattle.mml_tally.specs.Meaning.{total}
-use Rattle.mml_tally.proofs.AppliedLemmas.{nothing_pending, unchosen, applied_is}
-use Rattle.mml_tally.proofs.MarksLemmas.{AllOf, students_sum, total_applied}
-use Rattle.std.proofs.lemmas.Bool.Decides.{nat_tests}
+use Rattle.mml_convergence.specs.{Potential.sum_below, Moves.applied_over}
+use Rattle.mml_tally.specs.{Moves.moves_from, Moves.moves, Marks.is_applied, Marks.moves_by, Marks.marks_of, Runs.run_of, Meaning.total}
+use Rattle.mml_tally.proofs.{AppliedLemmas.nothing_pending, AppliedLemmas.unchosen, AppliedLemmas.applied_is, MarksLemmas.AllOf, MarksLemmas.students_sum, MarksLemmas.total_applied}
+use Rattle.mml_board.specs.declared.event.Event.TheVariants as event
 
 askers_there : (r : RosterValue) (w : World) (q : ℕ) (es : List Event) → IsRoster r → is_legal_list r w es ≡ true → AllOf (length r.students) (moves_from q es)
 askers_there r w q [] known legal = tt

@@ -1,17 +1,11 @@
 -- A text with one line more.
 use Rattle.std.proofs.Common.{◌≡◌, ℕ, ◌+◌, add-one, List, ◌++◌, append_assoc, ap, ◌∙◌, sym, refl, arith}
-use Rattle.mml_lab.specs.declared.who.Who.TheVariants as who
-use Rattle.mml_lab.specs.Labs.{LabValue}
-use Rattle.mml_lab.specs.Rosters.{RosterValue, name_of}
+use Rattle.mml_lab.specs.{Labs.LabValue, Rosters.RosterValue, Rosters.name_of}
 use Rattle.mml_board.specs.declared.event.Event.{Event}
-use Rattle.mml_tally.specs.declared.marks.Marks.{Marks}
-use Rattle.mml_tally.specs.Marks.{marks_of}
-use Rattle.mml_tally.specs.declared.ask.Ask.{Ask}
-use Rattle.mml_tally.specs.declared.ask.Denials.{Denials}
-use Rattle.mml_tally.specs.Asks.{denials_of}
-use Rattle.mml_tally.specs.Texts.{student_line, students_text}
-use Rattle.mml_tally.specs.RecordTexts.{denied_line, denied_text}
+use Rattle.mml_tally.specs.declared.{marks.Marks.Marks, ask.Ask.Ask, ask.Denials.Denials}
+use Rattle.mml_tally.specs.{Marks.marks_of, Asks.denials_of, Texts.student_line, Texts.students_text, RecordTexts.denied_line, RecordTexts.denied_text}
 use Rattle.std.proofs.lemmas.Bool.Decides.{nat_tests}
+use Rattle.mml_lab.specs.declared.who.Who.TheVariants as who
 
 -- the line of a student whose name and marks are known
 line_of : (r r' : RosterValue) (s s' : ℕ) (name : List ℕ) (marks : Marks) (es : List Event) → r ≡ r' → s ≡ s' → name ≡ name_of r (who.Student s)

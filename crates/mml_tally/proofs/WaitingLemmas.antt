@@ -1,25 +1,15 @@
 -- The nodes that wait are those that have had no turn in the round so far.
 use Rattle.std.proofs.Common.{◌≡◌, ◌≢◌, ℕ, suc, ◌+◌, Bool, true, false, not, ◌&&◌, ◌||◌, cond, eqb, ltb, List, [], ◌∷◌, ◌++◌, refl, sym, ap, ◌∙◌, arith}
-use Rattle.std.proofs.lemmas.Bool.{eq-eqb, ne_eqb}
-use Rattle.std.specs.Ordering.{nat_cmp}
-use Rattle.std.specs.Cmp.{nat_cmp_total}
-use Rattle.std.specs.FinSet as sets
-use Rattle.std.specs.FinSet.{FinSet}
-use Rattle.mml_ids.specs.Sets.{those_below}
-use Rattle.mml_ids.specs.inside.WordsLemmas.{has_empty, same_ranks, has-those_below}
+use Rattle.std.{proofs.lemmas.Bool.eq-eqb, proofs.lemmas.Bool.ne_eqb, specs.Ordering.nat_cmp, specs.Cmp.nat_cmp_total, specs.FinSet.FinSet}
+use Rattle.mml_ids.specs.{Sets.those_below, inside.WordsLemmas.has_empty, inside.WordsLemmas.same_ranks, inside.WordsLemmas.has-those_below}
 use Rattle.mml_rules.specs.Rules.{is_privileged}
-use Rattle.mml_board.specs.declared.event.Event.{Event}
-use Rattle.mml_board.specs.World.{World, size, configuration}
-use Rattle.mml_board.specs.Events.{is_chosen, chosen_nodes, after}
-use Rattle.mml_board.specs.Runs.{world_of}
-use Rattle.mml_board.proofs.KeptLemmas.{len-those_below}
-use Rattle.mml_board.proofs.RunsLemmas.{world_of-append}
-use Rattle.mml_board.proofs.WorldLemmas.{size-after}
-use Rattle.mml_convergence.specs.Moves.{is_close}
-use Rattle.mml_convergence.specs.Rounds.{is_served}
+use Rattle.mml_board.specs.{declared.event.Event.Event, World.World, World.size, World.configuration, Events.is_chosen, Events.chosen_nodes, Events.after, Runs.world_of}
+use Rattle.mml_board.proofs.{KeptLemmas.len-those_below, RunsLemmas.world_of-append, WorldLemmas.size-after}
+use Rattle.mml_convergence.specs.{Moves.is_close, Rounds.is_served}
 use Rattle.mml_convergence.proofs.RestLemmas.{same_size}
 use Rattle.mml_tally.specs.Rounds.{is_round, rounds_from, rounds_in}
 use Rattle.mml_tally.specs.inside.Waiting.{privileged_nodes, moved_nodes, still_waiting, count_rounds}
+use Rattle.std.specs.FinSet as sets
 
 -- ---- one node
 
@@ -107,8 +97,7 @@ waiting_more w fs e = same_ranks _ _ each
         has-still v (waiting w fs) e q
         ∙ (λ k. (has-those_below (size w) (λ i. not (is_served i w fs)) q k
         && not ((has-moved v e q ∙ ap (λ n. is_close e && (ltb q n && is_chosen v q)) here) k))
-        && (has-privileged (after v e) q ∙ ap (λ n. ltb q n && is_privileged (configuration (after v e)) q) later) k)
-        )
+        && (has-privileged (after v e) q ∙ ap (λ n. ltb q n && is_privileged (configuration (after v e)) q) later) k))
 
 -- ---- the privileged nodes, one after another
 

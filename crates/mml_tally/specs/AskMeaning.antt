@@ -1,8 +1,7 @@
 -- The lines that were asked and denied, as facts.
 use Rattle.std.specs.Prelude.{ℕ, ◌+◌, ◌<◌, ◌≡◌, ◌==◌, ◌||◌, Bool, true, List, [], ◌∷◌, Option, None, Some, is_some, is_none, option_map}
 use Rattle.std.specs.List.{filter}
-use Rattle.mml_tally.specs.declared.ask.Ask.{Ask}
-use Rattle.mml_tally.specs.declared.ask.Denials.{Denials}
+use Rattle.mml_tally.specs.declared.ask.{Ask.Ask, Denials.Denials}
 
 -- the lines that came while the teacher was known, or nobody
 abbrev pub asks_of_others : List Ask → List Ask

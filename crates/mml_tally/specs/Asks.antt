@@ -1,14 +1,9 @@
 -- The requests of a student's lines, whatever the replies were, and the clauses that denied them.
-use Rattle.std.specs.Prelude.{ℕ, ◌==◌, ◌&&◌, Bool, true, false, List, Option, None, Some, count_by}
-use Rattle.std.specs.List.{filter}
+use Rattle.std.specs.{Prelude.ℕ, Prelude.◌==◌, Prelude.◌&&◌, Prelude.Bool, Prelude.true, Prelude.false, Prelude.List, Prelude.Option, Prelude.None, Prelude.Some, Prelude.count_by, List.filter}
 use Rattle.mml_rules.specs.declared.rule.Kind.{Kind}
+use Rattle.mml_tally.specs.{declared.ask.Ask.Ask, declared.ask.Line.Line, declared.ask.Denials.Denials, declared.marks.ByRule.ByRule, Marks.is_kind}
 use Rattle.mml_rules.specs.declared.rule.Kind.TheVariants as kind
-use Rattle.mml_tally.specs.declared.ask.Ask.{Ask}
-use Rattle.mml_tally.specs.declared.ask.Line.{Line}
 use Rattle.mml_tally.specs.declared.ask.Line.TheVariants as line
-use Rattle.mml_tally.specs.declared.ask.Denials.{Denials}
-use Rattle.mml_tally.specs.declared.marks.ByRule.{ByRule}
-use Rattle.mml_tally.specs.Marks.{is_kind}
 
 -- s is the student who was known, if one was
 abbrev pub is_student : ℕ → Option ℕ → Bool

@@ -2,8 +2,7 @@
 use Rattle.std.specs.Prelude.{ℕ}
 use Rattle.mml_lab.specs.Labs.{link_count}
 use Rattle.mml_board.specs.World.{World, size}
-use Rattle.mml_convergence.specs.Rounds.{rounds_for}
-use Rattle.mml_convergence.specs.Most.{most_moves, events_to_rest}
+use Rattle.mml_convergence.specs.{Rounds.rounds_for, Most.most_moves, Most.events_to_rest}
 use Rattle.mml_tally.specs.declared.bounds.Bounds.{Bounds}
 
 -- the most that a run takes on a number of nodes with a number of links

@@ -1,13 +1,11 @@
 -- The participants whose lines are all recorded.
 use Rattle.std.specs.Prelude.{◌<◌, ℕ, Bool, ◌&&◌, not, List, [], ◌++◌, length, codes, if◌then◌else◌}
-use Rattle.std.specs.FinSet as set
 use Rattle.mml_ids.specs.declared.TheConstants.{MAX_NODES}
-use Rattle.mml_lab.specs.declared.who.Who.{Who}
-use Rattle.mml_lab.specs.declared.who.Who.TheVariants as who
-use Rattle.mml_lab.specs.Labs.{LabValue}
-use Rattle.mml_lab.specs.Rosters.{RosterValue, name_of}
+use Rattle.mml_lab.specs.{declared.who.Who.Who, Labs.LabValue, Rosters.RosterValue, Rosters.name_of}
 use Rattle.mml_stable.specs.Reports.{each_below}
 use Rattle.mml_tally.specs.declared.record_text.Findings.{Findings}
+use Rattle.std.specs.FinSet as set
+use Rattle.mml_lab.specs.declared.who.Who.TheVariants as who
 
 -- the teacher, or a student whose index is below the size of a set of ranks
 abbrev pub IsCounted : Who → Type 0

@@ -3,16 +3,11 @@ use Rattle.std.specs.Prelude.{ℕ, ◌+◌, ◌-◌, ◌==◌, Bool, true, false
 use Rattle.std.specs.List.{filter, list_any, slice_get}
 use Rattle.mml_ids.specs.Search.{count_below}
 use Rattle.mml_rules.specs.declared.rule.Kind.{Kind}
-use Rattle.mml_rules.specs.declared.rule.Kind.TheVariants as kind
 use Rattle.mml_lab.specs.Rosters.{RosterValue}
 use Rattle.mml_board.specs.declared.event.Event.{Event}
-use Rattle.mml_tally.specs.declared.fate.Fate.{Fate}
+use Rattle.mml_tally.specs.{declared.fate.Fate.Fate, declared.granted_move.Move.Move, declared.marks.ByRule.ByRule, declared.marks.Marks.Marks, Moves.moves, Owners.is_shared}
+use Rattle.mml_rules.specs.declared.rule.Kind.TheVariants as kind
 use Rattle.mml_tally.specs.declared.fate.Fate.TheVariants as fate
-use Rattle.mml_tally.specs.declared.granted_move.Move.{Move}
-use Rattle.mml_tally.specs.declared.marks.ByRule.{ByRule}
-use Rattle.mml_tally.specs.declared.marks.Marks.{Marks}
-use Rattle.mml_tally.specs.Moves.{moves}
-use Rattle.mml_tally.specs.Owners.{is_shared}
 
 -- two kinds of rules are the same
 abbrev pub is_kind : Kind → Kind → Bool

@@ -1,12 +1,9 @@
 -- The tally, stated as facts.
-use Rattle.std.specs.Prelude.{◌≡◌, ℕ, ◌+◌, ◌==◌, Bool, true, false, not, List, ◌∷◌, ◌++◌, length}
-use Rattle.std.specs.List.{list_all}
+use Rattle.std.specs.{Prelude.◌≡◌, Prelude.ℕ, Prelude.◌+◌, Prelude.◌==◌, Prelude.Bool, Prelude.true, Prelude.false, Prelude.not, Prelude.List, Prelude.◌∷◌, Prelude.◌++◌, Prelude.length, List.list_all}
 use Rattle.mml_board.specs.declared.event.Event.{Event}
+use Rattle.mml_tally.specs.declared.{fate.Fate.Fate, granted_move.Move.Move, marks.ByRule.ByRule}
 use Rattle.mml_board.specs.declared.event.Event.TheVariants as event
-use Rattle.mml_tally.specs.declared.fate.Fate.{Fate}
 use Rattle.mml_tally.specs.declared.fate.Fate.TheVariants as fate
-use Rattle.mml_tally.specs.declared.granted_move.Move.{Move}
-use Rattle.mml_tally.specs.declared.marks.ByRule.{ByRule}
 
 -- the event doesn't end the move that is chosen at i: it is no release of i, no close, fault, link or cut
 abbrev pub leaves : ℕ → Event → Bool

@@ -2,10 +2,9 @@
 use Rattle.std.specs.Prelude.{ℕ, ◌+◌, ◌==◌, if◌then◌else◌, List, [], ◌∷◌, Option, None, Some, unwrap_or}
 use Rattle.mml_rules.specs.Rules.{kind_of}
 use Rattle.mml_board.specs.declared.event.Event.{Event}
+use Rattle.mml_tally.specs.declared.{fate.Fate.Fate, granted_move.Move.Move}
 use Rattle.mml_board.specs.declared.event.Event.TheVariants as event
-use Rattle.mml_tally.specs.declared.fate.Fate.{Fate}
 use Rattle.mml_tally.specs.declared.fate.Fate.TheVariants as fate
-use Rattle.mml_tally.specs.declared.granted_move.Move.{Move}
 
 -- what the event at place q does to the move that is chosen at i: a close applies the move, a release of i releases it,
 -- and a fault, a link or a cut drops it; none if the move stays chosen

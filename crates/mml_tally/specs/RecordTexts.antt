@@ -1,20 +1,12 @@
 -- The lines of a run's record, between the nodes and the end of the tally.
 use Rattle.std.specs.Prelude.{ℕ, Bool, true, false, List, [], ◌∷◌, ◌++◌, length, codes, slice_index, if◌then◌else◌}
-use Rattle.mml_lab.specs.declared.who.Who.TheVariants as who
-use Rattle.mml_lab.specs.Labs.{LabValue}
-use Rattle.mml_lab.specs.Rosters.{RosterValue, name_of}
-use Rattle.mml_board.specs.declared.event.Event.{Event}
-use Rattle.mml_board.specs.World.{World}
+use Rattle.mml_lab.specs.{Labs.LabValue, Rosters.RosterValue, Rosters.name_of}
+use Rattle.mml_board.specs.{declared.event.Event.Event, World.World}
 use Rattle.mml_stable.specs.Reports.{each_below}
-use Rattle.mml_tally.specs.declared.ask.Ask.{Ask}
-use Rattle.mml_tally.specs.declared.ask.Denials.{Denials}
-use Rattle.mml_tally.specs.declared.record_text.Findings.{Findings}
-use Rattle.mml_tally.specs.Lacking.{recorded_line}
-use Rattle.mml_tally.specs.Owners.{owners_in_order, is_shared}
-use Rattle.mml_tally.specs.Asks.{denials_of, moves_asked_by}
-use Rattle.mml_tally.specs.Refusals.{refused_text}
-use Rattle.mml_tally.specs.StudentDenials.{denials_text}
+use Rattle.mml_tally.specs.declared.{ask.Ask.Ask, ask.Denials.Denials, record_text.Findings.Findings}
+use Rattle.mml_tally.specs.{Lacking.recorded_line, Owners.owners_in_order, Owners.is_shared, Asks.denials_of, Asks.moves_asked_by, Refusals.refused_text, StudentDenials.denials_text}
 use Rattle.mml_tally.specs.Texts.{numbers_text, owner_text, students_text, nodes_text, ends_text}
+use Rattle.mml_lab.specs.declared.who.Who.TheVariants as who
 
 -- the line of a student: how many lines each of the first four clauses denied, and how many were malformed
 abbrev pub denied_line : List ℕ → Denials → List ℕ

@@ -1,15 +1,11 @@
 -- The requests of a student that were refused, by reason, and their line in the tally.
 use Rattle.std.specs.Prelude.{ℕ, Bool, true, false, List, [], ◌∷◌, ◌++◌, codes, Option, Some, count_by}
-use Rattle.mml_lab.specs.declared.who.Who.TheVariants as who
-use Rattle.mml_lab.specs.Labs.{LabValue}
-use Rattle.mml_lab.specs.Rosters.{name_of}
+use Rattle.mml_lab.specs.{Labs.LabValue, Rosters.name_of}
 use Rattle.mml_policy.specs.declared.refusal.Refusal.{Refusal}
-use Rattle.mml_policy.specs.declared.refusal.Refusal.TheVariants as refusal
 use Rattle.mml_stable.specs.Reports.{each_below}
-use Rattle.mml_tally.specs.declared.ask.Ask.{Ask}
-use Rattle.mml_tally.specs.declared.refusals.Refusals.{Refusals}
-use Rattle.mml_tally.specs.Asks.{asks_by}
-use Rattle.mml_tally.specs.Texts.{numbers_text}
+use Rattle.mml_tally.specs.{declared.ask.Ask.Ask, declared.refusals.Refusals.Refusals, Asks.asks_by, Texts.numbers_text}
+use Rattle.mml_lab.specs.declared.who.Who.TheVariants as who
+use Rattle.mml_policy.specs.declared.refusal.Refusal.TheVariants as refusal
 
 -- a line was refused, and for this reason
 abbrev pub is_refused : Refusal → Option Refusal → Bool

@@ -2,12 +2,9 @@
 use Rattle.std.specs.Prelude.{ℕ, ◌+◌, ◌==◌, Bool, not, if◌then◌else◌, List, [], ◌∷◌, ◌++◌, take, drop, codes}
 use Rattle.mml_ids.specs.Search.{count_below}
 use Rattle.mml_lab.specs.Labs.{LabValue}
-use Rattle.mml_board.specs.declared.event.Event.{Event}
-use Rattle.mml_board.specs.World.{World, size, opening_of}
-use Rattle.mml_board.specs.Runs.{world_of}
+use Rattle.mml_board.specs.{declared.event.Event.Event, World.World, World.size, World.opening_of, Runs.world_of}
 use Rattle.mml_convergence.specs.Rounds.{is_served}
-use Rattle.mml_tally.specs.Runs.{last_change}
-use Rattle.mml_tally.specs.Texts.{numbers_text}
+use Rattle.mml_tally.specs.{Runs.last_change, Texts.numbers_text}
 
 -- in these events each node has its turn: there are no nodes without one
 abbrev pub is_round : World → List Event → Bool

@@ -1,15 +1,10 @@
 -- The counts of a run, by its list of events.
 use Rattle.std.specs.Prelude.{ℕ, ◌+◌, Bool, true, false, not, nat_lt, if◌then◌else◌, List, [], ◌∷◌, drop, count_by}
 use Rattle.mml_board.specs.declared.event.Event.{Event}
+use Rattle.mml_convergence.specs.{Runs.is_of_step, Moves.is_close}
+use Rattle.mml_tally.specs.{declared.fate.Fate.Fate, declared.granted_move.Move.Move, declared.run.Run.Run, Moves.moves, Marks.is_applied}
 use Rattle.mml_board.specs.declared.event.Event.TheVariants as event
-use Rattle.mml_convergence.specs.Runs.{is_of_step}
-use Rattle.mml_convergence.specs.Moves.{is_close}
-use Rattle.mml_tally.specs.declared.fate.Fate.{Fate}
 use Rattle.mml_tally.specs.declared.fate.Fate.TheVariants as fate
-use Rattle.mml_tally.specs.declared.granted_move.Move.{Move}
-use Rattle.mml_tally.specs.declared.run.Run.{Run}
-use Rattle.mml_tally.specs.Moves.{moves}
-use Rattle.mml_tally.specs.Marks.{is_applied}
 
 -- the event is a fault
 abbrev pub is_fault : Event → Bool

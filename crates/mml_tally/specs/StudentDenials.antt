@@ -1,18 +1,13 @@
 -- The denials of a student's lines by name, beside those by clause, and their line in the tally.
 use Rattle.std.specs.Prelude.{◌≡◌, ◌+◌, ℕ, Bool, true, false, List, [], ◌∷◌, ◌++◌, codes, Option, None, Some, option_map, count_by}
-use Rattle.mml_lab.specs.declared.who.Who.TheVariants as who
-use Rattle.mml_lab.specs.Labs.{LabValue}
-use Rattle.mml_lab.specs.Rosters.{name_of}
+use Rattle.mml_lab.specs.{Labs.LabValue, Rosters.name_of}
 use Rattle.mml_board.specs.declared.denial.Denial.{Denial}
-use Rattle.mml_board.specs.declared.denial.Denial.TheVariants as denial
 use Rattle.mml_stable.specs.Reports.{each_below}
-use Rattle.mml_tally.specs.declared.ask.Ask.{Ask}
-use Rattle.mml_tally.specs.declared.ask.Denials.{Denials}
-use Rattle.mml_tally.specs.declared.student_denials.StudentDenial.{StudentDenial}
+use Rattle.mml_tally.specs.declared.{ask.Ask.Ask, ask.Denials.Denials, student_denials.StudentDenial.StudentDenial, student_denials.NamedDenials.NamedDenials}
+use Rattle.mml_tally.specs.{Asks.asks_by, Texts.numbers_text}
+use Rattle.mml_lab.specs.declared.who.Who.TheVariants as who
+use Rattle.mml_board.specs.declared.denial.Denial.TheVariants as denial
 use Rattle.mml_tally.specs.declared.student_denials.StudentDenial.TheVariants as named
-use Rattle.mml_tally.specs.declared.student_denials.NamedDenials.{NamedDenials}
-use Rattle.mml_tally.specs.Asks.{asks_by}
-use Rattle.mml_tally.specs.Texts.{numbers_text}
 
 -- the denial, if a student who is known can get it
 abbrev pub student_denial : Denial → Option StudentDenial

@@ -1,21 +1,11 @@
 -- The tally of a run, in lines of words with one space between.
 use Rattle.std.specs.Prelude.{ℕ, ◌==◌, Bool, true, false, List, [], ◌∷◌, ◌++◌, length, codes, decimal, slice_index, Option, None, Some, if◌then◌else◌}
-use Rattle.mml_lab.specs.declared.who.Who.TheVariants as who
-use Rattle.mml_lab.specs.Labs.{LabValue}
-use Rattle.mml_lab.specs.Rosters.{RosterValue, name_of}
-use Rattle.mml_board.specs.declared.event.Event.{Event}
-use Rattle.mml_board.specs.World.{World, configuration, privileged_count}
+use Rattle.mml_lab.specs.{Labs.LabValue, Rosters.RosterValue, Rosters.name_of}
+use Rattle.mml_board.specs.{declared.event.Event.Event, World.World, World.configuration, World.privileged_count}
 use Rattle.mml_stable.specs.Reports.{each_below}
-use Rattle.mml_tally.specs.declared.granted_move.Move.{Move}
-use Rattle.mml_tally.specs.declared.marks.ByRule.{ByRule}
-use Rattle.mml_tally.specs.declared.marks.Marks.{Marks}
-use Rattle.mml_tally.specs.declared.run.Run.{Run}
-use Rattle.mml_tally.specs.declared.bounds.Bounds.{Bounds}
-use Rattle.mml_tally.specs.Moves.{moves}
-use Rattle.mml_tally.specs.Owners.{owners_in_order, is_shared}
-use Rattle.mml_tally.specs.Marks.{by_rule, moves_by, moves_at, marks_of}
-use Rattle.mml_tally.specs.Runs.{run_of}
-use Rattle.mml_tally.specs.Bounds.{bounds_of}
+use Rattle.mml_tally.specs.declared.{granted_move.Move.Move, marks.ByRule.ByRule, marks.Marks.Marks, run.Run.Run, bounds.Bounds.Bounds}
+use Rattle.mml_tally.specs.{Moves.moves, Owners.owners_in_order, Owners.is_shared, Marks.by_rule, Marks.moves_by, Marks.moves_at, Marks.marks_of, Runs.run_of, Bounds.bounds_of}
+use Rattle.mml_lab.specs.declared.who.Who.TheVariants as who
 
 -- each number with a space before it
 abbrev pub numbers_text : List ℕ → List ℕ

@@ -1,8 +1,7 @@
 //! Tests of a house over a sink that stores one byte in each put, and fails after each possible number of bytes.
-use mml_fakes::Drip;
 use mml_fakes::scripts::{TEN_LINES, ended_lines};
 use mml_fakes::ten_acts::{ACTS, act, asker, number_before};
-use mml_fakes::{Ending, Pair, Seat, Visit, ending_of, visit_path};
+use mml_fakes::{Drip, Ending, Pair, Seat, Visit, ending_of, visit_path};
 use mml_window::{Answer, Astray, House, Log, Refusal};
 use std::alloc::Global;
 use std::sync::Wait;

@@ -1,7 +1,8 @@
 //! Tests of one session: how it ends if its reader or its writer fails, and which events have happened then.
 use mml_fakes::scripts::{ANA_GRANTED, ANA_MOVES, ANA_WELCOME};
-use mml_fakes::{FakeReader, FakeWriter, line, lines};
-use mml_fakes::{Ending, Pair, Visit, ending_of, is_first_close, visit_path};
+use mml_fakes::{
+    Ending, FakeReader, FakeWriter, Pair, Visit, ending_of, is_first_close, line, lines, visit_path,
+};
 use mml_journal::MemorySink;
 use mml_lab::Who;
 use mml_policy::Command;

@@ -1,31 +1,16 @@
 -- What windows return names nodes of the lab.
 use Rattle.std.proofs.Common.{◌≡◌, ℕ, true, false, None, List, length, Result, Ok, Err, sym, subst}
 use Rattle.std.specs.Result.{IfOk}
-use Rattle.mml_lab.specs.declared.who.Who.{Who}
-use Rattle.mml_lab.specs.Labs.{LabValue, IsLab}
-use Rattle.mml_board.specs.declared.event.Event.{Event}
-use Rattle.mml_board.specs.World.{IsWorld, opening_of}
-use Rattle.mml_board.proofs.WorldLemmas.{length-none, hold-none}
-use Rattle.mml_board.proofs.RunsLemmas.{list-world}
-use Rattle.mml_policy.specs.declared.command.Command.{Command}
-use Rattle.mml_policy.specs.declared.ruling.Ruling.{Ruling}
-use Rattle.mml_policy.specs.declared.ruling.Ruling.TheVariants.{Seen, Looked}
-use Rattle.mml_policy.specs.declared.see.See.{See}
-use Rattle.mml_policy.specs.declared.look.Look.{Look}
+use Rattle.mml_lab.specs.{declared.who.Who.Who, Labs.LabValue, Labs.IsLab}
+use Rattle.mml_board.specs.{declared.event.Event.Event, World.IsWorld, World.opening_of, Lists.is_legal_in, Lists.world_in}
+use Rattle.mml_board.proofs.{WorldLemmas.length-none, WorldLemmas.hold-none, RunsLemmas.list-world}
+use Rattle.mml_policy.specs.declared.{command.Command.Command, ruling.Ruling.Ruling, ruling.Ruling.TheVariants.Seen, ruling.Ruling.TheVariants.Looked, see.See.See, look.Look.Look}
 use Rattle.mml_policy.specs.About.{IsSeen, IsLookedAt, IsRuled}
 use Rattle.mml_policy.proofs.AboutLemmas.{ruled_is}
-use Rattle.mml_stable.specs.declared.stability_report.Report.{Report}
-use Rattle.mml_stable.specs.Reports.{NamesNodes, report_of}
+use Rattle.mml_stable.specs.{declared.stability_report.Report.Report, Reports.NamesNodes, Reports.report_of}
 use Rattle.mml_stable.proofs.NamedLemmas.{report_names}
-use Rattle.mml_window.specs.declared.answer.Answer.{Answer}
-use Rattle.mml_window.specs.declared.answer.Answer.TheVariants.{Granted, Denied, Refused}
-use Rattle.mml_window.specs.declared.sight.SightFault.{SightFault}
-use Rattle.mml_board.specs.Lists.{is_legal_in, world_in}
-use Rattle.mml_window.specs.Rulings.{ruling_at}
-use Rattle.mml_window.specs.Windows.{WindowValue}
-use Rattle.mml_window.specs.Views.{AnswersView}
-use Rattle.mml_window.specs.Books.{BookValue}
-use Rattle.mml_window.specs.Answers.{Decides, IsAnswered}
+use Rattle.mml_window.specs.declared.{answer.Answer.Answer, answer.Answer.TheVariants.Granted, answer.Answer.TheVariants.Denied, answer.Answer.TheVariants.Refused, sight.SightFault.SightFault}
+use Rattle.mml_window.specs.{Rulings.ruling_at, Windows.WindowValue, Views.AnswersView, Books.BookValue, Answers.Decides, Answers.IsAnswered}
 use Rattle.mml_window.proofs.ListLemmas.{nodes_in}
 
 module _ (lab : LabValue) (is : IsLab lab) where

@@ -2,16 +2,10 @@
 use Rattle.std.proofs.lemmas.Bool.Decides.{nat_tests}
 use Rattle.std.proofs.Common.{◌≡◌, ℕ, ◌<◌, true, false, List, [], ◌∷◌, ◌++◌, ◌∙◌, append-nil, length, take, sym, ap, subst, Option, None, Some, arith}
 use Rattle.mml_lab.specs.Labs.{LabValue}
-use Rattle.mml_board.specs.declared.event.Event.{Event}
-use Rattle.mml_board.specs.World.{opening_of}
-use Rattle.mml_board.specs.Events.{is_legal}
-use Rattle.mml_journal.specs.EventLines.{event_line}
+use Rattle.mml_board.specs.{declared.event.Event.Event, World.opening_of, Events.is_legal, Lists.world_in}
+use Rattle.mml_journal.specs.{EventLines.event_line, JournalText.next_line, JournalText.text_in, Sinks.with_more, Sinks.IsLineFor}
 use Rattle.mml_ids.specs.Lines.{ended}
-use Rattle.mml_journal.specs.JournalText.{next_line}
-use Rattle.mml_journal.specs.Sinks.{with_more, IsLineFor}
 use Rattle.mml_journal.proofs.JournalTextLemmas.{one_more}
-use Rattle.mml_board.specs.Lists.{world_in}
-use Rattle.mml_journal.specs.JournalText.{text_in}
 use Rattle.mml_window.specs.Journals.{IsJournal, TellsJournal}
 use Rattle.mml_window.proofs.ListLemmas.{place_in}
 

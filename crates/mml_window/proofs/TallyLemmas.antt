@@ -1,15 +1,8 @@
 -- How often a place stands among the places of windows, as cursors move over them.
-use Rattle.std.proofs.lemmas.Bool.Decides.{nat_tests}
-use Rattle.std.proofs.Common.{◌≡◌, ◌⊎◌, ℕ, zero, suc, ◌+◌, ◌<◌, ◌≤◌, Bool, List, [], ◌∷◌, ◌++◌, length, take, drop, set, get_or}
-use Rattle.std.proofs.Common.{replicate, add-one, refl, sym, ap, ◌∙◌, subst, ⊎_elim, inl, inr, arith, append_assoc, append-nil, cond, leb, leb-true}
-use Rattle.std.proofs.Common.{leb-false, length-append}
-use Rattle.std.specs.Prelude.{MatchBool}
-use Rattle.std.proofs.lemmas.Bool.{ne_eqb}
-use Rattle.std.proofs.lemmas.List.{take_more, drop_more, drop_all}
-use Rattle.mml_window.specs.Climbing.{Climbs}
-use Rattle.mml_window.specs.Windows.{WindowValue}
-use Rattle.mml_window.specs.Tallies.{times, told_of, once_from}
-use Rattle.mml_window.specs.inside.Cursors.{left_of, IsStuck}
+use Rattle.std.{proofs.lemmas.Bool.Decides.nat_tests, proofs.lemmas.Bool.ne_eqb, proofs.lemmas.List.take_more, proofs.lemmas.List.drop_more, proofs.lemmas.List.drop_all, specs.Prelude.MatchBool}
+use Rattle.std.proofs.Common.{◌≡◌, ◌⊎◌, ℕ, zero, suc, ◌+◌, ◌<◌, ◌≤◌, Bool, List, [], ◌∷◌, ◌++◌, length, take, drop, set, get_or, replicate, add-one, refl, sym, ap, ◌∙◌, subst, ⊎_elim, inl, inr, arith}
+use Rattle.std.proofs.Common.{append_assoc, append-nil, cond, leb, leb-true, leb-false, length-append}
+use Rattle.mml_window.specs.{Climbing.Climbs, Windows.WindowValue, Tallies.times, Tallies.told_of, Tallies.once_from, inside.Cursors.left_of, inside.Cursors.IsStuck}
 
 pub times_skip : (p q : ℕ) (qs : List ℕ) → (p ≡ q → ⊥) → times p (q ∷ qs) ≡ times p qs
 times_skip p q qs differ = ap (λ (b : Bool). cond b (suc (times p qs)) (times p qs)) (ne_eqb p q differ)

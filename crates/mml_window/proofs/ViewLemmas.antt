@@ -1,22 +1,12 @@
 -- What views say, put together.
 use Rattle.std.proofs.Common.{◌≡◌, ℕ, List, length, Option, Result, Ok, Err, refl, ap, ◌∙◌, sym, subst}
-use Rattle.mml_lab.specs.declared.who.Who.{Who}
-use Rattle.mml_lab.specs.Labs.{LabValue, IsLab}
-use Rattle.mml_board.specs.declared.event.Event.{Event}
-use Rattle.mml_board.specs.World.{World, size}
-use Rattle.mml_policy.specs.declared.command.Command.{Command}
-use Rattle.mml_policy.specs.declared.ruling.Ruling.{Ruling}
-use Rattle.mml_window.specs.declared.sight.SightFault.{SightFault}
-use Rattle.mml_window.specs.declared.sight.SightFault.TheVariants as fault
-use Rattle.mml_window.specs.declared.seeing.View.{View}
-use Rattle.mml_window.specs.declared.published.Published.{Published}
-use Rattle.mml_board.specs.Lists.{world_in}
-use Rattle.mml_window.specs.Rulings.{ruling_at}
-use Rattle.mml_window.specs.Rule.{Saw}
-use Rattle.mml_policy.specs.declared.refusal.Refusal.{Refusal}
-use Rattle.mml_window.specs.Windows.{WindowValue, window_with, SeesOn}
-use Rattle.mml_window.specs.Views.{Shows, AnswersView}
+use Rattle.mml_lab.specs.{declared.who.Who.Who, Labs.LabValue, Labs.IsLab}
+use Rattle.mml_board.specs.{declared.event.Event.Event, World.World, World.size, Lists.world_in}
+use Rattle.mml_policy.specs.declared.{command.Command.Command, ruling.Ruling.Ruling, refusal.Refusal.Refusal}
+use Rattle.mml_window.specs.declared.{sight.SightFault.SightFault, seeing.View.View, published.Published.Published}
+use Rattle.mml_window.specs.{Rulings.ruling_at, Rule.Saw, Windows.WindowValue, Windows.window_with, Windows.SeesOn, Views.Shows, Views.AnswersView}
 use Rattle.mml_window.proofs.ListLemmas.{nodes_in}
+use Rattle.mml_window.specs.declared.sight.SightFault.TheVariants as fault
 
 -- what is shown at a list that was seen
 pub tells : {A : Type 0} (shown : A → Ruling) (lab : LabValue) (old new : WindowValue) (who : Who) (command : Command) (r : Result A SightFault)

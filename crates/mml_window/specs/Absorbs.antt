@@ -1,8 +1,6 @@
 -- The effect of absorbing an event on a copy of the published data.
 use Rattle.std.specs.Prelude.{ℕ, ◌&&◌, nat_lt, if◌then◌else◌, List, [], ◌∷◌, ◌++◌, length}
-use Rattle.mml_board.specs.declared.event.Event.{Event}
-use Rattle.mml_board.specs.World.{World}
-use Rattle.mml_board.specs.Events.{can_absorb, after}
+use Rattle.mml_board.specs.{declared.event.Event.Event, World.World, Events.can_absorb, Events.after}
 use Rattle.mml_window.specs.declared.published.Common.{Common}
 
 -- what both copies of the published data have in common: a board, the most events that it may come to, and those that

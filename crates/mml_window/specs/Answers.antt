@@ -1,21 +1,13 @@
 -- The answer to an act.
 use Rattle.std.specs.Prelude.{◌≡◌, ◌⊎◌, ℕ, ◌+◌, true, false, List, [], ◌∷◌, ◌++◌, length, Option, Some}
 use mathlib.Core.List.{IsPrefix}
-use Rattle.mml_lab.specs.declared.who.Who.{Who}
-use Rattle.mml_lab.specs.Labs.{LabValue}
-use Rattle.mml_board.specs.declared.event.Event.{Event}
-use Rattle.mml_board.specs.declared.done.Done.{Done}
-use Rattle.mml_board.specs.World.{World}
-use Rattle.mml_policy.specs.declared.command.Command.{Command}
-use Rattle.mml_policy.specs.declared.ruling.Ruling.TheVariants as ruling
+use Rattle.mml_lab.specs.{declared.who.Who.Who, Labs.LabValue}
+use Rattle.mml_board.specs.{declared.event.Event.Event, declared.done.Done.Done, World.World, Lists.is_legal_in, Lists.world_in}
+use Rattle.mml_policy.specs.declared.{command.Command.Command, refusal.Refusal.TheVariants.Full, refusal.Refusal.TheVariants.Journal, refusal.Refusal.TheVariants.Memory}
 use Rattle.mml_policy.specs.About.{IsDone}
-use Rattle.mml_window.specs.declared.answer.Answer.{Answer}
-use Rattle.mml_window.specs.declared.answer.Answer.TheVariants.{Granted, Denied, Refused}
-use Rattle.mml_policy.specs.declared.refusal.Refusal.TheVariants.{Full, Journal, Memory}
-use Rattle.mml_board.specs.Lists.{is_legal_in, world_in}
-use Rattle.mml_window.specs.Rulings.{ruling_at}
-use Rattle.mml_window.specs.Windows.{WindowValue, window, window_with}
-use Rattle.mml_window.specs.Books.{BookValue, IsBook, Grows, HaltsBook}
+use Rattle.mml_window.specs.declared.answer.Answer.{Answer, TheVariants.Granted, TheVariants.Denied, TheVariants.Refused}
+use Rattle.mml_window.specs.{Rulings.ruling_at, Windows.WindowValue, Windows.window, Windows.window_with, Books.BookValue, Books.IsBook, Books.Grows, Books.HaltsBook}
+use Rattle.mml_policy.specs.declared.ruling.Ruling.TheVariants as ruling
 
 -- the act would be granted, as some event, in the world after the list
 abbrev pub Grants : LabValue → List Event → Who → Command → Type 0

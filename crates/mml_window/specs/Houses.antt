@@ -1,8 +1,7 @@
 -- The name and the lab of a house, as contracts see them.
 use Rattle.std.specs.Prelude.{List, []}
 use denote.RawPtr.{Ptr, block_ptr}
-use Rattle.mml_lab.specs.Labs.{LabValue}
-use Rattle.mml_lab.specs.Rosters.{no_account}
+use Rattle.mml_lab.specs.{Labs.LabValue, Rosters.no_account}
 use Rattle.mml_board.specs.declared.event.Event.{Event}
 
 -- a house: its name and its lab

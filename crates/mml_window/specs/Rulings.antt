@@ -1,11 +1,8 @@
 -- The rulings in a world of a lab.
 use Rattle.std.specs.Prelude.{Bool, false}
-use Rattle.mml_lab.specs.declared.who.Who.{Who}
-use Rattle.mml_lab.specs.Labs.{LabValue}
+use Rattle.mml_lab.specs.{declared.who.Who.Who, Labs.LabValue}
 use Rattle.mml_board.specs.World.{World}
-use Rattle.mml_policy.specs.declared.command.Command.{Command}
-use Rattle.mml_policy.specs.declared.ruling.Ruling.{Ruling}
-use Rattle.mml_policy.specs.Rulings.{ruling}
+use Rattle.mml_policy.specs.{declared.command.Command.Command, declared.ruling.Ruling.Ruling, Rulings.ruling}
 
 -- the ruling on a command in a world of the lab, by whether the journal is halted
 abbrev pub ruling_while : LabValue → Bool → World → Who → Command → Ruling

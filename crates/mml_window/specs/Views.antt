@@ -1,16 +1,10 @@
 -- What a view returns.
 use Rattle.std.specs.Prelude.{◌≡◌, ℕ, Result, Ok, Err}
-use Rattle.mml_lab.specs.declared.who.Who.{Who}
-use Rattle.mml_lab.specs.Labs.{LabValue}
-use Rattle.mml_policy.specs.declared.command.Command.{Command}
-use Rattle.mml_policy.specs.declared.ruling.Ruling.{Ruling}
-use Rattle.mml_policy.specs.declared.ruling.Ruling.TheVariants.{Denied}
-use Rattle.mml_window.specs.declared.sight.SightFault.{SightFault}
-use Rattle.mml_window.specs.declared.sight.SightFault.TheVariants as fault
-use Rattle.mml_window.specs.declared.sight.Closed.{Closed}
+use Rattle.mml_lab.specs.{declared.who.Who.Who, Labs.LabValue}
+use Rattle.mml_policy.specs.declared.{command.Command.Command, ruling.Ruling.Ruling, ruling.Ruling.TheVariants.Denied}
+use Rattle.mml_window.specs.{declared.sight.SightFault.SightFault, declared.sight.Closed.Closed, Rulings.ruling_at, Windows.WindowValue, Windows.SeesOn}
 use Rattle.mml_board.specs.Lists.{world_in}
-use Rattle.mml_window.specs.Rulings.{ruling_at}
-use Rattle.mml_window.specs.Windows.{WindowValue, SeesOn}
+use Rattle.mml_window.specs.declared.sight.SightFault.TheVariants as fault
 
 -- the number of the world of the list that the window has then seen; a closed window has seen nothing more
 abbrev pub TellsNumber : LabValue → WindowValue → Result ℕ Closed → WindowValue → Type 0

@@ -2,9 +2,8 @@
 use Rattle.std.specs.Prelude.{◌≡◌, ◌≤◌, ℕ, true, List, length, Option, None}
 use mathlib.Core.List.{IsPrefix}
 use Rattle.mml_lab.specs.Labs.{LabValue, IsLab}
-use Rattle.mml_board.specs.declared.event.Event.{Event}
+use Rattle.mml_board.specs.{declared.event.Event.Event, Lists.is_legal_in}
 use Rattle.mml_policy.specs.declared.refusal.Refusal.{Refusal}
-use Rattle.mml_board.specs.Lists.{is_legal_in}
 use Rattle.mml_window.specs.Climbing.{Climbs}
 
 -- what its answers have shown it so far, the places that it was granted, and why its last act was refused, if it was

@@ -1,11 +1,8 @@
 -- How a board stores its world.
-use Rattle.std.specs.Prelude.{◌≡◌, ℕ, is_some, Option, List}
-use Rattle.std.specs.FinSet as set
-use Rattle.std.specs.FinSet.{FinSet}
-use Rattle.std.specs.Ordering.{nat_cmp}
-use Rattle.mml_rules.specs.declared.rule.Rule.{Rule}
-use Rattle.mml_rules.specs.Network.{Network}
+use Rattle.std.specs.{Prelude.◌≡◌, Prelude.ℕ, Prelude.is_some, Prelude.Option, Prelude.List, FinSet.FinSet, Ordering.nat_cmp}
+use Rattle.mml_rules.specs.{declared.rule.Rule.Rule, Network.Network}
 use Rattle.mml_board.specs.World.{World, chosen_at}
+use Rattle.std.specs.FinSet as set
 
 -- the set has exactly the nodes with a chosen move
 abbrev pub AreChosen : List (Option Rule) → FinSet nat_cmp → Type 0

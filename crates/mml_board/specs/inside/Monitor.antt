@@ -1,13 +1,9 @@
 -- Which nodes are privileged, and which a change leaves as they were.
-use Rattle.std.specs.Prelude.{◌≡◌, ℕ, ◌≤◌, Bool, true, false, ◌&&◌, nat_lt, List, length}
-use Rattle.std.specs.FinSet as set
-use Rattle.std.specs.FinSet.{FinSet}
-use Rattle.std.specs.Ordering.{nat_cmp}
+use Rattle.std.specs.{Prelude.◌≡◌, Prelude.ℕ, Prelude.◌≤◌, Prelude.Bool, Prelude.true, Prelude.false, Prelude.◌&&◌, Prelude.nat_lt, Prelude.List, Prelude.length, FinSet.FinSet, Ordering.nat_cmp}
 use Rattle.mml_ids.specs.Sets.{those_below}
-use Rattle.mml_rules.specs.declared.regs.Regs.{Regs}
-use Rattle.mml_rules.specs.Configuration.{Configuration}
-use Rattle.mml_rules.specs.Rules.{is_privileged}
+use Rattle.mml_rules.specs.{declared.regs.Regs.Regs, Configuration.Configuration, Rules.is_privileged}
 use Rattle.mml_board.specs.World.{World, configuration, IsWorld}
+use Rattle.std.specs.FinSet as set
 
 -- j is a node, and privileged
 abbrev pub is_privileged_node : Configuration → ℕ → Bool

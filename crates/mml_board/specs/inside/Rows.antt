@@ -1,11 +1,8 @@
 -- The rows of bits that stand beside a network.
 use Rattle.std.specs.Prelude.{◌≡◌, ℕ, ◌<◌, ◌&&◌, nat_lt, is_none, Option, None, Some, List, length}
+use Rattle.std.specs.{FinSet.FinSet, Ordering.nat_cmp}
+use Rattle.mml_rules.specs.{declared.regs.Regs.Regs, Configuration.holds, Network.neighbours_at, Network.registers_at, Network.with_neighbour, Network.without_neighbour}
 use Rattle.std.specs.FinSet as set
-use Rattle.std.specs.FinSet.{FinSet}
-use Rattle.std.specs.Ordering.{nat_cmp}
-use Rattle.mml_rules.specs.declared.regs.Regs.{Regs}
-use Rattle.mml_rules.specs.Configuration.{holds}
-use Rattle.mml_rules.specs.Network.{neighbours_at, registers_at, with_neighbour, without_neighbour}
 
 -- the rows with the node among those that point at p; the same rows if p is null
 abbrev pub with_suitor : List (FinSet nat_cmp) → Option ℕ → ℕ → List (FinSet nat_cmp)

@@ -2,8 +2,7 @@
 use Rattle.std.specs.Prelude.{◌≡◌, ◌⊎◌, ◌≤◌, ◌<◌, ◌+◌, ℕ, Bool, true, false, List, [], ◌∷◌, length, Option, None, Some, if◌then◌else◌}
 use Rattle.std.specs.List.{slice_index_or}
 use Rattle.mml_window.specs.Tallies.{times}
-use Rattle.mml_class.specs.declared.granting.Misgranted.{Misgranted}
-use Rattle.mml_class.specs.declared.granting.Misgranted.TheVariants.{Early, Twice, Nowhere}
+use Rattle.mml_class.specs.declared.granting.Misgranted.{Misgranted, TheVariants.Early, TheVariants.Twice, TheVariants.Nowhere}
 
 -- the place has a mark
 abbrev pub has_mark : List Bool → ℕ → Bool

@@ -1,22 +1,13 @@
 -- The records of seats, one after another.
 use Rattle.std.specs.Prelude.{◌≡◌, ◌+◌, ◌&&◌, ◌||◌, ℕ, Bool, true, false, List, ◌++◌, length}
-use Rattle.std.specs.FinSet as set
-use Rattle.mml_lab.specs.declared.who.Who.{Who}
-use Rattle.mml_lab.specs.Labs.{LabValue}
+use Rattle.mml_lab.specs.{declared.who.Who.Who, Labs.LabValue}
 use Rattle.mml_board.specs.declared.event.Event.{Event}
-use Rattle.mml_tally.specs.declared.ask.Ask.{Ask}
-use Rattle.mml_tally.specs.declared.record_text.Findings.{Findings}
-use Rattle.mml_tally.specs.Lacking.{lacks}
-use Rattle.mml_record.specs.declared.kept_entry.Entry.{Entry}
-use Rattle.mml_class.specs.declared.class_record.ClassFault.{ClassFault}
+use Rattle.mml_tally.specs.{declared.ask.Ask.Ask, declared.record_text.Findings.Findings, Lacking.lacks}
+use Rattle.mml_record.specs.declared.{kept_entry.Entry.Entry, verdict.Verdict.Verdict, verdict.Verdict.TheVariants.Passed, verdict.Verdict.TheVariants.Refused}
+use Rattle.mml_class.specs.{declared.class_record.ClassFault.ClassFault, Classes.counted, Classes.AreRecordsOf, Classes.ComeTo, Classes.all_asks}
+use Rattle.mml_record.specs.{Entries.record_text, Certified.IsRecordOf, Asks.asks_in, Verdicts.ComesTo, Verdicts.IsFirstBad}
+use Rattle.std.specs.FinSet as set
 use Rattle.mml_class.specs.declared.class_record.ClassFault.TheVariants as fault
-use Rattle.mml_record.specs.declared.verdict.Verdict.{Verdict}
-use Rattle.mml_record.specs.declared.verdict.Verdict.TheVariants.{Passed, Refused}
-use Rattle.mml_record.specs.Entries.{record_text}
-use Rattle.mml_record.specs.Certified.{IsRecordOf}
-use Rattle.mml_record.specs.Asks.{asks_in}
-use Rattle.mml_record.specs.Verdicts.{ComesTo, IsFirstBad}
-use Rattle.mml_class.specs.Classes.{counted, AreRecordsOf, ComeTo, all_asks}
 
 -- the findings of a record without entries
 abbrev pub no_findings : Findings

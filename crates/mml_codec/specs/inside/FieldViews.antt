@@ -1,12 +1,11 @@
 -- What the fields of an object stand for, and the tokens that write them.
 use Rattle.std.specs.Prelude.{ℕ, List, ◌∷◌}
-use Rattle.json.specs.Token.{Token}
-use Rattle.json.specs.Token as token
-use Rattle.json.specs.Tree.{json_tokens}
+use Rattle.json.specs.{Token.Token, Tree.json_tokens}
 use Rattle.serde_json.specs.Written.{outline}
+use Rattle.mml_codec.specs.Fields.{Field, number, word, text, truth, null, value_of}
+use Rattle.json.specs.Token as token
 use Rattle.mml_codec.specs.declared.object.Field as TheField
 use Rattle.mml_codec.specs.declared.object.Field.TheVariants as fields
-use Rattle.mml_codec.specs.Fields.{Field, number, word, text, truth, null, value_of}
 
 -- the value of a key as the definitions have it
 abbrev pub field_view : TheField.Field → Field

@@ -2,12 +2,9 @@
 use Rattle.std.specs.Prelude.{◌≡◌, true, Option, Result, Err, ok_or}
 use Rattle.serde_json.specs.Data.{Data}
 use Rattle.mml_ids.specs.Gives.{Gives}
-use Rattle.mml_plain.specs.declared.fields.Fields.{Fields}
-use Rattle.mml_plain.specs.Holds.{Holds}
-use Rattle.mml_codec.specs.declared.request.LineFault.{LineFault}
+use Rattle.mml_plain.specs.{declared.fields.Fields.Fields, Holds.Holds}
+use Rattle.mml_codec.specs.{declared.request.LineFault.LineFault, declared.request.Request.Request, Lines.is_line_memory, Lines.is_hello}
 use Rattle.mml_codec.specs.declared.request.LineFault.TheVariants as fault
-use Rattle.mml_codec.specs.declared.request.Request.{Request}
-use Rattle.mml_codec.specs.Lines.{is_line_memory, is_hello}
 
 -- the result is the request that is asked, or `Malformed` if none is; memory runs out only for a hello
 pub record Reads (asked : Data → Option Request) (f : Fields) (r : Result Request LineFault) : Type 0 where

@@ -1,6 +1,5 @@
 -- Texts of words and lists, and what follows them.
-use Rattle.std.specs.Prelude.{◌≡◌, ℕ, ◌++◌, List, codes}
-use Rattle.std.proofs.Common.{ap, sym, append_assoc}
+use Rattle.std.{specs.Prelude.◌≡◌, specs.Prelude.ℕ, specs.Prelude.◌++◌, specs.Prelude.List, specs.Prelude.codes, proofs.Common.ap, proofs.Common.sym, proofs.Common.append_assoc}
 use Rattle.mml_codec.specs.Facts.{separated, list_then}
 
 -- the word in quotation marks

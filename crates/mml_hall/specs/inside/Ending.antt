@@ -1,9 +1,6 @@
 -- How the functions below `run_script` end a script, in a hall that was just opened.
 use Rattle.std.specs.Prelude.{ℕ, List, Option, Result, Ok, Err, ⊤}
-use Rattle.mml_hall.specs.declared.script.ScriptFault.{ScriptFault}
-use Rattle.mml_hall.specs.Halls.{HallValue}
-use Rattle.mml_hall.specs.Journals.{Journals}
-use Rattle.mml_hall.specs.Scripts.{Finished, Stopped}
+use Rattle.mml_hall.specs.{declared.script.ScriptFault.ScriptFault, Halls.HallValue, Journals.Journals, Scripts.Finished, Scripts.Stopped}
 
 -- all lines were answered, or an error came
 abbrev pub EndsScript : {S : Type 0} → (S → Option (List ℕ)) → (S → ℕ) → Result ⊤ ScriptFault → HallValue S → HallValue S → Option (List ℕ) → Option (List ℕ)

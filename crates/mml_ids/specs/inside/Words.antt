@@ -1,11 +1,8 @@
 -- How a set of ranks is stored in words of 64 bits.
 use Rattle.std.specs.Prelude.{ℕ, zero, suc, Bool, ◌≡◌, ◌<◌, ◌+◌, ◌*◌, ◌/◌, ◌%◌, ◌^◌, ◌==◌, if◌then◌else◌, List, map, length, slice_index}
-use Rattle.std.specs.Int.{bit_at}
-use Rattle.std.specs.List.{range_with_len}
-use Rattle.std.specs.Ordering.{nat_cmp}
-use Rattle.std.specs.FinSet as set
-use Rattle.std.specs.FinSet.{FinSet}
+use Rattle.std.specs.{Int.bit_at, List.range_with_len, Ordering.nat_cmp, FinSet.FinSet}
 use Rattle.mml_ids.specs.Sets.{those_below}
+use Rattle.std.specs.FinSet as set
 
 -- the bit of a rank is one
 abbrev pub bit_in : List ℕ → ℕ → Bool

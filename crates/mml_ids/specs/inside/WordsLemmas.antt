@@ -1,18 +1,11 @@
 -- Which ranks the words store. It stands here, since the contract of a set's type cites `words_back`.
-use Rattle.std.proofs.Common.{◌≡◌, ℕ, zero, suc, ◌<◌, ◌≤◌, ◌+◌, ◌≢◌, Bool, true, false, not, cond, ◌&&◌, ◌||◌, eqb, ltb, List, length, get_or, set, sym, refl}
-use Rattle.std.proofs.Common.{ap, ◌∙◌, subst, arith, inl, inr, get_or-set_same, get_or-set_other, length-set}
+use Rattle.std.proofs.Common.{◌≡◌, ℕ, zero, suc, ◌<◌, ◌≤◌, ◌+◌, ◌≢◌, Bool, true, false, not, cond, ◌&&◌, ◌||◌, eqb, ltb, List, length, get_or, set, sym, refl, ap, ◌∙◌, subst, arith, inl, inr}
+use Rattle.std.proofs.Common.{get_or-set_same, get_or-set_other, length-set, ◌-◌, ◌*◌, ◌^◌, ◌/◌, ◌%◌, lit<, add-one}
 use Rattle.std.proofs.lemmas.Bool.{cases_order, cases_eq, eq-eqb, ne_eqb, eqb-true, eqb-false, lt-ltb, le-ltb}
-use Rattle.std.specs.Cmp.{nat_cmp_total, unsigned_tied}
-use Rattle.std.specs.Ordering.{nat_cmp}
+use Rattle.std.specs.{Cmp.nat_cmp_total, Cmp.unsigned_tied, Ordering.nat_cmp, FinSet.FinSet, FinSet.nat_cmp-IsAntisymmetric, Int.bit_at}
+use Rattle.std.proofs.lemmas.{List.FromFn.fill_by_all, Nat.Bits.same_from_bits_below, Nat.Bits.bit_at_cat_low, Nat.Bits.bit_at_cat_high, Nat.Bits.bit_at-lt, Grind.pow_more}
+use Rattle.mml_ids.specs.{Sets.those_below, inside.Words.bit_in, inside.Words.set_of, inside.Words.ones_at, inside.Words.word_of, inside.Words.words_of, inside.Words.AreWords}
 use Rattle.std.specs.FinSet as sets
-use Rattle.std.specs.FinSet.{FinSet, nat_cmp-IsAntisymmetric}
-use Rattle.std.specs.Int.{bit_at}
-use Rattle.std.proofs.Common.{◌-◌, ◌*◌, ◌^◌, ◌/◌, ◌%◌, lit<, add-one}
-use Rattle.std.proofs.lemmas.List.FromFn.{fill_by_all}
-use Rattle.std.proofs.lemmas.Nat.Bits.{same_from_bits_below, bit_at_cat_low, bit_at_cat_high, bit_at-lt}
-use Rattle.std.proofs.lemmas.Grind.{pow_more}
-use Rattle.mml_ids.specs.Sets.{those_below}
-use Rattle.mml_ids.specs.inside.Words.{bit_in, set_of, ones_at, word_of, words_of, AreWords}
 
 pub has_empty : (q : ℕ) → sets.contains (sets.empty {R = nat_cmp}) q ≡ false
 has_empty q = sets.contains-empty nat_cmp q

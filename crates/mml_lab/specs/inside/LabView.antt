@@ -1,6 +1,5 @@
 -- The lab that contracts see.
-use Rattle.mml_lab.specs.declared.lab.Lab.TheInside.{Inside}
-use Rattle.mml_lab.specs.Labs.{LabValue, IsLab}
+use Rattle.mml_lab.specs.{declared.lab.Lab.TheInside.Inside, Labs.LabValue, Labs.IsLab}
 
 -- the parts of a lab, as the definitions have them
 abbrev pub lab_view : Inside → LabValue

@@ -1,9 +1,6 @@
 -- The rows of bits that stand beside the owners of a roster.
-use Rattle.std.specs.Prelude.{◌≡◌, ℕ, ◌+◌, ◌==◌, Bool, List, [], length, slice_index_or}
-use Rattle.std.specs.List.{list_any}
+use Rattle.std.specs.{Prelude.◌≡◌, Prelude.ℕ, Prelude.◌+◌, Prelude.◌==◌, Prelude.Bool, Prelude.List, Prelude.[], Prelude.length, Prelude.slice_index_or, List.list_any, FinSet.FinSet, Ordering.nat_cmp}
 use Rattle.std.specs.FinSet as set
-use Rattle.std.specs.FinSet.{FinSet}
-use Rattle.std.specs.Ordering.{nat_cmp}
 
 -- the row at an index; empty past the last one
 abbrev pub row_at : List (FinSet nat_cmp) → ℕ → FinSet nat_cmp

@@ -1,8 +1,6 @@
 -- The roster that contracts see.
 use Rattle.std.specs.Prelude.{map, length}
-use Rattle.mml_lab.specs.declared.roster.Roster.TheInside.{Inside}
-use Rattle.mml_lab.specs.AccountView.{account_view, entry_account}
-use Rattle.mml_lab.specs.inside.Owned.{AreOwned}
+use Rattle.mml_lab.specs.{declared.roster.Roster.TheInside.Inside, AccountView.account_view, AccountView.entry_account, inside.Owned.AreOwned}
 use Rattle.mml_lab.specs.Rosters.{RosterValue, IsRoster, with_owners}
 
 -- teacher, students and owners, as the definitions have them

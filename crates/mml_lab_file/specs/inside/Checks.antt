@@ -1,15 +1,11 @@
 -- The checks of a file: links are looked up by rank, and the lab is made of what was found.
 use Rattle.std.specs.Prelude.{ℕ, ℤ, Bool, false, not, ◌&&◌, List, map, Option, is_some}
-use Rattle.std.specs.Option.{option_map_or}
-use Rattle.std.specs.FinSet as set
-use Rattle.std.specs.FinSet.{FinSet}
-use Rattle.std.specs.Ordering.{nat_cmp}
+use Rattle.std.specs.{Option.option_map_or, FinSet.FinSet, Ordering.nat_cmp}
 use Rattle.mml_ids.specs.Ids.{rank_in}
 use Rattle.mml_rules.specs.Network.{neighbours_at}
-use Rattle.mml_lab.specs.Rosters.{Account, with_owners}
-use Rattle.mml_lab_file.specs.Shape.{NodeSpec}
-use Rattle.mml_lab.specs.Labs.{LabValue}
-use Rattle.mml_lab_file.specs.Reading.{number_of, registers_with, owners_with}
+use Rattle.mml_lab.specs.{Rosters.Account, Rosters.with_owners, Labs.LabValue}
+use Rattle.mml_lab_file.specs.{Shape.NodeSpec, Reading.number_of, Reading.registers_with, Reading.owners_with}
+use Rattle.std.specs.FinSet as set
 
 -- the rank of the node that an integer of the file names, if it names one
 unfoldable pub rank_at : List ℕ → ℤ → Option ℕ

@@ -1,13 +1,7 @@
 -- The lab of a file that was checked.
 use Rattle.std.specs.Prelude.{List, map}
-use Rattle.mml_lab.specs.declared.accounts.Account.{Account}
-use Rattle.mml_lab_file.specs.declared.raw_lab.RawNode.{RawNode}
-use Rattle.mml_lab_file.specs.declared.checks.Checked.{Checked}
-use Rattle.mml_lab_file.specs.declared.checks.Found.{Found}
-use Rattle.mml_lab.specs.Labs.{LabValue}
-use Rattle.mml_lab.specs.AccountView.{account_view, entry_account}
-use Rattle.mml_lab_file.specs.inside.Raw.{node_view}
-use Rattle.mml_lab_file.specs.inside.Checks.{lab_with}
+use Rattle.mml_lab.specs.{declared.accounts.Account.Account, Labs.LabValue, AccountView.account_view, AccountView.entry_account}
+use Rattle.mml_lab_file.specs.{declared.raw_lab.RawNode.RawNode, declared.checks.Checked.Checked, declared.checks.Found.Found, inside.Raw.node_view, inside.Checks.lab_with}
 
 -- the lab of a file that was checked
 abbrev pub checked_view : Checked → LabValue

@@ -1,9 +1,7 @@
 -- What the values that were read stand for.
 use Rattle.std.specs.Prelude.{map, string_bytes}
-use Rattle.mml_lab_file.specs.declared.raw_lab.RawNode.{RawNode}
-use Rattle.mml_lab_file.specs.declared.raw_lab.RawLab.{RawLab}
+use Rattle.mml_lab_file.specs.{declared.raw_lab.RawNode.RawNode, declared.raw_lab.RawLab.RawLab, Shape.NodeSpec, Shape.RawSpec}
 use Rattle.mml_lab.specs.AccountView.{account_view}
-use Rattle.mml_lab_file.specs.Shape.{NodeSpec, RawSpec}
 
 -- a node of the file, with the bytes of its owners' names
 abbrev pub node_view : RawNode → NodeSpec

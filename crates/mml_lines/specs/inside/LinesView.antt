@@ -1,12 +1,8 @@
 -- How a `Lines` holds its bytes.
 use Rattle.std.specs.Prelude.{◌≡◌, ℕ, ◌+◌, ◌-◌, ◌≤◌, List, vec_len, length, take, drop, slice_range, Some, IfSome}
 use Rattle.std.specs.Vec.{vec_capacity}
-use Rattle.mml_lines.specs.declared.lines.Lines.TheInside.{Inside}
-use Rattle.mml_lines.specs.declared.lines.TheConstants.{MAX_READS, READ_SIZE}
-use Rattle.mml_lines.specs.LinesOf.{IsWithinLimit}
-use Rattle.mml_lines.specs.Finding.{Shows}
-use Rattle.mml_lines.specs.LinesState.{LinesState}
-use Rattle.mml_lines.specs.NextLine.{ending_of}
+use Rattle.mml_lines.specs.declared.lines.{Lines.TheInside.Inside, TheConstants.MAX_READS, TheConstants.READ_SIZE}
+use Rattle.mml_lines.specs.{LinesOf.IsWithinLimit, Finding.Shows, LinesState.LinesState, NextLine.ending_of}
 
 -- the state that contracts see, by the fields
 abbrev pub lines_view : Inside → LinesState

@@ -1,9 +1,6 @@
 -- How lines that go out together are held.
-use Rattle.std.specs.Prelude.{◌≡◌, ℕ, ◌≤◌, ◌+◌, List, [], ◌∷◌, length, take, drop, vec_len}
-use Rattle.std.specs.Vec.{vec_capacity}
-use Rattle.mml_lines.specs.declared.outgoing.Outgoing.TheInside.{Inside}
-use Rattle.mml_lines.specs.declared.line_rest.TheConstants.{REST_ROOM}
-use Rattle.mml_lines.specs.declared.outgoing.TheConstants.{OUTGOING_BYTES, OUTGOING_LINES}
+use Rattle.std.specs.{Prelude.◌≡◌, Prelude.ℕ, Prelude.◌≤◌, Prelude.◌+◌, Prelude.List, Prelude.[], Prelude.◌∷◌, Prelude.length, Prelude.take, Prelude.drop, Prelude.vec_len, Vec.vec_capacity}
+use Rattle.mml_lines.specs.declared.{outgoing.Outgoing.TheInside.Inside, outgoing.TheConstants.OUTGOING_BYTES, outgoing.TheConstants.OUTGOING_LINES, line_rest.TheConstants.REST_ROOM}
 
 -- the bytes in parts of these lengths
 abbrev pub parted : List ℕ → List ℕ → List (List ℕ)

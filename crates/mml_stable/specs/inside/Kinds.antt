@@ -1,8 +1,6 @@
 -- The rules that are enabled at the nodes, as they were found.
 use Rattle.std.specs.Prelude.{◌≡◌, ℕ, ◌<◌, ◌≤◌, List, Option, None, length, slice_index_or}
-use Rattle.mml_rules.specs.declared.rule.Kind.{Kind}
-use Rattle.mml_rules.specs.Configuration.{Configuration}
-use Rattle.mml_rules.specs.Rules.{enabled_kind}
+use Rattle.mml_rules.specs.{declared.rule.Kind.Kind, Configuration.Configuration, Rules.enabled_kind}
 
 -- at each node below n, the list has the rule that is enabled there
 abbrev pub AreFound : Configuration → ℕ → List (Option Kind) → Type 0

@@ -1,10 +1,8 @@
 -- The free nodes that are left, while the open links are listed.
-use Rattle.std.specs.Prelude.{◌≡◌, ℕ, not, ◌&&◌, nat_lt}
-use Rattle.std.specs.Ordering.{nat_cmp}
-use Rattle.std.specs.FinSet as set
-use Rattle.std.specs.FinSet.{FinSet}
+use Rattle.std.specs.{Prelude.◌≡◌, Prelude.ℕ, Prelude.not, Prelude.◌&&◌, Prelude.nat_lt, Ordering.nat_cmp, FinSet.FinSet}
 use Rattle.mml_rules.specs.Configuration.{Configuration}
 use Rattle.mml_stable.specs.Reports.{is_free}
+use Rattle.std.specs.FinSet as set
 
 -- the set has the free nodes from a on
 abbrev pub IsFreeFrom : Configuration → ℕ → FinSet nat_cmp → Type 0

@@ -1,8 +1,7 @@
 -- The closes that applied moves, counted in one pass over the moves.
 use Rattle.std.specs.Prelude.{ℕ, ◌+◌, ◌==◌, if◌then◌else◌, List, [], ◌∷◌}
-use Rattle.mml_tally.specs.declared.fate.Fate.{Fate}
+use Rattle.mml_tally.specs.declared.{fate.Fate.Fate, granted_move.Move.Move}
 use Rattle.mml_tally.specs.declared.fate.Fate.TheVariants as fate
-use Rattle.mml_tally.specs.declared.granted_move.Move.{Move}
 
 -- the place of the close that applied a move; if none did, `last`
 abbrev pub close_of : ℕ → Fate → ℕ

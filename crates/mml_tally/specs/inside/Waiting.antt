@@ -1,14 +1,10 @@
 -- Rounds, counted by the nodes that wait for their turn.
-use Rattle.std.specs.Prelude.{ℕ, ◌+◌, ◌==◌, if◌then◌else◌, List, [], ◌∷◌}
-use Rattle.std.specs.Ordering.{nat_cmp}
-use Rattle.std.specs.FinSet as set
-use Rattle.std.specs.FinSet.{FinSet}
+use Rattle.std.specs.{Prelude.ℕ, Prelude.◌+◌, Prelude.◌==◌, Prelude.if◌then◌else◌, Prelude.List, Prelude.[], Prelude.◌∷◌, Ordering.nat_cmp, FinSet.FinSet}
 use Rattle.mml_ids.specs.Sets.{those_below}
 use Rattle.mml_rules.specs.Rules.{is_privileged}
-use Rattle.mml_board.specs.declared.event.Event.{Event}
-use Rattle.mml_board.specs.World.{World, size, configuration}
-use Rattle.mml_board.specs.Events.{chosen_nodes, after}
+use Rattle.mml_board.specs.{declared.event.Event.Event, World.World, World.size, World.configuration, Events.chosen_nodes, Events.after}
 use Rattle.mml_convergence.specs.Moves.{is_close}
+use Rattle.std.specs.FinSet as set
 
 -- the nodes that are privileged: they wait when a round begins
 unfoldable pub privileged_nodes : World → FinSet nat_cmp

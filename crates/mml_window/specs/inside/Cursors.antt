@@ -1,7 +1,6 @@
 -- How far the places of each window are counted off.
 use Rattle.std.specs.Prelude.{ℕ, ◌<◌, List, [], ◌∷◌, ◌++◌, drop}
-use Rattle.mml_window.specs.Windows.{WindowValue}
-use Rattle.mml_window.specs.Tallies.{times}
+use Rattle.mml_window.specs.{Windows.WindowValue, Tallies.times}
 
 -- the places from each window's cursor on
 abbrev pub left_of : List WindowValue → List ℕ → List ℕ

@@ -2,8 +2,7 @@
 use Rattle.std.specs.Prelude.{◌≡◌, ◌≤◌, ◌+◌, List, [], ◌∷◌, ◌++◌, length, Some}
 use Rattle.mml_lab.specs.Labs.{LabValue}
 use Rattle.mml_board.specs.declared.event.Event.{Event}
-use Rattle.mml_window.specs.declared.answer.Answer.{Answer}
-use Rattle.mml_window.specs.declared.answer.Answer.TheVariants.{Granted, Denied, Refused}
+use Rattle.mml_window.specs.declared.answer.Answer.{Answer, TheVariants.Granted, TheVariants.Denied, TheVariants.Refused}
 use Rattle.mml_window.specs.Windows.{WindowValue, window, window_with}
 
 -- the place in a grant's answer is the number of events, one more than the window has seen, and within the limit

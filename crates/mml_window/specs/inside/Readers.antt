@@ -1,7 +1,6 @@
 -- What a window's reader has seen.
 use Rattle.std.specs.Prelude.{Option, None, Some}
-use Rattle.mml_window.specs.declared.seeing.View.{View}
-use Rattle.mml_window.specs.Rule.{nothing_seen}
+use Rattle.mml_window.specs.{declared.seeing.View.View, Rule.nothing_seen}
 
 -- what the reader of a window has seen: nothing, if there is no reader
 abbrev pub view_by : Option View → View

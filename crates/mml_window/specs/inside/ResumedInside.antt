@@ -1,10 +1,8 @@
 -- What a house has before it is started.
 use Rattle.std.specs.Prelude.{◌≡◌, ◌≤◌, true, false, ℕ, Bool, List, length, Option}
 use Rattle.mml_lab.specs.Labs.{LabValue, IsLab}
-use Rattle.mml_window.specs.declared.published.Published.{Published}
-use Rattle.mml_board.specs.declared.event.Event.{Event}
-use Rattle.mml_board.specs.Lists.{is_legal_in, world_in}
-use Rattle.mml_window.specs.Journals.{TellsJournal}
+use Rattle.mml_window.specs.{declared.published.Published.Published, Journals.TellsJournal}
+use Rattle.mml_board.specs.{declared.event.Event.Event, Lists.is_legal_in, Lists.world_in}
 
 -- a copy of what is to be published, with these events
 pub record IsCopyOf (lab : LabValue) (begun : List Event) (x : Published) : Type 0 where

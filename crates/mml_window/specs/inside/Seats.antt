@@ -1,6 +1,5 @@
 -- What a window is made of.
-use Rattle.std.specs.Prelude.{◌≡◌, ◌≤◌, [], vec_capacity}
-use Rattle.std.specs.Arc.{arc_value}
+use Rattle.std.specs.{Prelude.◌≡◌, Prelude.◌≤◌, Prelude.[], Prelude.vec_capacity, Arc.arc_value}
 use Rattle.mml_lab.specs.Labs.{LabValue}
 use Rattle.mml_window.specs.declared.window.Seat.{Seat}
 

@@ -1,8 +1,6 @@
 use Rattle.std.proofs.Common.{false, None, ap, sym, ◌∙◌, arith, length-set, replicate, cond, eqb}
+use Rattle.mml_board.proofs.{ChoicesLemmas.are_chosen-set, ChoicesLemmas.all_dropped, WorldLemmas.chosen_within, MonitorLemmas.put-out}
 use Rattle.std.specs.FinSet as sets
-use Rattle.mml_board.proofs.ChoicesLemmas.{are_chosen-set, all_dropped}
-use Rattle.mml_board.proofs.WorldLemmas.{chosen_within}
-use Rattle.mml_board.proofs.MonitorLemmas.{put-out}
 use Rattle.mml_board.proofs.choices.drop_each.Goals as goal
 
 pub loop-node-preserved : goal.loop-node-preserved

@@ -1,10 +1,8 @@
 use Rattle.std.proofs.Common.{ap, sym, ◌∙◌, arith, length-set, cond, eqb}
-use Rattle.mml_rules.specs.Network.{registers_at, configuration_of}
-use Rattle.mml_rules.specs.Rules.{moved}
+use Rattle.mml_rules.specs.{Network.registers_at, Network.configuration_of, Rules.moved}
 use Rattle.mml_rules.proofs.NetworkLemmas.{registers_at-set}
 use Rattle.mml_board.specs.World.{chosen_at}
-use Rattle.mml_board.proofs.WorldLemmas.{chosen_within}
-use Rattle.mml_board.proofs.EachLemmas.{one_done, all_done}
+use Rattle.mml_board.proofs.{WorldLemmas.chosen_within, EachLemmas.one_done, EachLemmas.all_done}
 use Rattle.mml_board.proofs.effects.compute_effects.Goals as goal
 
 pub loop-node-preserved : goal.loop-node-preserved

@@ -1,7 +1,5 @@
 use Rattle.std.proofs.Common.{ap, sym, ◌∙◌, cond}
-use Rattle.mml_rules.specs.declared.regs.Regs.{Regs}
-use Rattle.mml_rules.specs.Network.{registers_at, configuration_of}
-use Rattle.mml_rules.specs.Rules.{moved}
+use Rattle.mml_rules.specs.{declared.regs.Regs.Regs, Network.registers_at, Network.configuration_of, Rules.moved}
 use Rattle.mml_rules.proofs.StepLemmas.{moved-linked}
 use Rattle.mml_board.specs.World.{chosen_at}
 use Rattle.mml_board.proofs.effects.move_chosen.Goals as goal

@@ -1,5 +1,4 @@
-use Rattle.std.proofs.Common.{◌≡◌, ◌<◌, ℕ, ap, ◌∙◌, arith, length, length-set, get_or}
-use Rattle.std.proofs.lemmas.List.{get_or_default}
+use Rattle.std.proofs.{Common.◌≡◌, Common.◌<◌, Common.ℕ, Common.ap, Common.◌∙◌, Common.arith, Common.length, Common.length-set, Common.get_or, lemmas.List.get_or_default}
 use Rattle.mml_rules.specs.Network.{Network, no_regs, registers_at}
 use Rattle.mml_rules.proofs.NetworkLemmas.{registers_at-set}
 use Rattle.mml_board.proofs.EachLemmas.{one_done, all_done}

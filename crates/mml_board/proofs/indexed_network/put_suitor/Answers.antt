@@ -1,9 +1,8 @@
-use Rattle.std.proofs.Common.{◌≡◌, ◌∙◌, ap, sym, cond, eqb, get_or, set}
-use Rattle.std.proofs.lemmas.List.{get_or_default}
-use Rattle.std.specs.FinSet as sets
+use Rattle.std.proofs.{Common.◌≡◌, Common.◌∙◌, Common.ap, Common.sym, Common.cond, Common.eqb, Common.get_or, Common.set, lemmas.List.get_or_default}
 use Rattle.mml_rules.specs.Network.{neighbours_at}
 use Rattle.mml_board.specs.inside.Rows.{with_suitor, without_suitor}
 use Rattle.mml_board.proofs.MonitorLemmas.{row_told}
+use Rattle.std.specs.FinSet as sets
 use Rattle.mml_board.proofs.indexed_network.put_suitor.Goals as goal
 
 pub returns-in-Some : goal.returns-in-Some

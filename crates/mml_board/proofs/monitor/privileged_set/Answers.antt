@@ -1,10 +1,8 @@
 use Rattle.std.proofs.Common.{◌≡◌, ◌&&◌, ap, ◌∙◌, arith, is_some, cond, eqb, ltb, length}
-use Rattle.std.specs.FinSet as sets
 use Rattle.mml_ids.specs.inside.WordsLemmas.{has_empty}
-use Rattle.mml_rules.specs.Rules.{is_privileged}
-use Rattle.mml_rules.specs.Network.{configuration_of}
-use Rattle.mml_board.proofs.RowsLemmas.{below_none, below_next}
-use Rattle.mml_board.proofs.MonitorLemmas.{privileged-is}
+use Rattle.mml_rules.specs.{Rules.is_privileged, Network.configuration_of}
+use Rattle.mml_board.proofs.{RowsLemmas.below_none, RowsLemmas.below_next, MonitorLemmas.privileged-is}
+use Rattle.std.specs.FinSet as sets
 use Rattle.mml_board.proofs.monitor.privileged_set.Goals as goal
 
 pub loop-index-init : goal.loop-index-init

@@ -1,7 +1,6 @@
 use Rattle.std.proofs.Common.{◌≡◌, ℕ, ◌&&◌, ltb}
+use Rattle.mml_rules.specs.{Rules.is_privileged, Network.configuration_of}
 use Rattle.std.specs.FinSet as sets
-use Rattle.mml_rules.specs.Rules.{is_privileged}
-use Rattle.mml_rules.specs.Network.{configuration_of}
 use Rattle.mml_board.proofs.monitor.privileged_set.Given as goal
 
 abbrev pub invariant-loop-index : goal.invariant-loop-index

@@ -1,11 +1,8 @@
-use Rattle.std.proofs.Common.{◌≡◌, ℕ, cond, ap, ◌∙◌}
-use Rattle.std.specs.FinSet as sets
-use Rattle.std.specs.FinSet.{FinSet}
-use Rattle.std.specs.Ordering.{nat_cmp}
-use Rattle.mml_rules.specs.Network.{configuration_of}
-use Rattle.mml_rules.specs.Configuration.{Configuration}
+use Rattle.std.{proofs.Common.◌≡◌, proofs.Common.ℕ, proofs.Common.cond, proofs.Common.ap, proofs.Common.◌∙◌, specs.FinSet.FinSet, specs.Ordering.nat_cmp}
+use Rattle.mml_rules.specs.{Network.configuration_of, Configuration.Configuration}
 use Rattle.mml_board.specs.inside.Monitor.{is_privileged_node}
 use Rattle.mml_board.proofs.MonitorLemmas.{around_refreshed, none_touched, privileged-is}
+use Rattle.std.specs.FinSet as sets
 use Rattle.mml_board.proofs.monitor.refresh.Goals as goal
 
 pub loop-node-preserved : goal.loop-node-preserved

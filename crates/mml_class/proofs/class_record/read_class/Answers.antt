@@ -1,5 +1,4 @@
-use Rattle.std.proofs.Common.{◌≡◌, ◌+◌, ◌≤◌, refl, arith}
-use Rattle.std.proofs.lemmas.Result.{err_from_is_err_and}
+use Rattle.std.proofs.{Common.◌≡◌, Common.◌+◌, Common.◌≤◌, Common.refl, Common.arith, lemmas.Result.err_from_is_err_and}
 use Rattle.mml_class.proofs.ClassLemmas.{first_seat, next_seat, bad_seat, passed, misgranted}
 use Rattle.mml_class.proofs.class_record.read_class.Goals as goal
 

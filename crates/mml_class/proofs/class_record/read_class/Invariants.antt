@@ -1,6 +1,5 @@
 use Rattle.std.proofs.Common.{ℕ, List}
-use Rattle.mml_class.specs.Classes.{Tell}
-use Rattle.mml_class.specs.inside.Seats.{AreReadSoFar}
+use Rattle.mml_class.specs.{Classes.Tell, inside.Seats.AreReadSoFar}
 use Rattle.mml_class.proofs.class_record.read_class.Given as goal
 
 abbrev pub invariant-seats : goal.invariant-seats

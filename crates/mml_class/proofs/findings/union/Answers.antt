@@ -1,8 +1,6 @@
-use Rattle.std.proofs.Common.{arith}
-use Rattle.std.specs.FinSet as sets
-use Rattle.std.specs.Prelude.{◌||◌}
-use Rattle.std.proofs.lemmas.Bool.Decides.{nat_tests}
+use Rattle.std.{proofs.Common.arith, proofs.lemmas.Bool.Decides.nat_tests, specs.Prelude.◌||◌}
 use Rattle.mml_class.proofs.UnionLemmas.{one_moved, all_moved}
+use Rattle.std.specs.FinSet as sets
 use Rattle.mml_class.proofs.findings.union.Goals as goal
 
 pub ranks-preserved : goal.ranks-preserved

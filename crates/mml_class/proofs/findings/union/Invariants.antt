@@ -1,5 +1,4 @@
-use Rattle.std.proofs.Common.{◌≡◌, ℕ}
-use Rattle.std.specs.Prelude.{◌||◌}
+use Rattle.std.{proofs.Common.◌≡◌, proofs.Common.ℕ, specs.Prelude.◌||◌}
 use Rattle.std.specs.FinSet as sets
 use Rattle.mml_class.proofs.findings.union.Given as goal
 

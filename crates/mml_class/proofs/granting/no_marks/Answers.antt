@@ -1,5 +1,4 @@
-use Rattle.std.proofs.Common.{arith}
-use Rattle.std.proofs.lemmas.Grind.{common_steps}
+use Rattle.std.proofs.{Common.arith, lemmas.Grind.common_steps}
 use Rattle.mml_class.proofs.GrantingLemmas.{unmarked_more}
 use Rattle.mml_class.proofs.granting.no_marks.Goals as goal
 

@@ -1,8 +1,7 @@
 use Rattle.std.proofs.Common.{◌≡◌, ◌++◌, [], drop, map}
 use Rattle.json.specs.Tree.{json_tokens, members_tokens}
 use Rattle.serde_json.specs.Written.{outline, members_outline}
-use Rattle.mml_codec.specs.Fields.{members_of, object_of}
-use Rattle.mml_codec.specs.inside.FieldViews.{field_view}
+use Rattle.mml_codec.specs.{Fields.members_of, Fields.object_of, inside.FieldViews.field_view}
 use Rattle.mml_codec.proofs.object.object_text.Given as goal
 
 abbrev pub invariant-loop-member : goal.invariant-loop-member

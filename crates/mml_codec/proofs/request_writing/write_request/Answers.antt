@@ -1,6 +1,5 @@
 use Rattle.std.proofs.Common.{◌≡◌, ap, ◌∙◌, rules}
-use Rattle.mml_codec.specs.Canonical.{canonical}
-use Rattle.mml_codec.specs.Lines.{request_in}
+use Rattle.mml_codec.specs.{Canonical.canonical, Lines.request_in}
 use Rattle.mml_codec.proofs.CanonicalLemmas.{request_in-canonical}
 use Rattle.mml_codec.proofs.request_writing.write_request.Goals as goal
 

@@ -1,6 +1,5 @@
 use Rattle.std.proofs.Common.{arith, ap, refl}
-use Rattle.mml_hall.proofs.ScriptsLemmas.{nothing_yet, sent_on, one_more, finished_so, bad_so, unread_so, unwritten_so, unflushed_so, bad_unflushed_so}
-use Rattle.mml_hall.proofs.ScriptsLemmas.{write_told}
+use Rattle.mml_hall.proofs.ScriptsLemmas.{nothing_yet, sent_on, one_more, finished_so, bad_so, unread_so, unwritten_so, unflushed_so, bad_unflushed_so, write_told}
 use Rattle.mml_hall.proofs.script.answer_lines.Goals as goal
 
 pub loop-hall-init : goal.loop-hall-init

@@ -1,8 +1,6 @@
 use Rattle.std.proofs.Common.{◌≡◌, ◌≤◌, ◌<◌, ◌+◌, ◌*◌, None, length}
-use Rattle.mml_lines.specs.declared.lines.TheConstants.{MAX_READS, READ_SIZE}
-use Rattle.mml_lines.specs.LinesState.{bytes_ahead}
-use Rattle.std.specs.Vec.{vec_capacity}
-use Rattle.std.specs.Io.KnownBytes.{prepend_known}
+use Rattle.mml_lines.specs.{declared.lines.TheConstants.MAX_READS, declared.lines.TheConstants.READ_SIZE, LinesState.bytes_ahead}
+use Rattle.std.specs.{Vec.vec_capacity, Io.KnownBytes.prepend_known}
 use Rattle.mml_codec.specs.declared.reply.TheConstants.{REPLY_ROOM}
 use Rattle.mml_hall.specs.declared.TheConstants.{MAX_SCRIPT_LINE}
 use Rattle.mml_hall.proofs.ScriptsLemmas.{AnsweredSoFar}

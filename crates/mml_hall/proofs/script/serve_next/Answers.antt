@@ -1,9 +1,7 @@
-use Rattle.std.proofs.Common.{◌∷◌, [], ◌∙◌, refl, length, arith, length-append}
-use Rattle.std.specs.Io.KnownBytes.{prepend_known}
+use Rattle.std.{proofs.Common.◌∷◌, proofs.Common.[], proofs.Common.◌∙◌, proofs.Common.refl, proofs.Common.length, proofs.Common.arith, proofs.Common.length-append, specs.Io.KnownBytes.prepend_known}
 use Rattle.mml_ids.specs.Lines.{ended}
 use Rattle.mml_lines.specs.declared.lines.TheConstants.{MAX_READS}
-use Rattle.mml_hall.proofs.ScriptLinesLemmas.{too_long}
-use Rattle.mml_hall.proofs.ServingLemmas.{serves_next, bad_next, none_unsent, nearer}
+use Rattle.mml_hall.proofs.{ScriptLinesLemmas.too_long, ServingLemmas.serves_next, ServingLemmas.bad_next, ServingLemmas.none_unsent, ServingLemmas.nearer}
 use Rattle.mml_hall.proofs.script.serve_next.Goals as goal
 
 pub returns-in-Line-clause-serves : goal.returns-in-Line-clause-serves

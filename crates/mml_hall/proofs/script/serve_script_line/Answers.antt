@@ -2,8 +2,7 @@ use Rattle.std.proofs.Common.{refl, Ok}
 use Rattle.mml_codec.specs.Replies.{reply_line}
 use Rattle.mml_lines.proofs.SendingLemmas.{nothing_sent}
 use Rattle.mml_hall.specs.ScriptLines.{line_of}
-use Rattle.mml_hall.proofs.ServingLemmas.{serves_line}
-use Rattle.mml_hall.proofs.TurnsLemmas.{told_turn}
+use Rattle.mml_hall.proofs.{ServingLemmas.serves_line, TurnsLemmas.told_turn}
 use Rattle.mml_hall.proofs.script.serve_script_line.Goals as goal
 
 pub returns-then-append-clause-serves : goal.returns-then-append-clause-serves

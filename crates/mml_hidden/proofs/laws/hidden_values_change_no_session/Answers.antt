@@ -1,7 +1,6 @@
 use Rattle.mml_hidden.proofs.SessionsLemmas.{session_both, session_bytes}
+use Rattle.std.proofs.{lemmas.Bool.Decides.nat_tests, Common.arith}
 use Rattle.mml_hidden.proofs.laws.hidden_values_change_no_session.Goals as goal
-use Rattle.std.proofs.lemmas.Bool.Decides.{nat_tests}
-use Rattle.std.proofs.Common.{arith}
 
 pub returns-clause-replies : goal.returns-clause-replies
 returns-clause-replies c lab other s st su lines rs qs end fin one two is too twins known alike = grind (arith, nat_tests, session_both)

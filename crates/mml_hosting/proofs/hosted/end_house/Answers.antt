@@ -1,5 +1,4 @@
-use Rattle.std.proofs.Common.{rules, ◌≡◌, ◌++◌}
-use Rattle.std.proofs.lemmas.List.Sums.{AllPass-from_list_all}
+use Rattle.std.proofs.{Common.rules, Common.◌≡◌, Common.◌++◌, lemmas.List.Sums.AllPass-from_list_all}
 use Rattle.mml_hosting.specs.Ports.{windows_of}
 use Rattle.mml_hosting.proofs.hosted.end_house.Goals as goal
 

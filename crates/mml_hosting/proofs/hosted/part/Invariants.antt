@@ -1,5 +1,4 @@
-use Rattle.std.proofs.Common.{◌≡◌, ◌≤◌, ◌+◌, ◌++◌, length, vec_len, vec_capacity}
-use Rattle.std.specs.Vec.Iter.{into_iter_items}
+use Rattle.std.{proofs.Common.◌≡◌, proofs.Common.◌≤◌, proofs.Common.◌+◌, proofs.Common.◌++◌, proofs.Common.length, proofs.Common.vec_len, proofs.Common.vec_capacity, specs.Vec.Iter.into_iter_items}
 use Rattle.mml_hosting.specs.Ports.{records_of, windows_of}
 use Rattle.mml_hosting.proofs.hosted.part.Given as goal
 

@@ -1,7 +1,5 @@
-use Rattle.std.proofs.Common.{◌≡◌, ◌∷◌, length, refl, subst}
-use Rattle.std.specs.Io.KnownBytes.{Appends}
-use Rattle.mml_board.specs.World.{World}
-use Rattle.mml_board.specs.Lists.{world_in}
+use Rattle.std.{proofs.Common.◌≡◌, proofs.Common.◌∷◌, proofs.Common.length, proofs.Common.refl, proofs.Common.subst, specs.Io.KnownBytes.Appends}
+use Rattle.mml_board.specs.{World.World, Lists.world_in}
 use Rattle.mml_serving.specs.Closings.{done_line}
 use Rattle.mml_hosting.specs.Seats.{kept_from}
 use Rattle.mml_hosting.proofs.HouseLemmas.{are_given}

@@ -8,7 +8,4 @@ ghosts-host_in_house-H-House g a = record { name = a.house.name; lab = a.house.l
 
 -- the events that came before, and what the recorders had kept
 abbrev pub ghosts-host_in_house-H-Begun : goal.ghosts-host_in_house-H-Begun
-ghosts-host_in_house-H-Begun g a = record {
-  begun = a.house.begun;
-  given = kept_from g.C.Recorder.kept 1 (a.recorders.at_desk ∷ a.recorders.others.items);
-}
+ghosts-host_in_house-H-Begun g a = record { begun = a.house.begun; given = kept_from g.C.Recorder.kept 1 (a.recorders.at_desk ∷ a.recorders.others.items) }

@@ -1,10 +1,8 @@
-use Rattle.std.proofs.Common.{rules, ◌≡◌, [], ◌∷◌, Some, refl, arith, vec_len}
-use Rattle.std.proofs.lemmas.List.Elements.{All-pop}
+use Rattle.std.proofs.{Common.rules, Common.◌≡◌, Common.[], Common.◌∷◌, Common.Some, Common.refl, Common.arith, Common.vec_len, lemmas.List.Elements.All-pop}
 use Rattle.mml_window.specs.Windows.{window}
 use Rattle.std.specs.Vec.Iter.{into_iter_items}
 use Rattle.mml_hosting.specs.Hosting.{IsUnused}
-use Rattle.mml_hosting.proofs.HouseLemmas.{numbers_more}
-use Rattle.mml_hosting.proofs.SeatLemmas.{all_more}
+use Rattle.mml_hosting.proofs.{HouseLemmas.numbers_more, SeatLemmas.all_more}
 use Rattle.mml_hosting.proofs.hosted.seats_over.Goals as goal
 
 pub loop-recorder-preserved : goal.loop-recorder-preserved

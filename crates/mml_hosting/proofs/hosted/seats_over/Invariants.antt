@@ -1,10 +1,7 @@
 use Rattle.std.proofs.Common.{◌≡◌, ◌≤◌, ◌+◌, [], All, length, vec_len, vec_capacity}
-use Rattle.std.specs.List.{range_with_len}
-use Rattle.std.specs.Vec.Iter.{into_iter_items}
+use Rattle.std.specs.{List.range_with_len, Vec.Iter.into_iter_items}
 use Rattle.mml_window.specs.Windows.{window}
-use Rattle.mml_hosting.specs.Seats.{AreGiven}
-use Rattle.mml_hosting.specs.Ports.{numbers_of, records_of}
-use Rattle.mml_hosting.specs.Hosting.{IsUnused}
+use Rattle.mml_hosting.specs.{Seats.AreGiven, Ports.numbers_of, Ports.records_of, Hosting.IsUnused}
 use Rattle.mml_hosting.proofs.hosted.seats_over.Given as goal
 
 abbrev pub invariant-loop-recorder : goal.invariant-loop-recorder

@@ -1,6 +1,4 @@
-use Rattle.std.proofs.Common.{rules, ◌≡◌, ◌<◌, All, length, get_or, subst}
-use Rattle.std.proofs.lemmas.List.{take_all}
-use Rattle.std.proofs.lemmas.List.Elements.{All-more}
+use Rattle.std.proofs.{Common.rules, Common.◌≡◌, Common.◌<◌, Common.All, Common.length, Common.get_or, Common.subst, lemmas.List.take_all, lemmas.List.Elements.All-more}
 use Rattle.mml_hosting.specs.declared.port_serving.Busy.{Busy}
 use Rattle.mml_hosting.proofs.port_serving.cut_off_all.Goals as goal
 

@@ -1,5 +1,4 @@
-use Rattle.std.proofs.Common.{Some}
-use Rattle.std.proofs.lemmas.List.Elements.{All-pop}
+use Rattle.std.proofs.{Common.Some, lemmas.List.Elements.All-pop}
 use Rattle.mml_hosting.specs.Seats.{IsSeat}
 use Rattle.mml_hosting.proofs.SeatLemmas.{all_more}
 use Rattle.mml_hosting.proofs.port_serving.next_free.Goals as goal

@@ -1,5 +1,4 @@
-use Rattle.std.proofs.Common.{◌≡◌, ◌&&◌, refl, sym}
-use Rattle.std.proofs.lemmas.List.{map-append}
+use Rattle.std.proofs.{Common.◌≡◌, Common.◌&&◌, Common.refl, Common.sym, lemmas.List.map-append}
 use Rattle.mml_hosting.specs.Seats.{is_teachers_bye, terms}
 use Rattle.mml_hosting.proofs.SeatLemmas.{led_more, dismissed_so, going_on_so}
 use Rattle.mml_hosting.proofs.seat.serve_in.Goals as goal

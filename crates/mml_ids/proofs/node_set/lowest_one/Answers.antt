@@ -1,6 +1,4 @@
-use Rattle.std.proofs.Common.{◌≡◌, ◌<◌, w64, subst, sym, arith}
-use Rattle.std.specs.Int.{bit_at}
-use Rattle.std.proofs.lemmas.Nat.Bits.{bit_at-trailing_zeros}
+use Rattle.std.{proofs.Common.◌≡◌, proofs.Common.◌<◌, proofs.Common.w64, proofs.Common.subst, proofs.Common.sym, proofs.Common.arith, proofs.lemmas.Nat.Bits.bit_at-trailing_zeros, specs.Int.bit_at}
 use Rattle.mml_ids.proofs.node_set.lowest_one.Goals as goal
 
 pub returns-else-word-eq0-clause-one : goal.returns-else-word-eq0-clause-one

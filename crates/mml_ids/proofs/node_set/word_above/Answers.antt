@@ -1,7 +1,5 @@
-use Rattle.std.proofs.Common.{◌+◌, ◌*◌, ◌-◌, ◌^◌, ◌<◌, ◌∙◌, sym, arith}
+use Rattle.std.proofs.{Common.◌+◌, Common.◌*◌, Common.◌-◌, Common.◌^◌, Common.◌<◌, Common.◌∙◌, Common.sym, Common.arith, lemmas.Bool.lt-ltb, lemmas.Bool.eq-eqb, lemmas.Nat.Bits.bit_at_ones}
 use Rattle.std.specs.Int.{bit_at}
-use Rattle.std.proofs.lemmas.Bool.{lt-ltb, eq-eqb}
-use Rattle.std.proofs.lemmas.Nat.Bits.{bit_at_ones}
 use Rattle.mml_ids.proofs.NodeSetLemmas.{bit-ones_above, ltb_within}
 use Rattle.mml_ids.proofs.node_set.word_above.Goals as goal
 

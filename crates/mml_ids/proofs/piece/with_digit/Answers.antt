@@ -1,5 +1,4 @@
-use Rattle.std.proofs.Common.{◌++◌, ap, sym, ◌∙◌}
-use Rattle.std.proofs.lemmas.Fmt.{decimal_digit}
+use Rattle.std.proofs.{Common.◌++◌, Common.ap, Common.sym, Common.◌∙◌, lemmas.Fmt.decimal_digit}
 use Rattle.mml_ids.proofs.piece.with_digit.Goals as goal
 
 pub returns-clause-text : goal.returns-clause-text

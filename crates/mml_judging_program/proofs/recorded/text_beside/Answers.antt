@@ -1,6 +1,5 @@
 use Rattle.std.proofs.Common.{◌≡◌, ◌++◌}
-use Rattle.mml_tally.specs.RecordTexts.{recorded_text}
-use Rattle.mml_tally.specs.Rounds.{rounds_line}
+use Rattle.mml_tally.specs.{RecordTexts.recorded_text, Rounds.rounds_line}
 use Rattle.mml_judging_program.specs.Classes.{IsTallied}
 use Rattle.mml_judging_program.proofs.ClassLemmas.{weaker_ok, tallied}
 use Rattle.mml_judging_program.proofs.recorded.text_beside.Goals as goal

@@ -1,6 +1,5 @@
 use Rattle.std.proofs.Common.{◌≡◌, length}
-use Rattle.mml_judging_program.specs.Verifying.{verified_text}
-use Rattle.mml_judging_program.specs.Classes.{IsVerified}
+use Rattle.mml_judging_program.specs.{Verifying.verified_text, Classes.IsVerified}
 use Rattle.mml_judging_program.proofs.ClassLemmas.{weaker_ok, verified}
 use Rattle.mml_judging_program.proofs.verifying.text_beside.Goals as goal
 

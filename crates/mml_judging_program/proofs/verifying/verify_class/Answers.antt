@@ -1,5 +1,4 @@
-use Rattle.std.proofs.Common.{refl}
-use Rattle.std.proofs.lemmas.Result.{err_from_is_err_and}
+use Rattle.std.proofs.{Common.refl, lemmas.Result.err_from_is_err_and}
 use Rattle.mml_judging_program.specs.Classes.{IsVerified}
 use Rattle.mml_judging_program.proofs.ClassLemmas.{all_written, part_written, none_written}
 use Rattle.mml_judging_program.proofs.verifying.verify_class.Goals as goal

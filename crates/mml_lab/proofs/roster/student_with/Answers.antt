@@ -1,6 +1,5 @@
 use Rattle.std.proofs.{Common.map, Common.arith, lemmas.List.length-map}
-use Rattle.mml_lab.specs.AccountView.{entry_account}
-use Rattle.mml_lab.specs.Rosters.{has_name_and_key, no_account}
+use Rattle.mml_lab.specs.{AccountView.entry_account, Rosters.has_name_and_key, Rosters.no_account}
 use Rattle.mml_lab.proofs.SearchedLemmas.{IsSoFar, at_start, at_first, at_later, at_other, at_end, is_within}
 use Rattle.mml_lab.proofs.roster.student_with.Goals.{then-is_at+then-is_none, else-is_at, else-is_at-via-then-is_at+else-is_none, else-is_at-via-else-is_at}
 use Rattle.mml_lab.proofs.roster.student_with.Goals as goal

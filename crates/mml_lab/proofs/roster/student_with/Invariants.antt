@@ -1,6 +1,5 @@
 use Rattle.std.proofs.Common.{map}
-use Rattle.mml_lab.specs.AccountView.{entry_account}
-use Rattle.mml_lab.specs.Rosters.{has_name_and_key, no_account}
+use Rattle.mml_lab.specs.{AccountView.entry_account, Rosters.has_name_and_key, Rosters.no_account}
 use Rattle.mml_lab.proofs.SearchedLemmas.{IsSoFar}
 use Rattle.mml_lab.proofs.roster.student_with.Given as goal
 

@@ -1,7 +1,6 @@
 use Rattle.std.proofs.Common.{◌≡◌, map, take}
-use Rattle.mml_lab_file.specs.inside.Raw.{node_view}
+use Rattle.mml_lab_file.specs.{inside.Raw.node_view, Reading.owners_with}
 use Rattle.mml_lab.specs.AccountView.{entry_account}
-use Rattle.mml_lab_file.specs.Reading.{owners_with}
 use Rattle.mml_lab_file.proofs.build.owners.Given as goal
 
 abbrev pub invariant-loop-index : goal.invariant-loop-index

@@ -1,9 +1,7 @@
 use Rattle.std.proofs.Common.{◌∙◌, ap, map, [], Option, Result, string_bytes, arith}
 use Rattle.std.specs.{Prelude.option_map, Prelude.IfOk, Option.option_map_or}
-use Rattle.mml_lab_file.specs.Shape.{NodeSpec}
-use Rattle.mml_lab_file.specs.inside.Raw.{node_view}
+use Rattle.mml_lab_file.specs.{Shape.NodeSpec, inside.Raw.node_view, Reading.student_index, Reading.owners_in}
 use Rattle.mml_lab.specs.AccountView.{entry_account}
-use Rattle.mml_lab_file.specs.Reading.{student_index, owners_in}
 use Rattle.mml_ids.proofs.MapLemmas.{map-map}
 use Rattle.mml_lab_file.proofs.RawLemmas.{node_with-read}
 use Rattle.mml_lab_file.proofs.build.owners_with.Goals as goal

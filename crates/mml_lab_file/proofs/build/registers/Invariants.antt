@@ -1,6 +1,5 @@
 use Rattle.std.proofs.Common.{◌≡◌, map, take}
-use Rattle.mml_lab_file.specs.inside.Raw.{node_view}
-use Rattle.mml_lab_file.specs.Reading.{registers_with}
+use Rattle.mml_lab_file.specs.{inside.Raw.node_view, Reading.registers_with}
 use Rattle.mml_lab_file.proofs.build.registers.Given as goal
 
 abbrev pub invariant-loop-index : goal.invariant-loop-index

@@ -1,8 +1,6 @@
 use Rattle.std.{proofs.Common.◌∙◌, proofs.Common.ap, proofs.Common.Option, specs.Prelude.option_map, specs.Option.option_map_or}
 use Rattle.mml_rules.specs.Network.{no_regs}
-use Rattle.mml_lab_file.specs.Shape.{NodeSpec}
-use Rattle.mml_lab_file.specs.inside.Raw.{node_view}
-use Rattle.mml_lab_file.specs.Reading.{registers_in}
+use Rattle.mml_lab_file.specs.{Shape.NodeSpec, inside.Raw.node_view, Reading.registers_in}
 use Rattle.mml_lab_file.proofs.RawLemmas.{node_with-read}
 use Rattle.mml_lab_file.proofs.build.registers_with.Goals as goal
 

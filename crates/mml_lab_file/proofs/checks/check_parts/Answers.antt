@@ -1,7 +1,6 @@
 use Rattle.std.proofs.Common.{◌∙◌, ap, map, sym}
 use Rattle.mml_lab.specs.AccountView.{account_view, entry_account}
-use Rattle.mml_lab_file.specs.inside.Raw.{node_view}
-use Rattle.mml_lab_file.specs.Reading.{pass_unless, limited}
+use Rattle.mml_lab_file.specs.{inside.Raw.node_view, Reading.pass_unless, Reading.limited}
 use Rattle.mml_lab_file.proofs.ChecksLemmas.{gathered}
 use Rattle.mml_lab_file.proofs.checks.check_parts.Goals as goal
 

@@ -1,6 +1,5 @@
 use Rattle.std.{proofs.Common.◌∙◌, proofs.Common.ap, proofs.Common.map, proofs.Common.not, proofs.Common.string_bytes, specs.List.list_any}
-use Rattle.mml_lab.specs.AccountView.{entry_account}
-use Rattle.mml_lab.specs.Rosters.{has_name}
+use Rattle.mml_lab.specs.{AccountView.entry_account, Rosters.has_name}
 use Rattle.mml_ids.proofs.MapLemmas.{list_any-map}
 use Rattle.mml_lab_file.proofs.checks.lacks_owner.Goals as goal
 

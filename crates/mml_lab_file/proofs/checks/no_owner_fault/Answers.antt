@@ -1,7 +1,6 @@
 use Rattle.std.proofs.Common.{◌≡◌, ◌∙◌, ap, map, option_map, rules}
-use Rattle.mml_lab_file.specs.inside.Raw.{node_view}
+use Rattle.mml_lab_file.specs.{inside.Raw.node_view, Reading.lacks_owner, Reading.no_owner_fault}
 use Rattle.mml_lab.specs.AccountView.{entry_account}
-use Rattle.mml_lab_file.specs.Reading.{lacks_owner, no_owner_fault}
 use Rattle.mml_ids.proofs.MapLemmas.{position-map}
 use Rattle.mml_lab.specs.declared.lab_fault.LabFault.TheVariants as fault
 use Rattle.mml_lab_file.proofs.checks.no_owner_fault.Goals as goal

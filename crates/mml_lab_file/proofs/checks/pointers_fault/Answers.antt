@@ -1,6 +1,5 @@
 use Rattle.std.proofs.Common.{◌≡◌, ◌∙◌, ap, option_map, rules}
-use Rattle.mml_lab_file.specs.inside.Raw.{node_view}
-use Rattle.mml_lab_file.specs.Reading.{points_at_unlinked, pointers_fault}
+use Rattle.mml_lab_file.specs.{inside.Raw.node_view, Reading.points_at_unlinked, Reading.pointers_fault}
 use Rattle.mml_ids.proofs.MapLemmas.{position-map}
 use Rattle.mml_lab.specs.declared.lab_fault.LabFault.TheVariants as fault
 use Rattle.mml_lab_file.proofs.checks.pointers_fault.Goals as goal

@@ -1,7 +1,6 @@
 use Rattle.std.proofs.Common.{◌≡◌, ◌∙◌, ap, sym, map, suc, not, false, rules, arith}
 use Rattle.std.specs.Prelude.{option_map}
-use Rattle.mml_lab.specs.AccountView.{account_view}
-use Rattle.mml_lab.specs.Rosters.{is_account}
+use Rattle.mml_lab.specs.{AccountView.account_view, Rosters.is_account}
 use Rattle.mml_ids.proofs.MapLemmas.{position-map, position-first, position-later}
 use Rattle.mml_lab_file.proofs.forms.first_malformed.Goals as goal
 

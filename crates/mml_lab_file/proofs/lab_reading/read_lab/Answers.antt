@@ -1,5 +1,4 @@
-use Rattle.mml_lab_file.specs.inside.Raw.{raw_view}
-use Rattle.mml_lab_file.specs.inside.ChecksView.{checked_view}
+use Rattle.mml_lab_file.specs.inside.{Raw.raw_view, ChecksView.checked_view}
 use Rattle.mml_lab_file.proofs.LabInLemmas.{lawful_from}
 use Rattle.mml_lab_file.proofs.lab_reading.read_lab.Goals as goal
 

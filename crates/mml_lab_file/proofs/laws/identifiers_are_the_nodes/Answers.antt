@@ -1,7 +1,5 @@
 use Rattle.mml_lab_file.specs.Reading.{lab_in}
-use Rattle.mml_lab_file.proofs.LabFaultLemmas.{faultless}
-use Rattle.mml_lab_file.proofs.LabInLemmas.{table}
-use Rattle.mml_lab_file.proofs.LabMeaningLemmas.{ids-same}
+use Rattle.mml_lab_file.proofs.{LabFaultLemmas.faultless, LabInLemmas.table, LabMeaningLemmas.ids-same}
 use Rattle.mml_lab_file.proofs.laws.identifiers_are_the_nodes.Goals as goal
 
 pub returns-clause-table : goal.returns-clause-table

@@ -1,5 +1,4 @@
-use Rattle.mml_lab_file.proofs.LabOfLemmas.{twice-told}
-use Rattle.mml_lab_file.proofs.LinksFaultLemmas.{twice-fault, twice-none}
+use Rattle.mml_lab_file.proofs.{LabOfLemmas.twice-told, LinksFaultLemmas.twice-fault, LinksFaultLemmas.twice-none}
 use Rattle.mml_lab_file.proofs.laws.link_twice_is_the_first.Goals as goal
 
 pub returns : goal.returns

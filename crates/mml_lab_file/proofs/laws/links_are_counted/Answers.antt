@@ -1,5 +1,4 @@
-use Rattle.mml_lab_file.proofs.LabFaultLemmas.{faultless}
-use Rattle.mml_lab_file.proofs.LinkCountLemmas.{links-counted}
+use Rattle.mml_lab_file.proofs.{LabFaultLemmas.faultless, LinkCountLemmas.links-counted}
 use Rattle.mml_lab_file.proofs.laws.links_are_counted.Goals as goal
 
 pub returns : goal.returns

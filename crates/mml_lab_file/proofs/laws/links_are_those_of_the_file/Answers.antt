@@ -1,6 +1,5 @@
 use Rattle.mml_lab_file.specs.Reading.{lab_in, network_in}
-use Rattle.mml_lab_file.proofs.LabFaultLemmas.{faultless}
-use Rattle.mml_lab_file.proofs.LabMeaningLemmas.{links-are}
+use Rattle.mml_lab_file.proofs.{LabFaultLemmas.faultless, LabMeaningLemmas.links-are}
 use Rattle.mml_lab_file.proofs.laws.links_are_those_of_the_file.Goals as goal
 
 pub returns : goal.returns

@@ -1,6 +1,4 @@
-use Rattle.mml_lab_file.proofs.LabFaultLemmas.{faultless}
-use Rattle.mml_lab_file.proofs.LabMeaningLemmas.{all-join}
-use Rattle.mml_lab_file.proofs.LinksFaultLemmas.{none-means}
+use Rattle.mml_lab_file.proofs.{LabFaultLemmas.faultless, LabMeaningLemmas.all-join, LinksFaultLemmas.none-means}
 use Rattle.mml_lab_file.proofs.laws.links_join_two_nodes.Goals as goal
 
 pub returns : goal.returns

@@ -1,6 +1,5 @@
 use Rattle.mml_lab_file.specs.Reading.{lab_in, network_in}
-use Rattle.mml_lab_file.proofs.LabFaultLemmas.{faultless}
-use Rattle.mml_lab_file.proofs.LabMeaningLemmas.{m-is, p-null, p-is}
+use Rattle.mml_lab_file.proofs.{LabFaultLemmas.faultless, LabMeaningLemmas.m-is, LabMeaningLemmas.p-null, LabMeaningLemmas.p-is}
 use Rattle.mml_lab_file.proofs.laws.registers_are_those_of_the_file.Goals as goal
 
 pub returns-clause-m : goal.returns-clause-m

@@ -1,5 +1,4 @@
-use Rattle.mml_lab_file.proofs.LabOfLemmas.{no_memory_of_ids, no_memory}
-use Rattle.mml_lab_file.proofs.NoMemoryLemmas.{spells_no_memory, spells_no_memory_of_ids}
+use Rattle.mml_lab_file.proofs.{LabOfLemmas.no_memory_of_ids, LabOfLemmas.no_memory, NoMemoryLemmas.spells_no_memory, NoMemoryLemmas.spells_no_memory_of_ids}
 use Rattle.mml_lab_file.proofs.laws.want_of_memory_is_no_fault.Goals as goal
 
 pub returns : goal.returns

@@ -1,7 +1,6 @@
 use Rattle.std.{proofs.Common.◌≡◌, proofs.Common.◌∙◌, proofs.Common.rules, specs.List.list_any, specs.Ordering.int_eq}
 use Rattle.mml_ids.proofs.MapLemmas.{list_any-map}
-use Rattle.mml_lab_file.specs.Shape.{NodeSpec}
-use Rattle.mml_lab_file.specs.inside.Raw.{node_view}
+use Rattle.mml_lab_file.specs.{Shape.NodeSpec, inside.Raw.node_view}
 use Rattle.mml_lab_file.proofs.links.is_node.Goals as goal
 
 pub returns : goal.returns

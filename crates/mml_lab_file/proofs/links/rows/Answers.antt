@@ -2,10 +2,8 @@ use Rattle.std.proofs.Common.{◌≡◌, ◌||◌, ◌&&◌, ◌++◌, ◌∙◌
 use Rattle.std.proofs.lemmas.List.{take_at, get_or_default}
 use Rattle.mml_ids.proofs.SearchLemmas.{first_next}
 use Rattle.mml_rules.specs.{Configuration.holds, Network.neighbours_at}
-use Rattle.mml_lab_file.specs.Reading.{is_link_again}
-use Rattle.mml_lab_file.specs.inside.Checks.{rank_at, are_near}
-use Rattle.mml_lab_file.proofs.NeighboursLemmas.{no_rows, one_more}
-use Rattle.mml_lab_file.proofs.ChecksLemmas.{again-at, again-found, again-none, all-rows}
+use Rattle.mml_lab_file.specs.{Reading.is_link_again, inside.Checks.rank_at, inside.Checks.are_near}
+use Rattle.mml_lab_file.proofs.{NeighboursLemmas.no_rows, NeighboursLemmas.one_more, ChecksLemmas.again-at, ChecksLemmas.again-found, ChecksLemmas.again-none, ChecksLemmas.all-rows}
 use Rattle.std.specs.FinSet as sets
 use Rattle.mml_lab_file.proofs.links.rows.Goals as goal
 

@@ -1,7 +1,6 @@
 use Rattle.std.proofs.Common.{◌≡◌, drop, map}
 use Rattle.toml.specs.View.{items_view}
-use Rattle.mml_lab_file.specs.inside.Raw.{node_view}
-use Rattle.mml_lab_file.specs.Shape.{each, node_of}
+use Rattle.mml_lab_file.specs.{inside.Raw.node_view, Shape.each, Shape.node_of}
 use Rattle.mml_lab_file.proofs.EachLemmas.{with_front}
 use Rattle.mml_lab_file.proofs.raw_lab.nodes.Given as goal
 

@@ -1,5 +1,4 @@
-use Rattle.std.proofs.Common.{refl, arith}
-use Rattle.std.proofs.lemmas.List.{ext_get_or}
+use Rattle.std.proofs.{Common.refl, Common.arith, lemmas.List.ext_get_or}
 use Rattle.mml_lab_file.proofs.sameness.has_same_ids.Goals as goal
 
 pub returns : goal.returns

@@ -1,5 +1,4 @@
-use Rattle.std.proofs.Common.{◌≤◌, ◌-◌, length, take}
-use Rattle.std.specs.Io.KnownBytes.{Appends}
+use Rattle.std.{proofs.Common.◌≤◌, proofs.Common.◌-◌, proofs.Common.length, proofs.Common.take, specs.Io.KnownBytes.Appends}
 use Rattle.mml_lines.proofs.write_fault.put_all.Given as goal
 
 abbrev pub invariant-loop-written : goal.invariant-loop-written

@@ -1,5 +1,4 @@
-use Rattle.std.proofs.Common.{arith, rules, sym, subst, refl}
-use Rattle.std.proofs.lemmas.Option.{IfSome_then}
+use Rattle.std.proofs.{Common.arith, Common.rules, Common.sym, Common.subst, Common.refl, lemmas.Option.IfSome_then}
 use Rattle.mml_plain.specs.Compact.{PutsKnown, PutsMember}
 use Rattle.mml_plain.proofs.CompactLemmas.{known_key, four_first}
 use Rattle.mml_plain.proofs.compact_reading.member.Goals as goal

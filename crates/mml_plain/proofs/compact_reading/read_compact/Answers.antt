@@ -1,8 +1,6 @@
 use Rattle.std.proofs.Common.{◌≡◌, ℕ, List, [], ◌∷◌, arith}
 use Rattle.serde_json.specs.Data.{Members, object, no_members, put}
-use Rattle.mml_plain.specs.declared.fields.Fields.{Fields}
-use Rattle.mml_plain.specs.Compact.{PutsMember}
-use Rattle.mml_plain.specs.Holds.{Holds}
+use Rattle.mml_plain.specs.{declared.fields.Fields.Fields, Compact.PutsMember, Holds.Holds}
 use Rattle.mml_plain.proofs.FieldsLemmas.{holds_with}
 use Rattle.mml_plain.proofs.CompactLemmas.{Before, After, alone, begun, comma, over, over_utf8, member}
 use Rattle.mml_plain.proofs.compact_reading.read_compact.Goals as goal

@@ -1,5 +1,4 @@
-use Rattle.std.proofs.Common.{refl}
-use Rattle.std.proofs.lemmas.Option.{IfSome_then}
+use Rattle.std.proofs.{Common.refl, lemmas.Option.IfSome_then}
 use Rattle.mml_plain.specs.declared.member_value.MemberValue.TheVariants.{Text}
 use Rattle.mml_plain.proofs.CompactLemmas as compact
 use Rattle.mml_plain.proofs.compact_reading.text_value.Goals as goal

@@ -1,7 +1,5 @@
 use Rattle.std.proofs.Common.{◌≡◌, ◌-◌, ◌<◌, ◌∷◌, length, Some, None, option_map, refl, sym, ap, ap₂, ◌∙◌, subst, arith}
-use Rattle.json.specs.Token.{Token}
-use Rattle.json.specs.Json.{parse_map, after_end_array}
-use Rattle.json.specs.Reads.{token_of}
+use Rattle.json.specs.{Token.Token, Json.parse_map, Json.after_end_array, Reads.token_of}
 use Rattle.json.proofs.Grammar.{value_is, read_key-shorter}
 use Rattle.serde_json.specs.Data.{item, no_members}
 use Rattle.mml_plain.specs.declared.member_value.MemberValue.TheVariants.{Null, Truth, Text}

@@ -3,11 +3,8 @@ use Rattle.std.specs.Bool.{MatchBool}
 use Rattle.json.specs.Json.{read_key}
 use Rattle.json.proofs.Grammar.{read_key-shorter}
 use Rattle.serde_json.specs.Data.{Members, object, no_members, put}
-use Rattle.mml_plain.specs.Reading.{if_over}
-use Rattle.mml_plain.specs.Holds.{Holds}
-use Rattle.mml_plain.specs.declared.fields.Fields.{Fields}
-use Rattle.mml_plain.proofs.FieldsLemmas.{holds_with}
-use Rattle.mml_plain.proofs.ReadingLemmas.{members_over, members_no_key, members_stuck, members_more}
+use Rattle.mml_plain.specs.{Reading.if_over, Holds.Holds, declared.fields.Fields.Fields}
+use Rattle.mml_plain.proofs.{FieldsLemmas.holds_with, ReadingLemmas.members_over, ReadingLemmas.members_no_key, ReadingLemmas.members_stuck, ReadingLemmas.members_more}
 use Rattle.mml_plain.proofs.reading.read_members.Goals as goal
 
 pub members-init : goal.members-init

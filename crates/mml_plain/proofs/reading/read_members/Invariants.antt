@@ -1,7 +1,6 @@
 use Rattle.std.proofs.Common.{◌≡◌, ℕ, ◌≤◌, length}
 use Rattle.serde_json.specs.Data.{Members, object, no_members}
-use Rattle.mml_plain.specs.Reading.{members_at}
-use Rattle.mml_plain.specs.Holds.{Holds}
+use Rattle.mml_plain.specs.{Reading.members_at, Holds.Holds}
 use Rattle.mml_plain.proofs.reading.read_members.Given as goal
 
 abbrev pub invariant-members : goal.invariant-members

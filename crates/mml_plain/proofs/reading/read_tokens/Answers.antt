@@ -1,13 +1,8 @@
 use Rattle.std.proofs.Common.{◌≡◌, List, ℕ, Bool, true, false, Some, None, Result, Ok, arith}
-use Rattle.std.specs.Bool.{MatchBool}
-use Rattle.std.specs.declared.alloc.AllocError.{AllocError}
-use Rattle.std.specs.Str.{IsUtf8}
-use Rattle.json.specs.Token.{Token}
-use Rattle.json.specs.Lex.{tokens}
+use Rattle.std.specs.{Bool.MatchBool, declared.alloc.AllocError.AllocError, Str.IsUtf8}
+use Rattle.json.specs.{Token.Token, Lex.tokens}
 use Rattle.serde_json.specs.Data.{Members, object}
-use Rattle.mml_plain.specs.Reading.{object_at, object_in}
-use Rattle.mml_plain.specs.Holds.{Holds}
-use Rattle.mml_plain.specs.declared.fields.Fields.{Fields}
+use Rattle.mml_plain.specs.{Reading.object_at, Reading.object_in, Holds.Holds, declared.fields.Fields.Fields}
 use Rattle.mml_plain.proofs.ReadingLemmas.{no_text, object_in_is}
 use Rattle.mml_plain.proofs.reading.read_tokens.Goals as goal
 

@@ -1,5 +1,4 @@
-use Rattle.mml_policy.proofs.CommandMeaningLemmas.{close_means}
-use Rattle.mml_policy.proofs.DeniedLemmas.{close_denied}
+use Rattle.mml_policy.proofs.{CommandMeaningLemmas.close_means, DeniedLemmas.close_denied}
 use Rattle.mml_policy.proofs.laws.a_close_takes_a_chosen_node.Goals as goal
 
 pub returns : goal.returns

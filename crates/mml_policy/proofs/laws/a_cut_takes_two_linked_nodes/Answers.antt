@@ -1,5 +1,4 @@
-use Rattle.mml_policy.proofs.CommandMeaningLemmas.{cut_means}
-use Rattle.mml_policy.proofs.DeniedLemmas.{cut_denied}
+use Rattle.mml_policy.proofs.{CommandMeaningLemmas.cut_means, DeniedLemmas.cut_denied}
 use Rattle.mml_policy.proofs.laws.a_cut_takes_two_linked_nodes.Goals as goal
 
 pub returns : goal.returns

@@ -1,5 +1,4 @@
-use Rattle.mml_policy.proofs.CommandMeaningLemmas.{fault_means}
-use Rattle.mml_policy.proofs.DeniedLemmas.{fault_denied}
+use Rattle.mml_policy.proofs.{CommandMeaningLemmas.fault_means, DeniedLemmas.fault_denied}
 use Rattle.mml_policy.proofs.laws.a_fault_takes_a_neighbour.Goals as goal
 
 pub returns : goal.returns

@@ -1,5 +1,4 @@
-use Rattle.mml_policy.proofs.MeaningLemmas.{move_means}
-use Rattle.mml_policy.proofs.MoveDeniedLemmas.{move_denied_exactly}
+use Rattle.mml_policy.proofs.{MeaningLemmas.move_means, MoveDeniedLemmas.move_denied_exactly}
 use Rattle.mml_policy.proofs.laws.a_move_takes_four_facts.Goals as goal
 
 pub returns-clause-granted : goal.returns-clause-granted

@@ -1,5 +1,4 @@
-use Rattle.mml_policy.proofs.CommandMeaningLemmas.{release_means}
-use Rattle.mml_policy.proofs.DeniedLemmas.{release_denied}
+use Rattle.mml_policy.proofs.{CommandMeaningLemmas.release_means, DeniedLemmas.release_denied}
 use Rattle.mml_policy.proofs.laws.a_release_takes_a_chosen_node.Goals as goal
 
 pub returns : goal.returns

@@ -1,5 +1,4 @@
-use Rattle.mml_policy.proofs.CommandMeaningLemmas.{report_means}
-use Rattle.mml_policy.proofs.DeniedLemmas.{report_denied}
+use Rattle.mml_policy.proofs.{CommandMeaningLemmas.report_means, DeniedLemmas.report_denied}
 use Rattle.mml_policy.proofs.laws.a_report_takes_the_teacher.Goals as goal
 
 pub returns-clause-shown : goal.returns-clause-shown

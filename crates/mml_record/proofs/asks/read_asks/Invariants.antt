@@ -1,9 +1,6 @@
-use Rattle.std.specs.Prelude.{IfSome}
-use Rattle.std.proofs.Common.{◌≡◌, ◌++◌, List, length}
+use Rattle.std.{specs.Prelude.IfSome, proofs.Common.◌≡◌, proofs.Common.◌++◌, proofs.Common.List, proofs.Common.length}
 use Rattle.mml_lab.specs.Rosters.{IsPrincipal}
-use Rattle.mml_record.specs.declared.kept_entry.Entry.{Entry}
-use Rattle.mml_record.specs.Entries.{record_text}
-use Rattle.mml_record.specs.Asks.{asks_in}
+use Rattle.mml_record.specs.{declared.kept_entry.Entry.Entry, Entries.record_text, Asks.asks_in}
 use Rattle.mml_record.proofs.AskReadingLemmas.{AreTidy, ReadSoFar}
 use Rattle.mml_record.proofs.asks.read_asks.Given as goal
 

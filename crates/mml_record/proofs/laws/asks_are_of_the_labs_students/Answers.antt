@@ -1,10 +1,9 @@
 use Rattle.std.proofs.Common.{None, length}
-use Rattle.mml_record.specs.declared.stage.Stage.TheVariants as stages
 use Rattle.mml_tally.specs.Asks.{is_malformed}
 use Rattle.mml_tally.proofs.AsksLemmas.{asks_sum, denied_sum}
 use Rattle.mml_record.specs.Asks.{asks_in}
-use Rattle.mml_record.proofs.AsksLemmas.{asked_of_rules}
-use Rattle.mml_record.proofs.AskersLemmas.{are_asks_of}
+use Rattle.mml_record.proofs.{AsksLemmas.asked_of_rules, AskersLemmas.are_asks_of}
+use Rattle.mml_record.specs.declared.stage.Stage.TheVariants as stages
 use Rattle.mml_record.proofs.laws.asks_are_of_the_labs_students.Goals as goal
 
 pub returns-clause-asks : goal.returns-clause-asks

@@ -1,9 +1,7 @@
-use Rattle.std.proofs.Common.{◌≡◌, [], List, arith, ap, length, length-drop}
-use Rattle.std.proofs.lemmas.List.Elements.{All-take}
+use Rattle.std.proofs.{Common.◌≡◌, Common.[], Common.List, Common.arith, Common.ap, Common.length, Common.length-drop, lemmas.List.Elements.All-take}
 use Rattle.mml_window.specs.Windows.{WindowValue, window}
 use Rattle.mml_serving.specs.Serving.{IsServed}
-use Rattle.mml_serving.proofs.EndingsLemmas.{early_so}
-use Rattle.mml_serving.proofs.ServingLemmas.{each_long, serves_windows}
+use Rattle.mml_serving.proofs.{EndingsLemmas.early_so, ServingLemmas.each_long, ServingLemmas.serves_windows}
 use Rattle.mml_serving.proofs.serving.serve_in_house.Goals as goal
 
 pub serve_all-requires-clause-fresh : goal.serve_all-requires-clause-fresh

@@ -2,8 +2,7 @@ use Rattle.std.proofs.Common.{◌≢◌, ◌<◌, refl, length, ◌++◌, [], ar
 use Rattle.mml_ids.specs.Lines.{ended}
 use Rattle.mml_lines.specs.declared.lines.TheConstants.{READ_SIZE}
 use Rattle.mml_session.specs.Turns.{standing}
-use Rattle.mml_session.proofs.ServingLemmas.{serves_next, unread_before}
-use Rattle.mml_session.proofs.RecordLemmas.{records_nil}
+use Rattle.mml_session.proofs.{ServingLemmas.serves_next, ServingLemmas.unread_before, RecordLemmas.records_nil}
 use Rattle.mml_session.proofs.session.serve_next.Goals as goal
 
 pub returns-in-Line-clause-serves : goal.returns-in-Line-clause-serves

@@ -1,14 +1,9 @@
 use Rattle.std.proofs.Common.{◌≡◌, ◌≤◌, ◌<◌, None, length, []}
-use Rattle.std.specs.Prelude.{IfSome}
-use Rattle.std.specs.Vec.{vec_capacity}
-use Rattle.std.specs.Io.KnownBytes.{prepend_known}
+use Rattle.std.specs.{Prelude.IfSome, Vec.vec_capacity, Io.KnownBytes.prepend_known}
 use Rattle.mml_lab.specs.Rosters.{IsPrincipal}
-use Rattle.mml_codec.specs.declared.TheConstants.{MAX_REQUEST}
-use Rattle.mml_codec.specs.declared.reply.TheConstants.{REPLY_ROOM}
+use Rattle.mml_codec.specs.declared.{TheConstants.MAX_REQUEST, reply.TheConstants.REPLY_ROOM}
 use Rattle.mml_session.specs.Turns.{standing}
-use Rattle.mml_lines.specs.LinesOf.{IsWithinLimit}
-use Rattle.mml_lines.specs.LinesState.{bytes_ahead}
-use Rattle.mml_lines.specs.declared.lines.TheConstants.{READ_SIZE}
+use Rattle.mml_lines.specs.{LinesOf.IsWithinLimit, LinesState.bytes_ahead, declared.lines.TheConstants.READ_SIZE}
 use Rattle.mml_session.proofs.EndingLemmas.{AnsweredSoFar}
 use Rattle.mml_session.proofs.session.serve_observed.Given as goal
 

@@ -1,5 +1,4 @@
-use Rattle.std.proofs.Common.{◌≡◌, ◌++◌, ◌∙◌, List, ℕ, inl, refl, ap, drop, length, arith}
-use Rattle.std.proofs.Transfers.{drop-appended}
+use Rattle.std.proofs.{Common.◌≡◌, Common.◌++◌, Common.◌∙◌, Common.List, Common.ℕ, Common.inl, Common.refl, Common.ap, Common.drop, Common.length, Common.arith, Transfers.drop-appended}
 use Rattle.mml_codec.specs.Replies.{reply_line}
 use Rattle.mml_session.proofs.ServingLemmas.{sent_behind}
 use Rattle.mml_session.proofs.session.tell.Goals as goal

@@ -1,6 +1,5 @@
 use Rattle.std.proofs.Common.{[]}
-use Rattle.mml_tally.proofs.RoundsLemmas.{rounds_there}
-use Rattle.mml_tally.proofs.MostRoundsLemmas.{rounds_most}
+use Rattle.mml_tally.proofs.{RoundsLemmas.rounds_there, MostRoundsLemmas.rounds_most}
 use Rattle.mml_tally.proofs.laws.as_many_rounds_are_counted_as_there_are.Goals as goal
 
 pub returns-clause-there : goal.returns-clause-there

@@ -1,7 +1,5 @@
 use Rattle.std.proofs.Common.{ap}
-use Rattle.mml_tally.specs.Asks.{denials_in, moves_asked}
-use Rattle.mml_tally.specs.Refusals.{refusals_in}
-use Rattle.mml_tally.specs.StudentDenials.{named_in}
+use Rattle.mml_tally.specs.{Asks.denials_in, Asks.moves_asked, Refusals.refusals_in, StudentDenials.named_in}
 use Rattle.mml_tally.proofs.AsksLemmas.{asks_under}
 use Rattle.mml_tally.proofs.laws.asks_depend_on_no_other_name.Goals as goal
 

@@ -1,6 +1,5 @@
 use Rattle.std.proofs.Common.{◌==◌, ap}
-use Rattle.mml_tally.specs.Marks.{by_rule}
-use Rattle.mml_tally.specs.Meaning.{total}
+use Rattle.mml_tally.specs.{Marks.by_rule, Meaning.total}
 use Rattle.mml_tally.proofs.ClosesLemmas.{no_close}
 use Rattle.mml_tally.proofs.laws.who_has_no_close_has_no_applied_move.Goals as goal
 

@@ -1,8 +1,6 @@
 use Rattle.std.proofs.Common.{◌≡◌, ◌==◌, List, length, ap, ◌∙◌}
-use Rattle.mml_tally.specs.declared.granted_move.Move.{Move}
-use Rattle.mml_tally.specs.Moves.{moves}
+use Rattle.mml_tally.specs.{declared.granted_move.Move.Move, Moves.moves, inside.Closes.count_new}
 use Rattle.mml_tally.specs.Marks.{by_rule, count_applying_closes, first_place, last_place, count_shared, moves_by, applied}
-use Rattle.mml_tally.specs.inside.Closes.{count_new}
 use Rattle.mml_tally.proofs.ClosesLemmas.{closes_counted}
 use Rattle.mml_tally.proofs.marks.marks_of.Goals as goal
 
@@ -19,11 +17,4 @@ returns c = λ es e.
     let last_is : c.last_place.result ≡ last_place mine = c.last_place.ensures ∙ ap last_place (c.deref-6.ensures.value ∙ own) in
     let shared_is : c.count_shared.result ≡ count_shared c.args.roster.now (applied mine) =
     c.count_shared.ensures ∙ ap (count_shared c.args.roster.now) (c.deref-7.ensures.value ∙ some) in
-    λ k. record {
-      granted = granted_is k;
-      applied = applied_is k;
-      closes = closes_are k;
-      first = first_is k;
-      last = last_is k;
-      shared = shared_is k;
-    }
+    λ k. record { granted = granted_is k; applied = applied_is k; closes = closes_are k; first = first_is k; last = last_is k; shared = shared_is k }

@@ -1,14 +1,10 @@
 use Rattle.std.proofs.Common.{◌≡◌, ◌+◌, ◌∷◌, take, drop, sym, ap, ◌∙◌, arith}
-use Rattle.std.proofs.lemmas.List.{take_more, drop_more}
-use Rattle.std.proofs.lemmas.Bool.Decides.{nat_tests}
-use Rattle.mml_board.specs.World.{World, opening_of}
-use Rattle.mml_board.specs.Lists.{world_in}
-use Rattle.mml_tally.specs.Rounds.{rounds_in, rounds_after}
-use Rattle.mml_tally.specs.inside.Waiting.{count_rounds}
-use Rattle.mml_tally.proofs.ReplayLemmas.{absorbs_next, world_next}
+use Rattle.std.proofs.lemmas.{List.take_more, List.drop_more, Bool.Decides.nat_tests}
+use Rattle.mml_board.specs.{World.World, World.opening_of, Lists.world_in}
+use Rattle.mml_tally.specs.{Rounds.rounds_in, Rounds.rounds_after, inside.Waiting.count_rounds}
+use Rattle.mml_tally.proofs.{ReplayLemmas.absorbs_next, ReplayLemmas.world_next, rounds.count_rounds.Goals.then-len-eq0, rounds.count_rounds.Goals.else-len-eq0}
 use Rattle.mml_tally.proofs.WaitingLemmas.{rounds_counted, round_counted, none_counted}
 use Rattle.mml_tally.proofs.rounds.count_rounds.Goals as goal
-use Rattle.mml_tally.proofs.rounds.count_rounds.Goals.{then-len-eq0, else-len-eq0}
 
 pub events-init : goal.events-init
 events-init c =
@@ -16,11 +12,7 @@ events-init c =
     let all : count_rounds c.args.board.now c.privileged_nodes-waiting.result left ≡ rounds_after c.args.since (opening_of c.args.lab.now.network) c.args.events.now =
     ap (λ s. count_rounds c.args.board.now s left) c.privileged_nodes-waiting.ensures ∙ rounds_counted c.args.board.now left
     ∙ ap (λ (w : World). rounds_in w left) c.requires.board in
-    record {
-      board = c.requires.board;
-      counted = omega (arith, all);
-      few = omega arith;
-    }
+    record { board = c.requires.board; counted = omega (arith, all); few = omega arith }
 
 pub take_event-waiting-requires : goal.take_event-waiting-requires
 take_event-waiting-requires c = grind (arith, nat_tests, take_more, absorbs_next)

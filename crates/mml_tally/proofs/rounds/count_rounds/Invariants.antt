@@ -1,8 +1,6 @@
 use Rattle.std.proofs.Common.{◌≡◌, ◌≤◌, ◌+◌, take, drop}
-use Rattle.mml_board.specs.World.{opening_of}
-use Rattle.mml_board.specs.Lists.{world_in}
-use Rattle.mml_tally.specs.Rounds.{rounds_after}
-use Rattle.mml_tally.specs.inside.Waiting.{count_rounds}
+use Rattle.mml_board.specs.{World.opening_of, Lists.world_in}
+use Rattle.mml_tally.specs.{Rounds.rounds_after, inside.Waiting.count_rounds}
 use Rattle.mml_tally.proofs.rounds.count_rounds.Given as goal
 
 abbrev pub invariant-events : goal.invariant-events

@@ -1,6 +1,4 @@
-use Rattle.std.proofs.Common.{arith}
-use Rattle.std.proofs.lemmas.List.{take_more}
-use Rattle.std.proofs.lemmas.Bool.Decides.{nat_tests}
+use Rattle.std.proofs.{Common.arith, lemmas.List.take_more, lemmas.Bool.Decides.nat_tests}
 use Rattle.mml_tally.proofs.ReplayLemmas.{absorbs_next, world_next}
 use Rattle.mml_tally.proofs.rounds.replay.Goals as goal
 

@@ -1,5 +1,4 @@
-use Rattle.mml_window.proofs.RuleLemmas.{enters}
-use Rattle.mml_window.proofs.ViewLemmas.{nodes_entered}
+use Rattle.mml_window.proofs.{RuleLemmas.enters, ViewLemmas.nodes_entered}
 use Rattle.mml_window.proofs.looking.enter.Goals as goal
 
 pub enter_as-requires : goal.enter_as-requires

@@ -1,9 +1,7 @@
 use Rattle.std.proofs.Common.{rules, ◌≡◌, false, Ok, ap}
+use Rattle.mml_policy.specs.{Rulings.ruled, Shown.look_of, Verdicts.clauses}
 use Rattle.mml_policy.specs.declared.command.Command.TheVariants as command
 use Rattle.mml_policy.specs.declared.verdict.Leave.TheVariants as leaves
-use Rattle.mml_policy.specs.Rulings.{ruled}
-use Rattle.mml_policy.specs.Shown.{look_of}
-use Rattle.mml_policy.specs.Verdicts.{clauses}
 use Rattle.mml_window.proofs.showing.look_at.Goals as goal
 
 pub returns-in-Err-look_of : goal.returns-in-Err-look_of

@@ -1,9 +1,8 @@
 use Rattle.std.proofs.Common.{rules, ◌≡◌, false, Ok, ap}
+use Rattle.mml_policy.specs.{Rulings.ruled, Verdicts.clauses}
+use Rattle.mml_stable.specs.Reports.{report_of}
 use Rattle.mml_policy.specs.declared.command.Command.TheVariants as command
 use Rattle.mml_policy.specs.declared.verdict.Leave.TheVariants as leaves
-use Rattle.mml_policy.specs.Rulings.{ruled}
-use Rattle.mml_policy.specs.Verdicts.{clauses}
-use Rattle.mml_stable.specs.Reports.{report_of}
 use Rattle.mml_window.proofs.showing.report_at.Goals as goal
 
 pub returns-in-Err-report-clause-ruled : goal.returns-in-Err-report-clause-ruled

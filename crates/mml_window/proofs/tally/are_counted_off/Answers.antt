@@ -16,11 +16,7 @@ returns-then-not-is_counted_off g c =
 pub windows-preserved : goal.windows-preserved
 windows-preserved g c =
     window_more c.args.windows.now c.args.cursors.now c.windows.index c.index-windows-index.result
-    (record {
-      is = search rules;
-      window = c.windows-test.true;
-      cursor = omega (arith, c.windows-test.true, c.requires.few, c.told-cursors);
-    })
+    (record { is = search rules; window = c.windows-test.true; cursor = omega (arith, c.windows-test.true, c.requires.few, c.told-cursors) })
     ∙ ap (λ (l : List ℕ). l ++ drop (get_or c.args.cursors.now c.windows.index 0) c.index-windows-index.result.places) c.windows.invariant
     ∙ c.if-not-is_counted_off.ensures
 

@@ -12,8 +12,7 @@ returns-then-is_next g c p =
       is = search rules;
       window = c.windows-test.true;
       cursor = omega (arith, c.windows-test.true, c.requires.few, ap length same, c.told-cursors);
-    }) p c.args.place (c.is_next.ensures.next c.if-is_next.true).0
-    )
+    }) p c.args.place (c.is_next.ensures.next c.if-is_next.true).0)
 
 pub windows-preserved : goal.windows-preserved
 windows-preserved g c =

@@ -1,5 +1,4 @@
-use Rattle.mml_window.specs.Tallies.{told_of}
-use Rattle.mml_window.specs.inside.Cursors.{left_of}
+use Rattle.mml_window.specs.{Tallies.told_of, inside.Cursors.left_of}
 use Rattle.mml_window.proofs.TallyLemmas.{IsCounted}
 use Rattle.mml_window.proofs.tally.is_each_once.Given as goal
 

@@ -1,7 +1,6 @@
-use Rattle.std.proofs.lemmas.Bool.{both_ways}
+use Rattle.std.proofs.{lemmas.Bool.both_ways, Common.arith}
 use Rattle.mml_board.proofs.KeptLemmas.{same_sets, none_left}
 use Rattle.mml_board.proofs.board.Board.is_same_at.Goals as goal
-use Rattle.std.proofs.Common.{arith}
 
 pub returns-then-is_empty : goal.returns-then-is_empty
 returns-then-is_empty c = grind (arith, same_sets, none_left, both_ways)

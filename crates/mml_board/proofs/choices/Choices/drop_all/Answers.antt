@@ -1,7 +1,5 @@
-use Rattle.std.proofs.Common.{arith}
-use Rattle.std.proofs.lemmas.List.{take_at}
-use Rattle.mml_board.proofs.WorldLemmas.{length-none}
-use Rattle.mml_board.proofs.ChoicesLemmas.{are_chosen-none}
+use Rattle.std.proofs.{Common.arith, lemmas.List.take_at}
+use Rattle.mml_board.proofs.{WorldLemmas.length-none, ChoicesLemmas.are_chosen-none}
 use Rattle.mml_board.proofs.choices.Choices.drop_all.Goals as goal
 
 pub invariant_of-self : goal.invariant_of-self

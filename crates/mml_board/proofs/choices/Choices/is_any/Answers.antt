@@ -1,5 +1,4 @@
-use Rattle.std.proofs.Common.{◌∙◌, ap, is_some}
-use Rattle.std.specs.List.{list_any}
+use Rattle.std.{proofs.Common.◌∙◌, proofs.Common.ap, proofs.Common.is_some, specs.List.list_any}
 use Rattle.mml_board.proofs.ChoicesLemmas.{any_chosen}
 use Rattle.mml_board.proofs.choices.Choices.is_any.Goals as goal
 

@@ -1,11 +1,9 @@
-use Rattle.std.proofs.Common.{◌≡◌, ◌<◌, ℕ, cond, eqb, ap, sym, ◌∙◌, subst, arith, length}
-use Rattle.std.proofs.lemmas.List.{take_at}
-use Rattle.std.specs.FinSet as sets
-use Rattle.mml_rules.specs.declared.regs.Regs.{Regs}
-use Rattle.mml_rules.specs.Network.{Network, registers_at, configuration_of}
+use Rattle.std.proofs.{Common.◌≡◌, Common.◌<◌, Common.ℕ, Common.cond, Common.eqb, Common.ap, Common.sym, Common.◌∙◌, Common.subst, Common.arith, Common.length, lemmas.List.take_at}
+use Rattle.mml_rules.specs.{declared.regs.Regs.Regs, Network.Network, Network.registers_at, Network.configuration_of}
 use Rattle.mml_rules.proofs.RulesLemmas.{pointee_in}
 use Rattle.mml_board.specs.inside.Rows.{with_suitor}
 use Rattle.mml_board.proofs.RowsLemmas.{no_rows, next_rows, none_told, length-with_suitor}
+use Rattle.std.specs.FinSet as sets
 use Rattle.mml_board.proofs.indexed_network.IndexedNetwork.new.Goals as goal
 
 pub loop-index-init : goal.loop-index-init

@@ -1,13 +1,10 @@
 use Rattle.std.proofs.Common.{◌≡◌, ◌<◌, cond, eqb, ap, sym, ◌∙◌, subst, refl, arith, length, take, drop, ◌++◌, true, List}
-use Rattle.std.proofs.lemmas.List.{take_at}
-use Rattle.std.specs.FinSet as sets
-use Rattle.std.specs.FinSet.{FinSet}
-use Rattle.std.specs.Ordering.{nat_cmp}
-use Rattle.mml_rules.specs.declared.regs.Regs.{Regs}
-use Rattle.mml_rules.specs.Network.{Network, neighbours_at, configuration_of}
+use Rattle.std.{proofs.lemmas.List.take_at, specs.FinSet.FinSet, specs.Ordering.nat_cmp}
+use Rattle.mml_rules.specs.{declared.regs.Regs.Regs, Network.Network, Network.neighbours_at, Network.configuration_of}
 use Rattle.mml_rules.proofs.RulesLemmas.{pointee_in}
 use Rattle.mml_board.specs.inside.Rows.{with_suitor, without_suitor, AreRows}
 use Rattle.mml_board.proofs.RowsLemmas.{rows-set, none_told, length-with_suitor, length-without_suitor}
+use Rattle.std.specs.FinSet as sets
 use Rattle.mml_board.proofs.indexed_network.IndexedNetwork.set_registers.Goals as goal
 
 pub move_suitor-requires-clause-from : goal.move_suitor-requires-clause-from

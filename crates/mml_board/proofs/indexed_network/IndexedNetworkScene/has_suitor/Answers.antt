@@ -1,9 +1,7 @@
-use Rattle.std.proofs.Common.{◌≡◌, ◌<◌, ap, sym, ◌∙◌, subst, length, get_or, arith}
-use Rattle.std.proofs.lemmas.List.{get_or_default}
-use Rattle.std.specs.FinSet as sets
-use Rattle.mml_rules.specs.Rules.{has_suitor}
-use Rattle.mml_rules.specs.Network.{Network, neighbours_at, configuration_of}
+use Rattle.std.proofs.{Common.◌≡◌, Common.◌<◌, Common.ap, Common.sym, Common.◌∙◌, Common.subst, Common.length, Common.get_or, Common.arith, lemmas.List.get_or_default}
+use Rattle.mml_rules.specs.{Rules.has_suitor, Network.Network, Network.neighbours_at, Network.configuration_of}
 use Rattle.mml_board.proofs.RowsLemmas.{suitors-read}
+use Rattle.std.specs.FinSet as sets
 use Rattle.mml_board.proofs.indexed_network.IndexedNetworkScene.has_suitor.Goals as goal
 
 pub returns : goal.returns

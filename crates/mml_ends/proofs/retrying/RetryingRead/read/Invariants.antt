@@ -1,6 +1,5 @@
 -- A read that was interrupted took nothing, and the buffer is as long as it was.
-use Rattle.std.proofs.Common.{◌≡◌, length}
-use Rattle.std.specs.Io.KnownBytes.{Keeps}
+use Rattle.std.{proofs.Common.◌≡◌, proofs.Common.length, specs.Io.KnownBytes.Keeps}
 use Rattle.mml_ends.proofs.retrying.RetryingRead.read.Given as goal
 
 abbrev pub invariant-loop : goal.invariant-loop

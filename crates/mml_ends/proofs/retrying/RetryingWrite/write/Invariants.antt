@@ -1,6 +1,5 @@
 -- A write that was interrupted put nothing.
-use Rattle.std.proofs.Common.{◌≡◌}
-use Rattle.std.specs.Io.KnownBytes.{Keeps}
+use Rattle.std.{proofs.Common.◌≡◌, specs.Io.KnownBytes.Keeps}
 use Rattle.mml_ends.proofs.retrying.RetryingWrite.write.Given as goal
 
 abbrev pub invariant-loop : goal.invariant-loop

@@ -1,6 +1,5 @@
 use Rattle.std.proofs.Common.{arith}
-use Rattle.mml_hosting.specs.Seats.{IsSeat}
-use Rattle.mml_hosting.specs.Counting.{count_in}
+use Rattle.mml_hosting.specs.{Seats.IsSeat, Counting.count_in}
 use Rattle.mml_hosting.proofs.SeatLemmas.{all_more, sum_more}
 use Rattle.mml_hosting.proofs.port_serving.Busy.gather.Goals as goal
 

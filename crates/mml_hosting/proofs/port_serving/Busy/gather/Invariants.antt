@@ -1,6 +1,5 @@
 use Rattle.std.proofs.Common.{◌≡◌, ◌+◌, All, vec_len, vec_capacity}
-use Rattle.mml_hosting.specs.Seats.{IsSeat, terms}
-use Rattle.mml_hosting.specs.Counting.{KeepCounts}
+use Rattle.mml_hosting.specs.{Seats.IsSeat, Seats.terms, Counting.KeepCounts}
 use Rattle.mml_hosting.proofs.port_serving.Busy.gather.Given as goal
 
 abbrev pub invariant-loop-index : goal.invariant-loop-index

@@ -1,6 +1,5 @@
 use Rattle.std.proofs.Common.{◌≡◌, ◌≤◌, ◌+◌, All, vec_len, vec_capacity}
-use Rattle.mml_hosting.specs.Seats.{IsSeat, terms}
-use Rattle.mml_hosting.specs.Away.{IsTurnedAway}
+use Rattle.mml_hosting.specs.{Seats.IsSeat, Seats.terms, Away.IsTurnedAway}
 use Rattle.mml_hosting.proofs.PortLemmas.{History}
 use Rattle.mml_hosting.proofs.port_serving.Shared.serve_until_over.Given as goal
 

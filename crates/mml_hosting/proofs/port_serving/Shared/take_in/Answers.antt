@@ -1,8 +1,6 @@
-use Rattle.std.proofs.Common.{◌≡◌, ◌+◌, ◌++◌, [], ◌∷◌, ap, arith, inl}
+use Rattle.std.proofs.{Common.◌≡◌, Common.◌+◌, Common.◌++◌, Common.[], Common.◌∷◌, Common.ap, Common.arith, Common.inl, lemmas.List.Sums.sum_by_push}
 use Rattle.std.specs.List.{sum_by}
-use Rattle.std.proofs.lemmas.List.Sums.{sum_by_push}
-use Rattle.mml_hosting.specs.Seats.{IsSeat, came_to}
-use Rattle.mml_hosting.specs.Counting.{count_at, count_in}
+use Rattle.mml_hosting.specs.{Seats.IsSeat, Seats.came_to, Counting.count_at, Counting.count_in}
 use Rattle.mml_hosting.proofs.SeatLemmas.{all_more, sum_more}
 use Rattle.mml_hosting.proofs.port_serving.Shared.take_in.Goals as goal
 

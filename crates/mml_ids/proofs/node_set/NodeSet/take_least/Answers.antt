@@ -1,7 +1,6 @@
 use Rattle.std.proofs.Common.{◌≤◌, ◌∙◌, ap, sym, subst, arith}
+use Rattle.mml_ids.proofs.{NodeSetLemmas.none_of_zeros, NodeSetLemmas.has-one, NodeSetLemmas.none_below_lowest, SetsLemmas.len-remove_one}
 use Rattle.std.specs.FinSet as sets
-use Rattle.mml_ids.proofs.NodeSetLemmas.{none_of_zeros, has-one, none_below_lowest}
-use Rattle.mml_ids.proofs.SetsLemmas.{len-remove_one}
 use Rattle.mml_ids.proofs.node_set.NodeSet.take_least.Goals as goal
 
 pub returns-in-Some-clause-member : goal.returns-in-Some-clause-member

@@ -1,7 +1,4 @@
-use Rattle.std.proofs.Common.{◌%◌, w64, arith}
-use Rattle.std.proofs.lemmas.Grind.{common_steps}
-use Rattle.std.proofs.lemmas.Nat.{and_le_l}
-use Rattle.std.proofs.lemmas.Nat.Bits.{bit_at_clear_same, bit_at_clear_other}
+use Rattle.std.proofs.{Common.◌%◌, Common.w64, Common.arith, lemmas.Grind.common_steps, lemmas.Nat.and_le_l, lemmas.Nat.Bits.bit_at_clear_same, lemmas.Nat.Bits.bit_at_clear_other}
 use Rattle.mml_ids.specs.inside.WordsLemmas.{set_of-clear, put_words}
 use Rattle.mml_ids.proofs.node_set.NodeSet.take_out.Goals as goal
 

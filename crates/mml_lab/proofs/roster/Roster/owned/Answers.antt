@@ -1,10 +1,7 @@
 use Rattle.std.proofs.Common.{◌≡◌, ◌∙◌, ◌<◌, ◌≤◌, ◌⊎◌, inl, inr, map, length, ap, sym, arith}
 use Rattle.std.proofs.lemmas.{Bool.cases_lt, List.get_or_default, List.length-map}
 use Rattle.mml_ids.specs.inside.WordsLemmas.{has_empty}
-use Rattle.mml_lab.specs.AccountView.{entry_account}
-use Rattle.mml_lab.specs.inside.Owned.{row_at}
-use Rattle.mml_lab.specs.inside.RosterView.{roster_view}
-use Rattle.mml_lab.specs.Rosters.{owns}
+use Rattle.mml_lab.specs.{AccountView.entry_account, inside.Owned.row_at, inside.RosterView.roster_view, Rosters.owns}
 use Rattle.mml_lab.proofs.OwnedLemmas.{owned_by}
 use Rattle.std.specs.FinSet as sets
 use Rattle.mml_lab.proofs.roster.Roster.owned.Goals as goal

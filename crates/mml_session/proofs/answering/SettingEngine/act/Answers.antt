@@ -1,11 +1,9 @@
 use Rattle.std.proofs.Common.{sym, subst, ◌∙◌}
-use Rattle.mml_codec.specs.declared.reply.Refused.{Refused}
-use Rattle.mml_codec.specs.declared.reply.Reply.{Reply}
+use Rattle.mml_codec.specs.declared.reply.{Refused.Refused, Reply.Reply}
+use Rattle.mml_session.specs.Turns.{Told}
+use Rattle.mml_session.proofs.{TellingLemmas.denied_told, TellingLemmas.granted_told, TellingLemmas.refused_told, EngineLemmas.seen_told}
 use Rattle.mml_codec.specs.declared.reply.Reply.TheVariants as replies
 use Rattle.mml_engine.specs.Told as engine
-use Rattle.mml_session.specs.Turns.{Told}
-use Rattle.mml_session.proofs.TellingLemmas.{denied_told, granted_told, refused_told}
-use Rattle.mml_session.proofs.EngineLemmas.{seen_told}
 use Rattle.mml_session.proofs.answering.SettingEngine.act.Goals as goal
 
 pub returns-in-Granted-clause-tells : goal.returns-in-Granted-clause-tells

@@ -1,9 +1,6 @@
 use Rattle.std.proofs.Common.{rules, ◌≡◌, ◌≤◌, List, length, ◌∙◌, subst}
-use Rattle.mml_board.specs.declared.event.Event.{Event}
-use Rattle.mml_board.specs.Lists.{world_in}
-use Rattle.mml_window.specs.Books.{BookValue}
-use Rattle.mml_window.specs.Answers.{Decides}
-use Rattle.mml_window.specs.inside.Keeping.{IsNextPlace, Keeps}
+use Rattle.mml_board.specs.{declared.event.Event.Event, Lists.world_in}
+use Rattle.mml_window.specs.{Books.BookValue, Answers.Decides, inside.Keeping.IsNextPlace, inside.Keeping.Keeps}
 use Rattle.mml_window.proofs.AnswerLemmas.{next_kept, present}
 use Rattle.mml_window.proofs.desk.Desk.ask.Goals as goal
 

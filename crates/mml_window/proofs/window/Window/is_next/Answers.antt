@@ -1,7 +1,5 @@
-use Rattle.std.proofs.Common.{rules, ◌≡◌, ◌∙◌, ◌<◌, ◌+◌, ◌∷◌, drop, length, ap, arith, eqb-true}
-use Rattle.std.proofs.lemmas.Bool.{eqb-false}
-use Rattle.mml_window.proofs.ClimbingLemmas.{climbs_count}
-use Rattle.mml_window.proofs.TallyLemmas.{next_at, stuck_at}
+use Rattle.std.proofs.{Common.rules, Common.◌≡◌, Common.◌∙◌, Common.◌<◌, Common.◌+◌, Common.◌∷◌, Common.drop, Common.length, Common.ap, Common.arith, Common.eqb-true, lemmas.Bool.eqb-false}
+use Rattle.mml_window.proofs.{ClimbingLemmas.climbs_count, TallyLemmas.next_at, TallyLemmas.stuck_at}
 use Rattle.mml_window.proofs.window.Window.is_next.Goals as goal
 
 pub returns-in-Some-clause-next : goal.returns-in-Some-clause-next
@@ -22,5 +20,4 @@ returns-in-Some-clause-stuck g c differ =
     let places : c.args.self.now.places ≡ items = search rules in
     rw places (
     stuck_at c.args.place items _ c.args.cursor c.in-Some.next.now c.self.invariant.0.climbs
-    (search rules) (search rules) (eqb-false c.in-Some.next.now c.args.place differ)
-    )
+    (search rules) (search rules) (eqb-false c.in-Some.next.now c.args.place differ))

@@ -1,12 +1,8 @@
 use Rattle.std.proofs.Common.{rules, ◌≡◌, ◌+◌, ◌++◌, ◌∷◌, [], List, length, ap, ◌∙◌, arith, subst, sym, None, take, ◌-◌}
 use mathlib.Core.List.{IsPrefix}
-use Rattle.mml_board.specs.declared.event.Event.{Event}
-use Rattle.mml_board.specs.Lists.{is_legal_in}
-use Rattle.mml_window.specs.Windows.{window, window_with}
-use Rattle.mml_window.specs.inside.Keeping.{Keeps}
-use Rattle.mml_window.specs.inside.Readers.{view_by}
-use Rattle.mml_window.proofs.ClimbingLemmas.{climbs_push}
-use Rattle.mml_window.proofs.PrefixLemmas.{before_last, one_more}
+use Rattle.mml_board.specs.{declared.event.Event.Event, Lists.is_legal_in}
+use Rattle.mml_window.specs.{Windows.window, Windows.window_with, inside.Keeping.Keeps, inside.Readers.view_by}
+use Rattle.mml_window.proofs.{ClimbingLemmas.climbs_push, PrefixLemmas.before_last, PrefixLemmas.one_more}
 use Rattle.mml_window.proofs.window.Window.keep.Goals as goal
 
 pub invariant_of-self-in-Some : goal.invariant_of-self-in-Some

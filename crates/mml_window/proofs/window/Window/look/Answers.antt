@@ -1,8 +1,7 @@
 use Rattle.std.proofs.Common.{rules, ◌≡◌, ap, sym}
+use Rattle.mml_window.proofs.{AboutLemmas.looked_at_is, ViewLemmas.tells_entered}
 use Rattle.mml_policy.specs.declared.command.Command.TheVariants as command
 use Rattle.mml_policy.specs.declared.ruling.Ruling.TheVariants as rulings
-use Rattle.mml_window.proofs.AboutLemmas.{looked_at_is}
-use Rattle.mml_window.proofs.ViewLemmas.{tells_entered}
 use Rattle.mml_window.proofs.window.Window.look.Goals as goal
 
 pub returns-clause-tells : goal.returns-clause-tells

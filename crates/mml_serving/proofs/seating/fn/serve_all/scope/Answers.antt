@@ -1,5 +1,4 @@
-use Rattle.std.proofs.Common.{◌≡◌, ◌∙◌, ap, arith, map}
-use Rattle.std.proofs.lemmas.List.{length-map}
+use Rattle.std.proofs.{Common.◌≡◌, Common.◌∙◌, Common.ap, Common.arith, Common.map, lemmas.List.length-map}
 use Rattle.mml_serving.proofs.ServingLemmas.{numbered_so, came_so, all_came}
 use Rattle.mml_serving.proofs.seating.fn.serve_all.scope.Goals as goal
 

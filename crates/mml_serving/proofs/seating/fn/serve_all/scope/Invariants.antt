@@ -1,7 +1,6 @@
 use Rattle.std.proofs.Common.{◌≡◌, ◌≤◌, ◌+◌, [], map, length, All, vec_capacity}
 use Rattle.mml_window.specs.Windows.{window}
-use Rattle.mml_serving.specs.Arriving.{Takes}
-use Rattle.mml_serving.specs.Serving.{Numbered, ends_of}
+use Rattle.mml_serving.specs.{Arriving.Takes, Serving.Numbered, Serving.ends_of}
 use Rattle.mml_serving.proofs.seating.fn.serve_all.scope.Given as goal
 
 abbrev pub invariant-loop-index : goal.invariant-loop-index
