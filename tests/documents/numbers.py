@@ -60,7 +60,7 @@ def releases() -> Iterator[tuple[str, str]]:
     yield README, f"Python {python} for `class`)"
     yield OPERATE, f"Python {python} for `class`"
     examples = only(r'^EXAMPLES_PYTHON = "([\d.]+)"', "tools/check/python.py")
-    yield STUDENT, f"`client.py` and `bot.py` need Python {examples} or later (`class`: {python})."
+    yield STUDENT, f"`client.py` and `bot.py` need Python {examples} or later, and `./class` needs {python}."
     unit = "operate/cenduwa@.service"
     memory, tasks = only(r"^MemoryMax=(\d+)M$", unit), only(r"^TasksMax=(\d+)$", unit)
     yield OPERATE, f"with at most {memory} MB and {tasks} threads and processes."
@@ -75,12 +75,13 @@ def classes() -> Iterator[tuple[str, str]]:
     yield STUDENT, f"`grade` tries {small} cases, each in an empty folder"
     yield COURSE, f"The suite `small` has {small} cases, and the suite `full` has {len(suites.FULL)}, on networks of {families} families, "
     yield TEACHER, f"starts the server at the port of the slips ({FIRST_PORT} for the first network) or the next free one"
-    yield TEACHER, f"when nothing came for {WORDS[int(CLOSING.value)]} seconds, or as `--daemon` says"
+    yield TEACHER, f"when nothing further was granted for {WORDS[int(CLOSING.value)]} seconds, or as `--daemon` says"
     yield TEACHER, (f"\n| 0 | done |\n| {statuses.USAGE} | the command line is wrong |\n| {statuses.LAB} | the lab is refused |\n"
-                    f"| {statuses.JOURNAL} | the journal is refused |\n| {statuses.FAILED} | failed |\n| {statuses.WARNED} | done, with warnings |\n")
+                    f"| {statuses.JOURNAL} | the journal is refused |\n| {statuses.FAILED} | any other error |\n| {statuses.WARNED} | done, with warnings |\n")
     status = {word: number for word, (number, _) in STOPS.items()}
-    for number, what in ((0, "the run has ended"), (1, "the words of the command line are wrong"), (status["unknown"], "the name or the key is wrong"),
-                         (status["not-owner"], "a node isn't yours, or a line is no request"), (4, "there is no server at the port"),
+    for number, what in ((0, "the run has ended"), (1, "the command line is wrong"), (status["unknown"], "the name or the key is wrong"),
+                         (status["not-owner"], "the bot named a node that isn't yours, or sent a line that is no request"),
+                         (4, "there is no server at the port"),
                          (status["busy"], "no seat became free for a minute"), (status["full"], "nothing is granted any longer"),
                          (LOST, "the connection was lost, and for a minute the bot couldn't greet again: start it again")):
         yield STUDENT, f"\n| {number} | {what} |\n"
@@ -132,10 +133,11 @@ def times() -> Iterator[tuple[str, tuple[str, ...]]]:
     proofs, quick = minutes_of([[PROOFS, wrong_beside()], QUICK], PROCESSORS)
     both = needed(["mml_server", "mml_host"])
     build = progress_of(both, PROCESSORS).left(0.0) / 60
-    for command, minutes in (("| `./check` | sets up, and tests everything, in a clone with the toolchain | {} |", proofs + quick),
-                             ("| `./class demo` | sets up, and runs a class with four bots | ten seconds\\*; in a clone, the first time, {} |", build),
-                             ("| `./check quick` | tests all that needs no proof, with the programs that are built | {} |", quick),
-                             ("| `./mml build` | proves and builds both programs, as `./class demo` does first | {} |", build)):
+    for command, minutes in (("| `./check` | proves, builds and tests everything | {} |", proofs + quick),
+                             ("| `./class demo` | builds the programs if they aren't built yet, and runs a class with four bots | "
+                              "ten seconds\\* if they are built, otherwise {} |", build),
+                             ("| `./check quick` | runs the tests that need no proof, with the programs that are built | {} |", quick),
+                             ("| `./mml build` | proves and builds the programs | {} |", build)):
         yield README, tuple(command.format(said) for said, (least, most) in ROUNDED.items() if least <= minutes <= most)
 
 
