@@ -75,7 +75,7 @@ def classes() -> Iterator[tuple[str, str]]:
     yield STUDENT, f"`grade` tries {small} cases, each in an empty folder"
     yield COURSE, f"The suite `small` has {small} cases, and the suite `full` has {len(suites.FULL)}, on networks of {families} families, "
     yield TEACHER, f"starts the server at the port of the slips ({FIRST_PORT} for the first network) or the next free one"
-    yield TEACHER, f"when nothing further was granted for {WORDS[int(CLOSING.value)]} seconds, or as `--daemon` says"
+    yield TEACHER, f"when nothing further was granted for {WORDS[int(CLOSING.value)]} seconds."
     yield TEACHER, (f"\n| 0 | done |\n| {statuses.USAGE} | the command line is wrong |\n| {statuses.LAB} | the lab is refused |\n"
                     f"| {statuses.JOURNAL} | the journal is refused |\n| {statuses.FAILED} | any other error |\n| {statuses.WARNED} | done, with warnings |\n")
     status = {word: number for word, (number, _) in STOPS.items()}
