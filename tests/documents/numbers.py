@@ -122,7 +122,7 @@ def guesses() -> Iterator[tuple[str, str]]:
     count = len(set(KEY_WORDS)) ** keys.WORDS_EACH * 10 ** keys.DIGITS
     wait = only(r"^const DENIAL: u64 = (\d+);", "crates/mml_ports/src/state.rt")
     a_day = 86400 * 1000 / int(wait)
-    yield SECURITY, f"{WORDS[keys.WORDS_EACH]} words, each one of {len(set(KEY_WORDS))}, and {WORDS[keys.DIGITS]} digits"
+    yield SECURITY, f"{WORDS[keys.WORDS_EACH]} words, each from a list of {len(set(KEY_WORDS))}, and {WORDS[keys.DIGITS]} digits"
     yield SECURITY, f"which are {keys.bits_of(keys.WORDS_EACH, keys.DIGITS):.1f} bits"
     yield SECURITY, f"at most one wrong key in {wait} milliseconds over all connections. That makes {a_day / 1e6:.1f} million wrong keys in a day"
     yield SECURITY, f"a probability of about 1 in {round(count / a_day, -4):,.0f}"
