@@ -3,8 +3,8 @@ ghost use Rattle.std.specs.Prelude.{◌≡◌, ◌≤◌, ◌<◌, All, length, 
 ghost use Rattle.std.specs.List.{list_all};
 ghost use Rattle.mml_class.specs.Begun.{begun_in, decimal_in, is_digit, unended, value_from};
 
-/// Returns the number that a text states: 1 to 19 decimal digits, with or without a newline after them. Returns `None`
-/// for any other text.
+/// Returns the number of events before a record, from the text of the file `begun`: 1 to 19 decimal digits, with or
+/// without a newline after them. Returns `None` for any other text.
 #[tactic(auto, unfolding(crate::specs::Begun::begun_in))]
 pub fn begun_in(text: &[u8]) -> Option<u64>
     ensures { result ≡ begun_in text.now }

@@ -1,6 +1,8 @@
-//! Laws about what a student can't learn. Each is the contract of a function that does nothing. Two worlds are alike
-//! for a student if they agree in all that the student may see, and in the numbers of events and configurations. A turn
-//! is the effect of one line; in a plain turn nothing goes wrong. A hall is the engine that answers the lines of
+//! Laws about what a student can't learn. Each is the contract of a function that does nothing. Two labs are twins if
+//! they differ at most in the links and registers at the beginning. Two worlds are alike for a student if they agree in
+//! all that the student may see, and in the numbers of events and configurations. Two states of a hall are alike if
+//! their worlds are, the same participants are known on its connections, and both journals are halted or neither. A
+//! turn is the effect of one line; in a plain turn nothing goes wrong. A hall is the engine that answers the lines of
 //! numbered connections.
 ghost use Rattle.std.specs.Prelude.{◌≡◌, ◌↔◌, ◌<◌, ℕ, Bool, List, true, false, length, map};
 ghost use Rattle.mml_rules.specs.declared.regs.Regs.{Regs};
@@ -31,8 +33,8 @@ ghost use Rattle.mml_hidden.specs.Sight.{ShowsTheSame, MoveAlike, IsUntouched, I
 ghost use Rattle.mml_hidden.specs.Twins.{AreTwins, BeginAlike, StatesAlike, is_hers};
 ghost use Rattle.mml_hidden.specs.Coalitions.{AlikeFor, StatesAlikeFor, StayAlikeFor, AreTheirsThroughout, BeginAlikeFor, RunAlikeFor, is_theirs};
 
-/// If two worlds are alike for a student, each command of hers has the same reply in both, with the same bytes. The
-/// worlds after the command are alike again.
+/// If two worlds are alike for a student (they agree in all that she may see), each command of hers has the same reply
+/// in both, with the same bytes. The worlds after the command are alike again.
 pub fn hidden_values_change_no_reply_line()
     ensures reply { (ids : List ℕ) (r : RosterValue) (limit : ℕ) (is_halted : Bool) (w v : World)
         (s : ℕ) (c : Command) → IsWorldOf ids w → IsWorldOf ids v → Alike r s w v →
@@ -48,9 +50,10 @@ pub fn hidden_values_change_no_reply_line()
         (world_left ids r limit is_halted v (who.Student s) c) }
 {}
 
-/// If two states are alike for a student, a line on a connection that is known as hers, or as nobody's yet, gets the
-/// same reply line in both. The states afterwards are alike again. The same mishap (memory that ran out or a failed
-/// write) must befall both turns.
+/// Take states of two twin labs, which differ at most in the links and registers at the beginning. If the states are
+/// alike for a student, a line on a connection that is known as hers, or as nobody's yet, gets the same reply line in
+/// both. The states afterwards are alike again. The same mishap (memory that ran out or a failed write) must befall
+/// both turns.
 pub fn hidden_values_change_no_turn()
     ensures line { (lab other : LabValue) (s : ℕ) (st su : State) (mishap : Mishap) (k : ℕ)
         (line : List ℕ) → AreTwins lab other → StatesAlike lab s st su →
@@ -63,8 +66,9 @@ pub fn hidden_values_change_no_turn()
         StatesAlike lab s (turn mishap lab st k line).state (turn mishap other su k line).state }
 {}
 
-/// If two states are alike for a student, a line on any connection leaves the states alike if it leaves the worlds
-/// alike. This is about plain turns, in which no mishap happens.
+/// Take states of two twin labs, which differ at most in the links and registers at the beginning. If the states are
+/// alike for a student, a line on any connection leaves them alike if it leaves their worlds alike. This is about plain
+/// turns, in which no mishap happens.
 pub fn lines_of_others_keep_states_alike()
     ensures { (lab other : LabValue) (s : ℕ) (st su : State) (k : ℕ) (line : List ℕ) →
         AreTwins lab other → StatesAlike lab s st su →
@@ -87,9 +91,11 @@ pub fn turns_that_keep_worlds_alike_grant_alike()
         is_grant one.reply ≡ is_grant two.reply }
 {}
 
-/// Two runs of one script, by plain turns, begin in states that are alike for a student, and each line of somebody else
-/// keeps the worlds alike for her. Then the same is written to connections while they are known as hers, or as nobody's
-/// yet. On a connection of which this is so throughout, all output is the same. The states at the end are alike.
+/// Suppose that one script (lines on numbered connections) is run in two twin labs, which differ at most in the links
+/// and registers at the beginning. No mishap happens, the states at first are alike for a student, and each line of
+/// somebody else keeps the worlds alike for her. Then the same is written to connections while they are known as hers,
+/// or as nobody's yet. On a connection of which this is so throughout, all output is the same. The states at the end
+/// are alike.
 pub fn hidden_values_change_no_script()
     ensures written { (lab other : LabValue) (s : ℕ) (st su : State) (lines : List RequestLine) →
         AreTwins lab other → StatesAlike lab s st su → StayAlike lab other s st su lines →
@@ -107,9 +113,10 @@ pub fn hidden_values_change_no_script()
         StatesAlike lab s (end_of lab st lines) (end_of other su lines) }
 {}
 
-/// The same with mishaps: in two runs of one script the same mishaps befall the same lines, and each line of somebody
-/// else keeps the worlds alike for a student, and both journals halted or neither. Then all output is the same on
-/// connections that are hers, or nobody's yet, throughout. The states at the end are alike.
+/// Like `hidden_values_change_no_script`, but with mishaps (memory runs out, or a write fails), the same for the same
+/// lines in both runs. Each line of somebody else must keep the worlds alike for the student, and leave both journals
+/// halted or neither. Then all output is the same on connections that are hers, or nobody's yet, throughout. The states
+/// at the end are alike.
 pub fn hidden_values_change_no_script_with_mishaps()
     ensures connections { (lab other : LabValue) (s : ℕ) (st su : State) (some : ℕ → Bool)
         (bs : List BefallenLine) → AreTwins lab other → StatesAlike lab s st su →
@@ -131,9 +138,10 @@ pub fn something_befell_each_line()
         (end : State) → Run lab st lines rs end → Befalls lab st lines rs end }
 {}
 
-/// Two runs of one script, by plain turns, begin in states that are alike for a student. If nobody else is known, and
-/// each valid hello in the script is hers, all replies are the same, and all bytes. So a student who is alone can't
-/// tell the two labs apart.
+/// Suppose that one script (lines on numbered connections) is run in two twin labs, which differ at most in the links
+/// and registers at the beginning. No mishap happens, and the states at first are alike for a student. If nobody else
+/// is known, and each valid hello in the script is hers, all replies are the same, and all bytes. So a student who is
+/// alone can't tell the two labs apart.
 pub fn one_who_is_alone_can_not_tell()
     ensures replies { (lab other : LabValue) (s : ℕ) (st su : State) (lines : List RequestLine) →
         AreTwins lab other → StatesAlike lab s st su → OnlySheIsKnown s st →
@@ -147,15 +155,16 @@ pub fn one_who_is_alone_can_not_tell()
         AreUnhindered u.replies → bytes_written t ≡ bytes_written u }
 {}
 
-/// If two labs begin alike for a student, the first states of their runs are alike for her. In the first state of a run
-/// nobody is known on any connection.
+/// If two labs begin alike for a student (with the same participants, and worlds that agree in all that she may see),
+/// the first states of their runs are alike for her. In the first state of a run nobody is known on any connection.
 pub fn runs_begin_alike()
     ensures states { (lab other : LabValue) (s : ℕ) → BeginAlike lab other s →
         StatesAlike lab s (opening lab) (opening other) }
     ensures known { (lab : LabValue) (s : ℕ) → OnlySheIsKnown s (opening lab) }
 {}
 
-/// A run in which no reply is the refusal for memory or for the journal is the run of plain turns.
+/// A run in which no reply is the refusal for memory or for the journal is the run of plain turns, in which no mishap
+/// happens.
 pub fn unhindered_runs_are_plain()
     ensures { (lab : LabValue) (st : State) (lines : List RequestLine) (rs : List Reply)
         (end : State) → Run lab st lines rs end → AreUnhindered rs →

@@ -40,7 +40,7 @@ pub trait Keep<R: Drop, W: Drop>: Sized {
 impl<R: Drop, W: Drop> Keep<R, W> for ServedSession<R, W> {
     ghost shows = { λ s. s };
 
-    // Returns the session itself.
+    // Returns the session itself, since all of it is kept.
     fn keep(session: ServedSession<R, W>) -> ServedSession<R, W>
         ensures { result ≡ session }
     {

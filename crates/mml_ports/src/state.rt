@@ -89,7 +89,7 @@ impl HostState {
         self.changed.notify_all();
     }
 
-    /// Notes that memory ran out.
+    /// Notes that memory ran out. From now on `lacked_memory` returns `true`, and at its end the host reports that.
     pub fn note_memory<Rt: Wait>(&self, rt: &Rt) {
         self.news.lock(rt).lacked_memory = true;
     }

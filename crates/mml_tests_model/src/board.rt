@@ -151,7 +151,7 @@ fn are_told_at_first(alloc: Global, lab: &Lab) -> Result<(bool, bool), Fail> {
     Ok((are_opening, is_shown && is_line))
 }
 
-/// Returns the result of `are_told_at_first` for the lab of `HIGHER_POINTS`.
+/// Returns the two answers of `are_told_at_first` for the lab of `HIGHER_POINTS`; both are to be `true`.
 fn are_told_where_higher_points(alloc: Global) -> Result<(bool, bool), Fail> {
     let lab = boxed_lab(alloc, HIGHER_POINTS)?;
     are_told_at_first(alloc, &lab)

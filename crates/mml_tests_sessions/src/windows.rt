@@ -235,8 +235,8 @@ fn decides_alone<H: House, R: Wait>(
     Ok((holds, ending_of(&book.finish_from(rt, windows, 0))))
 }
 
-/// Checks that a book decides rightly without its lock, and that a house doesn't leave a log if no window has the place
-/// of its event.
+/// Checks that a book (the granted events and their journal, which a lock usually protects) decides rightly without its
+/// lock, and that a house doesn't leave a log if no window has the place of its event.
 #[test]
 fn a_book_decides_alone(rt: HostRuntime) -> Result<(), Fail> {
     let blank = open_path(&rt, rt.alloc(), Some(2))?;

@@ -33,9 +33,10 @@ pub fn a_connection_is_known_as_one()
         greeting r None (requests.Hello name key) ≡ Answered (reply.Deny denial.Unknown) None }
 {}
 
-/// In a hall, a hello on a connection that is known is denied as `greeted`, and a command on one that isn't as
-/// `not-greeted`; either may be refused as `memory` instead. Neither changes anything. In a plain turn, a command on a
-/// connection that is known is ruled on as one of the known participant.
+/// In a hall (the engine that answers the lines of numbered connections), a hello on a connection that is known is
+/// denied as `greeted`, and a command on one that isn't as `not-greeted`; either may be refused as `memory` instead.
+/// Neither changes anything. If nothing goes wrong, a command on a connection that is known is ruled on as one of the
+/// known participant.
 pub fn a_hall_answers_by_who_is_known()
     ensures again { (lab : LabValue) (st : hall.State) (k : ℕ) (line : List ℕ) (out : hall.Outcome)
         (x : Who) (name key : List ℕ) → hall.known_on st k ≡ Some x →
