@@ -131,8 +131,9 @@ pub fn hidden_values_change_no_script_with_mishaps()
         StatesAlike lab s (end_with lab st bs) (end_with other su bs) }
 {}
 
-/// Each run of a hall is the run of its lines' turns with some list of mishaps, one for each line. The mishap `nothing`
-/// means that all went well.
+/// For each run of a hall (the engine that answers the lines of numbered connections) there is a list of mishaps, one
+/// for each line, so that the run consists of the turns with these mishaps. The mishap `nothing` means that all went
+/// well.
 pub fn something_befell_each_line()
     ensures { (lab : LabValue) (st : State) (lines : List RequestLine) (rs : List Reply)
         (end : State) → Run lab st lines rs end → Befalls lab st lines rs end }
@@ -172,8 +173,8 @@ pub fn unhindered_runs_are_plain()
 {}
 
 /// If an event happens in only one of two worlds that are alike for a student, the worlds aren't alike any more: their
-/// places differ. If an event happens in each, of which one makes a configuration and the other doesn't, the numbers of
-/// their configurations differ.
+/// places (how many events there were) differ. If an event happens in each, of which one makes a configuration and the
+/// other doesn't, the numbers of their configurations differ.
 pub fn events_are_told_by_place_and_number()
     ensures first { (r : RosterValue) (s : ℕ) (w v : World) (e : Event) → Alike r s w v →
         ¬ Alike r s (after w e) v }
@@ -207,7 +208,7 @@ pub fn events_out_of_sight_keep_worlds_alike()
 {}
 
 /// Two networks are alike for a student at the beginning if they differ only in the registers of one node that isn't
-/// visible to her, or only in a link between two nodes that she doesn't own.
+/// visible to her, or only in a link between two nodes, neither of which she owns.
 pub fn labs_may_differ_out_of_sight()
     ensures registers { (n : Network) (r : RosterValue) (s i : ℕ) (regs : Regs) → IsNetwork n →
         ¬ IsVisible r (configuration_of n) (who.Student s) i →
@@ -218,9 +219,9 @@ pub fn labs_may_differ_out_of_sight()
         Alike r s (opening_of n) (opening_of (with_link n a b)) }
 {}
 
-/// Two sessions of a student, through windows of two houses, get the same replies to the same lines, with the same
-/// bytes. For this, the events that each reply is based on must leave worlds that are alike for her, and no reply may
-/// be the refusal for memory or for the journal.
+/// A student has a session in each of two twin labs, which differ at most in the links and registers at the beginning.
+/// The same lines get the same replies in both, with the same bytes, if two conditions hold. The events that a reply is
+/// based on must leave worlds that are alike for her. And no reply may be the refusal for memory or for the journal.
 pub fn hidden_values_change_no_session()
     ensures replies { (lab other : LabValue) (s : ℕ) (st su : Standing) (lines : List (List ℕ))
         (rs qs : List Reply) (end fin : Standing) (one : SessionRun lab st lines rs end)

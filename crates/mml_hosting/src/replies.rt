@@ -16,7 +16,7 @@ pub trait ReplyObserver {
 pub struct NoReplies;
 
 impl ReplyObserver for NoReplies {
-    // Does nothing.
+    // Does nothing: no reply is noted.
     fn note_reply(&mut self, _reply: &Reply) {}
 }
 

@@ -210,7 +210,7 @@ fn index_of_guest(guests: &Vec<Guest>, number: u64) -> Option<usize>
     None
 }
 
-// Returns how many of the guests are strangers.
+// Returns how many of the guests (the connections served in a seat) are strangers, as `is_stranger` says.
 fn count_strangers(guests: &Vec<Guest>) -> usize {
     let mut count = 0usize;
     for index in 0..guests.len() {

@@ -258,8 +258,8 @@ impl<'a, Rt: Clock + Wait + Eprint + Sync> Observed for ReplyWriter<'a, Rt> {
 }
 
 impl<'a, Rt: Clock + Wait + Eprint> HangUp for ReplyWriter<'a, Rt> {
-    // Closes the connection as `part_from` does, if it isn't closed yet. A connection that was never served also leaves
-    // the crowd here.
+    // Closes the connection as `part_from` does, if it isn't closed yet. A connection that was never served is also
+    // removed from the crowd (the list of the port's connections) here.
     fn hang_up(&mut self) {
         let writer = &self.end.inner;
         let SharedConnection {

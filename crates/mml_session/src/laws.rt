@@ -24,7 +24,7 @@ pub fn seen_goes_on()
         IsPrefix st.window.seen t.end.window.seen }
 {}
 
-/// Each line of a talk has one reply.
+/// In a talk (the answered lines of one session, with their replies) there are as many replies as lines.
 pub fn one_reply_each()
     ensures { (lab : LabValue) (st : Standing) (t : Talk lab st) →
         length t.replies ≡ length t.lines }

@@ -151,7 +151,8 @@ fn are_told_at_first(alloc: Global, lab: &Lab) -> Result<(bool, bool), Fail> {
     Ok((are_opening, is_shown && is_line))
 }
 
-/// Returns the two answers of `are_told_at_first` for the lab of `HIGHER_POINTS`; both are to be `true`.
+/// Checks the first board of the lab of `HIGHER_POINTS` as `are_told_at_first` does. Returns its two answers, which are
+/// to be `true`.
 fn are_told_where_higher_points(alloc: Global) -> Result<(bool, bool), Fail> {
     let lab = boxed_lab(alloc, HIGHER_POINTS)?;
     are_told_at_first(alloc, &lab)
@@ -255,13 +256,15 @@ fn are_stories_told(alloc: Global, board: &mut Board) -> Result<(bool, bool), Fa
     Ok((moved, changed))
 }
 
-/// Returns the result of `are_stories_told` for the first board of a lab.
+/// Applies `story_of_moves` and then `story_of_changes` to the first board of a lab. Returns for each whether all texts
+/// were right.
 fn are_stories_of_lab_told(alloc: Global, lab: &Lab) -> Result<(bool, bool), Fail> {
     let mut board = boxed_board(alloc, lab)?;
     are_stories_told(alloc, &mut board)
 }
 
-/// Returns the result of `are_stories_told` for the path of three.
+/// Applies `story_of_moves` and then `story_of_changes` to the first board of the path of three. Returns for each
+/// whether all texts were right.
 fn are_stories_of_path_told(alloc: Global) -> Result<(bool, bool), Fail> {
     let lab = boxed_lab(alloc, PATH_OF_THREE)?;
     are_stories_of_lab_told(alloc, &lab)

@@ -144,7 +144,8 @@ fn letters_on(alloc: Global, lab: &Lab, board: &mut Board) -> Result<Vec<u8>, Al
     Ok(letters)
 }
 
-/// Returns the result of `letters_on` for the first board of a lab.
+/// Draws events over the first board of a lab, as `letters_on` does. Returns one letter for each legal event: how many
+/// illegal ones came since the legal one before, from `a` for none to `z` for 25 or more.
 fn letters_over(alloc: Global, lab: &Lab) -> Result<Vec<u8>, Fail> {
     let mut board = boxed_board(alloc, lab)?;
     Ok(letters_on(alloc, lab, &mut board)?)

@@ -140,8 +140,8 @@ fn are_rows_read(alloc: Global, lab: &Lab) -> Result<(bool, bool, bool), Fail> {
     Ok((shapes, unknowns, are_read_and_written(alloc, lab)?))
 }
 
-/// Returns the result of `are_rows_read` for the path of three, and whether the lines of `TEN_LINES` with replaced
-/// bytes are read there as `replaced::REPLACED` says.
+/// Returns, for lines that are read over the path of three: the three answers of `are_rows_read`, about the lines of
+/// this file's tables; and whether the lines of `TEN_LINES` with replaced bytes are read as `replaced::REPLACED` says.
 fn are_lines_read(alloc: Global) -> Result<((bool, bool, bool), bool), Fail> {
     let lab = boxed_lab(alloc, PATH_OF_THREE)?;
     Ok((

@@ -9,7 +9,7 @@ use mml_rules::Scene;
 use std::alloc::Global;
 use std::test::Fail;
 
-/// Returns the name of a ruling.
+/// Returns the name of the kind of a ruling (what the policy decides about a command).
 fn ruling_name(ruling: &Ruling) -> &'static str {
     match ruling {
         Ruling::Denied(_) => "denied",
@@ -58,13 +58,14 @@ fn rulings(alloc: Global, lab: &Lab, board: &Board, cases: &[Case]) -> Result<St
     Ok(text)
 }
 
-/// Returns the result of `rulings` for the first board of a lab.
+/// Returns the names of the rulings on these cases on the first board of a lab, if ana asks, with a space after each.
 fn first_rulings(alloc: Global, lab: &Lab, cases: &[Case]) -> Result<String, Fail> {
     let board = boxed_board(alloc, lab)?;
     rulings(alloc, lab, &board, cases)
 }
 
-/// Returns the result of `rulings` for the first board of the path of three.
+/// Returns the names of the rulings on these cases on the first board of the path of three, if ana asks, with a space
+/// after each.
 fn rulings_over_the_path(alloc: Global, cases: &[Case]) -> Result<String, Fail> {
     let lab = boxed_lab(alloc, PATH_OF_THREE)?;
     first_rulings(alloc, &lab, cases)

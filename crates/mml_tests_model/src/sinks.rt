@@ -86,7 +86,8 @@ fn takes_each_number_of_bytes(alloc: Global, lab: &Lab) -> Result<bool, Fail> {
     Ok(true)
 }
 
-/// Returns the results of `faults_of_sinks` and of `takes_each_number_of_bytes` for the path of three.
+/// Returns, for journals of the path of three: the three results of `faults_of_sinks`, about sinks that fail at a line;
+/// and whether sinks are right that fail after each number of bytes.
 fn lines_and_bytes_taken(alloc: Global) -> Result<((Option<usize>, bool, bool), bool), Fail> {
     let lab = boxed_lab(alloc, PATH_OF_THREE)?;
     let lines = faults_of_sinks(alloc, &lab)?;

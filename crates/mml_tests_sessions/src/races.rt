@@ -50,7 +50,7 @@ fn document_of_sixteen(alloc: Global) -> Result<String, AllocError> {
     file.replacen(alloc, "owner = \"ben\"", "owners = [\"ben\", \"ana\"]", 1)
 }
 
-/// Returns the lab of `document_of_sixteen`.
+/// Returns the lab of the file `document_of_sixteen`: the path of three with sixteen sessions.
 fn lab_of_sixteen(alloc: Global) -> Result<Lab, Fail> {
     let file = document_of_sixteen(alloc)?;
     Ok(read_lab(alloc, file.as_bytes())?)
@@ -323,7 +323,8 @@ fn is_lack_told<R: Threads + Wait + Sync>(rt: &R, alloc: Global) -> Result<bool,
     Ok(matches!(one, Err(ServeFault::Accept)) && out.is_empty())
 }
 
-/// Returns the results of `are_two_left` and of `is_lack_told`.
+/// Returns two answers about a server for two connections: whether it serves exactly the first two of three, in their
+/// order; and whether it ends with the fault `Accept` if only one comes.
 fn told_of_arrivals<R: Threads + Wait + Sync>(rt: &R, alloc: Global) -> Result<(bool, bool), Fail> {
     Ok((are_two_left(rt, alloc)?, is_lack_told(rt, alloc)?))
 }

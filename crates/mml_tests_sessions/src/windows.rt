@@ -130,7 +130,8 @@ fn in_house<H: House, R: Wait>(
     })
 }
 
-/// Returns the result of `in_house` for the path of three.
+/// Asks for a move and a close in a house over the path of three, and ends it: with all its windows if `with_all`, and
+/// otherwise without the last one, through which ana moved. Returns the result.
 fn ended_with<R: Wait>(rt: &R, alloc: Global, with_all: bool) -> Result<Told, Fail> {
     let blank = open_path(rt, alloc, None)?;
     Ok(in_house::<Brand, _>(rt, alloc, blank, with_all)?)

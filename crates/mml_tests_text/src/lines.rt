@@ -251,7 +251,8 @@ fn line_by_bytes(alloc: Global, text: &[u8]) -> Result<(bool, usize), Fail> {
 /// The results of `lines_of_many_newlines` and of `longest_line_by_bytes`.
 type Counts = ((u32, Step, usize), (bool, usize));
 
-/// Returns the results of `lines_of_many_newlines` and of `longest_line_by_bytes`.
+/// Returns what comes of two inputs that are read one byte at a time: of newlines, one more than the reads that are
+/// allowed, as `lines_of_many_newlines` returns it; and of a line of 4,096 bytes, as `longest_line_by_bytes` does.
 fn counts(alloc: Global) -> Result<Counts, Fail> {
     Ok((
         lines_of_many_newlines(alloc)?,

@@ -46,10 +46,10 @@ pub fn replies_of_a_session_name_their_events()
         IsPrefix after.window.seen l → NamesItsEventIn lab l st t.line t.reply }
 {}
 
-/// Suppose that each window of a house served one session after another, and that the windows were granted the places
-/// after the first events, up to some last place, each once. Then each of these places is named by exactly one reply,
-/// over all sessions of all windows. Every house that leaves a log meets this condition. If a write failed, the reply
-/// may not have been sent.
+/// Suppose that each window of a house (one run of a lab) served one session after another. Suppose also that together
+/// the windows were granted each place once, from the first place after the events before the house to some last one.
+/// Then each of these places is named by exactly one reply, over all sessions of all windows. Every house that leaves a
+/// log meets this condition. If a write failed, the reply may not have been sent.
 pub fn each_event_of_a_house_has_one_reply()
     ensures { (lab : LabValue) (begun : List Event) (most : ℕ)
         (sessions : List (List (List Reply))) (windows : List WindowValue) →

@@ -98,7 +98,8 @@ fn grant_in(
     is_so.then_some((found, was_none))
 }
 
-/// Returns the result of `grant_in` for a new hall over the path of three.
+/// Makes a new hall over the path of three, and lets ana move node 1 in it while the nth request for memory is refused,
+/// as `grant_in` does. Returns what `grant_in` returns.
 fn grant_in_new_hall(
     alloc: Global,
     nth: usize,

@@ -80,7 +80,8 @@ fn replies_of_lab(alloc: Global, lab: &Lab) -> Result<(String, String, bool), Fa
     Ok((sight(alloc, lab)?, report_line(alloc, lab)?, stays))
 }
 
-/// Returns the result of `replies_of_lab` for the lab of two nodes far apart.
+/// Returns, for the lab of two nodes far apart: the line of the reply to a see, the line of the lab's report, and
+/// whether a vector with memory for a reply keeps its capacity.
 fn replies_far_apart(alloc: Global) -> Result<(String, String, bool), Fail> {
     let lab = boxed_lab(alloc, FAR_APART)?;
     replies_of_lab(alloc, &lab)

@@ -48,7 +48,8 @@ fn hall_of(alloc: Global, document: &str) -> Result<Box<Hall<NullSink>>, Fail> {
     Ok(Box::new(alloc, hall)?)
 }
 
-/// Returns the result of `is_answered` for a new hall over `PAIR`.
+/// Returns whether a new hall over `PAIR` answers the teacher's hello and look rightly, and its board is still in
+/// configuration 0, with no event.
 fn is_look_answered(alloc: Global) -> Result<bool, Fail> {
     let mut hall = hall_of(alloc, PAIR)?;
     is_answered(alloc, &mut hall)
@@ -73,14 +74,16 @@ fn are_one(alloc: Global, document: &str, lab: &Lab) -> Result<bool, Fail> {
     Ok(is_copied(alloc, board)? && begins_as(alloc, document, board)?)
 }
 
-/// Returns the result of `are_one` for the largest lab.
+/// Returns whether the first board of the largest lab, its copy, and the first board of a hall over the lab's file have
+/// the same world.
 fn is_one_beginning(alloc: Global) -> Result<bool, Fail> {
     let document = greatest(alloc)?;
     let lab = boxed_lab(alloc, document.as_str())?;
     are_one(alloc, document.as_str(), &lab)
 }
 
-/// Returns the results of `is_look_answered` and of `is_one_beginning`.
+/// Returns two answers: whether a look is answered rightly and leaves the board as it is, and whether all first boards
+/// of the largest lab have the same world.
 fn are_looks_and_beginnings_right(alloc: Global) -> Result<(bool, bool), Fail> {
     Ok((is_look_answered(alloc)?, is_one_beginning(alloc)?))
 }

@@ -115,8 +115,9 @@ fn are_read_once(alloc: Global) -> Result<[bool; 4], Fail> {
     Ok([look, greeting, long, is_bad_line_told(alloc)?])
 }
 
-/// Returns the results of `are_read_once`, `first_untold_read` and `first_other_buffer`. The last two are `None` if all
-/// is right.
+/// Returns the results of the checks of reads: for each of four scripts whether each read is made once; and the first
+/// failed read that is reported wrongly, and the first row of `BUFFERS` that is wrong, each of them `None` if all is
+/// right.
 fn reads_made(alloc: Global) -> Result<([bool; 4], [Option<usize>; 2]), Fail> {
     let are_read_once = are_read_once(alloc)?;
     let firsts = [first_untold_read(alloc)?, first_other_buffer(alloc)?];

@@ -129,7 +129,9 @@ fn first_cut_that_changes(alloc: Global) -> Result<Option<usize>, Fail> {
 /// something, or `None` if no cut does.
 type Writes = ((bool, usize), (bool, usize), Option<usize>);
 
-/// Returns the results of `asked` for `FIRST_LOOK` and for `GREETING`, and that of `first_cut_that_changes`.
+/// Answers the scripts `FIRST_LOOK` and `GREETING`, which come one line in each read. Returns for each what `asked`
+/// does: whether the replies are right and are sent before each next read, and how many reads there were. Also returns
+/// the first offset for which `FIRST_LOOK`, cut there into two reads, is answered otherwise, or `None`.
 fn writes_before_reads(alloc: Global) -> Result<Writes, Fail> {
     let looks = asked(alloc, FIRST_LOOK, FIRST_LOOK_REPLIES)?;
     let greets = asked(alloc, GREETING, GREETING_REPLIES)?;

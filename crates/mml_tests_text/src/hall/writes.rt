@@ -80,7 +80,8 @@ fn first_untold_flush(alloc: Global) -> Result<Option<usize>, Fail> {
 /// The results of `first_untold_write` and of `first_untold_flush`; each is `None` if all is right.
 type Untold = (Option<(usize, usize)>, Option<usize>);
 
-/// Returns the results of `first_untold_write` and of `first_untold_flush`.
+/// Returns the first failed write, and the first failed flush, that doesn't end a script as it should. Each is `None`
+/// if all failures do.
 fn first_untold(alloc: Global) -> Result<Untold, Fail> {
     Ok((first_untold_write(alloc)?, first_untold_flush(alloc)?))
 }
