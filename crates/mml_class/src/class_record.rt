@@ -58,7 +58,7 @@ impl From<SeatFault> for ClassFault {
     }
 }
 
-/// Checks the texts of all seats as the record of a class, beside the list of events of a journal of the lab. Reads
+/// Checks the texts of all seats as the record of a class, against the list of events of a journal of the lab. Reads
 /// first how many events came before, then seat by seat, and at last checks that the events are granted once each.
 /// Returns the first fault that is found. If `with_asks` is set, also returns what each line asked; each text is then
 /// read into memory as a whole.

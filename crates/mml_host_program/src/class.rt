@@ -68,8 +68,9 @@ pub(crate) struct Ready<C: Drop> {
     pub recorders: Recorders<C>,
 }
 
-/// Serves a class until it is over. Records it if there is a folder, and watches its journal if that is a plain file.
-/// Returns the reason if the class can't begin or go on, fails, isn't recorded completely, or lost its journal's file.
+/// Serves a class until it is over. Records it if there is a folder. If its journal is a plain file, lets `eye` check
+/// that file meanwhile. Returns the reason if the class can't begin or go on, fails, isn't recorded completely, or lost
+/// its journal's file.
 pub(crate) fn serve_class<
     R: System + Files<File = File> + Net<Listener = TcpListener, Stream = TcpStream> + Sync,
     L: Look + Sync,

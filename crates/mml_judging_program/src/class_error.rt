@@ -10,7 +10,7 @@ use mml_program::Fault as ProgramFault;
 pub enum ClassError {
     /// The journal doesn't pass the audit.
     Audit(AuditFault),
-    /// The seats' texts aren't a record beside the journal, or can't be read.
+    /// The seats' texts aren't a record that fits the journal, or can't be read.
     Record(ClassFault),
     /// Memory ran out before anything was written.
     Memory,

@@ -25,7 +25,7 @@ use std::io;
 use std::io::{Read, Write};
 use std::rt::Files;
 
-/// Checks the record of a class beside its journal, and prints the tally of both. Returns an error if the lab, the
+/// Checks the record of a class against its journal, and prints the tally of both. Returns an error if the lab, the
 /// journal or the record is refused or can't be read, a write failed, or memory ran out.
 pub fn tally_recorded<R: Files<File = File> + Print + AllocGlobal>(
     rt: &R,
@@ -87,7 +87,7 @@ fn tallied_text<R: Read + Drop, S: Seats<R>>(
     }
 }
 
-// Checks the record of a class beside the events of its journal, which lead to `board`. Returns the text of the tally
+// Checks the record of a class against the events of its journal, which lead to `board`. Returns the text of the tally
 // of both, or the reason if the texts are no record or can't be read.
 fn text_beside<R: Read + Drop, S: Seats<R>>(
     alloc: Global,

@@ -24,8 +24,8 @@ use std::io;
 use std::io::{Read, Write};
 use std::rt::Files;
 
-/// Checks the record of a class beside its journal, and prints what was found. Returns an error if the lab, the journal
-/// or the record is refused or can't be read, a write failed, or memory ran out.
+/// Checks the record of a class against its journal, and prints what was found. Returns an error if the lab, the
+/// journal or the record is refused or can't be read, a write failed, or memory ran out.
 pub fn verify<R: Files<File = File> + Print + AllocGlobal>(
     rt: &R,
     task: VerifyTask<'_>,
@@ -86,7 +86,7 @@ fn verified_text<R: Read + Drop, S: Seats<R>>(
     }
 }
 
-// Checks the record of a class beside the events of its journal. Returns the lines about what was found, or the reason
+// Checks the record of a class against the events of its journal. Returns the lines about what was found, or the reason
 // if the texts are no record or can't be read.
 fn text_beside<R: Read + Drop, S: Seats<R>>(
     alloc: Global,

@@ -257,9 +257,9 @@ fn read_ask(
 }
 
 /// Reads the record `text` of the seat with this number. For each line in it, appends to `asks` the student who was
-/// known, what the line asked, and how its reply denied or refused it, if it did. The text must be a record beside the
-/// events of a journal of the lab; any other is read up to the first bytes that are no entry. Only the contract uses
-/// `events`. Returns `Memory` if memory runs out.
+/// known, what the line asked, and how its reply denied or refused it, if it did. The text must be a record that fits
+/// the events of a journal of the lab; any other is read up to the first bytes that are no entry. Only the contract
+/// uses `events`. Returns `Memory` if memory runs out.
 pub fn read_asks(
     alloc: Global,
     lab: &Lab,
