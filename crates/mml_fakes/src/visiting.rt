@@ -3,9 +3,9 @@ ghost use Rattle.std.specs.Prelude.{◌≡◌, ◌-◌, ◌^◌, ◌<◌, ◌≤
 ghost use Rattle.mml_journal.specs.Taken.{IsFresh};
 ghost use Rattle.mml_window.specs.Houses.{house_of};
 
+use crate::labs::PATH_OF_THREE;
 use crate::seat::Pair;
 use crate::windows::{give_back, take_two};
-use mml_fakes::labs::PATH_OF_THREE;
 use mml_journal::{MemorySink, Sink};
 use mml_lab_file::read_lab;
 use mml_window::{Astray, Blank, Brand, Desk, House, Log, Window, open_house};

@@ -2,9 +2,9 @@
 ghost use Rattle.std.specs.Prelude.{◌≡◌, ◌↔◌, ◌<◌, IsTrue, IfOk, length};
 ghost use Rattle.mml_lab_file.specs.Sameness.{HasSameLinks, HasSameOwners, HasSameNames, IsSameNode, IsSameLab, SpellsSame};
 
+use crate::read_lab;
 use mml_ids::{IdTable, Memory, Rank};
 use mml_lab::{Lab, LabFault, Roster, Student, Who};
-use mml_lab_file::read_lab;
 use std::alloc::Global;
 
 /// Returns whether the bytes are a lab file whose lab has the same identifiers, names, links, registers and owners as
