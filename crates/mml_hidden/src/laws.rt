@@ -4,8 +4,9 @@
 //! their worlds are, the same participants are known on its connections, and both journals are halted or neither. A
 //! turn is the effect of one line; in a plain turn nothing goes wrong. A hall is the engine that answers the lines of
 //! numbered connections.
-ghost use Rattle.std.specs.Prelude.{◌≡◌, ◌↔◌, ◌<◌, ℕ, Bool, List, true, false, length, map};
+ghost use Rattle.std.specs.Prelude.{◌≡◌, ◌↔◌, ◌<◌, ℕ, Bool, List, Option, true, false, length, map};
 ghost use Rattle.mml_rules.specs.declared.regs.Regs.{Regs};
+ghost use Rattle.mml_rules.specs.declared.rule.Rule.{Rule};
 ghost use Rattle.mml_rules.specs.Network.{Network, IsNetwork, configuration_of, with_registers, with_link};
 ghost use Rattle.std.specs.List.{concat};
 ghost use Rattle.mml_lab.specs.declared.who.Who.TheVariants as who;
@@ -14,7 +15,7 @@ ghost use Rattle.mml_lab.specs.Rosters.{RosterValue, owns};
 ghost use Rattle.mml_board.specs.World.{World, IsWorld, opening_of};
 ghost use Rattle.mml_board.specs.declared.event.Event.{Event};
 ghost use Rattle.mml_board.specs.declared.event.Event.TheVariants as event;
-ghost use Rattle.mml_board.specs.Events.{after, is_possible};
+ghost use Rattle.mml_board.specs.Events.{after, choosing, is_possible};
 ghost use Rattle.mml_board.specs.Meaning.{makes_configuration};
 ghost use Rattle.mml_policy.specs.declared.command.Command.{Command};
 ghost use Rattle.mml_policy.specs.Visible.{IsVisible};
@@ -217,6 +218,20 @@ pub fn labs_may_differ_out_of_sight()
         a < length n.registers → b < length n.registers →
         owns r (who.Student s) a ≡ false → owns r (who.Student s) b ≡ false →
         Alike r s (opening_of n) (opening_of (with_link n a b)) }
+{}
+
+/// A student can't tell which move, if any, is chosen for a node that isn't hers, even if it is linked to a node of hers.
+/// Two worlds that differ in this choice alone are alike for her, and each of her commands has the same reply line in
+/// both.
+pub fn choices_of_others_are_hidden()
+    ensures worlds { (r : RosterValue) (s i : ℕ) (w : World) (one other : Option Rule) →
+        owns r (who.Student s) i ≡ false →
+        Alike r s (choosing w i one) (choosing w i other) }
+    ensures line { (ids : List ℕ) (r : RosterValue) (limit : ℕ) (is_halted : Bool) (w : World)
+        (s i : ℕ) (one other : Option Rule) (c : Command) → owns r (who.Student s) i ≡ false →
+        IsWorldOf ids (choosing w i one) → IsWorldOf ids (choosing w i other) →
+        line_to ids r limit is_halted (choosing w i one) (who.Student s) c
+        ≡ line_to ids r limit is_halted (choosing w i other) (who.Student s) c }
 {}
 
 /// A student has a session in each of two twin labs, which differ at most in the links and registers at the beginning.

@@ -19,4 +19,5 @@ mod FinishesLemmas
 mod ClassesLemmas
 mod HaltingLemmas
 mod SameAuditsLemmas
+mod SameRulingsLemmas
 mod ListsLemmas

@@ -45,7 +45,7 @@ module _ (a b : LabValue) (la : IsLab a) (lb : IsLab b) (is : IsSameLab a b) whe
   each_owns (who.Student s) i = student_owns s i
 
   -- the same ones own the same nodes
-  owns_alike : owns a.roster ≡ owns b.roster
+  pub owns_alike : owns a.roster ≡ owns b.roster
   owns_alike t = λ x i. each_owns x i t
 
   -- an event is as legal

@@ -1,6 +1,6 @@
 //! What two labs have in common that agree in everything that a journal names. Each law is the contract of a function
 //! that does nothing.
-ghost use Rattle.std.specs.Prelude.{◌≡◌, ◌<◌, ℕ, List, length};
+ghost use Rattle.std.specs.Prelude.{◌≡◌, ◌<◌, ℕ, Bool, List, length};
 ghost use Rattle.mml_lab.specs.declared.who.Who.{Who};
 ghost use Rattle.mml_lab.specs.Rosters.{IsPrincipal, name_of, owns};
 ghost use Rattle.mml_lab.specs.Labs.{LabValue, IsLab};
@@ -8,6 +8,10 @@ ghost use Rattle.mml_board.specs.declared.event.Event.{Event};
 ghost use Rattle.mml_board.specs.Events.{is_legal};
 ghost use Rattle.mml_board.specs.Lists.{world_in};
 ghost use Rattle.mml_board.specs.World.{World};
+ghost use Rattle.mml_policy.specs.declared.command.Command.{Command};
+ghost use Rattle.mml_policy.specs.Rulings.{ruling};
+ghost use Rattle.mml_codec.specs.declared.reply.Reply.TheVariants as replies;
+ghost use Rattle.mml_codec.specs.Replies.{reply_line};
 ghost use Rattle.mml_audit.specs.Audit.{audited};
 ghost use Rattle.mml_journal.specs.EventLines.{said_by, event_line, IsEventOf};
 ghost use Rattle.mml_lab_file.specs.Sameness.{IsSameLab};
@@ -36,4 +40,15 @@ pub fn same_labs_audit_alike()
         a.events ≡ b.events → audited a bytes ≡ audited b bytes }
     ensures legal { (a b : LabValue) (w : World) (e : Event) → IsLab a → IsLab b → IsSameLab a b →
         is_legal a.roster w e ≡ is_legal b.roster w e }
+{}
+
+/// Labs that are the same have the same owners and the same teacher. In each world both rule alike on each command: they
+/// show, deny, refuse or grant it, for the same cause and with the same effect. A hello that is granted has the same
+/// reply line in both.
+pub fn same_labs_rule_alike()
+    ensures rulings { (a b : LabValue) (limit : ℕ) (is_halted : Bool) (w : World) (who : Who)
+        (c : Command) → IsLab a → IsLab b → IsSameLab a b →
+        ruling a.ids a.roster limit is_halted w who c ≡ ruling b.ids b.roster limit is_halted w who c }
+    ensures hello { (a b : LabValue) (who : Who) → IsSameLab a b → IsPrincipal a.roster who →
+        reply_line a.ids a.roster (replies.Hello who) ≡ reply_line b.ids b.roster (replies.Hello who) }
 {}

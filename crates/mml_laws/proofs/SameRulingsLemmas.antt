@@ -1,0 +1,60 @@
+-- Two labs that are the same in all that a journal names rule alike on each command, and greet alike.
+use Rattle.std.proofs.Common.{◌≡◌, ◌∙◌, ℕ, Bool, ◌&&◌, ◌||◌, List, [], ◌∷◌, ◌++◌, Result, Ok, option_map, refl, ap}
+use Rattle.mml_ids.specs.Gives.{◌>>=◌, ◌>>◌, need}
+use Rattle.mml_ids.specs.Ids.{rank_in}
+use Rattle.mml_ids.specs.Search.{some_below}
+use Rattle.mml_rules.specs.Configuration.{Configuration}
+use Rattle.mml_lab.specs.declared.who.Who.{Who}
+use Rattle.mml_lab.specs.Rosters.{RosterValue, IsPrincipal, owns}
+use Rattle.mml_lab.specs.Labs.{LabValue, IsLab}
+use Rattle.mml_board.specs.declared.act.Act.TheVariants as act
+use Rattle.mml_board.specs.World.{World, configuration}
+use Rattle.mml_board.specs.Clauses.{check, is_teacher}
+use Rattle.mml_board.specs.declared.denial.Denial.{Denial}
+use Rattle.mml_board.specs.declared.denial.Denial.TheVariants.{Hidden, NotOwner}
+use Rattle.mml_policy.specs.declared.command.Command.{Command}
+use Rattle.mml_policy.specs.declared.command.Command.TheVariants as command
+use Rattle.mml_policy.specs.declared.verdict.Leave.{Leave}
+use Rattle.mml_policy.specs.declared.verdict.Leave.TheVariants.{See, Look}
+use Rattle.mml_policy.specs.Clauses.{node, rule_of}
+use Rattle.mml_policy.specs.Visible.{is_visible, owns_neighbour}
+use Rattle.mml_policy.specs.Verdicts.{granted, clauses}
+use Rattle.mml_policy.specs.Rulings.{ruled, ruling}
+use Rattle.mml_codec.specs.declared.reply.Reply.TheVariants as replies
+use Rattle.mml_codec.specs.Facts.{object_text}
+use Rattle.mml_codec.specs.Replies.{hello_fields, reply_line}
+use Rattle.mml_lab_file.specs.Sameness.{IsSameLab}
+use Rattle.mml_laws.proofs.SameLabsLemmas.{name_alike}
+use Rattle.mml_laws.proofs.SameAuditsLemmas.{owns_alike}
+
+-- what is decided of a command depends on who owns which node, and on nothing else of a roster
+module _ (ids : List ℕ) (r q : RosterValue) (same : owns r ≡ owns q) (w : World) (x : Who) where
+  visible_alike : (c : Configuration) (i : ℕ) → is_visible r c x i ≡ is_visible q c x i
+  unfolding owns_neighbour
+  visible_alike c i = λ t. is_teacher x || same t x i || some_below c.size (λ j. c.linked i j && same t x j)
+
+  clauses_alike : (k : Command) → clauses ids r w x k ≡ clauses ids q w x k
+  clauses_alike (command.See id) =
+      λ t. node ids id Hidden >>= (λ (i : ℕ). need (visible_alike (configuration w) i t) Hidden >> Ok (See i))
+  clauses_alike (command.Look id) = λ t. node ids id NotOwner >>= (λ (i : ℕ). need (is_teacher x || same t x i) NotOwner >> Ok (Look i))
+  clauses_alike command.Report = refl
+  clauses_alike (command.Move id asked at) = λ t. granted (check (same t) w x (act.Move (rank_in ids id) (rule_of ids asked) at))
+  clauses_alike command.Close = λ t. granted (check (same t) w x act.Close)
+  clauses_alike (command.Fault id p m) = λ t. granted (check (same t) w x (act.Fault (rank_in ids id) (option_map (rank_in ids) p) m))
+  clauses_alike (command.Link a b) = λ t. granted (check (same t) w x (act.Link (rank_in ids a) (rank_in ids b)))
+  clauses_alike (command.Cut a b) = λ t. granted (check (same t) w x (act.Cut (rank_in ids a) (rank_in ids b)))
+  clauses_alike (command.Release id) = λ t. granted (check (same t) w x (act.Release (rank_in ids id)))
+
+-- each command is ruled alike
+pub rulings_alike : (a b : LabValue) (limit : ℕ) (h : Bool) (w : World) (x : Who) (c : Command) → IsLab a → IsLab b → IsSameLab a b
+    → ruling a.ids a.roster limit h w x c ≡ ruling b.ids b.roster limit h w x c
+rulings_alike a b limit h w x c la lb is =
+    ap (λ (ids : List ℕ). ruling ids a.roster limit h w x c) is.ids
+    ∙ ap (λ (p : Result Leave Denial). ruled limit h w p) (clauses_alike b.ids a.roster b.roster (owns_alike a b la lb is) w x c)
+
+-- a hello has the same reply line
+pub hellos_alike : (a b : LabValue) (x : Who) → IsSameLab a b → IsPrincipal a.roster x
+    → reply_line a.ids a.roster (replies.Hello x) ≡ reply_line b.ids b.roster (replies.Hello x)
+hellos_alike a b x is here =
+    ap (λ (ids : List ℕ). reply_line ids a.roster (replies.Hello x)) is.ids
+    ∙ ap (λ (name : List ℕ). object_text b.ids (hello_fields name) ++ 10 ∷ []) (name_alike a b x is here)
