@@ -1,5 +1,6 @@
 -- How houses fail.
-use Rattle.std.proofs.{Common.◌≡◌, Common.ℕ, Common.List, Common.length, Common.Option, Common.subst, KnownBytes.Appends-nil}
+use Rattle.std.proofs.{Common.◌≡◌, Common.ℕ, Common.List, Common.All, Common.length, Common.Option, Common.subst, KnownBytes.Appends-nil}
+use mathlib.Core.List.{IsPrefix}
 use Rattle.mml_lab.specs.Labs.{LabValue}
 use Rattle.mml_board.specs.World.{World}
 use Rattle.mml_window.specs.{declared.log.Log.Log, declared.log.Astray.Astray, Books.BookValue, Books.IsBook, Logs.IsAstray, Tallies.IsEachOnce, Tallies.told_of, Windows.WindowValue}
@@ -10,11 +11,12 @@ use Rattle.mml_serving.specs.declared.serving.ServeFault.TheVariants as fault
 -- the list from which the windows went astray is the book's
 pub went_astray : {S : Type 0} (lab : LabValue) (sink : S → Option (List ℕ)) (b : BookValue S) (windows : List WindowValue) (astray : Astray)
     → IsBook lab sink b
-    → astray.found ≡ length b.events → IsAstray windows astray → WentAstray lab windows
-went_astray lab sink b windows astray book found is = record {
+    → astray.found ≡ length b.events → All (λ w. IsPrefix w.seen b.events) windows → IsAstray windows astray → WentAstray lab windows
+went_astray lab sink b windows astray book found seen is = record {
   events = b.events;
   legal = book.legal;
   few = book.few;
+  seen = seen;
   places = subst (λ (n : ℕ). ¬ (IsEachOnce n (told_of windows))) found is.places;
 }
 

@@ -1,5 +1,7 @@
 -- Houses that fail.
-use Rattle.std.specs.{Prelude.◌≡◌, Prelude.◌≤◌, Prelude.ℕ, Prelude.true, Prelude.false, Prelude.List, Prelude.[], Prelude.length, Prelude.Option, Prelude.None, List.list_all, Io.KnownBytes.Appends}
+use Rattle.std.specs.Prelude.{◌≡◌, ◌≤◌, ℕ, true, false, List, [], All, length, Option, None}
+use Rattle.std.specs.{List.list_all, Io.KnownBytes.Appends}
+use mathlib.Core.List.{IsPrefix}
 use Rattle.mml_lab.specs.Labs.{LabValue}
 use Rattle.mml_board.specs.{declared.event.Event.Event, Lists.is_legal_in, Lists.world_in}
 use Rattle.mml_window.specs.{declared.log.Log.Log, Tallies.IsEachOnce, Tallies.told_of, Windows.WindowValue}
@@ -7,11 +9,13 @@ use Rattle.mml_serving.specs.declared.{connection.EndedSession.EndedSession, ser
 use Rattle.mml_serving.specs.{Closings.IsCutShort, Closings.done_line, Serving.ServesWindows, Serving.ServesHouse, Serving.had_memory}
 use Rattle.mml_serving.specs.declared.serving.ServeFault.TheVariants as fault
 
--- the places that the windows were given aren't those of the house's legal list of events, each once
+-- each window has seen a beginning of the house's legal list of events, but the places that the windows were given
+-- aren't those of its events, each once
 pub record WentAstray (lab : LabValue) (windows : List WindowValue) : Type 0 where
   pub events : List Event
   pub legal : is_legal_in lab events ≡ true
   pub few : length events ≤ lab.events
+  pub seen : All (λ w. IsPrefix w.seen events) windows
   pub places : ¬ (IsEachOnce (length events) (told_of windows))
 
 -- why no log is left: memory ran out, or the places of these windows went astray
