@@ -21,3 +21,4 @@ mod HaltingLemmas
 mod SameAuditsLemmas
 mod SameRulingsLemmas
 mod ListsLemmas
+mod ColumnsLemmas

@@ -1,6 +1,10 @@
 //! The columns of a tally. Each law is the contract of a function that does nothing.
-ghost use Rattle.std.specs.Prelude.{◌≡◌, ◌==◌, ◌++◌, ◌∷◌, [], ℕ, List, codes};
+ghost use Rattle.std.specs.Prelude.{◌≡◌, ◌==◌, ◌+◌, ◌++◌, ◌∷◌, [], ℕ, List, true, codes, length, count_by};
+ghost use Rattle.mml_lab.specs.Labs.{LabValue};
+ghost use Rattle.mml_board.specs.declared.event.Event.{Event};
 ghost use Rattle.mml_board.specs.World.{World, configuration, privileged_count};
+ghost use Rattle.mml_convergence.specs.Potential.{sum_below};
+ghost use Rattle.mml_tally.specs.declared.ask.Denials.{Denials};
 ghost use Rattle.mml_tally.specs.declared.bounds.Bounds.{Bounds};
 ghost use Rattle.mml_tally.specs.declared.marks.ByRule.{ByRule};
 ghost use Rattle.mml_tally.specs.declared.marks.Marks.{Marks};
@@ -9,12 +13,18 @@ ghost use Rattle.mml_tally.specs.declared.refusals.Refusals.{Refusals};
 ghost use Rattle.mml_tally.specs.Texts.{numbers_text, place_text, stable_text, student_line, owner_text, bounds_line, run_line};
 ghost use Rattle.mml_tally.specs.Refusals.{refused_line};
 ghost use Rattle.mml_tally.specs.declared.student_denials.NamedDenials.{NamedDenials};
-ghost use Rattle.mml_tally.specs.StudentDenials.{denials_line};
+ghost use Rattle.mml_tally.specs.Asks.{denials_of, is_malformed};
+ghost use Rattle.mml_tally.specs.AskMeaning.{AreAsksOf, asks_of_others, is_denied, total_denied};
+ghost use Rattle.mml_tally.specs.RecordTexts.{denied_line};
+ghost use Rattle.mml_tally.specs.StudentDenials.{denials_line, named_of, AreNamed, AreSums};
+ghost use Rattle.mml_class.specs.declared.class_record.ClassRecord.{ClassRecord};
+ghost use Rattle.mml_class.specs.Classes.{IsClassRecord};
 
 /// The lines of a tally have these columns, in this order. A student's line has the granted moves by rule, the applied
 /// moves by rule, the number of closes that applied one, the places of the first and the last grant, and the applied
-/// moves at shared nodes. The line of a student's refusals has those for `journal`, `memory` and `full`. The line of a
-/// student's denials by name has those of clause 1, then of clauses 2, 3 and 4.
+/// moves at shared nodes. The line of a student's denials by clause has those of clauses 1 to 4, and then the number of
+/// lines that were no request. The line of a student's refusals has those for `journal`, `memory` and `full`. The line
+/// of a student's denials by name has those of clause 1, then of clauses 2, 3 and 4.
 pub fn tallies_have_these_columns()
     ensures student { (name : List ℕ) (m : Marks) → student_line name m ≡ codes "student " ++ (name
         ++ ((numbers_text (m.granted.update ∷ m.granted.marriage ∷ m.granted.seduction ∷ m.granted.abandonment ∷ [])
@@ -30,9 +40,38 @@ pub fn tallies_have_these_columns()
         ++ (stable_text (privileged_count (configuration w) == 0)
         ++ (numbers_text (r.closes ∷ r.faults ∷ r.links ∷ r.cuts ∷ r.moves ∷ r.moves_since ∷ r.closes_since ∷ [])
         ++ codes "\n"))) }
+    ensures denied { (name : List ℕ) (d : Denials) → denied_line name d ≡ codes "denied " ++ (name
+        ++ (numbers_text (d.first ∷ d.second ∷ d.third ∷ d.fourth ∷ d.malformed ∷ []) ++ codes "\n")) }
     ensures refused { (name : List ℕ) (n : Refusals) → refused_line name n ≡ codes "refused " ++ (name
         ++ (numbers_text (n.journal ∷ n.memory ∷ n.full ∷ []) ++ codes "\n")) }
     ensures denials { (name : List ℕ) (n : NamedDenials) → denials_line name n ≡ codes "denials " ++ (name
         ++ (numbers_text (n.greeted ∷ n.hidden ∷ n.not_owner ∷ n.not_teacher ∷ n.stale ∷ n.chosen ∷ n.guard ∷ [])
         ++ codes "\n")) }
+{}
+
+/// In the record of a class, over all its seats together, each line of a student is denied exactly by the clause of the
+/// denial that is named. So in the tally of the class the number of lines that a clause denied to a student is the sum
+/// over the clause's denials.
+pub fn columns_are_sums_in_a_class()
+    ensures named { (lab : LabValue) (l : List Event) (start : List ℕ) (texts : ℕ → List ℕ) (c : ClassRecord) →
+        IsClassRecord lab l true start texts c → AreNamed c.asks.items }
+    ensures sums { (lab : LabValue) (l : List Event) (start : List ℕ) (texts : ℕ → List ℕ) (c : ClassRecord) (s : ℕ) →
+        IsClassRecord lab l true start texts c → AreSums (denials_of c.asks.items s) (named_of c.asks.items s) }
+{}
+
+/// In the record of a class, over all its seats together, a student who is known is one of the lab, and only the clauses
+/// from 1 to 4 deny a student anything. So each line that was denied, and each that was no request, is counted for one
+/// student, or came while the teacher was known, or nobody.
+pub fn asks_of_a_class_are_of_the_labs_students()
+    ensures asks { (lab : LabValue) (l : List Event) (start : List ℕ) (texts : ℕ → List ℕ) (c : ClassRecord) →
+        IsClassRecord lab l true start texts c → AreAsksOf (length lab.roster.students) c.asks.items }
+    ensures denied { (lab : LabValue) (l : List Event) (start : List ℕ) (texts : ℕ → List ℕ) (c : ClassRecord) →
+        IsClassRecord lab l true start texts c →
+        sum_below (length lab.roster.students) (λ s. total_denied (denials_of c.asks.items s))
+        + count_by is_denied (asks_of_others c.asks.items) ≡ count_by is_denied c.asks.items }
+    ensures malformed { (lab : LabValue) (l : List Event) (start : List ℕ) (texts : ℕ → List ℕ) (c : ClassRecord) →
+        IsClassRecord lab l true start texts c →
+        sum_below (length lab.roster.students) (λ s. (denials_of c.asks.items s).malformed)
+        + count_by (λ a. is_malformed a.line) (asks_of_others c.asks.items)
+        ≡ count_by (λ a. is_malformed a.line) c.asks.items }
 {}

@@ -1,0 +1,45 @@
+-- The lines of all seats of a class, one seat after another.
+use Rattle.std.proofs.Common.{◌≡◌, ℕ, suc, true, None, List, [], ◌∷◌, ◌++◌, length, refl, sym, subst}
+use Rattle.mml_lab.specs.Labs.{LabValue}
+use Rattle.mml_board.specs.declared.event.Event.{Event}
+use Rattle.mml_tally.specs.declared.ask.Ask.{Ask}
+use Rattle.mml_tally.specs.AskMeaning.{AreAsksOf}
+use Rattle.mml_tally.specs.StudentDenials.{AreNamed}
+use Rattle.mml_record.specs.declared.kept_entry.Entry.{Entry}
+use Rattle.mml_record.specs.declared.stage.Stage.TheVariants as stages
+use Rattle.mml_record.specs.Asks.{asks_in}
+use Rattle.mml_record.proofs.AsksLemmas.{asked_of_rules}
+use Rattle.mml_record.proofs.AskersLemmas.{are_asks_of}
+use Rattle.mml_record.proofs.NamedAskersLemmas.{record_named}
+use Rattle.mml_class.specs.declared.class_record.ClassRecord.{ClassRecord}
+use Rattle.mml_class.specs.Classes.{AreRecordsOf, IsClassRecord, all_asks}
+
+named_after : (xs ys : List Ask) → AreNamed xs → AreNamed ys → AreNamed (xs ++ ys)
+named_after [] ys h k = k
+named_after (x ∷ xs) ys h k = (h.0, named_after xs ys h.1 k)
+
+asks_after : (n : ℕ) (xs ys : List Ask) → AreAsksOf n xs → AreAsksOf n ys → AreAsksOf n (xs ++ ys)
+asks_after n [] ys h k = k
+asks_after n (x ∷ xs) ys h k = (h.0, asks_after n xs ys h.1 k)
+
+module _ (lab : LabValue) (l : List Event) (texts : ℕ → List ℕ) where
+  all_named : (first : ℕ) (ess : List (List Entry)) (places : List ℕ) → AreRecordsOf lab l texts first ess places → AreNamed (all_asks lab.roster ess)
+  all_named first [] places h = tt
+  all_named first (es ∷ ess) places h =
+      named_after (asks_in lab.roster es) (all_asks lab.roster ess) (record_named lab l es h.0 h.3) (all_named (suc first) ess h.1 h.5)
+
+  all_of_students : (first : ℕ) (ess : List (List Entry)) (places : List ℕ) → AreRecordsOf lab l texts first ess places
+      → AreAsksOf (length lab.roster.students) (all_asks lab.roster ess)
+  all_of_students first [] places h = tt
+  all_of_students first (es ∷ ess) places h =
+      asks_after (length lab.roster.students) (asks_in lab.roster es) (all_asks lab.roster ess)
+      (are_asks_of lab l None tt es (asks_in lab.roster es) (asked_of_rules lab l None stages.Fresh 0 es h.0 h.3))
+      (all_of_students (suc first) ess h.1 h.5)
+
+  -- what the lines of a class asked is what those of its seats did
+  pub class_named : (start : List ℕ) (c : ClassRecord) → IsClassRecord lab l true start texts c → AreNamed c.asks.items
+  class_named start c is = subst AreNamed (sym (is.asked refl)) (all_named 1 is.entries is.places is.records)
+
+  pub class_of_students : (start : List ℕ) (c : ClassRecord) → IsClassRecord lab l true start texts c → AreAsksOf (length lab.roster.students) c.asks.items
+  class_of_students start c is =
+      subst (AreAsksOf (length lab.roster.students)) (sym (is.asked refl)) (all_of_students 1 is.entries is.places is.records)
