@@ -1,3 +1,4 @@
 pub mod Tallies
 pub mod Verifying
 pub mod Classes
+pub mod Faults

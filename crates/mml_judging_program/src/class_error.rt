@@ -1,4 +1,6 @@
 //! Why the result of checking a class isn't written.
+ghost use Rattle.mml_judging_program.specs.Faults.{IsOfRecord};
+
 use crate::fault::Fault;
 use crate::record_refusal::RecordRefusal;
 use mml_audit::AuditFault;
@@ -31,7 +33,9 @@ impl From<ClassError> for Fault {
 }
 
 // Returns the program's error for texts that aren't the record of a class, or can't be read.
-fn record_fault(why: ClassFault) -> Fault {
+fn record_fault(why: ClassFault) -> Fault
+    ensures { IsOfRecord why result }
+{
     match why {
         ClassFault::Entry { seat, bad } => Fault::Record(RecordRefusal::of(seat, bad)),
         ClassFault::Places(amiss) => Fault::Record(RecordRefusal::of_places(amiss)),

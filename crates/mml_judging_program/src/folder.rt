@@ -1,4 +1,6 @@
 //! The folder of a record.
+ghost use Rattle.std.specs.Prelude.{◌≡◌, ◌++◌, codes, decimal, string_bytes, IfOk};
+
 use mml_class::{SeatFault, Seats};
 use mml_ids::Memory;
 use mml_program::{Fault as ProgramFault, memory_or};
@@ -35,7 +37,9 @@ impl<'a, R: Files<File = File> + AllocGlobal> Seats<File> for Folder<'a, R> {
 }
 
 // Returns the path of the file `begun` in a record's folder. Returns `Memory` if memory runs out.
-fn begun_path(alloc: Global, folder: &str) -> Result<String, Memory> {
+fn begun_path(alloc: Global, folder: &str) -> Result<String, Memory>
+    ensures { IfOk result (λ path. string_bytes path ≡ folder.now ++ codes "/begun") }
+{
     match format!(in alloc; "{folder}/begun") {
         Ok(path) => Ok(path),
         Err(_) => Err(Memory),
@@ -43,7 +47,10 @@ fn begun_path(alloc: Global, folder: &str) -> Result<String, Memory> {
 }
 
 // Returns the path of a seat's file in a record's folder. Returns `Memory` if memory runs out.
-fn record_path(alloc: Global, folder: &str, seat: u8) -> Result<String, Memory> {
+fn record_path(alloc: Global, folder: &str, seat: u8) -> Result<String, Memory>
+    ensures { IfOk result (λ path. string_bytes path
+        ≡ folder.now ++ (codes "/" ++ (decimal seat ++ codes ".record"))) }
+{
     match format!(in alloc; "{folder}/{seat}.record") {
         Ok(path) => Ok(path),
         Err(_) => Err(Memory),

@@ -1,4 +1,6 @@
 //! Why a record is refused.
+ghost use Rattle.mml_judging_program.specs.Faults.{IsOfEntry, IsOfPlace};
+
 use mml_class::Misgranted;
 use mml_record::{BadEntry, Why};
 use thiserror::Error;
@@ -21,7 +23,9 @@ impl RecordRefusal {
     /// Returns the refusal for the first bad entry of a seat's record. If the entry grants another event than the
     /// journal has, the error line names the place of the journal's event: one more than the number of events that the
     /// entry says had been seen.
-    pub fn of(seat: u8, bad: BadEntry) -> RecordRefusal {
+    pub fn of(seat: u8, bad: BadEntry) -> RecordRefusal
+        ensures { IsOfEntry seat bad result }
+    {
         let BadEntry { line, place, .. } = bad;
         match bad.why {
             Why::Torn => RecordRefusal::Entry(seat, line, "torn"),
@@ -43,7 +47,9 @@ impl RecordRefusal {
     }
 
     /// Returns the refusal for a fault in the places that the records of all seats grant together.
-    pub fn of_places(amiss: Misgranted) -> RecordRefusal {
+    pub fn of_places(amiss: Misgranted) -> RecordRefusal
+        ensures { IsOfPlace amiss result }
+    {
         match amiss {
             Misgranted::Early(place) => RecordRefusal::Granted(place, "before the record began"),
             Misgranted::Twice(place) => RecordRefusal::Granted(place, "twice"),

@@ -1,0 +1,72 @@
+-- The program's error for each reason why a class isn't one.
+use Rattle.std.specs.Prelude.{◌≡◌, ◌+◌, ◌-◌, ◌^◌, min, ℕ, List, codes, Option, None, Some}
+use Rattle.mml_program.specs.declared.fault.Fault.TheVariants as common
+use Rattle.mml_record.specs.declared.verdict.BadEntry.{BadEntry}
+use Rattle.mml_record.specs.declared.verdict.Why.{Why}
+use Rattle.mml_record.specs.declared.verdict.Why.TheVariants as why
+use Rattle.mml_class.specs.declared.class_record.ClassFault.{ClassFault}
+use Rattle.mml_class.specs.declared.class_record.ClassFault.TheVariants as class
+use Rattle.mml_class.specs.declared.granting.Misgranted.{Misgranted}
+use Rattle.mml_class.specs.declared.granting.Misgranted.TheVariants as granted
+use Rattle.mml_class.specs.declared.seats.SeatFault.TheVariants as seat
+use Rattle.mml_judging_program.specs.declared.fault.Fault.{Fault}
+use Rattle.mml_judging_program.specs.declared.fault.Fault.TheVariants as fault
+use Rattle.mml_judging_program.specs.declared.record_refusal.RecordRefusal.{RecordRefusal}
+use Rattle.mml_judging_program.specs.declared.record_refusal.RecordRefusal.TheVariants as refusal
+
+-- ---- a record that is refused
+
+-- the words for what is wrong with an entry
+abbrev pub words_of : Why → List ℕ
+words_of why.Torn = codes "torn"
+words_of why.NoEntry = codes "not an entry"
+words_of why.GoesBack = codes "goes back"
+words_of why.PastEnd = codes "past the journal's end"
+words_of why.GoesAhead = codes "goes ahead"
+words_of why.NoEnd = codes "not the session's end"
+words_of why.NoHello = codes "not a hello that is granted"
+words_of why.NoPause = codes "not after a pause"
+words_of why.OtherEvent = codes "journal's event"
+words_of why.OtherReply = codes "reply of the rules"
+
+-- the place that is named with these words, if one is: that of the journal's event is one more than how many events had
+-- been seen, but at most the greatest number of 64 bits
+abbrev pub place_told : Why → ℕ → Option ℕ
+place_told why.OtherEvent place = Some (min (place + 1) (2 ^ 64 - 1))
+place_told why.OtherReply place = Some place
+place_told _ place = None
+
+-- the refusal names this entry of this seat, and what is wrong with it
+abbrev pub IsOfEntry : ℕ → BadEntry → RecordRefusal → Type 0
+IsOfEntry seat bad (refusal.Entry s line words) =
+    (s ≡ seat) × (line ≡ bad.line) × (words.now ≡ words_of bad.why) × (place_told bad.why bad.place ≡ None)
+IsOfEntry seat bad (refusal.Place s line words place) =
+    (s ≡ seat) × (line ≡ bad.line) × (words.now ≡ words_of bad.why) × (place_told bad.why bad.place ≡ Some place)
+IsOfEntry seat bad (refusal.Granted place words) = ⊥
+
+-- the refusal names this place, and what is wrong with its event
+abbrev pub IsOfPlace : Misgranted → RecordRefusal → Type 0
+IsOfPlace (granted.Early p) (refusal.Granted place words) = (place ≡ p) × (words.now ≡ codes "before the record began")
+IsOfPlace (granted.Twice p) (refusal.Granted place words) = (place ≡ p) × (words.now ≡ codes "twice")
+IsOfPlace (granted.Nowhere p) (refusal.Granted place words) = (place ≡ p) × (words.now ≡ codes "in no record")
+IsOfPlace amiss _ = ⊥
+
+-- ---- the error
+
+-- the error says that the record is refused, by a refusal of which P holds
+abbrev pub IsRefusal : (RecordRefusal → Type 0) → Fault → Type 0
+IsRefusal P (fault.Record why) = P why
+IsRefusal P _ = ⊥
+
+-- the error for texts that are no record of a class, or can't be read
+abbrev pub IsOfRecord : ClassFault → Fault → Type 0
+IsOfRecord (class.Entry seat bad) f = IsRefusal (IsOfEntry seat bad) f
+IsOfRecord (class.Places amiss) f = IsRefusal (IsOfPlace amiss) f
+IsOfRecord (class.Unread seat.Read) f = f ≡ fault.ReadRecord
+IsOfRecord (class.Unread seat.Memory) f = f ≡ fault.Common common.Memory
+
+-- the exit status of the error: 3 if the record is refused, and 4 if it can't be read
+abbrev pub IsStatus : Fault → ℕ → Type 0
+IsStatus (fault.Common why) status = Unit {0}
+IsStatus (fault.Record why) status = status ≡ 3
+IsStatus fault.ReadRecord status = status ≡ 4
