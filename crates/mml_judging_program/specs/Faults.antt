@@ -1,17 +1,14 @@
 -- The program's error for each reason why a class isn't one.
 use Rattle.std.specs.Prelude.{◌≡◌, ◌+◌, ◌-◌, ◌^◌, min, ℕ, List, codes, Option, None, Some}
+use Rattle.mml_record.specs.declared.verdict.{BadEntry.BadEntry, Why.Why}
+use Rattle.mml_class.specs.declared.{class_record.ClassFault.ClassFault, granting.Misgranted.Misgranted}
+use Rattle.mml_judging_program.specs.declared.{fault.Fault.Fault, record_refusal.RecordRefusal.RecordRefusal}
 use Rattle.mml_program.specs.declared.fault.Fault.TheVariants as common
-use Rattle.mml_record.specs.declared.verdict.BadEntry.{BadEntry}
-use Rattle.mml_record.specs.declared.verdict.Why.{Why}
 use Rattle.mml_record.specs.declared.verdict.Why.TheVariants as why
-use Rattle.mml_class.specs.declared.class_record.ClassFault.{ClassFault}
 use Rattle.mml_class.specs.declared.class_record.ClassFault.TheVariants as class
-use Rattle.mml_class.specs.declared.granting.Misgranted.{Misgranted}
 use Rattle.mml_class.specs.declared.granting.Misgranted.TheVariants as granted
 use Rattle.mml_class.specs.declared.seats.SeatFault.TheVariants as seat
-use Rattle.mml_judging_program.specs.declared.fault.Fault.{Fault}
 use Rattle.mml_judging_program.specs.declared.fault.Fault.TheVariants as fault
-use Rattle.mml_judging_program.specs.declared.record_refusal.RecordRefusal.{RecordRefusal}
 use Rattle.mml_judging_program.specs.declared.record_refusal.RecordRefusal.TheVariants as refusal
 
 -- ---- a record that is refused

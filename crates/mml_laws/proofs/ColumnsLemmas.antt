@@ -1,18 +1,12 @@
 -- The lines of all seats of a class, one seat after another.
-use Rattle.std.proofs.Common.{◌≡◌, ℕ, suc, true, None, List, [], ◌∷◌, ◌++◌, length, refl, sym, subst}
+use Rattle.std.proofs.Common.{ℕ, suc, true, None, List, [], ◌∷◌, ◌++◌, length, refl, sym, subst}
 use Rattle.mml_lab.specs.Labs.{LabValue}
 use Rattle.mml_board.specs.declared.event.Event.{Event}
-use Rattle.mml_tally.specs.declared.ask.Ask.{Ask}
-use Rattle.mml_tally.specs.AskMeaning.{AreAsksOf}
-use Rattle.mml_tally.specs.StudentDenials.{AreNamed}
-use Rattle.mml_record.specs.declared.kept_entry.Entry.{Entry}
+use Rattle.mml_tally.specs.{declared.ask.Ask.Ask, AskMeaning.AreAsksOf, StudentDenials.AreNamed}
+use Rattle.mml_record.specs.{declared.kept_entry.Entry.Entry, Asks.asks_in}
+use Rattle.mml_record.proofs.{AsksLemmas.asked_of_rules, AskersLemmas.are_asks_of, NamedAskersLemmas.record_named}
+use Rattle.mml_class.specs.{declared.class_record.ClassRecord.ClassRecord, Classes.AreRecordsOf, Classes.IsClassRecord, Classes.all_asks}
 use Rattle.mml_record.specs.declared.stage.Stage.TheVariants as stages
-use Rattle.mml_record.specs.Asks.{asks_in}
-use Rattle.mml_record.proofs.AsksLemmas.{asked_of_rules}
-use Rattle.mml_record.proofs.AskersLemmas.{are_asks_of}
-use Rattle.mml_record.proofs.NamedAskersLemmas.{record_named}
-use Rattle.mml_class.specs.declared.class_record.ClassRecord.{ClassRecord}
-use Rattle.mml_class.specs.Classes.{AreRecordsOf, IsClassRecord, all_asks}
 
 named_after : (xs ys : List Ask) → AreNamed xs → AreNamed ys → AreNamed (xs ++ ys)
 named_after [] ys h k = k
@@ -41,5 +35,4 @@ module _ (lab : LabValue) (l : List Event) (texts : ℕ → List ℕ) where
   class_named start c is = subst AreNamed (sym (is.asked refl)) (all_named 1 is.entries is.places is.records)
 
   pub class_of_students : (start : List ℕ) (c : ClassRecord) → IsClassRecord lab l true start texts c → AreAsksOf (length lab.roster.students) c.asks.items
-  class_of_students start c is =
-      subst (AreAsksOf (length lab.roster.students)) (sym (is.asked refl)) (all_of_students 1 is.entries is.places is.records)
+  class_of_students start c is = subst (AreAsksOf (length lab.roster.students)) (sym (is.asked refl)) (all_of_students 1 is.entries is.places is.records)

@@ -1,31 +1,18 @@
 -- Two labs that are the same in all that a journal names rule alike on each command, and greet alike.
 use Rattle.std.proofs.Common.{◌≡◌, ◌∙◌, ℕ, Bool, ◌&&◌, ◌||◌, List, [], ◌∷◌, ◌++◌, Result, Ok, option_map, refl, ap}
-use Rattle.mml_ids.specs.Gives.{◌>>=◌, ◌>>◌, need}
-use Rattle.mml_ids.specs.Ids.{rank_in}
-use Rattle.mml_ids.specs.Search.{some_below}
+use Rattle.mml_ids.specs.{Gives.◌>>=◌, Gives.◌>>◌, Gives.need, Ids.rank_in, Search.some_below}
 use Rattle.mml_rules.specs.Configuration.{Configuration}
-use Rattle.mml_lab.specs.declared.who.Who.{Who}
-use Rattle.mml_lab.specs.Rosters.{RosterValue, IsPrincipal, owns}
-use Rattle.mml_lab.specs.Labs.{LabValue, IsLab}
-use Rattle.mml_board.specs.declared.act.Act.TheVariants as act
-use Rattle.mml_board.specs.World.{World, configuration}
-use Rattle.mml_board.specs.Clauses.{check, is_teacher}
-use Rattle.mml_board.specs.declared.denial.Denial.{Denial}
-use Rattle.mml_board.specs.declared.denial.Denial.TheVariants.{Hidden, NotOwner}
-use Rattle.mml_policy.specs.declared.command.Command.{Command}
-use Rattle.mml_policy.specs.declared.command.Command.TheVariants as command
-use Rattle.mml_policy.specs.declared.verdict.Leave.{Leave}
-use Rattle.mml_policy.specs.declared.verdict.Leave.TheVariants.{See, Look}
-use Rattle.mml_policy.specs.Clauses.{node, rule_of}
-use Rattle.mml_policy.specs.Visible.{is_visible, owns_neighbour}
-use Rattle.mml_policy.specs.Verdicts.{granted, clauses}
-use Rattle.mml_policy.specs.Rulings.{ruled, ruling}
-use Rattle.mml_codec.specs.declared.reply.Reply.TheVariants as replies
-use Rattle.mml_codec.specs.Facts.{object_text}
-use Rattle.mml_codec.specs.Replies.{hello_fields, reply_line}
+use Rattle.mml_lab.specs.{declared.who.Who.Who, Rosters.RosterValue, Rosters.IsPrincipal, Rosters.owns, Labs.LabValue, Labs.IsLab}
+use Rattle.mml_board.specs.{World.World, World.configuration, Clauses.check, Clauses.is_teacher}
+use Rattle.mml_board.specs.declared.denial.Denial.{Denial, TheVariants.Hidden, TheVariants.NotOwner}
+use Rattle.mml_policy.specs.declared.{command.Command.Command, verdict.Leave.Leave, verdict.Leave.TheVariants.See, verdict.Leave.TheVariants.Look}
+use Rattle.mml_policy.specs.{Clauses.node, Clauses.rule_of, Visible.is_visible, Visible.owns_neighbour, Verdicts.granted, Verdicts.clauses, Rulings.ruled, Rulings.ruling}
+use Rattle.mml_codec.specs.{Facts.object_text, Replies.hello_fields, Replies.reply_line}
 use Rattle.mml_lab_file.specs.Sameness.{IsSameLab}
-use Rattle.mml_laws.proofs.SameLabsLemmas.{name_alike}
-use Rattle.mml_laws.proofs.SameAuditsLemmas.{owns_alike}
+use Rattle.mml_laws.proofs.{SameLabsLemmas.name_alike, SameAuditsLemmas.owns_alike}
+use Rattle.mml_board.specs.declared.act.Act.TheVariants as act
+use Rattle.mml_policy.specs.declared.command.Command.TheVariants as command
+use Rattle.mml_codec.specs.declared.reply.Reply.TheVariants as replies
 
 -- what is decided of a command depends on who owns which node, and on nothing else of a roster
 module _ (ids : List ℕ) (r q : RosterValue) (same : owns r ≡ owns q) (w : World) (x : Who) where
@@ -34,8 +21,7 @@ module _ (ids : List ℕ) (r q : RosterValue) (same : owns r ≡ owns q) (w : Wo
   visible_alike c i = λ t. is_teacher x || same t x i || some_below c.size (λ j. c.linked i j && same t x j)
 
   clauses_alike : (k : Command) → clauses ids r w x k ≡ clauses ids q w x k
-  clauses_alike (command.See id) =
-      λ t. node ids id Hidden >>= (λ (i : ℕ). need (visible_alike (configuration w) i t) Hidden >> Ok (See i))
+  clauses_alike (command.See id) = λ t. node ids id Hidden >>= (λ (i : ℕ). need (visible_alike (configuration w) i t) Hidden >> Ok (See i))
   clauses_alike (command.Look id) = λ t. node ids id NotOwner >>= (λ (i : ℕ). need (is_teacher x || same t x i) NotOwner >> Ok (Look i))
   clauses_alike command.Report = refl
   clauses_alike (command.Move id asked at) = λ t. granted (check (same t) w x (act.Move (rank_in ids id) (rule_of ids asked) at))
