@@ -220,7 +220,7 @@ pub fn labs_may_differ_out_of_sight()
         Alike r s (opening_of n) (opening_of (with_link n a b)) }
 {}
 
-/// A student can't tell which move, if any, is chosen for a node that isn't hers, even if it is linked to a node of hers.
+/// A student can't notice which move, if any, is chosen for a node of others, even if it is linked to a node of hers.
 /// Two worlds that differ in this choice alone are alike for her, and each of her commands has the same reply line in
 /// both.
 pub fn choices_of_others_are_hidden()
