@@ -1,4 +1,14 @@
 //! Laws of the most moves that a run has. Each is the contract of a function that does nothing.
+//!
+//! A world is a network with its registers, its chosen moves, and the numbers of configurations and events so far. Each
+//! node has two registers: the pointer p, and m, which is true or false. A node is privileged if a rule is enabled
+//! there. A list of events is legal if each event is allowed in the world after the earlier ones. A grant chooses a
+//! move for a node, a release drops it, and a close applies all chosen moves at once, which is a step. A fault sets the
+//! registers of a node; a link and a cut change the network.
+//!
+//! A round is a list of events in which each node has its turn: at some point it isn't privileged, or a close applies
+//! its move. The worlds `halves_world`, `crowd_world` and `comb_world` are networks on which runs can take longest,
+//! with registers to begin from.
 ghost use Rattle.std.specs.Prelude.{◌≡◌, ℕ, ◌+◌, ◌-◌, ◌*◌, ◌<◌, ◌≤◌, true, List, Option};
 ghost use Rattle.std.specs.List.{list_all};
 ghost use Rattle.mml_ids.specs.Search.{count_below};
@@ -49,9 +59,9 @@ pub fn step_lowers_courting_potential()
 {}
 
 /// The bound on rounds, 2n or, if n is odd, 2n - 1, can't be lowered for any number n of nodes from 2 on that a lab may
-/// have. In the network of two halves (`halves_world`), a student who owns each node has a legal list of grants and
-/// closes with one round less, after which some node is still privileged. There is also such a list in which each close
-/// applies one move.
+/// have. Take the world `halves_world`, a network with n nodes and registers, and a student who owns each node. Some
+/// legal list of grants and closes has one round less than the bound, and some node is still privileged after it. There
+/// is also such a list in which each close applies one move.
 pub fn rounds_are_reached()
     ensures world { (n : ℕ) → n ≤ MAX_NODES →
         IsWorld (halves_world n) × (size (halves_world n) ≡ n) }

@@ -1,5 +1,14 @@
 //! Laws of self-stabilisation: how many moves and rounds a run has, and how it ends. Each is the contract of a function
 //! that does nothing.
+//!
+//! A world is a network with its registers, its chosen moves, and the numbers of configurations and events so far. Each
+//! node has two registers: the pointer p, and m, which is true or false. A node is privileged if a rule is enabled
+//! there. A list of events is legal if each event is allowed in the world after the earlier ones. A grant chooses a
+//! move for a node, a release drops it, and a close applies all chosen moves at once, which is a step. A fault sets the
+//! registers of a node; a link and a cut change the network.
+//!
+//! A round is a list of events in which each node has its turn: at some point it isn't privileged, or a close applies
+//! its move. A potential is a number that is computed from a configuration; the sum over all nodes falls in each step.
 ghost use Rattle.std.specs.Prelude.{◌≡◌, ℕ, ◌+◌, ◌*◌, ◌<◌, ◌≤◌, true, false, Option, None, Some, List, length};
 ghost use Rattle.std.specs.List.{list_all};
 ghost use Rattle.mml_ids.specs.Search.{count_below};
@@ -28,7 +37,7 @@ pub fn step_keeps_pairs()
         IsPair c i j → IsPair (step c chosen) i j }
 {}
 
-/// In a legal list of grants, releases and closes, m changes at most twice at each node.
+/// In a legal list of grants, releases and closes, from any world, the register m of each node changes at most twice.
 pub fn m_changes_at_most_twice()
     ensures { (r : RosterValue) (w : World) (es : List Event) (i : ℕ) → IsWorld w →
         is_legal_list r w es ≡ true → list_all is_of_step es ≡ true → changes_of_m i w es ≤ 2 }
@@ -45,7 +54,8 @@ pub fn step_lowers_potential()
 {}
 
 /// The closes of a legal list of grants, releases and closes, from any world, apply at most 2 moves for each link and 3
-/// for each node. This holds however the moves are chosen.
+/// for each node. A close applies the moves that were granted and not released since; the bound holds whichever they
+/// are.
 pub fn moves_are_bounded()
     ensures { (r : RosterValue) (w : World) (es : List Event) → IsWorld w →
         is_legal_list r w es ≡ true → list_all is_of_step es ≡ true →
@@ -132,10 +142,10 @@ pub fn runs_end_stable()
         (es : List Event) × LeadsToRest r w (4 * link_count w.network + 6 * size w) es }
 {}
 
-/// Potentials that were counted by hand, to see that the definition is the intended one. Two linked nodes are tried in
-/// four states. In `apart` neither points, and in `asked` the second points at the first. In `refused` the first points
-/// at the second, whose m is true. In `paired` they are a pair, with m true at both. For a triangle with a tail, the
-/// sum over all nodes is 20, the most that its 4 links and 4 nodes may have.
+/// Potentials of nodes that were counted by hand, to see that the definition of `potential` is the intended one. Two
+/// linked nodes are tried in four states. In `apart` neither points at the other, and in `asked` the second points at
+/// the first. In `refused` the first points at the second, whose m is true. In `paired` they are a pair, with m true at
+/// both. For a triangle with a tail, the sum over all nodes is 20, the most that its 4 links and 4 nodes may have.
 pub fn potentials_by_hand()
     ensures apart { (potential (two_nodes None false None false) 0 ≡ 3) ×
         (potential (two_nodes None false None false) 1 ≡ 1) }

@@ -44,8 +44,10 @@ pub fn tally_recorded<R: Files<File = File> + Print + AllocGlobal>(
     }
 }
 
-/// Audits a journal, checks the seats' texts as the record of its class, and writes the tally of both. If the journal
-/// or the record is refused, writes nothing and returns the reason.
+/// Audits a journal, and checks the record of its class: the texts of `seats`, one for each seat, with the lines and
+/// their replies. Then writes the tally of both. If the journal or the record is refused, a text can't be read, or
+/// memory runs out, writes nothing and returns the reason. Returns `Write` if a write fails, after which a beginning of
+/// the tally may have been written.
 pub fn tally_class<R: Read + Drop, S: Seats<R>, W: Write>(
     alloc: Global,
     lab: &Lab,

@@ -124,8 +124,9 @@ fn reads_made(alloc: Global) -> Result<([bool; 4], [Option<usize>; 2]), Fail> {
     Ok((are_read_once, firsts))
 }
 
-// Checks that scripts make each read once and have the right replies, and that a failed read or a bad line is their
-// error.
+// Checks that each read of a script is made once: none is tried again after it failed, and none is made after the
+// script's end or a bad line. A failure means that a script of this file had more or fewer reads, other replies,
+// another error, or other bytes left unread.
 #[test]
 fn each_read_is_made_once(rt: HostRuntime) -> Result<(), Fail> {
     assert_eq!(rt; reads_made(rt.alloc())?, ([true; 4], [None; 2]));
