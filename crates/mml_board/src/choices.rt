@@ -1,4 +1,7 @@
 //! The chosen moves, and beside them the set of the nodes that have one.
+//!
+//! A chosen move is a rule that is to be applied at a node. A grant chooses it, and it stays chosen until it is
+//! released, or until a close, a fault, a link or a cut.
 ghost use Rattle.std.specs.Prelude.{◌≡◌, ℕ, ◌<◌, None, length, replicate, slice_set, is_some, IfOk};
 ghost use Rattle.std.specs.FinSet as set;
 ghost use Rattle.std.specs.List.{list_any};

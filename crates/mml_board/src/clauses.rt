@@ -1,4 +1,8 @@
 //! The clauses of each act, in the order in which they are tried. No other place states them.
+//!
+//! An act is a request for an event. A clause is a condition for it; a denial says which clause doesn't hold. A grant
+//! chooses a move for a node, a release drops it, and a close applies all chosen moves at once. A fault sets a node's
+//! registers, a link joins two nodes, and a cut removes a link.
 ghost use Rattle.std.specs.Prelude.{◌≡◌, ◌<◌, length, IfSome, Option, Some};
 ghost use Rattle.std.specs.Option.{ok_or};
 ghost use Rattle.mml_board.specs.declared.act.Act.TheVariants as act;

@@ -1,4 +1,7 @@
 //! A close: the chosen moves are applied at once, so each effect is computed before one is written.
+//!
+//! The registers of a node are its pointer p and m, which is true or false. An effect is the registers of a node after
+//! its chosen move.
 ghost use Rattle.std.specs.Prelude.{◌≡◌, ℕ, ◌<◌, true, Some, length, if◌then◌else◌};
 ghost use Rattle.std.specs.FinSet as set;
 ghost use Rattle.mml_rules.specs.declared.rule.Rule.{Rule};

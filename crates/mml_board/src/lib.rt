@@ -1,4 +1,8 @@
 //! The board: the network with its registers, the chosen moves, and how far the run has come.
+//!
+//! The registers of a node are its pointer p and m, which is true or false. A node is privileged if some rule is
+//! enabled there. A grant chooses a move for a node, a release drops it, and a close applies all chosen moves at once.
+//! A fault sets a node's registers, a link joins two nodes, and a cut removes a link.
 #![tactic(auto)]
 
 mod act;

@@ -1,4 +1,6 @@
 //! The privilege monitor: the set of privileged nodes, updated only near what changed.
+//!
+//! A node is privileged if some rule is enabled there.
 ghost use Rattle.std.specs.Prelude.{◌≡◌, ℕ, ◌<◌, true, length, if◌then◌else◌};
 ghost use Rattle.std.specs.FinSet as set;
 ghost use Rattle.mml_rules.specs.Network.{configuration_of};

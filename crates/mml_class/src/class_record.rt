@@ -1,4 +1,7 @@
 //! The record of a class: the texts of all seats, one each.
+//!
+//! A seat serves one connection after another, each through the seat's window. The text of a seat has its lines with
+//! their replies. The place of an event is its number in the list of events, from 1.
 ghost use Rattle.std.specs.Prelude.{◌≡◌, ℕ, List, Option, Some, true, IfOk, IfErr, IfSome, OnOk};
 ghost use Rattle.mml_board.specs.Lists.{is_legal_in};
 ghost use Rattle.mml_class.specs.Begun.{begun_in};

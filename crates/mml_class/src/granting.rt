@@ -1,4 +1,7 @@
 //! The check that the records of all seats grant each event once.
+//!
+//! The place of an event is its number in the list of events, from 1. A record grants an event if a reply in it names
+//! the event's place.
 ghost use Rattle.std.specs.Prelude.{◌≡◌, ◌+◌, ℕ, IfOk, length, suc};
 ghost use Rattle.mml_class.specs.Granting.{IsFound};
 ghost use Rattle.mml_class.specs.inside.Marking.{IsMarked, IsUnmarked, marked};

@@ -1,4 +1,7 @@
 //! The record of a class: the texts of all its seats, beside the list of events of its journal.
+//!
+//! A seat serves one connection after another, each through the seat's window. The text of a seat has the lines of its
+//! sessions with their replies.
 #![tactic(auto)]
 
 mod begun;

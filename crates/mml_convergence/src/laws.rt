@@ -1,11 +1,11 @@
 //! Laws of self-stabilisation: how many moves and rounds a run has, and how it ends. Each is the contract of a function
 //! that does nothing.
 //!
-//! A world is a network with its registers, its chosen moves, and the numbers of configurations and events so far. Each
-//! node has two registers: the pointer p, and m, which is true or false. A node is privileged if a rule is enabled
-//! there. A list of events is legal if each event is allowed in the world after the earlier ones. A grant chooses a
-//! move for a node, a release drops it, and a close applies all chosen moves at once, which is a step. A fault sets the
-//! registers of a node; a link and a cut change the network.
+//! A world is a network with its registers, its chosen moves, the number of its configuration, and the number of events
+//! so far. The registers of a node are its pointer p and m, which is true or false. A node is privileged if some rule
+//! is enabled there. A list of events is legal if each event is allowed in the world after the earlier ones. A grant
+//! chooses a move for a node, a release drops it, and a close applies all chosen moves at once, which is a step. A
+//! fault sets a node's registers, a link joins two nodes, and a cut removes a link.
 //!
 //! A round is a list of events in which each node has its turn: at some point it isn't privileged, or a close applies
 //! its move. A potential is a number that is computed from a configuration; the sum over all nodes falls in each step.

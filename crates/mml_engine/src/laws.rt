@@ -1,4 +1,7 @@
 //! Laws of turns over any engine. Each is the contract of a function that does nothing.
+//!
+//! A turn is the reply to one line and the state after it. An account is known on a connection from its granted hello
+//! to its bye.
 ghost use Rattle.std.specs.Prelude.{◌≡◌, ℕ, List, Option, Some};
 ghost use mathlib.Core.List.{IsPrefix};
 ghost use Rattle.mml_lab.specs.declared.who.Who.{Who};

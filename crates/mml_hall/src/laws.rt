@@ -1,4 +1,10 @@
 //! Laws of turns and scripts. Each is the contract of a function that does nothing.
+//!
+//! A hall is the server of one thread: a lab, its world, its events and journal, and who is known on each connection. A
+//! turn is the reply to one line and the state after it. A script is one list with the lines of all connections, and a
+//! transcript has its lines with their replies. A world is a network with its registers, its chosen moves, the number
+//! of its configuration, and the number of events so far. An account is known on a connection from its granted hello to
+//! its bye.
 
 ghost use Rattle.std.specs.Prelude.{◌≡◌, ◌≢◌, ◌<◌, ◌≤◌, ◌⊎◌, ◌++◌, ℕ, List, true, length, map};
 ghost use Rattle.mml_lab.specs.declared.TheConstants.{MAX_SESSIONS};

@@ -1,4 +1,6 @@
 //! Sources of connections, and how connections end.
+//!
+//! A house is one run of a lab that threads share: its list of granted events, the board after them, and their journal.
 ghost use Rattle.std.specs.Prelude.{List, None, Option};
 ghost use Rattle.mml_hosting.specs.Bringing.{Brings};
 

@@ -1,4 +1,7 @@
 //! A house that goes on from events that came before, and from what was recorded.
+//!
+//! A house is one run of a lab that threads share: its list of granted events, the board after them, and their journal.
+//! A seat serves one connection after another, each through the seat's window.
 use mml_window::{Brand, House};
 
 /// Names one house (one run of a lab) for contracts. Such a house may go on from an earlier one: it has the events that

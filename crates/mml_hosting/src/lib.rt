@@ -1,5 +1,8 @@
 //! A house (one run of a lab) whose connections come and go. Each window serves one connection after another, until the
 //! teacher says bye at the desk.
+//!
+//! A house is one run of a lab that threads share: its list of granted events, the board after them, and their journal.
+//! A seat serves one connection after another, each through the seat's window. A recorder writes the seat's record.
 #![tactic(auto)]
 
 mod accepting;

@@ -1,4 +1,6 @@
 //! Marks: flags that the threads of a port share, one for each seat. A set mark says that the seat's thread has ended.
+//!
+//! A seat serves one connection after another, each through the seat's window.
 ghost use Rattle.std.specs.Prelude.{IfSome, slice_get};
 ghost use Rattle.mml_hosting.specs.Marks.{Says};
 

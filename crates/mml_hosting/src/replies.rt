@@ -1,4 +1,6 @@
 //! Observers of a connection's replies.
+//!
+//! A seat serves one connection after another, each through the seat's window.
 ghost use Rattle.std.specs.Prelude.{◌≡◌};
 
 use mml_codec::Reply;

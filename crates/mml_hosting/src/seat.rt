@@ -1,4 +1,7 @@
 //! Seats: windows through which one connection after another is served.
+//!
+//! A window is one session's view of the published events and board. A gate is a point at which tests can stop a
+//! session. The desk is the port at which the teacher's bye ends the class.
 ghost use Rattle.std.specs.Prelude.{◌≡◌, ◌&&◌};
 ghost use Rattle.mml_hosting.specs.Seats.{IsReady, ServesIn, is_teachers_bye, terms};
 

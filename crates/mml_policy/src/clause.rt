@@ -1,4 +1,6 @@
 //! Looking up the nodes that a command names.
+//!
+//! A clause is a condition under which a command is allowed.
 ghost use Rattle.std.specs.Prelude.{◌≡◌, ◌<◌, length, IfSome, option_map};
 ghost use Rattle.mml_ids.specs.Ids.{rank_in};
 ghost use Rattle.mml_policy.specs.Clauses.{rule_of};

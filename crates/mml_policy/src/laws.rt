@@ -1,4 +1,10 @@
 //! Laws of the policy. Each is the contract of a function that does nothing.
+//!
+//! A command asks to be shown something (a see, a look or a report), or for an event. It is granted if all its clauses,
+//! the conditions for it, hold; otherwise it is denied by the first that doesn't. The verdict says which; the ruling is
+//! the verdict, or a refusal in place of a grant. A grant chooses a move for a node, a release drops it, and a close
+//! applies all chosen moves at once. A fault sets a node's registers, a link joins two nodes, and a cut removes a link.
+//! The registers of a node are its pointer p and m, which is true or false.
 ghost use Rattle.std.specs.Prelude.{◌≡◌, ◌≢◌, ◌<◌, ◌↔◌, ◌⊎◌, ℕ, Bool, List, Option, None, Some, true, false, length, slice_index};
 ghost use Rattle.mml_rules.specs.declared.rule.Rule.{Rule};
 ghost use Rattle.mml_rules.specs.Configuration.{Configuration, IsLawful};

@@ -1,4 +1,7 @@
 //! The policy, which says who may see and do what: the clauses of each command, and the contents of the answers.
+//!
+//! A clause is a condition for a command. The verdict is what the clauses of a command decide. The ruling is the
+//! verdict, or a refusal in place of a grant.
 #![tactic(auto)]
 
 mod clause;

@@ -1,4 +1,8 @@
 //! What the lines of a record asked, which clause denied each, and why each was refused.
+//!
+//! A record has entries: a line with its reply, a session's end, or a note that something is left out. An entry says
+//! how many events its session had seen. A clause is a condition for a request; a denial names the first that doesn't
+//! hold. A refusal has another reason, for example that memory ran out.
 ghost use Rattle.std.specs.Prelude.{◌≡◌, ◌++◌, List, ℕ, true, bytes_eq, IfOk, IfSome, OnOk};
 ghost use Rattle.mml_ids.specs.Lines.{ended};
 ghost use Rattle.mml_lab.specs.Rosters.{IsPrincipal};

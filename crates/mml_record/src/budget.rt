@@ -1,4 +1,6 @@
 //! The limit on how much is recorded.
+//!
+//! An account is known on a connection from its granted hello to its bye.
 ghost use Rattle.std.specs.Prelude.{◌≡◌, ◌||◌, Bool, false};
 ghost use Rattle.mml_session.specs.Turns.{is_hello};
 

@@ -1,4 +1,6 @@
 //! Finds the reasons of refusals in the replies of a record.
+//!
+//! A refusal is a reply that says why a request was neither granted nor denied, for example `full` or `memory`.
 ghost use Rattle.std.specs.Prelude.{◌≡◌};
 ghost use Rattle.mml_record.specs.Refusals.{reason_told};
 

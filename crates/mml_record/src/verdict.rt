@@ -1,4 +1,7 @@
 //! The verdict of the check of a record.
+//!
+//! A record has entries: a line with its reply, a session's end, or a note that something is left out. An entry says
+//! how many events its session had seen.
 use mml_tally::Findings;
 
 /// The verdict on a text that should be a record.

@@ -1,4 +1,7 @@
 //! The four rules of the maximal matching algorithm of Manne et al. 2009, over any network.
+//!
+//! The registers of a node are its pointer p and m, which is true or false. A guard is the condition under which a rule
+//! may be applied at a node.
 #![tactic(auto)]
 
 pub mod laws;

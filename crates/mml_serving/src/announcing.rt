@@ -1,4 +1,6 @@
 //! The messages of a server: that it listens, and at the end what was done.
+//!
+//! A journal is halted once a line couldn't be written to it. From then on nothing is granted.
 ghost use Rattle.std.specs.Prelude.{◌≡◌, false, length, IfErr, OnOk};
 ghost use Rattle.std.specs.Io.KnownBytes.{Appends};
 ghost use Rattle.mml_ids.specs.Pieces.{joined};

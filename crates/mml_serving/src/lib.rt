@@ -1,4 +1,7 @@
 //! Connections, each served in a thread of its own as it comes, from the opening of a house to its last line.
+//!
+//! A house is one run of a lab that threads share: its list of granted events, the board after them, and their journal.
+//! A window is one session's view of the published events and board.
 #![tactic(auto)]
 
 mod announcing;

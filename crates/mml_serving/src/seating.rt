@@ -1,4 +1,6 @@
 //! Connections, each served in a thread of its own through a window of its own, as they come.
+//!
+//! A window is one session's view of the published events and board. A seat is a connection with its window.
 ghost use Rattle.std.specs.Prelude.{◌≡◌, ◌≢◌, ◌<◌, ◌≤◌, ◌+◌, [], ◌∷◌, All, IfOk, OnOk, length, map};
 ghost use Rattle.std.specs.Thread.{IsSync, IsSend};
 ghost use Rattle.mml_window.specs.Windows.{window};

@@ -1,5 +1,8 @@
 //! A server that serves a fixed number of connections: from the opening of its house (one run of a lab) to its last
 //! line.
+//!
+//! A house is one run of a lab that threads share: its list of granted events, the board after them, and their journal.
+//! A window is one session's view of the published events and board.
 ghost use Rattle.std.specs.Prelude.{◌≡◌, ◌<◌, ◌≤◌, ◌+◌, ◌-◌, ◌^◌, ◌++◌, Err, false, length, IfOk, IfErr, OnOk};
 ghost use Rattle.std.specs.Io.KnownBytes.{Appends};
 ghost use Rattle.mml_journal.specs.Taken.{IsFresh};

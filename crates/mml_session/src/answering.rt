@@ -1,4 +1,7 @@
 //! Answering a line: its reply, who is known afterwards, and what the window has seen then.
+//!
+//! A window is one session's view of the published events and board. A command of a known account makes it read on. An
+//! account is known on a connection from its granted hello to its bye.
 ghost use Rattle.std.specs.Prelude.{◌≡◌, false, IfErr, IfSome, OnOk};
 ghost use Rattle.mml_lab.specs.Rosters.{IsPrincipal};
 ghost use Rattle.mml_policy.specs.declared.command.Command.TheVariants as command;

@@ -1,4 +1,6 @@
 //! The output buffer of a session's replies.
+//!
+//! Replies are held in the buffer until they are written together.
 ghost use Rattle.std.specs.Prelude.{◌≡◌, ◌<◌, ◌++◌, [], length, take, IfOk, IfErr, OnOk, IsTrue, if◌then◌else◌};
 ghost use Rattle.std.specs.Io.KnownBytes.{Appends};
 ghost use Rattle.mml_session.specs.Holding.{IsHeldOrOut};

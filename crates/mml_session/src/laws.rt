@@ -1,4 +1,8 @@
 //! Laws of turns and sessions. Each is the contract of a function that does nothing.
+//!
+//! A session is one connection from its first line to its end. A turn is the reply to one of its lines and the state
+//! after it. A window is one session's view of the published events and board. An account is known on a connection from
+//! its granted hello to its bye. The place of an event is its number in the list of events, from 1.
 ghost use Rattle.std.specs.Prelude.{◌≡◌, ◌++◌, ℕ, List, flat_map, length};
 ghost use mathlib.Core.List.{IsPrefix};
 ghost use Rattle.mml_lab.specs.Labs.{LabValue};

@@ -1,4 +1,7 @@
 //! Sessions: the lines of a connection, answered in order through a window.
+//!
+//! A window is one session's view of the published events and board. An account is known on a connection from its
+//! granted hello to its bye.
 #![tactic(auto)]
 
 mod answering;

@@ -1,4 +1,7 @@
 //! The participants whose lines are all recorded.
+//!
+//! Lines of a participant may be missing if recording paused while this participant was known, or if an entry of the
+//! record says that anything may be missing.
 ghost use Rattle.std.specs.Prelude.{◌≡◌, ◌++◌, length, OnOk};
 ghost use Rattle.mml_lab.specs.Rosters.{IsPrincipal};
 ghost use Rattle.mml_tally.specs.Lacking.{IsCounted, lacks, has_all_of, whole_name, whole_names, recorded_line};

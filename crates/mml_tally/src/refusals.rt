@@ -1,4 +1,6 @@
 //! The requests that were refused, by reason, and their lines in the tally.
+//!
+//! A refusal is a reply that says why a request was neither granted nor denied, for example `full` or `memory`.
 ghost use Rattle.std.specs.Prelude.{◌≡◌, ◌++◌, count_by, length, IfOk, OnOk};
 ghost use Rattle.mml_tally.specs.Refusals.{is_refused, refusals_in, refusals_of, refused_line, refused_text};
 

@@ -1,4 +1,7 @@
 //! The rounds of a run since its last fault, link or cut.
+//!
+//! A round is a list of events in which each node has its turn: at some point it isn't privileged (no rule is enabled
+//! there), or a close applies its move.
 ghost use Rattle.std.specs.Prelude.{◌≡◌, ◌≤◌, ◌++◌, true, length, take, IfOk, OnOk};
 ghost use Rattle.mml_board.specs.World.{opening_of};
 ghost use Rattle.mml_board.specs.Events.{can_absorb, after};

@@ -1,4 +1,6 @@
 //! The denials of students' lines by name, and their lines in the tally.
+//!
+//! A denial names the first clause, a condition for a request, that doesn't hold.
 ghost use Rattle.std.specs.Prelude.{◌≡◌, ◌++◌, count_by, length, IfOk, OnOk};
 ghost use Rattle.mml_tally.specs.StudentDenials.{is_named, named_in, named_of, denials_line, denials_text};
 

@@ -1,4 +1,8 @@
 //! How a window's reader reads what is published.
+//!
+//! A house is one run of a lab that threads share: its list of granted events, the board after them, and their journal.
+//! A window is one session's view of the published events and board. The writer of what is published (`press`) has two
+//! copies of it, and slots for readers. A reader enters a copy to read it, and leaves it afterwards.
 ghost use Rattle.std.specs.Prelude.{◌≡◌, true, length, IfSome, IfNone};
 ghost use Rattle.std.specs.Fn.{FnReturnsAt};
 ghost use Rattle.left_right.specs.Sides.{view};

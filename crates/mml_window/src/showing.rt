@@ -1,4 +1,7 @@
 //! The views of a board.
+//!
+//! A view is what a see, a look or a report shows. The board has the registers and the chosen moves after the events so
+//! far.
 ghost use Rattle.std.specs.Prelude.{◌≡◌, ◌≢◌, length, IfOk, IfErr};
 ghost use Rattle.mml_policy.specs.declared.command.Command.TheVariants as command;
 ghost use Rattle.mml_policy.specs.declared.ruling.Ruling.TheVariants as rulings;

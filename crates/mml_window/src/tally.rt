@@ -1,4 +1,7 @@
 //! Whether the places (event numbers) that windows were granted are those after a first one, each once.
+//!
+//! A window is one session's view of the published events and board. The place of an event is its number in the list of
+//! events, from 1. A window keeps the places of the events that its session was granted.
 ghost use Rattle.std.specs.Prelude.{◌≡◌, ℕ, ◌+◌, ◌<◌, ◌≤◌, [], ◌∷◌, length, MatchBool};
 ghost use Rattle.mml_lab.specs.declared.TheConstants.{MAX_SESSIONS};
 ghost use Rattle.mml_window.specs.Tallies.{times, told_of, IsEachOnceFrom};

@@ -1,4 +1,7 @@
 //! The columns of a tally. Each law is the contract of a function that does nothing.
+//!
+//! A clause is a condition for a request; a denial names the first that doesn't hold. The tally counts a student's
+//! denied lines by clause and by the name of the denial.
 ghost use Rattle.std.specs.Prelude.{◌≡◌, ◌==◌, ◌+◌, ◌++◌, ◌∷◌, [], ℕ, List, true, codes, length, count_by};
 ghost use Rattle.mml_lab.specs.Labs.{LabValue};
 ghost use Rattle.mml_board.specs.declared.event.Event.{Event};

@@ -1,4 +1,8 @@
 //! How runs can be finished. Each law is the contract of a function that does nothing.
+//!
+//! A run is finished if no node is privileged, that is, if no rule is enabled at any node. A grant chooses a move for a
+//! node, a release drops it, and a close applies all chosen moves at once. A fault sets a node's registers, a link
+//! joins two nodes, and a cut removes a link.
 ghost use Rattle.std.specs.Prelude.{◌≡◌, ◌+◌, ◌≤◌, ℕ, false, List, length, Ok};
 ghost use Rattle.mml_lab.specs.Labs.{LabValue, link_count};
 ghost use Rattle.mml_lab_file.specs.Reading.{lab_of};

@@ -1,4 +1,6 @@
 //! The participant that a connection is known as. Each law is the contract of a function that does nothing.
+//!
+//! An account is known on a connection from its granted hello to its bye.
 ghost use Rattle.std.specs.Prelude.{◌≡◌, ◌⊎◌, ℕ, List, Some, None, Ok};
 ghost use Rattle.mml_lab.specs.declared.who.Who.{Who};
 ghost use Rattle.mml_lab.specs.Labs.{LabValue};

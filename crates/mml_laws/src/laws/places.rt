@@ -1,4 +1,6 @@
 //! The places (numbers of events) in replies. Each law is the contract of a function that does nothing.
+//!
+//! The place of an event is its number in the list of events, from 1.
 ghost use Rattle.std.specs.Prelude.{◌≡◌, ◌+◌, ◌≤◌, ℕ, true, List, length, flat_map};
 ghost use Rattle.std.specs.List.{range_with_len};
 ghost use mathlib.Core.List.{IsPrefix};

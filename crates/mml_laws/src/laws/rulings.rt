@@ -1,4 +1,7 @@
 //! How a ruling on a command follows from its verdict. Each law is the contract of a function that does nothing.
+//!
+//! The verdict is what the clauses of a command, the conditions for it, decide. The ruling is the verdict, or a refusal
+//! in place of a grant.
 ghost use Rattle.std.specs.Prelude.{◌≡◌, ◌↔◌, ◌<◌, ◌≤◌, ℕ, Bool, true, false, List};
 ghost use Rattle.mml_lab.specs.declared.who.Who.{Who};
 ghost use Rattle.mml_lab.specs.Rosters.{RosterValue};

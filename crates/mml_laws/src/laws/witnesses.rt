@@ -1,4 +1,7 @@
 //! The witnesses of open links. Each law is the contract of a function that does nothing.
+//!
+//! A node is privileged if some rule is enabled there. A link is open if neither of its ends is in a pair of nodes that
+//! point at each other.
 ghost use Rattle.std.specs.Prelude.{◌≡◌, ℕ, true};
 ghost use Rattle.mml_rules.specs.declared.rule.Kind.{Kind};
 ghost use Rattle.mml_rules.specs.Configuration.{Configuration, IsLawful};
