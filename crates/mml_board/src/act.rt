@@ -8,7 +8,8 @@ use mml_ids::Rank;
 use mml_lab::{Roster, Who};
 use mml_rules::Rule;
 
-/// A request for an event, with its nodes looked up: a node is `None` if no node has the identifier that was named.
+/// A request for an event, with its nodes looked up: a node is `None` if no node has the identifier that was named. The
+/// act is granted if all its clauses, the conditions for it, hold.
 #[derive(Clone, Copy, Debug, PartialEq, Eq)]
 pub enum Act {
     /// Choose a move for a node in the configuration with this number; no rule if its partner is no node.

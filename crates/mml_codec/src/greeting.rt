@@ -7,7 +7,8 @@ use crate::request::Request;
 use mml_lab::{Roster, Who};
 use mml_policy::{Command, Denial};
 
-/// What a request on a connection leads to.
+/// What a request on a connection leads to. By the rules of greeting, an account is known on a connection from its
+/// granted hello to its bye, and only then is a command judged.
 #[derive(Debug, Drop)]
 pub enum Greeting {
     /// A reply, and the participant that the connection is known as from then on.

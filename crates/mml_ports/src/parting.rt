@@ -196,8 +196,9 @@ impl Partings {
         }
     }
 
-    /// Closes all connections, because the host is over. Sends the line of `Over` to those that still wait for a
-    /// denial. Waits for `PARTING` milliseconds before closing, so that all have time to read.
+    /// Closes all connections, because the class has ended. Sends the line that says so (that of `EndReason::Over`) to
+    /// those that still wait for a denial. Waits for `PARTING` milliseconds before closing, so that all have time to
+    /// read.
     pub fn close_all<Rt: Wait + Clock>(&self, rt: &Rt) {
         let mut all = self.all.lock(rt);
         if all.is_empty() {

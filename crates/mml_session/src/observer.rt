@@ -8,7 +8,7 @@ use mml_codec::Reply;
 
 /// An observer of the sessions of a seat, in which one session follows another. It is called when a line has come, when
 /// it was answered, when replies were written, and when a session ended. Its calls return nothing, so they can't end a
-/// session.
+/// session. A seat is a window through which one connection after another is served.
 pub trait Observer {
     // The bytes that it has kept of these calls, and whether these are all of them; `None` if contracts can't name
     // them.

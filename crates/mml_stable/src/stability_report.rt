@@ -2,7 +2,8 @@ use crate::open_link::OpenLink;
 use mml_ids::{Items, Rank};
 use mml_rules::Kind;
 
-/// The report on a configuration. Each list is in rising order.
+/// The report on a configuration. Each list is in rising order. A node is privileged if some rule is enabled there. A
+/// free node is in no pair, and a link is open if both its ends are free.
 #[derive(Debug, Drop)]
 pub struct Report {
     /// The number of the configuration.

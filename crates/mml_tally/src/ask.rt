@@ -37,7 +37,8 @@ pub enum Line {
     Other,
 }
 
-/// How many lines each clause denied, and how many were no request.
+/// How many lines each clause denied, and how many were no request. A clause is a condition for a request; a denial
+/// names the first that doesn't hold.
 #[derive(Clone, Copy, Debug, PartialEq, Eq)]
 pub struct Denials {
     pub first: u64,

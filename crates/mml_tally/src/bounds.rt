@@ -8,7 +8,8 @@ use mml_board::Board;
 use mml_lab::link_count;
 use mml_rules::Scene;
 
-/// The most moves, rounds and events of a run in which no fault, link or cut comes.
+/// The most moves, rounds and events of a run in which no fault, link or cut comes. A round is a list of events in
+/// which each node has its turn: at some point it isn't privileged, or a close applies its move.
 #[derive(Clone, Copy, Debug, PartialEq, Eq)]
 pub struct Bounds {
     /// The moves that closes apply.

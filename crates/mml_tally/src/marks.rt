@@ -21,7 +21,8 @@ pub struct ByRule {
     pub abandonment: u64,
 }
 
-/// What the tally counts of one student's moves in a run.
+/// What the tally counts of one student's moves in a run. A granted move is applied by the next close, unless it is
+/// dropped before.
 #[derive(Clone, Copy, Debug, PartialEq, Eq)]
 pub struct Marks {
     /// The moves that were granted.

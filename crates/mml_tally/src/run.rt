@@ -9,7 +9,8 @@ use crate::granted_move::Move;
 use crate::marks::is_applied;
 use mml_board::Event;
 
-/// What the tally counts of a run as a whole.
+/// What the tally counts of a run as a whole. A close applies the chosen moves. A fault sets registers, a link joins
+/// two nodes, and a cut removes a link.
 #[derive(Clone, Copy, Debug, PartialEq, Eq)]
 pub struct Run {
     pub closes: u64,

@@ -167,7 +167,8 @@ fn tells_a_write<R: Wait>(rt: &R, alloc: Global, good: usize) -> Result<bool, Fa
     )
 }
 
-/// Returns the first number of bytes for which `tells_a_write` is `false`, or `None` if there is no such number.
+/// Tries a writer that fails after each number of bytes of the replies. Returns the first number for which the session
+/// ends otherwise than `tells_a_write` requires, or `None` if there is no such number.
 fn first_untold_write<R: Wait>(rt: &R, alloc: Global) -> Result<Option<usize>, Fail> {
     for good in 0..=ANA_GRANTED.len() {
         if !tells_a_write(rt, alloc, good)? {

@@ -193,8 +193,8 @@ fn first_told_otherwise(alloc: Global) -> Result<[Option<usize>; 3], Fail> {
     Ok([by_bytes, at_once, first_reads_told_otherwise(alloc)?])
 }
 
-// Checks that cutting the input changes nothing, that a failed read is the last answer, and that the number of reads is
-// right.
+// Checks that the same lines are read however the input is cut into reads, that a failed read is the last answer, and
+// that the number of reads is right.
 #[test]
 fn cuts_change_nothing_and_a_failed_read_ends_the_lines(rt: HostRuntime) -> Result<(), Fail> {
     assert_eq!(rt; first_told_otherwise(rt.alloc())?, [None; 3]);

@@ -1,7 +1,7 @@
 use mml_board::Done;
 use mml_policy::{Denial, Refusal};
 
-/// The answer to an act.
+/// The answer to an act, which is a request for an event.
 #[derive(Clone, Copy, Debug)]
 pub enum Answer {
     /// It happened as the event with this place, after which the configuration has this number.

@@ -5,7 +5,8 @@ use left_right::writer::Writer;
 use mml_board::Event;
 pub use std::marker::Brand;
 
-/// The name of one house, used only in contracts: a type that ties a desk, its book and its windows to each other.
+/// The name of one house, used only in contracts: a type that ties a desk, its book and its windows to each other. A
+/// house is one run of a lab that threads share: its list of granted events, the board after them, and their journal.
 pub trait House {
     ghost use denote.RawPtr.{Ptr};
     ghost use Rattle.mml_lab.specs.Labs.{LabValue};
@@ -25,7 +26,8 @@ impl House for Brand {
     ghost lab = { no_lab };
 }
 
-/// A reader's place at what a house publishes.
+/// A slot, by which one reader enters the copy of what a house publishes. The writer waits until no reader is in the
+/// copy that it changes.
 pub(crate) type Slot<H> = Reader<Published, View, Publishing<H>>;
 
 /// A reader that has entered, with the copy that it reads.

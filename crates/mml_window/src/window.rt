@@ -31,7 +31,8 @@ use std::marker::{Model, PhantomData};
 use std::sync::{Arc, Wait};
 
 /// The part of a house that belongs to one session: a reader of what is published, and the places of the events that
-/// the session was granted. No public call of a window takes the runtime, so none can wait for the lock.
+/// the session was granted. No public call of a window takes the runtime, so none can wait for the lock. A house is one
+/// run of a lab that threads share: its list of granted events, the board after them, and their journal.
 #[derive(Drop)]
 pub struct Window<H: House> {
     // `None` during a call of this crate, and if no reader's slot was free at the start. Then nothing was seen.
@@ -58,7 +59,8 @@ impl<H: House> Model for Window<H> {
         × (arc_value w.lab ≡ H.lab) × (H.lab.events ≤ vec_capacity w.places) };
 }
 
-/// What a window is made of: the lab, and room for the places that its session may be granted.
+/// What a window is made of: the lab, and room for the places that its session may be granted. The place of an event is
+/// its number in the list of events, from 1.
 #[derive(Drop)]
 pub(crate) struct Seat {
     pub lab: Arc<Lab>,

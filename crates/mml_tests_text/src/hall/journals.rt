@@ -21,7 +21,8 @@ fn has_dripped(hall: &Hall<Drip>, puts: usize) -> bool {
         && hall.board().place() == lines as u64
 }
 
-/// Returns whether a journal passes `audit` over the hall's lab, and leads to the hall's board.
+/// Returns whether the bytes of a journal pass `audit` in the hall's lab, and the board to which their events lead is
+/// the hall's.
 fn leads_to_board(alloc: Global, hall: &Hall<Drip>, journal: &[u8]) -> bool {
     match audit(alloc, hall.lab(), journal) {
         Ok(board) => board.is_same(hall.board()),

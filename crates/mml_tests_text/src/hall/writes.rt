@@ -39,8 +39,9 @@ const FAILS: Refusal = Refusal::Fails(ErrorKind::Other);
 // How many bytes each write takes, and how writes are refused later.
 const WRITERS: [(usize, Refusal); 3] = [(1, FAILS), (1, Refusal::TakesNothing), (7, FAILS)];
 
-/// Returns the first number of good writes for which `tells_a_write` is `false`, with the number of bytes in each
-/// write, or `None` if there is no such number.
+/// Tries writers that fail after each number of bytes of the replies. Returns the first number for which the script
+/// ends otherwise than `tells_a_write` requires, with the number of bytes in each write, or `None` if there is no such
+/// number.
 fn first_untold_write(alloc: Global) -> Result<Option<(usize, usize)>, Fail> {
     for good in 0..=FIRST_LOOK_REPLIES.len() {
         for (step, refusal) in WRITERS {
@@ -66,8 +67,9 @@ fn tells_a_flush(alloc: Global, good: usize) -> Result<bool, Fail> {
     Ok(fault == Some(ScriptFault::Write { written: 0 }) && is_front && is_unread)
 }
 
-/// Returns the first number of good flushes for which `tells_a_flush` is `false`, or `None` if there is no such number.
-/// Tries all numbers less than seven, which is the number of flushes that the script makes.
+/// Tries a writer whose flush fails after each number of good ones, from 0 to 6; the script makes seven flushes.
+/// Returns the first number for which the script ends otherwise than `tells_a_flush` requires, or `None` if there is no
+/// such number.
 fn first_untold_flush(alloc: Global) -> Result<Option<usize>, Fail> {
     for good in 0..7 {
         if !tells_a_flush(alloc, good)? {
