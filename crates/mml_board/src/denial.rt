@@ -1,3 +1,6 @@
+//! The denials of requests.
+//!
+//! A clause is a condition under which a request is granted; a denial names the first that doesn't hold.
 ghost use Rattle.std.specs.Prelude.{◌≡◌};
 ghost use Rattle.mml_board.specs.Denials.{clause_of, denial_name, text_of};
 

@@ -1,3 +1,7 @@
+//! What an event did, for the reply to it.
+//!
+//! A grant chooses a move for a node, a release drops it, and a close applies all chosen moves at once. A fault sets a
+//! node's registers, a link joins two nodes, and a cut removes a link.
 use mml_ids::{NodeSet, Rank};
 use mml_rules::Kind;
 

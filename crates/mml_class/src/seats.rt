@@ -1,3 +1,7 @@
+//! The source of the texts of a class's record.
+//!
+//! A seat serves one connection after another, each through the seat's window. A seat's text has the lines of its
+//! sessions with their replies.
 ghost use Rattle.std.specs.Prelude.{◌≡◌, ℕ, List, Option, Some, IfOk, IfSome};
 
 use mml_ids::Memory;

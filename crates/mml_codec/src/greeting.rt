@@ -1,3 +1,6 @@
+//! The rules of greeting: what a request leads to before the policy judges it.
+//!
+//! An account is known on a connection from its granted hello to its bye.
 ghost use Rattle.std.specs.Prelude.{◌≡◌, IfSome};
 ghost use Rattle.mml_lab.specs.Rosters.{IsPrincipal};
 ghost use Rattle.mml_codec.specs.Greetings.{denied, admitted, greeting, greeting_with, TakesPart};

@@ -1,3 +1,7 @@
+//! The replies to requests.
+//!
+//! A clause is a condition under which a request is granted; a denial names the first that doesn't hold. A refusal has
+//! another reason, for example that memory ran out. The place of an event is its number in the list of events, from 1.
 ghost use Rattle.std.specs.Prelude.{◌≡◌};
 
 use mml_ids::{NodeSet, Rank};

@@ -1,3 +1,6 @@
+//! Engines, which answer commands.
+//!
+//! An act is a request for an event.
 use mml_codec::Reply;
 use mml_lab::{Roster, Who};
 use mml_policy::Command;

@@ -1,4 +1,7 @@
 //! The tally of a journal together with the record of its class.
+//!
+//! The record of a class has a text for each seat, with the lines that were answered there and their replies. The
+//! journal has a line for each granted event.
 ghost use Rattle.std.specs.Prelude.{◌≡◌, ◌++◌, ℕ, List, true, IfErr, IfOk, OnOk};
 ghost use Rattle.mml_board.specs.Lists.{is_legal_in, world_in};
 ghost use Rattle.mml_audit.specs.AuditMeaning.{IsJournalOf};

@@ -1,4 +1,7 @@
 //! The check of a class's record beside its journal.
+//!
+//! The record of a class has a text for each seat, with the lines that were answered there and their replies. The
+//! journal has a line for each granted event.
 ghost use Rattle.std.specs.Prelude.{◌≡◌, ◌++◌, ℕ, List, true, IfErr, IfOk, OnOk};
 ghost use Rattle.mml_board.specs.Lists.{is_legal_in};
 ghost use Rattle.mml_audit.specs.AuditMeaning.{IsJournalOf};

@@ -1,4 +1,7 @@
 //! Laws of the lab. Each is the clause of a function that does nothing.
+//!
+//! The rank of a node is its index in the rising order of identifiers. The roster has the teacher, the students, and
+//! the owners of each node.
 ghost use Rattle.std.specs.Prelude.{◌≡◌, ◌↔◌, ℕ, ◌<◌, List, length, true, false, Contains, Some, None};
 ghost use Rattle.mml_lab.specs.declared.TheConstants.{MAX_NAME, MAX_KEY, MAX_EVENTS, MAX_SESSIONS, MAX_STUDENTS, MAX_OWNERS};
 ghost use Rattle.mml_lab.specs.declared.who.Who.{Who};

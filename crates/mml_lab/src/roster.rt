@@ -1,3 +1,6 @@
+//! The roster: who takes part, and who owns each node.
+//!
+//! The rank of a node is its index in the rising order of identifiers.
 ghost use Rattle.std.specs.Prelude.{◌≡◌, ◌<◌, ◌≤◌, length, map, position, slice_index_or, Some, None, IfSome, IsTrue, ◌&&◌, ℕ, IfOk, IfErr};
 ghost use Rattle.std.specs.FinSet as set;
 ghost use Rattle.mml_lab.specs.declared.who.Who.TheVariants.{Student as AStudent};

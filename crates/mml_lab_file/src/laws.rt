@@ -1,4 +1,7 @@
 //! Laws of the lab file. Each is the clause of a function that does nothing.
+//!
+//! The rank of a node is its index in the rising order of identifiers. The roster has the teacher, the students, and
+//! the owners of each node.
 ghost use Rattle.std.specs.Prelude.{◌≡◌, ◌≢◌, ◌↔◌, ℕ, ℤ, pos, ◌<◌, ◌≤◌, List, length, true, All, Contains, Some, None, Ok, Err, slice_get, slice_index};
 ghost use Rattle.mml_ids.specs.Ids.{IsTable};
 ghost use Rattle.mml_ids.specs.declared.id_table.IdFault.TheVariants as id;

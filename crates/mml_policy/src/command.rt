@@ -1,3 +1,7 @@
+//! The commands: requests to be shown something, and requests for events.
+//!
+//! A grant chooses a move for a node, a release drops it, and a close applies all chosen moves at once. A fault sets a
+//! node's registers, a link joins two nodes, and a cut removes a link.
 ghost use Rattle.std.specs.Prelude.{◌≡◌};
 ghost use Rattle.mml_policy.specs.Acts.{is_act};
 

@@ -1,3 +1,7 @@
+//! What a look shows.
+//!
+//! The registers of a node are its pointer p and m, which is true or false. A chosen move is a rule that was granted
+//! for the node, and is to be applied by the next close.
 ghost use Rattle.std.specs.Prelude.{◌≡◌, ◌<◌, length, IfOk};
 ghost use Rattle.mml_policy.specs.Shown.{look_of, near};
 

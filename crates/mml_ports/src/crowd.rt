@@ -1,4 +1,6 @@
 //! The connections that are served at a port, and which of them has to leave if a new one needs a seat.
+//!
+//! A seat serves one connection after another, each through the seat's window. A guest is a connection that is served.
 ghost use Rattle.std.specs.Prelude.{◌<◌, IfSome, vec_len};
 
 use crate::end_reason::EndReason;

@@ -1,4 +1,6 @@
 //! The ports of a host over sockets: newcomers, seats and departures, and a connection's two ends.
+//!
+//! A seat serves one connection after another, each through the seat's window.
 #![tactic(auto)]
 
 mod connection;

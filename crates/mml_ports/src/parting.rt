@@ -1,4 +1,6 @@
 //! Connections that have left their seats (or never had one) and aren't closed yet.
+//!
+//! A seat serves one connection after another, each through the seat's window.
 use crate::end_reason::EndReason;
 use std::alloc::Global;
 use std::collections::VecDeque;

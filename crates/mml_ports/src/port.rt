@@ -1,5 +1,7 @@
 //! A host's port, which accepts connections and chooses the next to be served. Contracts can't name the bytes of
 //! sockets.
+//!
+//! A seat serves one connection after another, each through the seat's window.
 use crate::connection::SharedConnection;
 use crate::crowd::Crowd;
 use crate::end_reason::EndReason;

@@ -1,4 +1,7 @@
 //! Limits on how many bytes are recorded of each participant.
+//!
+//! An account is known on a connection from its granted hello to its bye. Each account has a budget, and those who
+//! aren't known share one.
 ghost use Rattle.std.specs.Prelude.{◌≡◌, is_some};
 
 use mml_codec::Reply;

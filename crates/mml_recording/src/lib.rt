@@ -1,4 +1,6 @@
 //! The folder in which a class is recorded: one file for each seat, and the files that one needs to read them.
+//!
+//! A seat serves one connection after another, each through the seat's window.
 #![tactic(auto)]
 
 mod budgets;

@@ -1,3 +1,6 @@
+//! Gates: points at which tests can stop a session.
+//!
+//! A seat serves one connection after another, each through the seat's window.
 /// A point at which a gate may pause a session.
 #[derive(Clone, Copy, Debug, PartialEq, Eq)]
 pub enum Point {

@@ -1,3 +1,7 @@
+//! A session: the lines of one connection are answered in order, to its end.
+//!
+//! A window is one session's view of the published events and board. An account is known on a connection from its
+//! granted hello to its bye.
 ghost use Rattle.std.specs.Prelude.{◌≡◌, ◌<◌, ◌≤◌, [], None, IfOk, IfSome, IsTrue, length, vec_capacity};
 ghost use Rattle.std.specs.Io.KnownBytes.{prepend_known};
 ghost use Rattle.mml_lines.specs.LinesOf.{IsWithinLimit};

@@ -1,3 +1,7 @@
+//! The witnesses of open links.
+//!
+//! A node is privileged if some rule is enabled there. A link is open if neither of its ends is in a pair of nodes that
+//! point at each other.
 ghost use Rattle.std.specs.Prelude.{◌≡◌, ◌<◌, true, false, length};
 ghost use Rattle.mml_rules.specs.declared.rule.Rule.{Rule};
 ghost use Rattle.mml_rules.specs.Rules.{is_married, guard, kind_of, enabled_kind};

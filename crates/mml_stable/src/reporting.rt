@@ -1,3 +1,7 @@
+//! The making of a report.
+//!
+//! A node is privileged if some rule is enabled there. A free node is in no pair of nodes that point at each other. A
+//! link is open if both its ends are free.
 ghost use Rattle.std.specs.Prelude.{◌≡◌, ℕ, ◌<◌, ◌++◌, length, true, IfOk, OnOk};
 ghost use Rattle.std.specs.FinSet as set;
 ghost use Rattle.mml_ids.specs.Sets.{those_below};

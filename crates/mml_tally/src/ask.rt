@@ -1,3 +1,7 @@
+//! What the tally counts of a record's lines.
+//!
+//! A clause is a condition under which a request is granted; a denial names the first that doesn't hold. An account is
+//! known on a connection from its granted hello to its bye.
 ghost use Rattle.std.specs.Prelude.{◌≡◌, ◌++◌, [], ◌∷◌, OnOk, IfOk, count_by};
 ghost use Rattle.mml_tally.specs.Marks.{is_kind};
 ghost use Rattle.mml_tally.specs.Asks.{is_student, asks_by, is_clause, is_malformed, is_move, denials_in, moves_asked, denials_of, moves_asked_by};

@@ -1,3 +1,8 @@
+//! How much may follow in a run.
+//!
+//! A node is privileged if some rule is enabled there. A grant chooses a move for a node, a release drops it, and a
+//! close applies all chosen moves at once. A fault sets a node's registers, a link joins two nodes, and a cut removes a
+//! link.
 ghost use Rattle.std.specs.Prelude.{◌≡◌, ◌≤◌};
 ghost use Rattle.mml_ids.specs.declared.TheConstants.{MAX_NODES};
 ghost use Rattle.mml_convergence.specs.Rounds.{rounds_for};

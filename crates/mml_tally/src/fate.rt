@@ -1,3 +1,7 @@
+//! What becomes of granted moves.
+//!
+//! A grant chooses a move for a node, a release drops it, and a close applies all chosen moves at once. A fault sets a
+//! node's registers, a link joins two nodes, and a cut removes a link.
 ghost use Rattle.std.specs.Prelude.{◌≡◌, ◌+◌, ◌<◌, ◌^◌, length};
 ghost use Rattle.mml_tally.specs.Moves.{ended_by, fate_of};
 

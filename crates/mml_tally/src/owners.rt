@@ -1,3 +1,6 @@
+//! The nodes that several students own.
+//!
+//! A student who owns a node may ask for moves there.
 ghost use Rattle.std.specs.Prelude.{◌≡◌, ◌<◌, length, All, IfOk};
 ghost use Rattle.mml_lab.specs.declared.who.Who.TheVariants.{Student as AStudent};
 ghost use Rattle.mml_lab.specs.Rosters.{owns};

@@ -1,3 +1,7 @@
+//! The tally of a run with a record.
+//!
+//! A record has the lines of sessions with their replies. Recording pauses when a budget is used up. A clause is a
+//! condition under which a request is granted; a denial names the first that doesn't hold.
 ghost use Rattle.std.specs.Prelude.{◌≡◌, ◌<◌, ◌++◌, All, length, OnOk};
 ghost use Rattle.mml_tally.specs.RecordTexts.{denied_line, denied_text, askers_text, asked_line, asked_text, whole_text, record_line, record_text, recorded_run_text, recorded_text, turned_down_text};
 

@@ -1,3 +1,8 @@
+//! The tally of a run, as text.
+//!
+//! A grant chooses a move for a node, a release drops it, and a close applies all chosen moves at once. A fault sets a
+//! node's registers, a link joins two nodes, and a cut removes a link. The place of an event is its number in the list
+//! of events, from 1.
 ghost use Rattle.std.specs.Prelude.{◌≡◌, ◌<◌, ◌==◌, [], ◌∷◌, ◌++◌, All, List, length, OnOk};
 ghost use Rattle.mml_lab.specs.declared.who.Who.TheVariants.{Student as AStudent};
 ghost use Rattle.mml_lab.specs.Rosters.{name_of};

@@ -1,3 +1,6 @@
+//! The answers to acts.
+//!
+//! An act is a request for an event. The place of an event is its number in the list of events, from 1.
 use mml_board::Done;
 use mml_policy::{Denial, Refusal};
 

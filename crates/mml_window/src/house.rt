@@ -1,3 +1,6 @@
+//! The name of a house for contracts, and the parts by which it publishes.
+//!
+//! A window is one session's view of the published events and board.
 use crate::published::Published;
 use crate::seeing::{Publishing, View};
 use left_right::reader::{Reader, Reading};

@@ -1,3 +1,6 @@
+//! What readers have seen, for contracts.
+//!
+//! A house is one run of a lab that threads share: its list of granted events, the board after them, and their journal.
 use crate::house::House;
 use crate::published::Published;
 use crossbeam_utils::rule::{Outcome, Protocol};

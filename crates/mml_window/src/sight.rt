@@ -1,3 +1,6 @@
+//! Why a window shows nothing.
+//!
+//! A window is one session's view of the published events and board. A view is what a see, a look or a report shows.
 use mml_policy::Denial;
 
 /// The error of a window that can't read: its house has ended, or it has no reader's slot.

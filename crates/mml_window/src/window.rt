@@ -1,3 +1,7 @@
+//! Windows: what each session has of a house.
+//!
+//! A window is one session's view of the published events and board. The place of an event is its number in the list of
+//! events, from 1. An act is a request for an event.
 ghost use Rattle.std.specs.Prelude.{◌≡◌, ◌≢◌, ℕ, ◌+◌, ◌<◌, ◌≤◌, ◌++◌, ◌∷◌, [], length, drop, vec_capacity, IfOk, IfErr, IsTrue, IsFalse, MatchBool};
 ghost use mathlib.Core.List.{IsPrefix};
 ghost use Rattle.std.specs.Arc.{arc_value};

@@ -1,4 +1,7 @@
 //! The words of the journal. Each law is the clause of a function that does nothing.
+//!
+//! A grant chooses a move for a node, a release drops it, and a close applies all chosen moves at once. A fault sets a
+//! node's registers, a link joins two nodes, and a cut removes a link.
 ghost use Rattle.std.specs.Prelude.{◌≡◌, ◌∷◌, ℕ, List, decimal};
 ghost use Rattle.mml_lab.specs.Rosters.{RosterValue};
 ghost use Rattle.mml_board.specs.declared.event.Event.{Event};

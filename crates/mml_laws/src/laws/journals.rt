@@ -1,4 +1,7 @@
 //! What a journal says. Each law is the contract of a function that does nothing.
+//!
+//! A list of events is legal if each event is allowed in the world after the earlier ones. The journal has one line for
+//! each event.
 ghost use Rattle.std.specs.Prelude.{◌≡◌, ℕ, List};
 ghost use Rattle.mml_lab.specs.Labs.{LabValue, IsLab};
 ghost use Rattle.mml_board.specs.declared.event.Event.{Event};

@@ -1,5 +1,8 @@
 //! What two labs have in common that agree in everything that a journal names. Each law is the contract of a function
 //! that does nothing.
+//!
+//! A list of events is legal if each event is allowed in the world after the earlier ones. The audit of a journal
+//! checks that its lines are those of a legal list.
 ghost use Rattle.std.specs.Prelude.{◌≡◌, ◌<◌, ℕ, Bool, List, length};
 ghost use Rattle.mml_lab.specs.declared.who.Who.{Who};
 ghost use Rattle.mml_lab.specs.Rosters.{IsPrincipal, name_of, owns};
