@@ -109,8 +109,9 @@ pub fn read_class<R: Read + Drop, S: Seats<R>>(
     }
 }
 
-// Returns the first fault in the places that records grant, or `None` if there is none, as `find_misgranted` does.
-// Returns `Memory` if memory runs out.
+// Returns the first fault in the places that records grant: a place that isn't from `begun` + 1 to `count`, one that is
+// granted twice, or, if the records are `whole`, one that is granted nowhere. Returns `None` if there is no fault, and
+// `Memory` if memory runs out.
 fn find_amiss(
     alloc: Global,
     places: &[u64],

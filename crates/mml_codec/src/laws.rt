@@ -106,9 +106,9 @@ pub fn limits()
     ensures room { REPLY_ROOM ≡ 2048 }
 {}
 
-/// The reply to an event has the numbers `at` and `place` that `reply_of_done` gets, and names the event's nodes; for a
-/// close these are the nodes that had a chosen move. For a move it also names the kind of rule, and for a fault, a link
-/// or a cut how many chosen moves were dropped.
+/// The reply to a granted event has the numbers `at` (of the configuration) and `place` (of the event) that
+/// `reply_of_done` gets, and names the event's nodes; for a close these are the nodes that had a chosen move. For a
+/// move it also names the kind of rule, and for a fault, a link or a cut how many chosen moves were dropped.
 pub fn a_grant_is_told()
     ensures chosen { (at place : ℕ) (w : World) (s i : ℕ) (rule : Rule) →
         reply_of_done at place (done_by w (event.Grant s i rule))

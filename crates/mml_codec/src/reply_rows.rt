@@ -22,7 +22,8 @@ pub(crate) struct Moment {
     place: u64,
 }
 
-/// Returns the moment of an event from the two numbers in the reply to it. The contract says that both fit 64 bits.
+/// Returns the moment of an event, which consists of the two numbers that the reply to it has: `at`, of the
+/// configuration, and `place`, of the event. The contract says that both fit 64 bits.
 pub(crate) fn moment_of(at: &u64, place: &u64) -> Moment
     ensures moment { result ≡ record { at = at.now; place = place.now } }
     ensures at { at.now < 2 ^ 64 }

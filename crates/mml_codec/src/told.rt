@@ -169,7 +169,7 @@ impl Told for Option<Rank> {
 
     ghost most = { λ _. 5 };
 
-    // Returns the line with the identifier of the node that a register points at appended, or `null`.
+    // Returns the line with the pointer appended: the identifier of the node that it names, or `null`.
     #[inline(always)]
     fn with_told(&self, line: Vec<u8>, ids: &IdTable) -> Vec<u8> {
         match *self {

@@ -149,7 +149,8 @@ fn account_at(
     Ok(Account { name, key })
 }
 
-/// Returns the name and key of an element of `student`, or the first error of the element.
+/// Returns the name and the key that an element of the file's array `student` describes, or the first error of the
+/// element.
 #[tactic(auto, unfolding(crate::specs::Shape::student_of))]
 fn student(alloc: Global, value: &Value) -> Result<Account, LabFault>
     ensures { Gives is_lab_memory account_view result (student_of (view value.now)) }
