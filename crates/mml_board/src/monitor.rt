@@ -42,8 +42,8 @@ pub fn refresh(network: &IndexedNetwork, privileged: NodeSet, changed: NodeSet) 
     privileged
 }
 
-/// Tests each of `nodes` anew, and returns the set `privileged` in which those that are privileged now are added, and
-/// the others of `nodes` removed.
+/// Tests each of `nodes` anew. Returns the set `privileged`, to which those of `nodes` are added that are privileged
+/// now, and from which the others of `nodes` are removed.
 fn refresh_each(network: &IndexedNetwork, privileged: NodeSet, nodes: NodeSet) -> NodeSet
     ensures { (j : ℕ) → set.contains result j ≡
         (if set.contains nodes j then is_privileged_node (configuration_of network.now) j

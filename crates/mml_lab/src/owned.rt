@@ -12,8 +12,9 @@ use crate::who::Student;
 use mml_ids::{NodeSet, Rank};
 use std::alloc::Global;
 
-/// Returns for each student, in order, the set of the nodes that the student owns, and at the end an empty set.
-/// `students` is their number, and `owners` has by rank the owners of each node. Returns `Memory` if memory runs out.
+/// Returns for each student, in order, the set of the nodes that the student owns, and at the end an empty set, for a
+/// student who isn't in the roster. `students` is their number, and `owners` has by rank the owners of each node.
+/// Returns `Memory` if memory runs out.
 pub(crate) fn owned_by_each(
     alloc: Global,
     students: usize,

@@ -20,7 +20,8 @@ pub fn places_are_those_told()
         t.end.window.places ≡ st.window.places ++ flat_map places_in t.replies }
 {}
 
-/// The events that a window had seen are the first of those that it has seen afterwards.
+/// What a session's window has seen only grows: the events that it had seen before a turn, or before several, are the
+/// first of those that it has seen afterwards.
 pub fn seen_goes_on()
     ensures turn { (lab : LabValue) (st after : Standing) (t : LineTurn lab st after) →
         IsPrefix st.window.seen after.window.seen }

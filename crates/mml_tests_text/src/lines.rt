@@ -104,8 +104,8 @@ fn is_length_told(alloc: Global, row: &Length) -> Result<bool, Fail> {
     are_steps(alloc, *limit, line.as_str(), end, wanted.as_str())
 }
 
-/// Returns the index of the first row of `LENGTHS` for which `is_length_told` is `false`, or `None` if there is no such
-/// row.
+/// Checks each row of `LENGTHS` with `is_length_told`. Returns the index of the first row that is wrong, or `None` if
+/// all are right.
 fn first_length_told_otherwise(alloc: Global) -> Result<Option<usize>, Fail> {
     for (number, row) in LENGTHS.iter().enumerate() {
         if !is_length_told(alloc, row)? {
