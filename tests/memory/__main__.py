@@ -18,7 +18,7 @@ from collections.abc import Callable
 from pathlib import Path
 
 from tests.common.preload import LIMIT, TOP, Ended, Preloaded, Server, Story, built_in, fail, in_room, play, run
-from tests.memory.classes import refused_classes
+from tests.memory.classes import classes
 from tests.memory.hosts import host_uses
 from tests.memory.refusing import OUT_OF_MEMORY, Tried, Use, done_line, memories, refuse_all, whole
 
@@ -146,7 +146,7 @@ def work(room: Path) -> str:
     """Runs the parts that the arguments name."""
     library = Preloaded("memory/refuse.c", room, "REFUSE_COUNTS")
     parts: dict[str, Callable[[Preloaded, Path], str]] = {
-        "uses": refused_uses, "hosts": refused_hosts, "classes": refused_classes, "tests": lambda library, _: refused_tests(library),
+        "uses": refused_uses, "hosts": refused_hosts, "classes": classes, "tests": lambda library, _: refused_tests(library),
     }
     return "; ".join(part(library, room) for name, part in parts.items() if sys.argv[1:] in ([], [name]))
 

@@ -236,7 +236,7 @@ def begun_by(first: Class, room: Path, library: Preloaded) -> Begun:
     return Begun(room, (*script, TEACHER + BYE, STUDENT + BYE))
 
 
-def refused_classes(library: Preloaded, room: Path) -> str:
+def classes(library: Preloaded, room: Path) -> str:
     """Refuses memory to `host` and `resume`. Returns the lines about them."""
     lab = lab_of(room, 4)
     hosted = Class("host", lab, ASKED, Begun(None, ()))

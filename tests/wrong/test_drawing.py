@@ -9,9 +9,10 @@ from pathlib import Path
 from unittest import mock
 
 from tools.plant import drawing
-from tools.plant.bodies import bodies_of_file, module_of, type_of
+from tools.plant.bodies import bodies_of, bodies_of_file, module_of, type_of
 from tools.plant.changes import changes_of, variants_of
 from tools.plant.drawing import NO_PROGRAM, asked, culprits, draw
+from tools.plant.plants import Plant
 from tools.plant.proving import LET_THROUGH, REFUSED, UNDECIDED
 from tools.wrong.checks import Running
 from tools.wrong.libraries import Tree
@@ -93,6 +94,7 @@ class Changes(unittest.TestCase):
             ("    if is_over {", ["    if !(is_over) {"]),
             ("    f(a, b)", ["    f(b, a)"]),
             ("    Kind::First", ["    Kind::Second"]),
+            ("    Kind::First => Kind::Second,", ["    Kind::First => Kind::First,"]),
             ("    self.buffer.push(7);", ["    self.buffer.push(8);", ""]),
             ("    let x = true;", ["    let x = false;"]),
             ("    let trueish = a;", []),
@@ -122,13 +124,14 @@ class Drawing(unittest.TestCase):
     def test_the_same_seed_draws_the_same(self) -> None:
         first, again = (draw(self.tree, ["low"], 2, 5) for _ in range(2))
         self.assertEqual(first, again)
-        self.assertEqual(len({plant.function for plant in first}), 2)
+        self.assertEqual([len({plant.function for plant in plants}) for plants in first], [1, 1])
+        self.assertEqual(len({plants[0].function for plants in first}), 2)
         self.assertEqual(len(draw(self.tree, ["low"], 99, 1)), 3)
-        self.assertGreater(len({plant.edit.pairs for seed in range(20) for plant in draw(self.tree, ["low"], 3, seed)}), 6)
+        self.assertGreater(len({plants[0].edit.pairs for seed in range(20) for plants in draw(self.tree, ["low"], 3, seed)}), 6)
 
     def test_each_draw_changes_one_line_of_its_body(self) -> None:
         for seed in range(20):
-            for plant in draw(self.tree, ["low"], 3, seed):
+            for plant in (plant for plants in draw(self.tree, ["low"], 3, seed) for plant in plants):
                 pair, = plant.edit.pairs
                 self.assertEqual(SOURCE.count(pair.old), 1)
                 self.assertNotEqual(pair.old, pair.new)
@@ -136,28 +139,46 @@ class Drawing(unittest.TestCase):
                 self.assertNotIn("assert", pair.old)
 
     def test_who_is_no_program(self) -> None:
-        plants = drawing.drawn_in("low", self.tree.folder("low"), random.Random(3))
-        guilty = plants[1].edit.pairs[0]
-        changed = SOURCE.replace(guilty.old, guilty.new or "()")
-        at = next((number for number, line in enumerate(changed.splitlines(), 1) if line == guilty.new), 1)
-        self.assertEqual(culprits(plants, {guilty.file: changed}, [f"src/thing.rt:{at}:3: error: no such name"]), [plants[1]] if guilty.new else plants)
-        self.assertEqual(culprits(plants, {guilty.file: changed}, ["error: something"]), plants)
+        plants = [plants[0] for plants in drawing.drawn_in("low", self.tree.folder("low"), random.Random(3))]
+        bodies = bodies_of(self.tree.folder("low"))
+        for plant in plants:
+            at = SOURCE[: SOURCE.index(plant.edit.pairs[0].old)].count("\n") + 1
+            self.assertEqual(culprits(plants, bodies, [f"src/thing.rt:{at}:3: error: no such name"]), [plant])
+        self.assertEqual(culprits(plants, bodies, ["src/thing.rt:1:1: error: no such name"]), plants)
+        self.assertEqual(culprits(plants, bodies, ["error: something"]), plants)
+
+    def verdicts(self, drawn: list[list[Plant]], bad: list[Plant], *told: Told) -> dict[str, tuple[Plant, str]]:
+        """Returns the verdict on one plant of each function, if the bad plants don't compile, and the prover says
+        this, check by check."""
+        def look(_: Tree, __: str, texts: dict[str, str], ___: Running) -> str:
+            return "".join("src/thing.rt:1:1: error: it has no such name\n" for it in bad if texts["src/thing.rt"].count(it.edit.pairs[0].new) != SOURCE.count(it.edit.pairs[0].new))
+
+        with mock.patch.object(drawing, "look", look), mock.patch.object(drawing, "proved", side_effect=told), \
+                mock.patch.object(Tree, "missing", return_value=[]):
+            return {plant.function: (plant, verdict) for plant, verdict in asked(self.tree, "low", drawn, "", Running())}
 
     def test_verdicts(self) -> None:
-        plants = draw(self.tree, ["low"], 3, 1)
+        plants = [plants[0] for plants in draw(self.tree, ["low"], 3, 1)]
+        drawn = [[plant] for plant in plants]
         bad, refused, let_through = (plant.function for plant in plants)
-
-        def look(_: Tree, __: str, texts: dict[str, str], ___: Running) -> str:
-            return "src/thing.rt:1:1: error: it has no such name\n" if plants[0].edit.pairs[0].old not in texts["src/thing.rt"] else ""
-
         told = Told(proved={let_through}, open_goals={refused: ["returns"]}, ending=(2, 1))
-        with mock.patch.object(drawing, "look", look), mock.patch.object(drawing, "proved", return_value=told), \
-                mock.patch.object(Tree, "missing", return_value=[]):
-            said = {plant.function: verdict for plant, verdict in asked(self.tree, "low", plants, "", Running())}
-            self.assertEqual(said, {bad: NO_PROGRAM, refused: REFUSED, let_through: LET_THROUGH})
-        with mock.patch.object(drawing, "look", return_value=""), mock.patch.object(drawing, "proved", return_value=Told()), \
-                mock.patch.object(Tree, "missing", return_value=[]):
-            self.assertEqual({verdict for _, verdict in asked(self.tree, "low", plants, "", Running())}, {UNDECIDED})
+        self.assertEqual(self.verdicts(drawn, plants[:1], told), {
+            bad: (plants[0], NO_PROGRAM), refused: (plants[1], REFUSED), let_through: (plants[2], LET_THROUGH)})
+        self.assertEqual({verdict for _, verdict in self.verdicts(drawn, [], Told(ending=(3, 0))).values()}, {UNDECIDED})
+
+    def test_a_plant_that_does_not_compile_gives_its_place_to_the_next(self) -> None:
+        plants = next(plants for plants in draw(self.tree, ["low"], 3, 1) if len(plants) > 1 and all(plant.edit.pairs[0].new for plant in plants))
+        name = plants[0].function
+        told = Told(proved={name}, ending=(1, 1))
+        self.assertEqual(self.verdicts([plants], plants[:1], told), {name: (plants[1], LET_THROUGH)})
+        self.assertEqual(self.verdicts([plants], plants), {name: (plants[-1], NO_PROGRAM)})
+
+    def test_a_function_that_calls_a_refused_one_is_asked_about_again(self) -> None:
+        drawn = [plants[:1] for plants in draw(self.tree, ["low"], 2, 1)]
+        (above,), (below,) = drawn
+        first = Told(open_goals={below.function: ["returns"]}, resting={above.function}, ending=(2, 0))
+        for again, wanted in ((Told(proved={above.function}, ending=(1, 1)), LET_THROUGH), (first, UNDECIDED)):
+            self.assertEqual(self.verdicts(drawn, [], first, again), {below.function: (below, REFUSED), above.function: (above, wanted)})
 
 
 if __name__ == "__main__":

@@ -1,5 +1,5 @@
 """Draws random plants, one small change in each of many functions, and asks the prover about them. The same seed
-gives the same plants."""
+draws the same plants. If a change doesn't compile, the next one of the same function takes its place."""
 from __future__ import annotations
 
 import random
@@ -13,7 +13,7 @@ from pathlib import Path
 from tools.plant.bodies import Body, bodies_of
 from tools.plant.changes import changes_of, variants_of
 from tools.plant.plants import Plant, PlantFault
-from tools.plant.proving import ANY, verdict
+from tools.plant.proving import ANY, UNDECIDED, verdict
 from tools.wrong.checks import Running, copy_crate, try_round
 from tools.wrong.edits import Edit, Pair, Refusal, Round, apply_edit
 from tools.wrong.libraries import Tree, check_words
@@ -21,6 +21,7 @@ from tools.wrong.outputs import Told, read_output
 from tools.wrong.saved import find_name, hand_on
 
 NO_PROGRAM = "no program"
+TRIES = 4  # changes of a function at most, of which the first that compiles counts
 AT = re.compile(r"(?:\./)?(src/\S+?):(\d+):\d+: error")
 
 
@@ -30,43 +31,41 @@ def candidates(body: Body, lines: list[str], variants: dict[str, list[str]]) -> 
     return [(line, changed) for line in once for changed in changes_of(line, variants)]
 
 
-def drawn_in(crate: str, folder: Path, chance: random.Random) -> list[Plant]:
-    """Returns a plant for each function of a crate that can be changed, in random order."""
+def drawn_in(crate: str, folder: Path, chance: random.Random) -> list[list[Plant]]:
+    """Returns some plants for each function of a crate that can be changed. The functions and plants are in random
+    order."""
     texts = {body.file: (folder / body.file).read_text(encoding="utf-8") for body in bodies_of(folder)}
     variants = {name: kinds for text in texts.values() for name, kinds in variants_of(text).items()}
-    plants = []
+    drawn = []
     for body in bodies_of(folder):
         if found := candidates(body, texts[body.file].splitlines(), variants):
-            old, new = chance.choice(found)
             name = f"{body.function.replace('::', '_')}.edit"
-            plants.append(Plant(crate, Edit(name, (), (Pair(body.file, old, new),)), body.function))
-    chance.shuffle(plants)
-    return plants
+            pairs = [Pair(body.file, old, new) for old, new in chance.sample(found, min(TRIES, len(found)))]
+            drawn.append([Plant(crate, Edit(name, (), (pair,)), body.function) for pair in pairs])
+    chance.shuffle(drawn)
+    return drawn
 
 
-def draw(tree: Tree, crates: list[str], number: int, seed: int) -> list[Plant]:
-    """Returns at most `number` plants of crates, spread as evenly as possible over their functions."""
+def draw(tree: Tree, crates: list[str], number: int, seed: int) -> list[list[Plant]]:
+    """Returns the plants of at most `number` functions, spread as evenly as possible over the functions of these
+    crates."""
     chance = random.Random(seed)
-    every = [plant for crate in crates for plant in drawn_in(crate, tree.folder(crate), chance)]
-    chosen = {id(plant) for plant in chance.sample(every, min(number, len(every)))}
-    return [plant for plant in every if id(plant) in chosen]
+    every = [plants for crate in crates for plants in drawn_in(crate, tree.folder(crate), chance)]
+    chosen = set(chance.sample(range(len(every)), min(number, len(every))))
+    return [plants for at, plants in enumerate(every) if at in chosen]
 
 
-def culprits(plants: list[Plant], texts: dict[str, str], errors: list[str]) -> list[Plant]:
-    """Returns the plants in whose functions the first errors are, or all plants if the errors don't show which."""
-    places = {(found[1], int(found[2]) - 1) for error in errors if (found := AT.match(error))}
-    guilty = []
-    for plant in plants:
-        pair = plant.edit.pairs[0]
-        lines = texts[pair.file].splitlines()
-        if pair.new and any(lines[number : number + 1] == [pair.new] for file, number in places if file == pair.file):
-            guilty.append(plant)
-    return guilty or plants
+def culprits(plants: list[Plant], bodies: list[Body], errors: list[str]) -> list[Plant]:
+    """Returns the plants in whose functions the errors are, or all plants if the errors don't show which. No plant
+    changes the number of lines."""
+    places = [(found[1], int(found[2]) - 1) for error in errors if (found := AT.match(error))]
+    guilty = {body.function for body in bodies for file, number in places if body.file == file and body.first - 1 <= number <= body.end}
+    return [plant for plant in plants if plant.function in guilty] or plants
 
 
 def sift(tree: Tree, crate: str, plants: list[Plant], running: Running) -> Iterator[tuple[Plant, bool]]:
     """Yields each plant of a crate, and whether the crate still passes the check of names and types."""
-    todo = [plants]
+    todo, bodies = [plants], bodies_of(tree.folder(crate))
     while todo:
         tried = todo.pop()
         texts: dict[str, str] = {}
@@ -78,12 +77,23 @@ def sift(tree: Tree, crate: str, plants: list[Plant], running: Running) -> Itera
         elif len(tried) == 1:
             yield tried[0], False
         else:
-            guilty = culprits(tried, texts, errors)
+            guilty = culprits(tried, bodies, errors)
             if guilty == tried:
                 todo += [tried[: len(tried) // 2], tried[len(tried) // 2 :]]
             else:
                 yield from ((plant, False) for plant in guilty)
                 todo.append([plant for plant in tried if plant not in guilty])
+
+
+def programs(tree: Tree, crate: str, drawn: list[list[Plant]], running: Running) -> Iterator[tuple[Plant, bool]]:
+    """Yields for each function its first plant that passes the check of names and types, and True. If none does,
+    yields its last plant and False."""
+    todo = drawn
+    while todo:
+        passed = dict(sift(tree, crate, [plants[0] for plants in todo], running))
+        last = [plants for plants in todo if passed[plants[0]] or len(plants) == 1]
+        yield from ((plants[0], passed[plants[0]]) for plants in last)
+        todo = [plants[1:] for plants in todo if plants not in last]
 
 
 def look(tree: Tree, crate: str, texts: dict[str, str], running: Running) -> str:
@@ -98,12 +108,12 @@ def look(tree: Tree, crate: str, texts: dict[str, str], running: Running) -> str
             shutil.rmtree(copy, ignore_errors=True)
 
 
-def asked(tree: Tree, crate: str, plants: list[Plant], kept: str, running: Running) -> Iterator[tuple[Plant, str]]:
-    """Yields the verdict on each plant of a crate. One check of names and types and one proof are enough if no
-    plant hinders another."""
+def asked(tree: Tree, crate: str, drawn: list[list[Plant]], kept: str, running: Running) -> Iterator[tuple[Plant, str]]:
+    """Yields the verdict on one plant of each function of a crate. One check of names and types and one proof are
+    enough if each plant compiles, and none hinders another."""
     if missing := tree.missing(crate):
         raise PlantFault(f"{crate}: not built, which `rt ci` or `rt check` does: {', '.join(dict.fromkeys(missing))}")
-    sifted = [*sift(tree, crate, plants, running)]
+    sifted = [*programs(tree, crate, drawn, running)]
     yield from ((plant, NO_PROGRAM) for plant, is_program in sifted if not is_program)
     todo = [[plant for plant, is_program in sifted if is_program]]
     while todo:
@@ -112,8 +122,12 @@ def asked(tree: Tree, crate: str, plants: list[Plant], kept: str, running: Runni
         told = proved(tree, crate, tried, kept, running)
         if told.ending is None and len(tried) > 1:
             todo += [tried[: len(tried) // 2], tried[len(tried) // 2 :]]
-        else:
-            yield from ((plant, verdict(plant.function, told)) for plant in tried)
+            continue
+        # (such a plant's function calls one that another plant changes)
+        resting = [plant for plant in tried if plant.function in told.resting and verdict(plant.function, told) == UNDECIDED]
+        again = resting if len(resting) < len(tried) else []
+        todo.append(again)
+        yield from ((plant, verdict(plant.function, told)) for plant in tried if plant not in again)
 
 
 def proved(tree: Tree, crate: str, plants: list[Plant], kept: str, running: Running) -> Told:
@@ -128,8 +142,8 @@ def proved(tree: Tree, crate: str, plants: list[Plant], kept: str, running: Runn
         return read_output(crate, try_round(tree, crate, Round(edits, texts), Path(room), running).output)
 
 
-def ask_all(tree: Tree, plants: list[Plant]) -> Iterator[tuple[Plant, str]]:
-    """Yields the verdict on each plant, crate by crate."""
+def ask_all(tree: Tree, drawn: list[list[Plant]]) -> Iterator[tuple[Plant, str]]:
+    """Yields the verdict on one plant of each function, crate by crate."""
     running, kept = Running(), find_name(tree)
-    for crate in dict.fromkeys(plant.crate for plant in plants):
-        yield from asked(tree, crate, [plant for plant in plants if plant.crate == crate], kept, running)
+    for crate in dict.fromkeys(plants[0].crate for plants in drawn):
+        yield from asked(tree, crate, [plants for plants in drawn if plants[0].crate == crate], kept, running)
