@@ -151,7 +151,8 @@ class Drawing(unittest.TestCase):
         """Returns the verdict on one plant of each function, if the bad plants don't compile, and the prover says
         this, check by check."""
         def look(_: Tree, __: str, texts: dict[str, str], ___: Running) -> str:
-            return "".join("src/thing.rt:1:1: error: it has no such name\n" for it in bad if texts["src/thing.rt"].count(it.edit.pairs[0].new) != SOURCE.count(it.edit.pairs[0].new))
+            tried = [pair.new for plant in bad for pair in plant.edit.pairs if texts["src/thing.rt"].count(pair.new) != SOURCE.count(pair.new)]
+            return "src/thing.rt:1:1: error: it has no such name\n" if tried else ""
 
         with mock.patch.object(drawing, "look", look), mock.patch.object(drawing, "proved", side_effect=told), \
                 mock.patch.object(Tree, "missing", return_value=[]):
