@@ -11,8 +11,8 @@ from unittest import mock
 from tools.plant import drawing
 from tools.plant.bodies import bodies_of, bodies_of_file, module_of, type_of
 from tools.plant.changes import changes_of, variants_of
-from tools.plant.drawing import NO_PROGRAM, asked, culprits, draw
-from tools.plant.plants import Plant
+from tools.plant.drawing import NO_PROGRAM, ask_all, asked, culprits, draw
+from tools.plant.plants import Plant, PlantFault
 from tools.plant.proving import LET_THROUGH, REFUSED, UNDECIDED
 from tools.wrong.checks import Running
 from tools.wrong.libraries import Tree
@@ -138,6 +138,12 @@ class Drawing(unittest.TestCase):
                 self.assertNotIn("ensures", pair.old)
                 self.assertNotIn("assert", pair.old)
 
+    def test_no_change_makes_a_line_of_another_body(self) -> None:
+        lines = ["fn no() -> bool {", "    false", "}", "fn yes() -> bool {", "    true && 1 < 2", "}"]
+        no, yes = bodies_of_file("src/lib.rt", lines)
+        self.assertEqual(drawing.candidates(no, lines, {}), [])
+        self.assertEqual(len(drawing.candidates(yes, lines, {})), 5)
+
     def test_who_is_no_program(self) -> None:
         plants = [plants[0] for plants in drawing.drawn_in("low", self.tree.folder("low"), random.Random(3))]
         bodies = bodies_of(self.tree.folder("low"))
@@ -154,8 +160,7 @@ class Drawing(unittest.TestCase):
             tried = [pair.new for plant in bad for pair in plant.edit.pairs if texts["src/thing.rt"].count(pair.new) != SOURCE.count(pair.new)]
             return "src/thing.rt:1:1: error: it has no such name\n" if tried else ""
 
-        with mock.patch.object(drawing, "look", look), mock.patch.object(drawing, "proved", side_effect=told), \
-                mock.patch.object(Tree, "missing", return_value=[]):
+        with mock.patch.object(drawing, "look", look), mock.patch.object(drawing, "proved", side_effect=told):
             return {plant.function: (plant, verdict) for plant, verdict in asked(self.tree, "low", drawn, "", Running())}
 
     def test_verdicts(self) -> None:
@@ -166,6 +171,10 @@ class Drawing(unittest.TestCase):
         self.assertEqual(self.verdicts(drawn, plants[:1], told), {
             bad: (plants[0], NO_PROGRAM), refused: (plants[1], REFUSED), let_through: (plants[2], LET_THROUGH)})
         self.assertEqual({verdict for _, verdict in self.verdicts(drawn, [], Told(ending=(3, 0))).values()}, {UNDECIDED})
+
+    def test_no_check_begins_if_a_library_is_not_built(self) -> None:
+        with mock.patch.object(Tree, "missing", return_value=["itoa"]), mock.patch.object(drawing, "find_name", side_effect=AssertionError):
+            self.assertRaisesRegex(PlantFault, "not built, .*: itoa$", list, ask_all(self.tree, draw(self.tree, ["low"], 3, 1)))
 
     def test_a_plant_that_does_not_compile_gives_its_place_to_the_next(self) -> None:
         plants = next(plants for plants in draw(self.tree, ["low"], 3, 1) if len(plants) > 1 and all(plant.edit.pairs[0].new for plant in plants))

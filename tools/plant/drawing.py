@@ -26,9 +26,11 @@ AT = re.compile(r"(?:\./)?(src/\S+?):(\d+):\d+: error")
 
 
 def candidates(body: Body, lines: list[str], variants: dict[str, list[str]]) -> list[tuple[str, str]]:
-    """Returns the possible changes of a body: a line that occurs once in its file, and its replacement."""
-    once = [line for line in lines[body.first : body.end] if line.strip() and lines.count(line) == 1 and "\n".join(lines).count(line) == 1]
-    return [(line, changed) for line in once for changed in changes_of(line, variants)]
+    """Returns the possible changes of a body: a line that occurs once in its file, and its replacement, which is empty
+    or doesn't occur there. So several bodies of a file can be changed at once."""
+    text = "\n".join(lines)
+    once = [line for line in lines[body.first : body.end] if line.strip() and text.count(line) == 1]
+    return [(line, changed) for line in once for changed in changes_of(line, variants) if not changed or changed not in text]
 
 
 def drawn_in(crate: str, folder: Path, chance: random.Random) -> list[list[Plant]]:
@@ -111,8 +113,6 @@ def look(tree: Tree, crate: str, texts: dict[str, str], running: Running) -> str
 def asked(tree: Tree, crate: str, drawn: list[list[Plant]], kept: str, running: Running) -> Iterator[tuple[Plant, str]]:
     """Yields the verdict on one plant of each function of a crate. One check of names and types and one proof are
     enough if each plant compiles, and none hinders another."""
-    if missing := tree.missing(crate):
-        raise PlantFault(f"{crate}: not built, which `rt ci` or `rt check` does: {', '.join(dict.fromkeys(missing))}")
     sifted = [*programs(tree, crate, drawn, running)]
     yield from ((plant, NO_PROGRAM) for plant, is_program in sifted if not is_program)
     todo = [[plant for plant, is_program in sifted if is_program]]
@@ -143,7 +143,11 @@ def proved(tree: Tree, crate: str, plants: list[Plant], kept: str, running: Runn
 
 
 def ask_all(tree: Tree, drawn: list[list[Plant]]) -> Iterator[tuple[Plant, str]]:
-    """Yields the verdict on one plant of each function, crate by crate."""
+    """Yields the verdict on one plant of each function, crate by crate. Raises `PlantFault` at the beginning if a
+    library isn't built."""
+    crates = list(dict.fromkeys(plants[0].crate for plants in drawn))
+    if missing := list(dict.fromkeys(name for crate in crates for name in tree.missing(crate))):
+        raise PlantFault(f"not built, which `rt ci` or `rt check` does: {', '.join(missing)}")
     running, kept = Running(), find_name(tree)
-    for crate in dict.fromkeys(plants[0].crate for plants in drawn):
+    for crate in crates:
         yield from asked(tree, crate, [plants for plants in drawn if plants[0].crate == crate], kept, running)
