@@ -10,6 +10,7 @@ import shutil
 import threading
 import time
 from collections.abc import Sequence
+from errno import EINVAL, EIO, errorcode
 from pathlib import Path
 
 from tests.common.hosting import Caller, Host, audit, called, lab_of, let_in
@@ -174,6 +175,17 @@ def failed_sync_after_a_resume(room: Path) -> None:
         if (ended.status, ended.out) != (4, b"") or not ended.error.endswith(FAULT.error) or journal.read_bytes() != FIRST:
             fail(f"resume: when the first sync after a resume fails it ends with {ended}, and leaves {journal.read_bytes()!r}")
     goes_on(lab, journal, b"resumed at place 2, configuration 1, 0 chosen\n", NO_COPY, "after a sync that failed after a resume")
+
+
+def folders_that_fail(room: Path) -> None:
+    """If the folder of a journal can't be synced, no class begins. If the system syncs no folders at all, one does."""
+    library = Preloaded("resume/power.c", room, "POWER_COUNTS")
+    lab = lab_of(room, 4)
+    for error, status, words in ((EIO, FAULT.status, FAULT.error), (EINVAL, 0, b"")):
+        with Host(lab, 0, 0, room / str(error), variables=library.variables({"POWER_FOLDERS": str(error)})) as host:
+            ended = host.dismissed(let_in(host.desk, hello("tess"))[0]) if host.listens else host.end()
+        if (ended.status, ended.error) != (status, words):
+            fail(f"resume: when the sync of a folder fails with {errorcode[error]}, a host ends with {ended}")
 
 
 def told_until_halted(ana: Caller, tess: Caller) -> int:
@@ -427,7 +439,7 @@ def files(room: Path) -> None:
 
 TESTS: list[Test] = [
     kills, power_cuts, torn_tails, other_labs, full_disk, in_mid_line, failed_sync, copies_are_kept, asks_again, held, files,
-    failed_sync_after_a_resume, copies_through_links, numbers_of_both, *away.TESTS, *synced.TESTS,
+    failed_sync_after_a_resume, folders_that_fail, copies_through_links, numbers_of_both, *away.TESTS, *synced.TESTS,
 ]
 
 

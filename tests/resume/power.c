@@ -3,7 +3,8 @@
    The journal is the file that was opened to append last. POWER_COUNTS=FILE keeps two numbers of eight bytes in
    FILE: how many of its bytes have reached the device, which is what it had at the last sync that succeeded or was
    cut to since, and how many syncs there were. POWER_IGNORED=1 lets each sync answer that it is done, and do
-   nothing. POWER_FAIL_AT=N fails the Nth sync of the journal, as a device that is gone. */
+   nothing. POWER_FAIL_AT=N fails the Nth sync of the journal, as a device that is gone. POWER_FOLDERS=N fails each
+   sync of a folder with the error N. */
 
 #include "preload.h"
 
@@ -13,12 +14,14 @@ extern long lseek(int, long, int);
 #define NEXT ((void *)-1l)
 #define CREATE 0x40
 #define APPEND 0x400
+#define WRITING 3
 #define AT_END 2
 #define IO_FAULT 5
 
 static struct { word durable, syncs; } own, *counts = &own;
-static word is_ignored, fail_at;
-static int journal = -1;
+static word is_ignored, fail_at, folder_error;
+/* What was opened last to be read alone: a folder that is synced next. */
+static int journal = -1, folder = -1;
 
 /* A mode is given where the file may be made. */
 int open(const char *path, int flags, ...) {
@@ -32,6 +35,8 @@ int open(const char *path, int flags, ...) {
         __builtin_va_end(rest);
     }
     opened = next(path, flags, mode);
+    if (opened >= 0 && !(flags & WRITING)) folder = opened;
+    else if (opened == folder) folder = -1;
     if (opened >= 0 && (flags & APPEND)) {
         journal = opened;
         __atomic_store_n(&counts->durable, (word)lseek(opened, 0, AT_END), __ATOMIC_SEQ_CST);
@@ -43,6 +48,10 @@ int open(const char *path, int flags, ...) {
 static int synced(int file, const char *name) {
     int (*next)(int) = dlsym(NEXT, name);
     long size;
+    if (file == folder && folder_error) {
+        *__errno_location() = (int)folder_error;
+        return -1;
+    }
     if (file != journal) return next(file);
     if (__atomic_add_fetch(&counts->syncs, 1, __ATOMIC_SEQ_CST) == fail_at) {
         *__errno_location() = IO_FAULT;
@@ -63,4 +72,5 @@ __attribute__((constructor)) static void begin(void) {
     counts = shared_with("POWER_COUNTS", &own, sizeof own);
     is_ignored = number("POWER_IGNORED");
     fail_at = number("POWER_FAIL_AT");
+    folder_error = number("POWER_FOLDERS");
 }
