@@ -458,9 +458,8 @@ def journals(room: Path) -> None:
             fail(f"outsiders: a host whose journal is its own output ends with {said}")
     journal.unlink()
     os.mkfifo(room / "pipe")
-    with Host(lab, 0, 0, room / "pipe") as host:
-        if host.listens or host.end(60) != FAULT:
-            fail("outsiders: a pipe that nobody reads is taken")
+    if (said := ended_soon([HOST, "host", lab, "0", "0", room / "pipe"])) != FAULT:
+        fail(f"outsiders: a host whose journal is a pipe that nobody reads ends with {said}")
     for mode in (0o600, 0o640, 0o604):
         if mode != 0o600:
             journal.chmod(mode)
