@@ -2,6 +2,9 @@
 server listens, and the files that it needs, which it can't change. No superuser rights are needed.
 
 The files that the program writes are kept in memory, in a file system of limited size, and disappear with it.
+
+A program in such namespaces is *kept apart*. The *host* is this machine outside the namespaces, whose files are visible
+at the path HOST until the new root is complete.
 """
 from __future__ import annotations
 
@@ -34,7 +37,8 @@ LIBC = ctypes.CDLL(None, use_errno=True)
 
 @dataclass(frozen=True)
 class World:
-    """What a program can see of this machine."""
+    """The files and the server's port that a program sees if it is kept apart, and its slip, the file with the data to
+    connect."""
 
     shown: tuple[tuple[str, str], ...]  # files and folders that it reads: the path at which it sees each, and its own path
     hidden: tuple[str, ...]  # what of these it doesn't see
@@ -43,26 +47,30 @@ class World:
 
 
 def require_success(result: int, what: str) -> None:
-    """Raises the `OSError` of a failed system call. `what` is the object of the call."""
+    """Raises the `OSError` of the last system call if `result` is negative. `what` names the file or the call in the
+    error."""
     if result < 0:
         number = ctypes.get_errno()
         raise OSError(number, os.strerror(number), what)
 
 
 def mount(source: str, target: str, kind: str | None, flags: int, options: str = "") -> None:
-    """Mounts a file system, or binds a file or folder to a second path."""
+    """Mounts the file system `source` of the type `kind` at the path `target`. If `flags` has BIND, makes the file or
+    folder `source` visible there instead. Raises `OSError` if the system refuses the call."""
     words = [None if word is None else os.fsencode(word) for word in (source, target, kind)]
     require_success(LIBC.mount(*words, ctypes.c_ulong(flags), options.encode() or None), target)
 
 
 def make_read_only(target: str) -> None:
-    """Makes the mount at a path, and all mounts below it, read-only."""
+    """Makes the mount at a path, and all mounts below that path, read-only. Raises `OSError` if the system refuses the
+    call."""
     wanted = struct.pack("4Q", READ_ONLY | NO_SETUID, 0, 0, 0)
     require_success(LIBC.syscall(MOUNT_SETATTR, HERE, os.fsencode(target), ALL_BELOW, wanted, ctypes.c_size_t(len(wanted))), target)
 
 
 def show(target: str, source: str) -> None:
-    """Binds a file or folder of the host to a path, read-only. Does nothing if it doesn't exist."""
+    """Makes the host's file or folder `source` visible at the path `target`, read-only. Does nothing if `source`
+    doesn't exist. Raises `OSError` if the system refuses a call."""
     if os.path.isdir(HOST + source):
         os.makedirs(target, exist_ok=True)
     elif os.path.exists(HOST + source):
@@ -76,7 +84,8 @@ def show(target: str, source: str) -> None:
 
 
 def hide(target: str) -> None:
-    """Covers a file or folder with an empty one, if it exists."""
+    """Covers the file or folder at the path `target` with an empty one. Does nothing if there is none. Raises `OSError`
+    if the system refuses the call."""
     if os.path.isdir(target):
         mount("none", target, "tmpfs", READ_ONLY | NO_SETUID | NO_DEVICES, "size=4k")
     elif os.path.exists(target):
@@ -84,14 +93,15 @@ def hide(target: str) -> None:
 
 
 def map_user(user: int, group: int) -> None:
-    """Maps only this process's user and group into its namespace."""
+    """Maps the user and the group with these numbers, and no others, into this process's user namespace."""
     for name, text in (("setgroups", "deny"), ("uid_map", f"{user} {user} 1"), ("gid_map", f"{group} {group} 1")):
         Path(f"/proc/self/{name}").write_text(text, encoding="ascii")
 
 
 def enter_own_root(world: World, folder: str, megabytes: int) -> None:
-    """Makes a new root with the files that are shown, and moves this process there. The program's folder keeps its
-    path."""
+    """Moves this process into a new root, which is a file system in memory of so many megabytes. The root contains the
+    files that `world` shows and, at its path on the host, the program's folder with the slip. Raises the `OSError` of a
+    call that the system refuses."""
     mount("none", "/", None, DEEP | PRIVATE)
     mount("none", folder, "tmpfs", NO_SETUID | NO_DEVICES, f"size={megabytes + SPARE}m,nr_inodes={MOST_FILES},mode=0755")
     os.chdir(folder)
@@ -118,8 +128,8 @@ def enter_own_root(world: World, folder: str, megabytes: int) -> None:
 
 
 def mount_own_processes() -> None:
-    """Mounts /proc for this namespace. Its programs can't make further namespaces, and can't change settings of
-    the kernel."""
+    """Mounts /proc, so that it lists only the processes of this namespace. Forbids further namespaces, and makes the
+    settings of the kernel read-only."""
     mount("proc", "/proc", "proc", NO_SETUID | NO_DEVICES | NO_PROGRAMS)
     Path("/proc/sys/user/max_user_namespaces").write_text("0", encoding="ascii")
     for name in OF_KERNEL:
@@ -129,7 +139,8 @@ def mount_own_processes() -> None:
 
 
 def pass_listener(port: int, channel: int) -> None:
-    """Listens on a port of this namespace's loopback, and sends the listener through the channel."""
+    """Listens on a port of this namespace's loopback, and sends the listening socket through the Unix socket with the
+    descriptor `channel`."""
     with socket.socket() as it:
         fcntl.ioctl(it, SET_FLAGS, struct.pack("16sh22x", b"lo", UP))
     with socket.socket(fileno=channel) as its, socket.create_server(("127.0.0.1", port), backlog=32) as listener:
@@ -137,9 +148,10 @@ def pass_listener(port: int, channel: int) -> None:
 
 
 def enter(world: World, folder: str, megabytes: int, channel: int) -> None:
-    """Moves this process into new namespaces, as the first process there. When it ends, all other processes there
-    end too. The calling process only waits for it, and then exits. Raises the `OSError` of a call that the system
-    refused."""
+    """Continues in a new process, the first one in new namespaces. When it ends, all other processes there end too.
+    `folder` is the program's folder, `megabytes` the size of the new root, and `channel` the descriptor of the socket
+    through which the listener at the port of `world` is sent. The calling process waits for the new one, and exits with
+    its status. Raises the `OSError` of a call that the system refuses."""
     user, group = os.geteuid(), os.getegid()
     require_success(LIBC.unshare(NAMESPACES), "unshare")
     map_user(user, group)

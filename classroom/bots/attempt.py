@@ -1,5 +1,9 @@
-"""A bot in a case: starting it, observing it, and ending the case at the first action that a correct bot wouldn't
-take."""
+"""A bot in a case: starting the bot, observing it, and ending the case at the first action that a correct bot wouldn't
+take.
+
+A *bot* is a student's program under test. A *case* is a lab that the bot plays, with troubles during the run. The lab's
+class runs in this process (`classroom.bots.playing`), and its *relay* is the port to which the bot connects. Functions
+that run the class raise `Fails` if the bot has done something wrong, and `Stopped` after an interrupt."""
 from __future__ import annotations
 
 import os
@@ -67,9 +71,11 @@ class Room:
 
 
 class Attempt:
-    """One bot in one case."""
+    """One bot in one case, with the class that it plays in."""
 
     def __init__(self, bot: Bot, case: Case, limits: Limits, room: Room, stop: threading.Event) -> None:
+        """Opens the class of the case, and writes the bot's slip. Doesn't start the bot. `stop` is set by an
+        interrupt."""
         self.bot, self.case, self.limits, self.room, self.stop = bot, case, limits, room, stop
         self.playing = Playing(case.made, [case.who], case.daemon, case.name(), own_rule=limits.own_rule)
         self.playing.relay.piece = case.piece
@@ -92,7 +98,7 @@ class Attempt:
             raise
 
     def nodes(self) -> list[int]:
-        """Returns the nodes of the bot."""
+        """Returns the nodes that the bot owns, alone or with another student."""
         return self.case.made.nodes_of(self.case.who)
 
     def nodes_owned_alone(self) -> list[int]:
@@ -100,15 +106,17 @@ class Attempt:
         return [node.id for node in self.case.made.nodes if node.owners == [self.case.who]]
 
     def note_denial(self, no: No) -> None:
-        """Records why a denied line is wrong, if a correct bot wouldn't have sent it and it is the first such
-        line."""
+        """Records why a line of the bot that wasn't granted is wrong. Ignores denials that correct bots meet too, and
+        all after the first that is recorded."""
         if no.word in ALLOWED or self.wrong:
             return
         hint = f"; {HINTS[no.word]}" if no.word in HINTS else ""
         self.wrong = no.text + hint + (explaining.of_denial(self.playing, no.line) if no.word == "guard" else "")
 
     def launch(self) -> None:
-        """Starts the bot. If it is kept apart, the relay listens on the port of its namespace from then on."""
+        """Starts the bot. If the bot is kept apart, waits for its namespaces, and lets the relay listen at its port
+        there. Raises `Fails` if the bot ends meanwhile or the namespaces take too long, and `Stopped` after an
+        interrupt."""
         self.kept = Kept(self.bot, self.slip, self.room.folder, self.limits.seconds, self.limits.megabytes, self.room.output.fileno(), self.world)
         end = time.monotonic() + LATEST
         while self.world is not None:
@@ -123,8 +131,8 @@ class Attempt:
                 raise Fails(f"it can't be started: its namespaces weren't ready after {LATEST:g} seconds")
 
     def turn(self) -> None:
-        """Runs the class for a moment, and checks what the bot did. Raises `Fails` if something is wrong, and
-        `Stopped` after an interrupt."""
+        """Runs the class for a few milliseconds, and checks what the bot did. Raises `Fails` if the bot has ended or
+        did something wrong, and `Stopped` after an interrupt."""
         self.playing.turn()
         if self.stop.is_set():
             raise Stopped
@@ -138,7 +146,7 @@ class Attempt:
             raise Fails(self.end_reason(how))
 
     def connections_fault(self) -> str:
-        """Returns what is wrong with the bot's connections, or an empty text."""
+        """Returns what is wrong with the number of the bot's connections, or an empty text."""
         nodes = len(self.nodes())
         relay, most = self.playing.relay, most_connections(nodes)
         if len(relay.callers) > most_open(nodes):
@@ -152,8 +160,8 @@ class Attempt:
         return ""
 
     def end_reason(self, how: str) -> str:
-        """Returns how the bot ended, what was being done to it at that time, and its last line of output. Raises
-        `NotStarted` if its command couldn't be run."""
+        """Returns a text for people: how the bot ended, what was being done to it at that time, and its last line of
+        output. `how` is `ended STATUS` or `killed REASON`. Raises `NotStarted` if the bot's command couldn't be run."""
         kind, _, what = how.partition(" ")
         if kind == "killed" and what.startswith(f"{self.bot.words[0]}: "):
             raise NotStarted(f"it can't be started: {what}")
@@ -163,7 +171,8 @@ class Attempt:
         return f"{text}; it printed last: {last}" if last else text
 
     def until_stable(self, what: str) -> None:
-        """Runs the class until no node is privileged. Raises `Fails`, with `what`, after the time limit."""
+        """Runs the class until no node is privileged. Raises `Fails` after the time limit, with a text that begins with
+        `what`."""
         end = time.monotonic() + self.limits.seconds
         while not self.playing.is_stable():
             if time.monotonic() > end:
@@ -181,14 +190,14 @@ class Attempt:
             self.turn()
 
     def run_for(self, seconds: float) -> None:
-        """Runs the class for that time."""
+        """Runs the class for so many seconds."""
         end = time.monotonic() + seconds
         while time.monotonic() < end:
             self.turn()
 
     def until_greeted_again(self, before: int, what: str) -> None:
-        """Runs the class until the bot has greeted again. It had greeted `before` times, and `what` was done to
-        it. Raises `Fails` after the time limit."""
+        """Runs the class until the bot has said hello more than `before` times. `what` names, for the error, why the
+        bot's connection was lost. Raises `Fails` after the time limit."""
         self.doing = f", after {what} ({AGAIN})"
         end = time.monotonic() + self.limits.seconds
         while self.heard.greeted == before:
@@ -198,13 +207,14 @@ class Attempt:
         self.doing = ON
 
     def close(self) -> None:
-        """Ends the bot and the class."""
+        """Ends the bot and the class. No part of the attempt can be used afterwards."""
         if self.kept is not None:
             self.kept.stop()
         self.playing.end()
 
     def write_evidence(self, folder: Path) -> None:
-        """Writes the case's record, output and page to `folder`."""
+        """Makes a folder, and writes into it the lab, the script that repeats the run, the conversation, the bot's
+        output and the page of the run."""
         folder.mkdir(parents=True)
         self.playing.write(folder)
         (folder / "output.txt").write_bytes(os.pread(self.room.output.fileno(), MOST_KEPT, 0))

@@ -1,5 +1,8 @@
-"""A student's program under test: a process with limits, in its own folder, that is ended together with all that
-it started."""
+"""A student's program under test, a *bot*: a process with limits, in its own folder, that is ended together with all
+that it started.
+
+The process that starts the bot and enforces its limits is its *keeper* (`classroom.bots.keeper`). A bot is *kept apart*
+if it runs in namespaces of its own (`classroom.bots.apart`)."""
 from __future__ import annotations
 
 import json
@@ -31,7 +34,7 @@ AGAIN = 0.1  # seconds after which a keeper is sent the signal to go on again: i
 
 @dataclass(frozen=True)
 class Bot:
-    """A command. The path of a slip is added to it."""
+    """The command that starts a bot, without its last argument, the path of a slip."""
 
     name: str
     words: tuple[str, ...]
@@ -39,9 +42,9 @@ class Bot:
 
     @staticmethod
     def of(word: str) -> Bot:
-        """Returns the bot of a command, split as a shell does it. Its first word may also be a file in this
-        folder. A single file that ends in .py, .java or .js, and that can't be run as it is, is run by Python,
-        Java or Node. If the command can't be run, the bot has a fault."""
+        """Returns the bot of a command, which is split as a shell does it. The command's first word may also be a file
+        in this folder. A single file that ends in .py, .java or .js, and that can't be run directly, is run by Python,
+        Java or Node. If the command can't be run, the bot's `fault` says why."""
         try:
             words = shlex.split(word)
         except ValueError as error:
@@ -75,12 +78,14 @@ def runs_itself(file: Path) -> bool:
 
 
 class Kept:
-    """A running bot with its limits."""
+    """A bot that is running within its limits."""
 
     def __init__(self, bot: Bot, slip: Path, folder: Path, seconds: float | None, megabytes: int, output: int = 2,
                  world: World | None = None) -> None:
-        """Starts the bot in `folder`. Its output goes to the file descriptor `output`. Without a limit of seconds
-        the bot is the student's own, and gets the environment of this process. With a world, it is kept apart."""
+        """Starts the bot in `folder`, with the path `slip` as its last argument. `seconds` limits its processor time,
+        `megabytes` its memory, and `output` is the file descriptor that it prints to. Without `seconds`, only its
+        memory is limited, and it gets the whole environment of this process, as a student's own program at home. With a
+        world, it is kept apart. Raises `Fault` if the keeper can't be started."""
         self.how = ""
         self.channel, theirs = socket.socketpair()
         at_home = seconds is None
@@ -98,7 +103,8 @@ class Kept:
         self.send_to_keeper(json.dumps(plan))
 
     def send_to_keeper(self, line: str) -> None:
-        """Writes a line to the keeper. Ignores the error if the keeper has ended, since `ended` notices that."""
+        """Writes a line to the keeper's standard input. Ignores the error if the keeper has ended, since `ended`
+        reports that."""
         assert self.process.stdin is not None
         try:
             self.process.stdin.write(line.encode() + b"\n")
@@ -107,7 +113,8 @@ class Kept:
             pass
 
     def listener(self) -> socket.socket | None:
-        """Returns the listener in the bot's namespace, or None if it isn't open yet. Waits a moment for it."""
+        """Returns the listening socket in the namespace of a bot that is kept apart, or None if it isn't open yet.
+        Waits AGAIN seconds at most."""
         if not select.select([self.channel], [], [], AGAIN)[0]:
             return None
         files = socket.recv_fds(self.channel, 1, 1)[1]
@@ -129,8 +136,8 @@ class Kept:
         return self.how
 
     def last_output(self) -> str:
-        """Returns what the keeper printed before it ended, or an empty text if it was killed. Never waits, since
-        the bot may hold the pipe open too."""
+        """Returns the line that the keeper printed before it ended, or an empty text if the keeper was killed. Never
+        waits, since the bot may hold the pipe open too."""
         assert self.process.stdout is not None
         os.set_blocking(self.process.stdout.fileno(), False)
         try:
@@ -140,15 +147,15 @@ class Kept:
         return line.decode(errors="replace").strip() if self.process.returncode == 0 else ""
 
     def kill_keeper(self) -> None:
-        """Kills the keeper, whatever it waits for. Kills all its descendants first, because they would become
-        children of this process."""
+        """Kills the keeper, also if it is halted. Kills all its descendants first, because they would become children
+        of this process."""
         end_below(self.process.pid)
         self.process.kill()
         self.process.wait()
         end_strays()
 
     def stop(self) -> str:
-        """Ends the bot with all that it started. Returns how it ended."""
+        """Ends the bot with all processes that it started. Returns how it ended, `ended STATUS` or `killed REASON`."""
         assert self.process.stdin is not None
         self.channel.close()
         try:
@@ -185,7 +192,8 @@ def namespaces_refusal() -> str:
 
 
 def last_line(output: int) -> str:
-    """Returns the last line in a bot's output file, or an empty text if there is none."""
+    """Returns the last line that a bot has printed, or an empty text if there is none. `output` is the descriptor of
+    the file with its output."""
     size = os.fstat(output).st_size
     lines = os.pread(output, SHOWN, max(0, size - SHOWN)).decode(errors="replace").strip().splitlines()
     return lines[-1] if lines else ""

@@ -1,4 +1,7 @@
-"""The chart of an experiment: moves, closes and rounds by number of nodes, together with the proved bounds."""
+"""The chart of an experiment: moves, closes and rounds by number of nodes, together with the proved bounds.
+
+A *row* is the result of one run. A *panel* shows the rows of one family of networks under one daemon, the part of a run
+that decides which nodes move."""
 from __future__ import annotations
 
 import statistics
@@ -41,6 +44,7 @@ class Scale:
     """A mapping from numbers of nodes and counts to positions in a panel."""
 
     def __init__(self, least: int, most: int, high: int) -> None:
+        """Maps the numbers of nodes `least` to `most`, and counts from 0 to `high`."""
         self.least, self.most, self.high = least, max(most, least + 1), max(high, 1)
 
     def x(self, nodes: float) -> float:
@@ -64,7 +68,8 @@ def tick_distance(high: int, parts: int = 5) -> int:
 
 
 def line(points: Sequence[tuple[float, float]], kind: str, colour: str = "", theme: str = colours.LIGHT) -> str:
-    """Returns the SVG path through some points. A single point becomes a short line."""
+    """Returns the SVG path through some points. A single point becomes a short line. `kind` is its CSS class, and
+    `colour` the name of its colour in the theme."""
     if len(points) == 1:
         points = [(points[0][0] - 8, points[0][1]), (points[0][0] + 8, points[0][1])]
     path = " ".join(f"{'M' if index == 0 else 'L'}{x:.1f} {y:.1f}" for index, (x, y) in enumerate(points))
@@ -73,7 +78,7 @@ def line(points: Sequence[tuple[float, float]], kind: str, colour: str = "", the
 
 
 def axes(scale: Scale) -> list[str]:
-    """Returns the axes with their numbers, as SVG."""
+    """Returns the SVG elements of a panel's two axes with their numbers."""
     parts = [line([(LEFT, ABOVE), (LEFT, HIGH - BELOW), (WIDE - RIGHT, HIGH - BELOW)], "axis")]
     for count in range(0, scale.high + 1, tick_distance(scale.high)):
         y = scale.y(count)
@@ -87,8 +92,7 @@ def axes(scale: Scale) -> list[str]:
 
 
 def panel(title: str, rows: list[Row], theme: str) -> str:
-    """Returns the drawing of one family under one daemon: the bounds, and for each measure all runs, their maximum
-    and their median."""
+    """Returns the SVG drawing of a panel: the bounds, and for each measure all runs, their maximum and their median."""
     sizes = sorted({row.nodes for row in rows})
     links = {size: max(row.links for row in rows if row.nodes == size) for size in sizes}
     most = {size: bounds.of(size, links[size]) for size in sizes}
@@ -127,7 +131,8 @@ def closest_lines(rows: list[Row]) -> list[str]:
 
 
 def key(runs: int, theme: str) -> str:
-    """Returns the legend that explains the lines and points of all panels."""
+    """Returns the SVG legend that explains the lines and points of all panels. `runs` is the number of runs in the
+    chart."""
     parts = []
     for column, (name, colour, _) in enumerate(MEASURES):
         x = 12 + 84 * column
@@ -141,7 +146,7 @@ def key(runs: int, theme: str) -> str:
 
 
 def chart(rows: list[Row], theme: str = colours.LIGHT) -> str:
-    """Returns the SVG document: families side by side, daemons below each other, and the legend."""
+    """Returns the SVG document of these rows: families side by side, daemons below each other, and the legend."""
     families = list(dict.fromkeys(row.family.partition(":")[0] for row in rows))
     daemons = list(dict.fromkeys(row.daemon for row in rows))
     wide, high = max(WIDE * len(families), WIDE), HIGH * len(daemons) + KEY + 8

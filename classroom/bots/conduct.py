@@ -1,9 +1,9 @@
-"""What a program knows from the replies that it got, and the first of its lines that a correct program wouldn't
-have sent.
+"""What a student's program knows from the replies that it got, and the first of its lines that a correct program
+wouldn't have sent.
 
-Each rule here is one that `docs/STUDENT.md` asks a bot to keep. Guards aren't among them, because the server
-denies those.
-"""
+Each rule here is one that `docs/STUDENT.md` asks a bot to keep. Guards, the conditions under which a node may move,
+aren't among them, because the server denies those moves. The *number* of a look or a move is that of the configuration
+in which the program asked. In the functions, `asked` has the values of a request, and `told` those of its reply."""
 from __future__ import annotations
 
 from collections import Counter, deque
@@ -21,7 +21,7 @@ FLOODS = "it floods the server: it sends line after line without a pause; a bot 
 
 
 def number_of(value: object) -> int:
-    """Returns a value of a request if it is an integer, or else 0."""
+    """Returns a value from a request if it is an integer, and otherwise 0."""
     return value if isinstance(value, int) and not isinstance(value, bool) else 0
 
 
@@ -37,8 +37,8 @@ def most_quits(nodes: int) -> int:
 
 
 def polling_fault(lines: int, seconds: float, nodes: int) -> str:
-    """Returns what is wrong with a bot of so many nodes that sent so many lines while nothing changed, or an empty
-    text."""
+    """Returns what is wrong with a bot of so many nodes that sent so many lines in so many seconds while nothing
+    changed, or an empty text."""
     if lines <= RATE * (nodes + 1) * seconds:
         return ""
     return f"it sent {lines / seconds:.0f} lines a second while nothing changed: a bot waits a tenth of a second when it has looked at its nodes"
@@ -70,7 +70,8 @@ class Conduct:
     wrong: str = ""
 
     def take(self, asked: dict[str, Any], told: dict[str, Any], paused: bool) -> None:
-        """Checks a line and the reply that the program got. An empty reply means that the reply was lost."""
+        """Checks one line of the program and the reply that the program got. `told` is empty if the reply was lost, and
+        `paused` says whether the program waited before this line."""
         self.pauses.append(paused)
         node, at = number_of(asked.get("node")), number_of(asked.get("at"))
         if told.get("ok") in ("look", "see"):
@@ -79,7 +80,7 @@ class Conduct:
             self.check_move(node, at, told)
 
     def take_look(self, told: dict[str, Any]) -> None:
-        """Notes what the program knows from a reply to `look` or `see`."""
+        """Notes the node, the number and the chosen move in a reply to `look` or `see`."""
         node, at = told["node"], told["at"]
         self.looked.add((node, at))
         self.seen.add(node)
@@ -91,7 +92,8 @@ class Conduct:
             self.chosen.pop(node, None)
 
     def check_move(self, node: int, at: int, told: dict[str, Any]) -> None:
-        """Checks a request for a move against what the program knew, and notes its reply."""
+        """Checks a request for a move of a node with the number `at` against what the program knew, and notes its
+        reply. Records a fault in `wrong`."""
         if not told:
             self.unanswered.add((node, at))
         if (node, at) not in self.looked and (node, at) in self.before:
@@ -125,10 +127,10 @@ class Conduct:
         self.looked.clear()
 
     def note_fault(self, why: str) -> None:
-        """Records why a line is wrong, if it is the first."""
+        """Records in `wrong` why a line is wrong. Keeps only the first fault."""
         self.wrong = self.wrong or why
 
     def is_flooding(self, nodes: int) -> bool:
-        """Returns whether the last lines came almost without pauses. A bot waits after it has looked at all its
-        nodes. So one pause is enough for each four lines per node, and four more."""
+        """Returns whether the last FLOOD lines came almost without pauses. A correct bot pauses after it has looked at
+        all its nodes. So one pause is enough for each four lines per node, and four more."""
         return len(self.pauses) == FLOOD and sum(self.pauses) * (4 * nodes + 4) < FLOOD

@@ -1,5 +1,9 @@
 """`./class experiment`: measures how many moves, closes and rounds runs take, and compares them with the proved
-bounds."""
+bounds.
+
+A *daemon* decides in which steps, the *closes*, which nodes move. A *setting* is a family of networks with a size, a
+daemon and a start, and a run is a setting with a seed. The *table* is the file of `--csv`, with a *row* for each run,
+and a *part* is one machine's share of the runs."""
 from __future__ import annotations
 
 import argparse
@@ -70,7 +74,8 @@ def add_words(words: argparse.ArgumentParser) -> None:
 
 
 def settings(words: argparse.Namespace) -> list[Setting]:
-    """Returns the setting of each family, size and daemon. Leaves out sizes for which a family has no network."""
+    """Returns the settings of each family, size and daemon in the arguments. Leaves out sizes for which a family has no
+    network. Raises `Fault` if no setting is left, or if a family or daemon can't be used."""
     for how in words.daemon:
         if how.kind == "by-hand":
             raise Fault("--daemon by-hand: an experiment has nobody to close steps; name another daemon")
@@ -98,13 +103,13 @@ def links_of(nodes: int) -> int:
 
 
 def row_of(words: dict[str, str]) -> Row:
-    """Returns the row with these cells."""
+    """Returns the row with the texts of these cells, by the names of their columns."""
     numbers = {name: int(words[name]) for name in ("nodes", "links", "seed", "moves", "closes", "rounds")}
     return Row(family=words["family"], daemon=words["daemon"], start=words["start"], stable=words["stable"] == "true", **numbers)
 
 
 def read_rows(path: Path) -> list[Row]:
-    """Returns the rows of the table if it exists. Removes an incomplete last line from the file."""
+    """Returns the rows of a table, or none if the file doesn't exist. Removes an incomplete last line from the file."""
     if not path.exists():
         return []
     text = path.read_text(encoding="utf-8")
@@ -122,24 +127,26 @@ def read_rows(path: Path) -> list[Row]:
 
 
 def key(row: Row) -> Key:
-    """Returns the values that identify a run."""
+    """Returns the values that identify the run of a row in a table."""
     return row.family, row.nodes, row.daemon, row.start, row.seed
 
 
 def line_of(row: Row) -> str:
-    """Returns a row as a line of the table."""
+    """Returns a row as a line of the table, with its newline."""
     values = [str(value).lower() if isinstance(value, bool) else str(value) for value in asdict(row).values()]
     return ",".join(values) + "\n"
 
 
 def follow_parent() -> None:
-    """Makes this worker process end with its parent, and ignore interrupts."""
+    """Makes this worker process end together with its parent process, and ignore interrupts."""
     ctypes.CDLL(None).prctl(DIES, signal.SIGKILL, 0, 0, 0)
     signal.signal(signal.SIGINT, signal.SIG_IGN)
 
 
 def measure(tasks: list[tuple[Setting, list[int]]], at_once: int) -> Iterator[tuple[Row, bytes]]:
-    """Yields each run with its script as its task ends. Uses so many processes, and kills them if it ends early."""
+    """Measures the runs of all tasks in `at_once` processes. A task is a setting and the seeds of its runs. Yields each
+    row as its task ends, with the run's script if the run exceeds a bound. Kills the processes if the caller stops
+    early."""
     context = multiprocessing.get_context("fork")
     with concurrent.futures.ProcessPoolExecutor(at_once, context, follow_parent) as pool:
         going = [pool.submit(runs, *task) for task in tasks]
@@ -154,7 +161,8 @@ def measure(tasks: list[tuple[Setting, list[int]]], at_once: int) -> Iterator[tu
 
 
 def save_counterexample(path: Path, row: Row, script: bytes) -> Path:
-    """Saves a run that exceeds a proved bound: its lab, script and row. Returns the folder."""
+    """Saves a run that exceeds a proved bound: its lab, script and row. Returns the new folder, which is beside the
+    table at `path`."""
     folder = path.with_name(f"{path.stem}-broken") / f"{row.family.replace(':', '-')}-{row.nodes}-{row.daemon.replace(':', '-')}-{row.seed}"
     folder.mkdir(parents=True, exist_ok=True)
     how = Daemon.of(row.daemon)
@@ -165,9 +173,10 @@ def save_counterexample(path: Path, row: Row, script: bytes) -> Path:
 
 
 class Progress:
-    """The progress line on a terminal."""
+    """The line on a terminal that shows how many runs are done."""
 
     def __init__(self, of: int) -> None:
+        """Begins to count. `of` is the number of runs in all."""
         self.of, self.done, self.begun, self.due = of, 0, time.monotonic(), 0.0
         self.shown = sys.stderr.isatty()
 
@@ -182,8 +191,8 @@ class Progress:
 
 
 def table(rows: list[Row]) -> str:
-    """Returns a row for each family, daemon and number of nodes: the number of runs, and the median, the maximum
-    and the bound of moves and of rounds. For each family and daemon, one more line names the runs that came
+    """Returns the text of the result: for each family, daemon and number of nodes, the number of runs, and the median,
+    the maximum and the bound of moves and of rounds. For each family and daemon, one more line names the runs that came
     closest to their bounds."""
     lines = [f"{'family':10} {'daemon':14} {'nodes':>5} {'runs':>6}  moves: median, greatest, bound  rounds: median, greatest, bound"]
     groups: dict[tuple[str, str], list[Row]] = {}
@@ -205,32 +214,35 @@ def spread(counts: list[int], bound: int) -> str:
 
 
 def closest(family: str, daemon: str, own: list[Row]) -> str:
-    """Returns the line about the runs that came closest to the bounds of their networks."""
+    """Returns the line about the runs that came closest to the bounds of their networks, among the runs `own` of one
+    family under one daemon."""
     (_, by_moves, moves, most_moves), (_, by_rounds, rounds, most_rounds) = chart.closest_to_bounds(own)
     return (f"{family:10} {daemon:14} closest to the bound {MOVES}: {moves} of {most_moves} moves (n {by_moves.nodes}, seed {by_moves.seed}); "
             f"to that of rounds: {rounds} of {most_rounds} (n {by_rounds.nodes}, seed {by_rounds.seed})")
 
 
 def make_table(path: Path) -> None:
-    """Writes a table without rows if there is none."""
+    """Writes a table that has only the names of its columns, if the file doesn't exist or is empty."""
     if not path.exists() or path.stat().st_size == 0:
         path.write_text(",".join(COLUMNS) + "\n", encoding="utf-8")
 
 
 def key_of(it: Setting, seed: int) -> Key:
-    """Returns the values that identify a run before it is made."""
+    """Returns the values that identify a run in a table, before it is measured."""
     return it.family, it.nodes, it.daemon.spelled(), it.start, seed
 
 
 def write_sorted(path: Path, rows: list[Row]) -> None:
-    """Writes all rows in their order, which doesn't depend on the order in which they were measured."""
+    """Replaces the table at `path` by one with these rows, sorted by the values that identify their runs."""
     new = path.with_name(f"{path.name}.new")
     new.write_text(",".join(COLUMNS) + "\n" + "".join(map(line_of, sorted(rows, key=key))), encoding="utf-8")
     new.replace(path)
 
 
 def merge(words: argparse.Namespace, asked: set[Key]) -> int:
-    """Joins the tables of all parts, prints the result and draws the chart. Returns the exit status."""
+    """Joins the table with those that `--merge` names, prints the result and draws the chart. `asked` identifies the
+    runs of the arguments. Returns the exit status. Raises `Fault` if two tables have different numbers of the same
+    run."""
     rows: dict[Key, Row] = {key(row): row for row in read_rows(Path(words.csv))}
     for file in map(Path, words.merge):
         if not file.exists():
@@ -247,7 +259,8 @@ def merge(words: argparse.Namespace, asked: set[Key]) -> int:
 
 
 def missing(every: list[Setting], seeds: range, done: set[Key]) -> list[tuple[Setting, list[int]]]:
-    """Returns the runs that aren't in the table yet, as tasks of several runs each. Large networks come first."""
+    """Returns the runs that aren't in the table yet as tasks, each a setting and at most CHUNK seeds. Tasks of large
+    networks come first. `done` identifies the runs in the table."""
     tasks = []
     for it in sorted(every, key=lambda setting: -setting.nodes):
         more = [seed for seed in seeds if key_of(it, seed) not in done]
@@ -256,7 +269,9 @@ def missing(every: list[Setting], seeds: range, done: set[Key]) -> list[tuple[Se
 
 
 def print_results(own: list[Row], asked: int, words: argparse.Namespace, broken: list[Path]) -> None:
-    """Prints the table, and whether all runs are within the proved bounds. Draws the chart if one is asked for."""
+    """Prints the text of the rows `own`, and whether all runs are within the proved bounds. Draws the chart if the
+    arguments ask for one. `asked` is the number of runs in all, and `broken` has the folders of runs that exceed a
+    bound."""
     if own:
         print(table(own))
     print(f"NEWS: {len(broken)} runs exceed a proved bound; their folders are: {', '.join(map(str, broken))}" if broken else
@@ -277,7 +292,8 @@ def naming_file(file: str, remedy: str) -> Iterator[None]:
 
 
 def experiment(words: argparse.Namespace) -> int:
-    """Runs what isn't in the table yet, prints all of it, and draws the chart. Returns the exit status."""
+    """Measures the runs that the table lacks, prints the results of all runs, and draws the chart. Returns the exit
+    status."""
     answerer()
     every, path = settings(words), Path(words.csv)
     seeds = range(words.seed, words.seed + words.runs)

@@ -1,4 +1,7 @@
-"""`./class grade`: tries each bot with many labs, daemons and seeds."""
+"""`./class grade`: tries each bot with many labs, daemons and seeds.
+
+A *bot* is a student's program under test. A *case* is a lab, a daemon (which decides when a step ends and who moves)
+and a seed. A bot is *kept apart* if it runs in namespaces of its own and sees few files (`classroom.bots.apart`)."""
 from __future__ import annotations
 
 import argparse
@@ -60,14 +63,15 @@ def add_words(words: argparse.ArgumentParser) -> None:
 
 
 def folder_of(top: Path, bot: Bot, case: Case) -> Path:
-    """Returns the folder for a case's record."""
+    """Returns the folder below `top` for the record of a bot in a case."""
     plain = [re.sub(r"[^A-Za-z0-9._:-]+", "-", word).strip(".-") or "bot" for word in (bot.name, case.name())]
     return top / plain[0] / plain[1]
 
 
 @contextmanager
 def own_room() -> Iterator[Path]:
-    """Yields a new folder. Removes it at the end with all that a bot made in it, at any depth. Follows no link."""
+    """Yields a new folder for a bot to work in. At the end, removes it with all that the bot made in it, at any depth.
+    Follows no link."""
     folder = Path(tempfile.mkdtemp(prefix="bot-"))
     ROOMS.add(folder)
     try:
@@ -83,14 +87,15 @@ def own_room() -> Iterator[Path]:
 
 def results_of(bots: list[Bot], cases: list[Case], words: argparse.Namespace, top: Path, stop: threading.Event,
                seen_by: dict[str, Seen] | None = None) -> Iterator[Result]:
-    """Yields the result of each bot in each case as it ends, but none of a case that was interrupted. Bots run at
-    the same time if `seen_by` says what each of them sees, and otherwise one after another."""
+    """Tries each bot in each case, and yields each result when its case ends. An interrupted case has no result. `top`
+    is the folder for the records, and `stop` is set by an interrupt. If `seen_by` has the files that each bot sees, by
+    the bot's name, the bots run side by side, and otherwise one after another."""
     limits = Limits(words.timeout, words.memory, words.own_rule)
     at_once = words.at_once or min(MOST_AT_ONCE, 3 * (os.cpu_count() or 1))
 
     def one(bot: Bot, case: Case) -> Result | None:
-        """Returns how a bot did in a case, or None if it was interrupted. The bot fails if no folder can be made
-        for it."""
+        """Returns the result of a bot in a case, or None after an interrupt. If the case can't be tried, the result is
+        a failure with the reason."""
         if stop.is_set():
             return None
         why = "not tried: "
@@ -113,7 +118,9 @@ def results_of(bots: list[Bot], cases: list[Case], words: argparse.Namespace, to
 
 
 def kept_apart(bots: list[Bot], words: argparse.Namespace, top: Path) -> dict[str, Seen] | None:
-    """Returns what each bot sees. If the system doesn't keep bots apart, prints a line and returns None."""
+    """Returns the files that each bot sees, by the bot's name. If bots can't be kept apart or `--not-apart` is set,
+    prints a line and returns None. `top` is the folder for the records, which bots don't see. Raises `Fault` if
+    `--show` names a folder that can't be shown."""
     why = "--not-apart" if words.not_apart else namespaces_refusal()
     if why:
         print(f"class: bots aren't kept apart ({printable(why)}): they run one after another, with your rights, and see your files "
@@ -136,7 +143,7 @@ class Written:
     """The results so far, in the order of bots and cases, and the files that they are written to."""
 
     def __init__(self, words: argparse.Namespace, bots: list[Bot], cases: list[Case], results: list[Result]) -> None:
-        """`results` has the results of bots that can't be run."""
+        """Begins with `results`, those of the bots that can't be run. Takes the names of the files from the options."""
         self.files = {form: Path(getattr(words, form)) for form in graded.FORMS if getattr(words, form)}
         pairs = [(bot.name, case.name()) for bot in bots for case in cases]
         self.order = {pair: index for index, pair in enumerate(pairs)}
@@ -144,7 +151,7 @@ class Written:
         self.next = 0.0  # when they are written again
 
     def add(self, result: Result) -> None:
-        """Adds a result, and writes all results. If writing takes long, writes only now and then."""
+        """Adds a result, and writes the files anew. If writing takes long, writes them only now and then."""
         self.results.append(result)
         begun = time.monotonic()
         if begun >= self.next:
@@ -153,8 +160,8 @@ class Written:
             self.next = time.monotonic() + SPARING * taken * (taken > LONG)
 
     def write(self) -> list[str]:
-        """Writes the results in all forms that were asked for. Returns an error line for each file that couldn't
-        be written."""
+        """Writes the files in all forms that were asked for. Returns an error line for each file that couldn't be
+        written."""
         self.results.sort(key=lambda result: self.order[result.bot, graded.case_name(result)])
         faults = []
         for form, file in self.files.items():
@@ -166,7 +173,8 @@ class Written:
 
 
 def print_and_write(found: Iterator[Result], written: Written) -> None:
-    """Prints and writes each result as it comes. Prints once that a record couldn't be kept."""
+    """Prints each result as it comes, and writes the files with all results so far. Prints once that a record couldn't
+    be kept."""
     full = False
     for result in found:
         written.add(result)
@@ -177,8 +185,8 @@ def print_and_write(found: Iterator[Result], written: Written) -> None:
 
 
 def interruptible() -> threading.Event:
-    """Returns an event that is set by an interrupt. A second interrupt kills all bots at once and ends this
-    process."""
+    """Makes this process catch interrupts, and returns an event that the first one sets. A second interrupt kills all
+    bots at once and ends this process."""
     stop, first = threading.Event(), threading.Event()
 
     def interrupt(*_: object) -> None:
@@ -194,7 +202,7 @@ def interruptible() -> threading.Event:
 
 
 def numbered(bots: list[Bot]) -> list[Bot]:
-    """Returns the bots, with a number after each name that occurred before."""
+    """Returns the bots with different names: a name that an earlier bot has gets a number at its end."""
     names: dict[str, int] = {}
     found = []
     for bot in bots:
@@ -205,7 +213,8 @@ def numbered(bots: list[Bot]) -> list[Bot]:
 
 
 def grade(words: argparse.Namespace) -> int:
-    """Tries each bot in each case, and prints and writes the results. Returns the exit status."""
+    """Tries each bot in each case, prints the results, and writes them to the files that the options name. Returns the
+    exit status."""
     program(), answerer()
     bots = numbered([Bot.of(word) for word in words.bots])
     faults: list[str] = []

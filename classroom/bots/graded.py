@@ -1,4 +1,5 @@
-"""The results of a grade: a table for people, and the file formats of autograders."""
+"""The results of a grade: a table for people, and the file formats of autograders. A result says whether a bot, a
+student's program, passed a case."""
 from __future__ import annotations
 
 import json
@@ -17,7 +18,7 @@ ABOUT = ("bot", "lab", "daemon", "seed", "passed", "why", "moves", "denied")
 
 
 def case_name(result: Result) -> str:
-    """Returns the name of a result's case, as `Case.name` returns it."""
+    """Returns the name of a result's case: its lab, its daemon and its seed, as in `Case.name`."""
     return f"{result.lab} {result.daemon} {result.seed}"
 
 
@@ -56,7 +57,8 @@ FORMS: dict[str, Callable[[list[Result]], str]] = {"json": as_json, "junit": as_
 
 
 def write(form: str, path: Path, results: list[Result]) -> None:
-    """Writes the results into a file. The old file is unchanged if that fails."""
+    """Writes the results into a file in one of FORMS. Raises `Fault` if that fails, and leaves the old file
+    unchanged."""
     new = path.with_name(f"{path.name}.new")
     try:
         new.write_text(FORMS[form](results), encoding="utf-8")
@@ -67,7 +69,7 @@ def write(form: str, path: Path, results: list[Result]) -> None:
 
 
 def result_line(result: Result) -> str:
-    """Returns a result as a line, and the reason on a second line if the case isn't passed."""
+    """Returns a result as a line for people. If the case isn't passed, the reason follows on a second line."""
     denied = ", ".join(f"{count} {word}" for word, count in result.denied.items())
     tail = "".join(f"; {it}" for it in (f"{result.moves} moves", denied) if it)
     return printable(f"{'passed' if result.passed else 'FAILED'}  {result.bot}: {case_name(result)}{tail}"
@@ -75,7 +77,8 @@ def result_line(result: Result) -> str:
 
 
 def table(results: list[Result]) -> str:
-    """Returns a line for each bot: how many of its cases it passed, or that it was never started."""
+    """Returns a line for each bot: the number of its cases and of those that it passed, or that it couldn't be
+    started."""
     rows = []
     for bot in dict.fromkeys(result.bot for result in results):
         own = [result for result in results if result.bot == bot]

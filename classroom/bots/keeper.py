@@ -1,10 +1,10 @@
-"""Keeps a program within its limits. The first line of standard input is a plan.
+"""A process of its own, the keeper, that runs a student's program, the bot, and keeps it within its limits. The first
+line of standard input is a plan, the JSON object with the values of `Plan`.
 
-This process ends the program and all that it started, in whatever session, if the program ends, uses too much
-memory or too much room for files, or consists of more than 64 processes. It does so too if standard input ends, as
-it does when the process that started this one is gone. Then it prints how the program ended: `ended STATUS` or
-`killed REASON`.
-"""
+The keeper ends the program and all that it started, in whatever session, if the program ends, uses too much memory or
+too much room for files, or consists of more than 64 processes. It also ends the program if standard input ends, as it
+does when the process that started the keeper is gone. Then it prints how the program ended: `ended STATUS` or `killed
+REASON`."""
 from __future__ import annotations
 
 import errno
@@ -36,8 +36,8 @@ Identity = tuple[int, int]
 
 @dataclass(frozen=True)
 class Plan:
-    """A program with its limits. With 0 seconds only its memory is limited, as for a student's own program at
-    home."""
+    """A program with its limits. With 0 seconds of processor time only its memory is limited, as for a student's own
+    program at home."""
 
     words: list[str]
     folder: str
@@ -61,7 +61,7 @@ class Plan:
 
 
 def identity(of: os.stat_result) -> Identity:
-    """Returns the numbers that identify a file."""
+    """Returns the numbers that identify a file: those of its device and of its inode."""
     return of.st_dev, of.st_ino
 
 
@@ -119,7 +119,8 @@ def size_of_folder(folder: str) -> int:
 
 
 def size_of_root() -> int:
-    """Returns the size in bytes of all files in this namespace's own root."""
+    """Returns the size in bytes of all files in the root of this namespace, which a program that is kept apart has for
+    itself."""
     it = os.statvfs("/")
     return (it.f_blocks - it.f_bfree) * it.f_frsize
 
@@ -137,8 +138,8 @@ def end_all() -> None:
 
 
 def apply_limits(plan: Plan) -> None:
-    """Limits what the program's process, and each that it starts, may use, and begins a new session for them.
-    Without seconds, only core files are limited."""
+    """Limits the processor time and the size of files of this process, which becomes the program, and begins a new
+    session. If the plan has no seconds, limits only core files. If the plan has a world, gives up all rights."""
     resource.setrlimit(resource.RLIMIT_CORE, (0, 0))
     if plan.seconds:
         resource.setrlimit(resource.RLIMIT_CPU, (plan.seconds, plan.seconds + 1))
@@ -149,15 +150,17 @@ def apply_limits(plan: Plan) -> None:
 
 
 class Watch:
-    """Measures what a program uses."""
+    """Measures the memory and the files of a program, against the limits of its plan."""
 
     def __init__(self, plan: Plan) -> None:
+        """Notes which file has the program's output, since that file doesn't count."""
         self.plan = plan
         self.output = identity(os.fstat(2))  # which isn't memory
         self.seldom = 0.0
 
     def memory(self, every: set[int]) -> int:
-        """Returns the memory of these processes in bytes."""
+        """Returns the memory in bytes that these processes use, with shared memory and files that exist only in
+        memory."""
         if not self.plan.seconds:
             return sum(map(resident, every))
         own = os.stat("/").st_dev if self.plan.world else -1  # counted as room for files
@@ -168,9 +171,9 @@ class Watch:
         return sum(map(resident, every)) + held + (shared_memory() if self.plan.world else 0)
 
     def files_size(self) -> int:
-        """Returns the size in bytes of the files that the program made. If they are in a folder of this machine,
-        which takes long to measure, returns 0 without measuring it within SELDOM seconds after the last time.
-        Always returns 0 if only memory is limited."""
+        """Returns the size in bytes of the files that the program made, or 0 if only memory is limited. If the files
+        are in a folder of this machine, measuring takes long, so within SELDOM seconds after a measurement the result
+        is 0."""
         if self.plan.world:
             return size_of_root()
         if not self.plan.seconds or time.monotonic() < self.seldom:
@@ -180,7 +183,7 @@ class Watch:
         return found
 
     def fault(self) -> str:
-        """Returns the limit that is exceeded, or an empty text."""
+        """Returns a text about the first limit that the program exceeds, or an empty text."""
         every = below(os.getpid())
         if len(every) > MOST_PROCESSES:
             return f"more than {MOST_PROCESSES} processes"
@@ -192,7 +195,8 @@ class Watch:
 
 
 def wait_for_end(process: subprocess.Popen[bytes], fault: Callable[[], str]) -> str:
-    """Waits until a process ends, or until there is a reason to end it. Returns `ended STATUS` or `killed REASON`."""
+    """Waits until a process ends, standard input ends, or `fault` returns a reason to end the process. Returns `ended
+    STATUS` or `killed REASON`. Doesn't end the process."""
     while True:
         if select.select([sys.stdin], [], [], LOOK)[0] and not os.read(0, 4096):
             return "killed asked"
@@ -204,7 +208,8 @@ def wait_for_end(process: subprocess.Popen[bytes], fault: Callable[[], str]) -> 
 
 
 def keep(plan: Plan) -> str:
-    """Runs the program within its limits. Returns how it ended."""
+    """Runs the program of a plan within its limits, and kills all that it leaves running. Returns how it ended, `ended
+    STATUS` or `killed REASON`."""
     if plan.world:
         try:
             apart.enter(plan.world, plan.folder, FOLDER_MEGABYTES, plan.channel)
@@ -222,7 +227,7 @@ def keep(plan: Plan) -> str:
 
 
 def main() -> None:
-    """Runs the program of the plan, and prints how it ended."""
+    """Runs the program of the plan on standard input, and prints how it ended."""
     for number in (signal.SIGINT, signal.SIGHUP, signal.SIGTERM):
         signal.signal(number, signal.SIG_IGN)
     said = os.dup(1)

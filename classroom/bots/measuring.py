@@ -1,5 +1,8 @@
-"""One run of an experiment: sets the registers, and lets a daemon choose the nodes that move. Each reply is the
-program's."""
+"""One run of an experiment: sets the registers, and lets a daemon choose the nodes that move. All replies come from the
+proved program.
+
+A run is made of *steps*. In each the daemon chooses some of the privileged nodes, those with an enabled rule, and they
+move at once."""
 from __future__ import annotations
 
 import contextlib
@@ -52,7 +55,8 @@ class Row:
 
 
 def drawn(setting: Setting, seed: int) -> labs.Lab:
-    """Returns the network and the registers of a run. They are the same for each daemon."""
+    """Returns a lab with the network and the registers at the beginning of a run. They depend on the family, size,
+    start and seed, but not on the daemon."""
     chance = random.Random(f"{setting.family} {setting.nodes} {setting.start} {seed}")
     count = None if setting.family.startswith(SIZED) else setting.nodes
     nodes, links = networks.family(setting.family, count, 0, chance)
@@ -62,15 +66,16 @@ def drawn(setting: Setting, seed: int) -> labs.Lab:
 
 
 def partner_chooser(how: Daemon, chance: random.Random) -> Callable[[Sequence[int]], int]:
-    """Returns the function that chooses a node's partner among those that point at it. It takes the lowest if the
-    daemon makes runs long, and otherwise a random one."""
+    """Returns the function that chooses the node to marry among the nodes that point at a node. The function chooses
+    the lowest if the daemon searches for long runs, and otherwise a random one."""
     if how.kind in SEARCHING:
         return min
     return chance.choice
 
 
 def run(bench: Bench, setting: Setting, made: labs.Lab, seed: int) -> Row:
-    """Runs a network until it is stable, or until there are more moves than the bound. Returns the run's row."""
+    """Runs the network of `made` until it is stable, or until there are more moves than the proved bound. Returns the
+    row with the run's counts."""
     named = f"{setting.family} {setting.nodes} {setting.start} {seed} {setting.daemon.spelled()}"
     chance = random.Random(named)
     partner_of = partner_chooser(setting.daemon, chance)
@@ -88,7 +93,8 @@ def run(bench: Bench, setting: Setting, made: labs.Lab, seed: int) -> Row:
 
 
 def runs(setting: Setting, seeds: list[int]) -> list[tuple[Row, bytes]]:
-    """Returns the row of each seed. A run that exceeds a bound has its script too."""
+    """Runs the setting once for each seed. Returns the row of each run, with the run's script if it exceeds a bound,
+    and otherwise with no bytes. Raises `Fault` if the program denies or refuses a request."""
     bench: Bench | None = None
     rows: list[tuple[Row, bytes]] = []
     try:

@@ -1,4 +1,6 @@
-"""Sharing cases or runs among several machines, and joining the results: `--part K/N`, `--merge FILE..`."""
+"""Sharing cases or runs among several machines, and joining the results: `--part K/N`, `--merge FILE..`.
+
+Part K of N has every N-th of all cases or runs, from the K-th on."""
 from __future__ import annotations
 
 import argparse
@@ -24,7 +26,8 @@ MOST_NAMED = 3  # cases that no part has
 
 
 def part(word: str) -> Part:
-    """Returns the part that an argument names, as `2/8`: its number, and the number of parts."""
+    """Returns the part that an argument such as `2/8` names: its number, and the number of parts. Raises
+    `ArgumentTypeError` for any other text."""
     found = re.fullmatch(r"(\d{1,6})/(\d{1,6})", word, re.ASCII)
     if not found or not 1 <= int(found[1]) <= int(found[2]):
         raise argparse.ArgumentTypeError(f"{word} isn't a part: write K/N with K from 1 to N, such as 2/8")
@@ -32,19 +35,21 @@ def part(word: str) -> Part:
 
 
 def add_words(words: argparse.ArgumentParser, what: str, files: str) -> None:
-    """Adds the arguments `--part` and `--merge`."""
+    """Adds the arguments `--part` and `--merge` to a parser. For the help, `what` names what is shared (cases or runs),
+    and `files` the files with the results."""
     either = words.add_mutually_exclusive_group()
     either.add_argument("--part", type=part, metavar="K/N", help=f"do only each N-th of the {what}, from the K-th on, so that N machines can share the work")
     either.add_argument("--merge", nargs="+", metavar="FILE", help=f"join the {files} of all parts, as if one run had made them, and run nothing")
 
 
 def of(every: Sequence[Each], which: Part | None) -> list[Each]:
-    """Returns each N-th item from the K-th on, or all items without a part."""
+    """Returns the items of a part: each N-th one from the K-th on. Returns all items if there is no part."""
     return list(every) if which is None else list(every[which[0] - 1::which[1]])
 
 
 def results_in(file: Path) -> list[Result]:
-    """Returns the results in a file of `grade --json`."""
+    """Returns the results in a file that `grade --json` has written. Raises `Fault` if the file can't be read or has
+    another form."""
     try:
         cases = json.loads(plain.read(file, MOST))
         return [Result(**each) for each in cases]
@@ -53,8 +58,8 @@ def results_in(file: Path) -> list[Result]:
 
 
 def joined(files: Iterable[Path], order: Sequence[Case]) -> tuple[list[Result], list[Case]]:
-    """Returns the results of all parts in the order of one run, and the cases that no part has. Raises `Fault` if
-    a case isn't one of this run, or if two parts have different results of it."""
+    """Returns the results of all files in the order of these cases, and the cases that no file has. Raises `Fault` if a
+    case isn't one of this run, or if two files have different results of it."""
     found: dict[Case, Result] = {}
     for file in files:
         for result in results_in(file):
@@ -67,7 +72,8 @@ def joined(files: Iterable[Path], order: Sequence[Case]) -> tuple[list[Result], 
 
 
 def merged(words: argparse.Namespace, order: Sequence[Case]) -> int:
-    """Writes and prints the results of all parts. Returns the exit status."""
+    """Joins the results in the files that `--merge` names, and writes and prints them. `order` has all cases of the
+    grade. Returns the exit status."""
     results, missing = joined(map(Path, words.merge), order)
     for form in graded.FORMS:
         if getattr(words, form):

@@ -1,8 +1,9 @@
-"""A class without a server: students' programs play some nodes, the house plays the others, and a daemon closes
-steps.
+"""A class without a server: students' programs play some nodes, the house plays the others, and a daemon closes steps.
 
-Each reply is the program's, line by line.
-"""
+The replies to all lines are those of the proved program. The *house* plays the nodes of the students without a program. A
+granted move is *chosen* until a step applies it. The *daemon* decides when a step is closed, and which chosen moves it
+applies. The *report* is the program's reply that lists the privileged nodes, those with an enabled rule. In the functions,
+`asked` has the values of a request, and `told` those of its reply."""
 from __future__ import annotations
 
 import json
@@ -42,7 +43,7 @@ PATIENCE = 0.5  # seconds without a grant after which the random daemon tosses
 
 @dataclass
 class Heard:
-    """What a program asked, and the replies that it got."""
+    """The lines that one student's program sent, counted by their replies."""
 
     lines: int = 0
     asked: int = 0
@@ -78,7 +79,7 @@ class Step:
 
 
 def request_of(line: bytes) -> dict[str, Any]:
-    """Returns the values of the request in a line, or none if it isn't an object."""
+    """Returns the values of the JSON object in a line. Returns no values if the line isn't an object."""
     try:
         asked = json.loads(line)
     except (ValueError, RecursionError):
@@ -87,18 +88,19 @@ def request_of(line: bytes) -> dict[str, Any]:
 
 
 def kind_of(asked: dict[str, Any], told: dict[str, Any]) -> str:
-    """Returns the kind of a denial, which is the same for all numbers: the request, the denial, and for a guard
-    also the rule."""
+    """Returns a text for the kind of a denial, without its numbers: the request, the clause that denied it, and for a
+    guard also the rule. Denials of one kind are explained once."""
     what = " ".join(str(asked[key])[:SHOWN] for key in ("do", "rule")[: 2 if told["deny"] == "guard" else 1] if key in asked)
     return f"{what} is denied as {told['deny']}, clause {told['clause']}"
 
 
 class Playing:
-    """A lab in which programs and the house play."""
+    """A class in this process, in which programs and the house play, with its port."""
 
     def __init__(self, lab: labs.Lab, programs: list[str], daemon: Daemon, seed: str, port: int = 0, own_rule: bool = False) -> None:
-        """Students' programs play `programs`, and the house plays all other students. With `own_rule` no look
-        shows a program the enabled rule."""
+        """Begins the class of a lab, and opens its port, or any free one if `port` is 0. Students' programs play the
+        students in `programs`, and the house plays all other students. `seed` determines all random choices. With
+        `own_rule` no look shows a program the enabled rule. Raises `OSError` if the port is taken."""
         self.lab, self.programs, self.daemon = lab, programs, daemon
         self.chance, self.pace_chance = random.Random(f"{seed} daemon"), random.Random(f"{seed} house")
         self.adversary = Adversary(seed, max)
@@ -133,8 +135,8 @@ class Playing:
     # What programs ask.
 
     def answer(self, connection: int, line: bytes, paused: bool) -> bytes:
-        """Answers a program's line, and records it. Returns the reply that the program gets, or nothing if the
-        reply is to be lost."""
+        """Answers a program's line, and records it. `paused` says whether the program waited before this line. Returns the
+        reply that the program gets, or no bytes if the reply is to be lost."""
         request = request_of(line)
         if request.get("do") == "move" and request.get("at") == self.report["at"]:
             self.interfere(number_of(request.get("node")), str(request.get("rule")))
@@ -152,28 +154,31 @@ class Playing:
         return shown
 
     def speaker(self, connection: int, reply: dict[str, Any]) -> str:
-        """Returns the student of a connection, which a granted hello names. Without a hello, returns the first program."""
+        """Returns the student who has greeted on a connection. Notes the name if this reply grants a hello. If nobody has
+        greeted there, returns the first program's student."""
         if reply.get("ok") == "hello":
             self.names[connection] = reply["who"]
             self.heard.setdefault(reply["who"], Heard()).greeted += 1
         return self.names.get(connection, self.programs[0])
 
     def take_loss(self, reply: dict[str, Any]) -> bool:
-        """Returns whether this reply is the granted move's that is to be lost, and notes that it was."""
+        """Returns whether the program doesn't get this reply, because `loses` is set and the reply grants a move. Clears
+        `loses` then."""
         is_lost = self.loses and reply.get("ok") == "move"
         if is_lost:
             self.loses, self.has_lost = False, True
         return is_lost
 
     def take_refusal(self, do: str) -> bool:
-        """Uses up one of the refusals that are to come for such a request. Returns whether there was one."""
+        """Returns whether a request with this `do` is to be refused as if out of memory. Counts down the refusals that
+        `short` has for it."""
         is_refused = self.short[do] > 0
         self.short[do] -= is_refused
         return is_refused
 
     def interfere(self, node: int, rule: str) -> None:
-        """Does what is to happen between a program's look and its move: closes a step, changes the node, or lets
-        the house ask first."""
+        """Does what the trouble at hand does just before a program's move of a node by a rule: closes a step, sets the
+        node's registers, or lets the house move the node first. Does nothing if there is no such trouble."""
         if self.overtakes:
             self.overtakes -= 1
             self.next_configuration()
@@ -184,20 +189,21 @@ class Playing:
             self.house_move(node)
 
     def hide_rule(self, who: str, reply: bytes, told: dict[str, Any]) -> bytes:
-        """Returns a reply as the program gets it. With `own_rule`, a look shows no enabled rule, and it is counted
-        that one was hidden."""
+        """Returns the bytes of a reply as the program gets them. With `own_rule`, the enabled rule in a look is replaced
+        by null, and this is counted."""
         if not self.own_rule or told.get("ok") != "look" or told["rule"] is None:
             return reply
         self.heard[who].conduct.rules_hidden += 1
         return RULE.sub(b',"rule":null}', reply)
 
     def log_conversation(self, connection: int, line: bytes, reply: bytes) -> None:
-        """Appends a line and its reply to the conversation, unless that is full."""
+        """Appends a line and its reply to the conversation, unless the conversation has KEPT_LINES lines already."""
         if len(self.conversation) < KEPT_LINES:
             self.conversation += [f"{connection} > {line.decode(errors='backslashreplace')}", f"{connection} < {reply.decode() or '(lost)'}"]
 
     def record_line(self, who: str, asked: dict[str, Any], sent: bytes, told: dict[str, Any]) -> None:
-        """Records a line of a student's program and its reply. `sent` is the line after its connection's number."""
+        """Counts a line of a student's program by its reply. Calls `on_no` if the line wasn't granted. `sent` is the line
+        with its connection's number before it."""
         heard, line = self.heard[who], sent.partition(b" ")[2]
         self.note_row(who, sent, told)
         heard.lines += 1
@@ -220,7 +226,8 @@ class Playing:
             self.on_no(No(who, told["refuse"], f"{text}: {line[:SHOWN_LINE].decode(errors='backslashreplace')}", kind, sent))
 
     def note_row(self, who: str, sent: bytes, told: dict[str, Any]) -> None:
-        """Appends a requested move, or a line that was denied or refused, to the rows of the programs' own pages."""
+        """Appends a row about a line to `rows` if it asked for a move or wasn't granted. The rows are shown on the
+        programs' own pages."""
         if told.get("ok") not in ("move", None) or len(self.rows) >= KEPT_ROWS:
             return
         connection, _, line = sent.partition(b" ")
@@ -230,11 +237,11 @@ class Playing:
         self.owners.append(who)
 
     def own_rows(self, who: str) -> list[Row]:
-        """Returns the rows of one program, in their order."""
+        """Returns the rows about the lines of one program, in their order."""
         return [row for row, owner in zip(self.rows, self.owners) if owner == who]
 
     def explain_denial(self, asked: dict[str, Any], told: dict[str, Any]) -> str:
-        """Returns a denial with its clause, the node's registers, and the rule that would be granted there."""
+        """Returns a text about a denial: its clause, the node's registers, and the rule that would be granted there."""
         what = " ".join(str(asked[key]) for key in ("do", "node", "rule", "with") if key in asked)
         text = f"{what} is denied as {told['deny']}, clause {told['clause']}: {told['text']}"
         if "at" in told:
@@ -250,8 +257,8 @@ class Playing:
         return f"{text}; {look['rule'] or 'nothing'} would be granted there"
 
     def explain_silence(self, who: str) -> str:
-        """Returns why no line of a program comes, as far as its port shows that, after a semicolon. Returns an
-        empty text if it isn't known."""
+        """Returns a semicolon and the reason why no line of a program comes, as far as its connections show it, or an
+        empty text."""
         if self.relay.has_partial_line():
             return "; it sent a line without a newline at the end"
         if self.heard[who].greeted:
@@ -260,8 +267,8 @@ class Playing:
         return "; it connected, but no hello was granted" if strangers else f"; it never connected to port {self.relay.port}"
 
     def last_words(self, who: str) -> str:
-        """Returns when a program's last line came, the line, and the nodes of the program at which it never
-        looked."""
+        """Returns a text about a program that has fallen silent: when its last line came, the line, and those of its nodes
+        at which it never looked."""
         heard = self.heard[who]
         ago = time.monotonic() - heard.last_at
         never = [node for node in self.lab.nodes_of(who) if node not in heard.conduct.seen]
@@ -270,12 +277,13 @@ class Playing:
         return text + "; with --own-rule no look shows the rule: the bot has to decide by p, m and near" * bool(heard.conduct.rules_hidden)
 
     def say_bye(self, connection: int) -> None:
-        """Says bye for a connection that has ended."""
+        """Says bye to the proved program for a connection that has ended."""
         self.program.ask(connection, do="bye")
         self.forget(connection)
 
     def forget(self, connection: int) -> None:
-        """Forgets who a connection was. If it was a program's last one, the program's looks are forgotten too."""
+        """Forgets who has greeted on a connection. If this was a program's last connection, the program's looks are
+        forgotten too, since it has to look again."""
         who = self.names.pop(connection, None)
         if who is not None and who not in self.names.values():
             self.heard[who].conduct.forget_looks()
@@ -283,25 +291,25 @@ class Playing:
     # What is granted.
 
     def note_grant(self, node: int, who: str, rule: str) -> None:
-        """Notes a granted move: its node is chosen."""
+        """Notes that a move of a node by the student `who` was granted, so that the node is chosen."""
         self.chosen[node] = (who, rule)
         self.news = time.monotonic()
 
     def renew_report(self) -> None:
-        """Asks for the report after a new configuration, in which nothing is chosen."""
+        """Asks for the report of a new configuration. No node is chosen in it."""
         self.chosen.clear()
         self.report = self.program.ask(TEACHER, do="report")
 
     def fault(self, node: int, p: int | None, m: bool) -> None:
-        """Sets a node's registers."""
+        """Sets a node's registers, as the teacher does by a fault. This makes a new configuration."""
         self.program.ask(TEACHER, do="fault", node=node, p=p, m=m)
         self.since_moves = 0
         self.renew_report()
         self.news = time.monotonic()
 
     def turn_to_another(self, node: int, rule: str) -> None:
-        """Sets a node's registers so that a rule other than this one is enabled there, if there are such
-        registers."""
+        """Sets a node's registers so that a rule other than `rule` is enabled there. If there are no such registers,
+        leaves it at the last ones that were tried."""
         look = self.program.ask(TEACHER, do="look", node=node)
         for p in (None, *(each["node"] for each in look["near"])):
             for m in (False, True):
@@ -310,7 +318,8 @@ class Playing:
                     return
 
     def relink(self, do: str, a: int, b: int) -> None:
-        """Adds or removes a link. `do` is `link` or `cut`."""
+        """Adds the link between the nodes a and b if `do` is `link`, or removes it if `do` is `cut`. This makes a new
+        configuration."""
         self.program.ask(TEACHER, do=do, a=a, b=b)
         ends = min(a, b), max(a, b)
         self.links = [*self.links, ends] if do == "link" else [link for link in self.links if set(link) != set(ends)]
@@ -324,7 +333,7 @@ class Playing:
         self.chosen.pop(node)
 
     def next_configuration(self) -> None:
-        """Makes the next configuration: closes the chosen moves, or if there are none sets a node's registers to
+        """Makes a new configuration: closes a step with all chosen moves. If there are none, sets a node's registers to
         their present values."""
         if self.chosen:
             return self.close(list(self.chosen))
@@ -333,7 +342,7 @@ class Playing:
         self.fault(node.id, it["p"], it["m"])
 
     def close(self, nodes: list[int]) -> None:
-        """Closes a step in which these nodes move. Other chosen moves are released."""
+        """Closes a step in which these chosen nodes move. Releases all other chosen moves first. Calls `on_step`."""
         for node in self.chosen.keys() - set(nodes):
             self.release(node)
         told = self.program.ask(TEACHER, do="close")
@@ -349,12 +358,13 @@ class Playing:
     # Who plays.
 
     def house_owner(self, node: int) -> str | None:
-        """Returns the owner for whom the house asks at a node, or None if programs play for all its owners."""
+        """Returns the first owner of a node that no program plays, or None if programs play for all its owners. The house
+        asks in the name of this owner."""
         return next((name for name in self.lab.owners(node) if name not in self.programs), None)
 
     def move_house(self) -> None:
-        """Lets the house ask for its nodes: for one if a close applies one move, and otherwise for all. For a node that
-        a program plays too, the house asks only now and then."""
+        """Asks for moves of the privileged nodes that the house plays: for one if a close applies one move, and otherwise
+        for all. Asks only now and then for a node that a program plays too."""
         nodes = [node for node, _ in self.report["privileged"] if node not in self.chosen and self.house_owner(node)]
         own = [node for node in nodes if len(self.lab.owners(node)) == 1 or not set(self.lab.owners(node)) & set(self.programs)]
         shared = [node for node in nodes if node not in own and self.pace_chance.random() < SHARED]
@@ -365,7 +375,8 @@ class Playing:
             self.house_move(node)
 
     def house_move(self, node: int) -> None:
-        """Asks for the enabled rule at a node of the house, if there is one."""
+        """Asks for the enabled rule at a node that the house plays. Does nothing if no rule is enabled, or if a move is
+        chosen there."""
         name = self.house_owner(node)
         assert name is not None
         self.program.greet(HOUSE, name)
@@ -382,7 +393,7 @@ class Playing:
             pass
 
     def turn(self) -> None:
-        """Runs the class for a moment: answers lines, lets the house ask, and lets the daemon close."""
+        """Runs the class for a few milliseconds: answers lines, moves the house, and closes a step if the daemon does."""
         self.relay.turn(PACE / 2)
         now = time.monotonic()
         if now - self.paced >= PACE:
@@ -411,19 +422,19 @@ class Playing:
                          for node, rule in self.report["privileged"] if node not in self.chosen)
 
     def write(self, folder: Path) -> None:
-        """Writes the lab, the script that repeats the run, and the conversation into a folder."""
+        """Writes the lab, the script that repeats the run, and the conversation into files of a folder."""
         (folder / "lab.toml").write_text(labs.text(self.lab), encoding="utf-8")
         (folder / "script").write_bytes(self.program.script())
         (folder / "conversation.txt").write_text("".join(f"{line}\n" for line in self.conversation), encoding="utf-8")
 
     def own_page(self, folder: Path, who: str) -> str:
-        """Returns the page of a program's own run: its requests, and each denial at its moment. The run was
-        written into the folder, with its journal."""
+        """Returns the HTML page of a program's own run: its requests, and each denial at its moment. `folder` must have
+        the files of `write`, and the journal that the script makes."""
         lab, journal = folder / "lab.toml", folder / "journal"
         return own_page(f"{who}: {title(lab, journal)}", who, lab, journal, [], self.own_rows(who))
 
     def end(self) -> None:
-        """Closes the port, and ends the program and the adversary."""
+        """Closes the port, and ends the proved program and the adversary, which searches for long runs."""
         self.relay.close()
         self.program.close()
         self.adversary.close()

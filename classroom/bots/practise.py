@@ -1,4 +1,7 @@
-"""`./class practise`: a student practises alone, with the house at the other nodes."""
+"""`./class practise`: a student practises alone, with the house at the other nodes.
+
+The class runs in this process (`classroom.bots.playing`). The *house* plays all nodes but the student's. The student's
+program is a *bot* if the command starts it."""
 from __future__ import annotations
 
 import argparse
@@ -61,7 +64,8 @@ def add_words(words: argparse.ArgumentParser) -> None:
 
 
 def own_nodes(word: str | None, identifiers: list[int], bots: int, chance: random.Random) -> list[int]:
-    """Returns the student's nodes: those in the argument, or two random nodes for each bot."""
+    """Returns the student's nodes: those that the argument `word` names, or two random nodes for each bot without it.
+    Raises `Fault` if the argument names no node or a node that isn't in `identifiers`."""
     if word is None:
         return sorted(chance.sample(identifiers, min(2 * bots, len(identifiers))))
     try:
@@ -75,7 +79,8 @@ def own_nodes(word: str | None, identifiers: list[int], bots: int, chance: rando
 
 
 def made(words: argparse.Namespace, names: list[str]) -> labs.Lab:
-    """Returns the lab. The students get their nodes in turn, and the house gets the others."""
+    """Returns the lab that the arguments describe. The students with these names get their nodes in turn, and the house
+    gets the others. Raises `Fault` if a student would get no node."""
     chance = random.Random(f"practise {words.seed}")
     sized = words.family.startswith(("grid:", "random:"))
     nodes, links = networks.family(words.family, words.nodes or (None if sized else 7), 0, chance)
@@ -93,7 +98,8 @@ def made(words: argparse.Namespace, names: list[str]) -> labs.Lab:
 
 
 def opened(lab: labs.Lab, names: list[str], words: argparse.Namespace) -> Playing:
-    """Returns the class, at the port of the argument or the next free one."""
+    """Returns the class of a lab. Its port is that of the arguments or the next free one. If a bot but no port is
+    given, the port is any free one."""
     def at(port: int) -> Playing | None:
         """Returns the class at that port, or None if the port is taken."""
         try:
@@ -108,7 +114,7 @@ def opened(lab: labs.Lab, names: list[str], words: argparse.Namespace) -> Playin
 
 @dataclass
 class Practice:
-    """A class with its programs, and the lines that are printed about it."""
+    """A class with the student's programs, and the lines that are printed about them."""
 
     playing: Playing
     tell: Callable[[str], None]
@@ -121,12 +127,13 @@ class Practice:
     floods: set[str] = field(default_factory=set)
 
     def __post_init__(self) -> None:
+        """Begins to count the moves and rounds, and to listen to the events of the class."""
         self.recovery = Recovery(node for node, _ in self.playing.report["privileged"])
         self.most = bounds.of_lab(self.playing.lab).moves  # asked for now, so that it holds up no step
         self.playing.on_no, self.playing.on_step = self.explain, self.print_step
 
     def explain(self, no: No) -> None:
-        """Explains a line that wasn't granted. Explains only the first of its kind, and prints the count at the
+        """Prints why a line wasn't granted. Does so only for the first line of its kind, and prints the count at the
         tenth, the hundredth and so on."""
         self.times[no.who, no.kind] += 1
         times = self.times[no.who, no.kind]
@@ -136,7 +143,7 @@ class Practice:
             self.tell(f"{no.who}: {times} times so far: {no.kind}")
 
     def print_step(self, step: Step) -> None:
-        """Prints a step as a line."""
+        """Prints a closed step as a line."""
         privileged = [node for node, _ in step.report["privileged"]]
         self.recovery.step([node for node, _, _ in step.moved], privileged)
         moved = ", ".join(f"{node} ({who}) {rule}" for node, who, rule in step.moved)
@@ -145,12 +152,12 @@ class Practice:
         self.told = ""
 
     def turn(self) -> None:
-        """Runs the class for a moment, and notes which programs flood it."""
+        """Runs the class for a few milliseconds, and notes which programs send lines without a pause."""
         self.playing.turn()
         self.floods |= {name for name in self.playing.programs if self.playing.heard[name].conduct.is_flooding(len(self.playing.lab.nodes_of(name)))}
 
     def summary(self, name: str) -> str:
-        """Returns the line about all that a program did."""
+        """Returns the line about all that a student's program did."""
         heard = self.playing.heard[name]
         moves = ", ".join(rule for rule in RULES if heard.rules[rule])
         denied = {word: times for word, times in sorted(heard.denied.items()) if word != MALFORMED}
@@ -169,7 +176,8 @@ class Practice:
         return "".join(f"; {name}: {hint}" for name, hint in hints.items() if hint)
 
     def run(self) -> bool:
-        """Runs the class until it is stable, hangs or is stopped. Returns whether it is stable."""
+        """Runs the class until it is stable, until nothing happens for the time limit, or until it is interrupted.
+        Returns whether it is stable."""
         playing, news = self.playing, self.playing.news
         while not playing.is_stable() and not self.stop:
             self.turn()
@@ -196,7 +204,8 @@ class Practice:
 
 
 def write_run(playing: Playing, folder: Path, tell: Callable[[str], None]) -> None:
-    """Writes the record and the page of each program into the folder, and prints their paths."""
+    """Writes the files of the run and a page for each program into the folder, and prints their paths. Raises `Fault`
+    if the page can't be made."""
     playing.write(folder)
     answer = call("script", folder / "lab.toml", folder / "script", folder / "journal")
     if answer.status != 0:
@@ -208,7 +217,8 @@ def write_run(playing: Playing, folder: Path, tell: Callable[[str], None]) -> No
 
 
 def practise(words: argparse.Namespace) -> int:
-    """Runs a class of one student to its end. Returns the exit status."""
+    """Runs a class of one student to its end. Returns the exit status. Raises `Fault` if the arguments can't be used or
+    a file can't be written."""
     program(), answerer()
     if words.page and words.bots:
         raise Fault("--page is for playing by hand: leave the BOT out")
@@ -228,12 +238,13 @@ def practise(words: argparse.Namespace) -> int:
 
 
 def open_private(path: str, flags: int) -> int:
-    """Opens a file. If that makes a new file, only its owner can read it."""
+    """Opens a file with these flags, and returns its descriptor. If that makes a new file, only its owner can read it.
+    Used as the `opener` of `open`."""
     return os.open(path, flags, 0o600)
 
 
 def play(it: ClassWithPrograms, bots: list[Bot], words: argparse.Namespace, folder: Path) -> int:
-    """Runs the class to its end, with its files in a folder. Returns the exit status."""
+    """Starts the bots, and runs the class to its end. The files of the run are in `folder`. Returns the exit status."""
     lab, names, tell = it.playing.lab, it.playing.programs, Teller(folder)
     practice = Practice(it.playing, tell, words.timeout if bots else None)
     for number in (signal.SIGINT, signal.SIGTERM, signal.SIGHUP):
@@ -266,8 +277,8 @@ def play(it: ClassWithPrograms, bots: list[Bot], words: argparse.Namespace, fold
 
 @contextlib.contextmanager
 def served(practice: Practice, lab: labs.Lab, name: str, is_asked: bool) -> Iterator[None]:
-    """Serves the page to play by while the class runs, if it is asked for. The key is after the `#` of the page's
-    address, which browsers send nowhere."""
+    """Serves the page on which the student `name` plays by hand while the class runs. Does nothing if `is_asked` isn't
+    set. The key is after the `#` of the page's address, and browsers don't send that part."""
     if not is_asked:
         yield
         return
@@ -282,7 +293,7 @@ def served(practice: Practice, lab: labs.Lab, name: str, is_asked: bool) -> Iter
 
 @dataclass
 class ClassWithPrograms:
-    """A class and its programs, which are ended together."""
+    """A class and its running programs, so that all of them can be ended together."""
 
     playing: Playing
     kept: list[Kept] = field(default_factory=list)

@@ -1,8 +1,8 @@
-"""The port to which programs under test connect. `mml answer` answers each line, and the relay watches the lines.
+"""The port to which programs under test connect. The relay passes each line to a function that answers it, and counts
+pauses, connections and mistakes.
 
-The relay also imitates what a class's server does during a run: it turns newcomers away, ends with its class, or
-is gone for a while.
-"""
+The relay also imitates what a class's server does during a run: it turns newcomers away, ends with its class, or is
+gone for a while. Each connection, a *caller*, has a number, by which the answering function identifies it."""
 from __future__ import annotations
 
 import errno
@@ -23,9 +23,10 @@ APART = 0.02  # seconds between two pieces of a reply that is sent in pieces
 
 
 class Caller:
-    """A connection, with its number in the script."""
+    """A connection, with its number, its incomplete line and the replies that aren't sent yet."""
 
     def __init__(self, its: socket.socket, number: int) -> None:
+        """Begins without lines and replies. `its` is the connection's socket."""
         self.socket, self.number = its, number
         self.rest, self.out = b"", b""
         self.is_leaving = False  # Whether it ends when its replies are taken.
@@ -34,12 +35,13 @@ class Caller:
 
 
 class Relay:
-    """A listener and its connections."""
+    """A listening socket and its connections. One thread serves all of them."""
 
     def __init__(self, answer: Answer, left: Callable[[int], None], numbers: range, port: int = 0) -> None:
-        """`answer` returns the reply to a connection's line, and is told whether the line came after a pause. If
-        it returns nothing, the connection is lost. `left` is called with the number of a connection that has
-        ended."""
+        """Listens at a port, or at any free one if it is 0. `answer` returns the reply to a line of a connection. Its
+        third argument says whether the line came after a pause. If it returns no bytes, the connection is closed.
+        `left` is called with the number of each connection that has ended. Connections get the numbers in `numbers`.
+        Raises `OSError` if the port is taken."""
         self.answer, self.left = answer, left
         self.free = list(numbers)
         self.longest = limits.allowed().line
@@ -57,7 +59,7 @@ class Relay:
         self.selector.register(self.listener, selectors.EVENT_READ)
 
     def listen_at(self, listener: socket.socket) -> None:
-        """Closes the present listener, and uses this one from then on."""
+        """Closes the present listening socket, and uses `listener` from now on."""
         self.selector.unregister(self.listener)
         self.listener.close()
         self.listener = listener
@@ -65,7 +67,7 @@ class Relay:
         self.selector.register(self.listener, selectors.EVENT_READ)
 
     def turn(self, seconds: float) -> None:
-        """Answers the lines that have come. If none has, waits so many seconds at most."""
+        """Answers the lines that have come. If no line has come, waits for one, `seconds` at most."""
         for each in list(self.callers):
             each.quiet += 1
             if each.held:
@@ -77,7 +79,8 @@ class Relay:
             self.serve(key.data, events)
 
     def serve(self, caller: Caller, events: int) -> None:
-        """Reads from a caller if there is something to read, and sends it replies. Hangs up on an error."""
+        """Reads from a caller if `events` says that bytes have come, answers its lines, and sends its replies. Closes
+        the connection on an error."""
         try:
             if events & selectors.EVENT_READ:
                 self.read(caller)
@@ -86,12 +89,13 @@ class Relay:
             self.hang_up(caller)
 
     def connections(self, seconds: float) -> int:
-        """Returns how many connections came in the last seconds, turned away or not."""
+        """Returns how many connections came in the last `seconds`, including those that were turned away."""
         since = time.monotonic() - seconds
         return sum(when >= since for when in self.calls)
 
     def accept(self) -> None:
-        """Accepts a connection if a number is free. Otherwise answers `busy` and closes it."""
+        """Accepts a connection if a number is free and the relay isn't `busy`. Otherwise sends the line `busy` and
+        closes it."""
         try:
             its, _ = self.listener.accept()
         except OSError:
@@ -111,8 +115,8 @@ class Relay:
         self.selector.register(its, selectors.EVENT_READ, caller)
 
     def read(self, caller: Caller) -> None:
-        """Answers a caller's lines. The caller leaves after a bye, after a line that is too long, and at the end
-        of its lines."""
+        """Reads from a caller, and answers its complete lines. Marks the caller as leaving after a bye, after a line
+        that is too long, and at the end of its lines. Raises `OSError` if the connection is to be closed at once."""
         more = caller.socket.recv(MOST_WAITING)
         *lines, caller.rest = (caller.rest + more).split(b"\n")
         for line in lines:
@@ -132,8 +136,8 @@ class Relay:
         caller.is_leaving = caller.is_leaving or has_quit or is_overlong
 
     def send_replies(self, caller: Caller) -> None:
-        """Sends as much of the replies as a caller takes, and chooses the events to wait for. Hangs up if the
-        caller leaves and has taken all."""
+        """Sends as much of a caller's replies as its socket takes, and chooses the events to wait for. Closes the
+        connection if the caller is leaving and has all its replies."""
         now = time.monotonic()
         if caller.out and now >= caller.held:
             try:
@@ -149,11 +153,11 @@ class Relay:
         self.selector.modify(caller.socket, wants, caller)
 
     def has_partial_line(self) -> bool:
-        """Returns whether somebody sent a part of a line without a newline."""
+        """Returns whether a caller has sent a part of a line without its newline."""
         return self.overlong or any(caller.rest for caller in self.callers)
 
     def hang_up(self, caller: Caller) -> None:
-        """Closes a caller's connection, frees its number, and reports that it has left."""
+        """Closes a caller's connection, frees its number, and calls `left`."""
         self.selector.unregister(caller.socket)
         caller.socket.close()
         self.callers.remove(caller)
@@ -161,12 +165,12 @@ class Relay:
         self.left(caller.number)
 
     def hang_up_all(self) -> None:
-        """Closes all connections."""
+        """Closes all connections, and calls `left` for each."""
         for caller in list(self.callers):
             self.hang_up(caller)
 
     def end_all(self, last: bytes) -> None:
-        """Sends a last line on all connections, and closes them."""
+        """Sends the replies that are due and the line `last` on all connections, and closes them."""
         for caller in list(self.callers):
             try:
                 caller.socket.send(caller.out + last)
@@ -175,17 +179,17 @@ class Relay:
             self.hang_up(caller)
 
     def end_class(self) -> None:
-        """Sends everybody the line that the class is over, closes all connections, and stops listening."""
+        """Sends every caller the line that the class is over, closes all connections, and stops listening."""
         self.end_all(OVER)
         self.pause()
 
     def pause(self) -> None:
-        """Stops listening, as if the server were gone. `resume` listens again, in the same namespace."""
+        """Stops listening, as if the server were gone. `resume` listens again at the same port."""
         self.selector.unregister(self.listener)
         self.listener.shutdown(socket.SHUT_RDWR)
 
     def resume(self) -> None:
-        """Listens at the port again. Raises an `OSError` if another program has the port by now."""
+        """Listens at the port again after `pause`. Raises `OSError` if another program has the port by now."""
         try:
             self.listener.bind(("127.0.0.1", self.port))
         except OSError as error:
@@ -195,7 +199,7 @@ class Relay:
         self.selector.register(self.listener, selectors.EVENT_READ)
 
     def close(self) -> None:
-        """Closes all connections, without reporting that they have left, and the port."""
+        """Closes the port and all connections. Doesn't call `left`."""
         for caller in list(self.callers):
             self.selector.unregister(caller.socket)
             caller.socket.close()

@@ -1,4 +1,7 @@
-"""The files of this machine that a bot sees if it is kept apart: its own, and those that its interpreter needs."""
+"""The files of this machine that a bot, a student's program, sees if it is kept apart from other files: its own, and
+those that its interpreter needs.
+
+A *command* here is the tuple of words that starts a bot."""
 from __future__ import annotations
 
 import os
@@ -40,8 +43,8 @@ def is_private(folder: Path) -> bool:
 
 
 def with_needed(file: Path) -> list[Path]:
-    """Returns a file with what it needs: its folder, or the whole installation if its folder is one of programs.
-    Of a private folder, returns only the file and the module that students use."""
+    """Returns the paths to show for a program's file: its folder, or the whole installation if the folder is one of
+    programs such as `bin`. If the folder is private, returns only the file and the module that students use."""
     folder = file.parent
     beside = [folder.parent / each for each in BESIDE if folder.name in OF_PROGRAMS and (folder.parent / each).is_dir()]
     if beside and not is_private(folder.parent):
@@ -51,7 +54,7 @@ def with_needed(file: Path) -> list[Path]:
 
 @cache
 def files_of(words: tuple[str, ...]) -> list[Path]:
-    """Returns the files and folders in the words of a command, and the targets of their links."""
+    """Returns the existing files and folders among the words of a command, and the targets of their links."""
     found: list[Path] = []
     for word in words:
         parts = word.translate({ord(each): "\n" for each in APART}).splitlines()
@@ -73,8 +76,8 @@ def common() -> list[Path]:
 
 
 def shown(words: tuple[str, ...], more: Iterable[Path] = ()) -> tuple[tuple[str, str], ...]:
-    """Returns the files and folders that a bot with this command sees, each with the real path. None is below
-    another."""
+    """Returns the files and folders that a bot with the command `words` sees, and those in `more`. Each is a path and
+    its real path. No path is below another."""
     wanted = [*common(), *more]
     for file in files_of(words):
         wanted += [file] if file.is_dir() else with_needed(file)
@@ -91,8 +94,9 @@ def is_in_any(folders: Iterable[Path], path: Path) -> bool:
 
 
 def hidden(words: tuple[str, ...], others: Iterable[tuple[str, ...]], results: Path) -> tuple[str, ...]:
-    """Returns the part of the shown files that a bot with this command must not see: results, and the files of
-    other bots' commands. Such a file's folder is hidden as a whole if it has nothing that the bot needs."""
+    """Returns the paths among the shown files that a bot with the command `words` must not see: the folder of results,
+    and the files of the commands in `others`. The whole folder of such a file is hidden if it has nothing that the bot
+    needs."""
     own, everyones = files_of(words), common()
     found = {file for other in others for file in files_of(other)} - set(own)
     theirs = [file for file in found if not is_in_any(everyones, file)]

@@ -1,4 +1,8 @@
-"""The cases for grading a bot: suites that come with the release, and a teacher's own labs."""
+"""The cases for grading a bot, a student's program: suites that come with the release, and a teacher's own labs.
+
+A *case* is a lab that the bot plays, with a daemon, which decides when a step ends and who moves, a seed, and troubles
+during the run. A *plan* describes cases that differ only in daemon and seed. The *house* plays the nodes that aren't
+the bot's."""
 from __future__ import annotations
 
 import random
@@ -55,7 +59,8 @@ class Case:
     piece: int = 0
 
     def name(self) -> str:
-        """Returns the text that identifies the case. It is also the seed of its random choices."""
+        """Returns the text that identifies the case: its lab, daemon and seed. The text is also the seed of the case's
+        random choices."""
         return f"{self.lab} {self.daemon.spelled()} {self.seed}"
 
 
@@ -99,19 +104,21 @@ SUITES = {"small": SMALL, "full": FULL}
 
 
 def key() -> str:
-    """Returns a random key."""
+    """Returns a new random key for a person of a lab."""
     return secrets.token_hex(16)
 
 
 def dealt(count: int, links: networks.Links, own: list[int], shared: list[int]) -> labs.Lab:
-    """Returns a lab in which the bot owns some nodes, shares some with the house, and the house owns the others."""
+    """Returns a lab with the nodes 1 to `count` and these links. The bot owns the nodes in `own` alone and those in
+    `shared` together with the house. The house owns all other nodes alone."""
     nodes = [labs.Node(node, [BOT] if node in own else [BOT, HOUSE] if node in shared else [HOUSE]) for node in range(1, count + 1)]
     most = limits.allowed()
     return labs.Lab(most.events, most.sessions, (TEACHER, key()), {BOT: key(), HOUSE: key()}, nodes, links)
 
 
 def choose_nodes(plan: Plan, count: int, links: networks.Links, chance: random.Random) -> list[int]:
-    """Returns the bot's nodes: first those that it owns alone, and then the shared ones."""
+    """Returns the bot's nodes in the network of a plan: first those that the bot owns alone, and then those that it
+    shares with the house."""
     nodes = list(range(1, count + 1))
     first: list[int] = []
     if plan.takes == HUB:
@@ -124,14 +131,14 @@ def choose_nodes(plan: Plan, count: int, links: networks.Links, chance: random.R
 
 
 def renamed(made: labs.Lab, named: tuple[int, ...]) -> labs.Lab:
-    """Returns a lab whose nodes, numbered from 1, get these identifiers in the same order."""
+    """Returns a lab whose nodes, which are numbered from 1, have the identifiers in `named`, in the same order."""
     name = dict(zip((node.id for node in made.nodes), named))
     nodes = [replace(node, id=name[node.id], p=None if node.p is None else name[node.p]) for node in made.nodes]
     return replace(made, nodes=nodes, links=[(name[a], name[b]) for a, b in made.links])
 
 
 def planned(plan: Plan, seed: int, how: Daemon) -> Case:
-    """Returns the case of a plan with a seed and a daemon."""
+    """Returns the case of a plan with this seed and this daemon."""
     chance = random.Random(f"{plan.name} {seed}")
     count, links = networks.family(plan.family, plan.nodes, 0, chance)
     nodes = choose_nodes(plan, count, links, chance)
@@ -143,8 +150,8 @@ def planned(plan: Plan, seed: int, how: Daemon) -> Case:
 
 
 def own_lab(path: Path, seed: int, how: Daemon) -> Case:
-    """Returns the case of a teacher's lab. The bot plays one of the students, and all keys are replaced by new
-    ones."""
+    """Returns the case of a teacher's lab in a file, with this seed and this daemon. The bot plays one of the students,
+    and all keys are replaced by new ones. Raises `Fault` if the file isn't a lab."""
     made = labs.read(path)
     chance = random.Random(f"{path.stem} {seed}")
     alone = {name: [node.id for node in made.nodes if node.owners == [name]] for name in made.students}
@@ -156,15 +163,16 @@ def own_lab(path: Path, seed: int, how: Daemon) -> Case:
 
 
 def of_suite(name: str, how: list[Daemon] | None, seeds: int) -> list[Case]:
-    """Returns the cases of a suite of the release, with the seeds 1 to `seeds`. If `how` is None, each plan has
-    its own daemon."""
+    """Returns the cases of a suite of the release, with the seeds 1 to `seeds` and each daemon in `how`. If `how` is
+    None, each plan has its own daemon."""
     plans = SUITES[name]
     return [planned(plan, seed, each) for seed in range(1, seeds + 1) for plan in plans for each in how or [plan.daemon]]
 
 
 def of_folder(folder: Path, how: list[Daemon] | None, seeds: int) -> tuple[list[Case], list[str]]:
-    """Returns the cases of the labs in a folder, with the seeds 1 to `seeds`, and an error line for each file that
-    isn't a lab. If `how` is None, the cases have the usual daemons."""
+    """Returns the cases of the labs in a folder, with the seeds 1 to `seeds` and each daemon in `how`, and an error
+    line for each file that isn't a lab. If `how` is None, the daemons are those in USUAL. Raises `Fault` if no file is
+    a lab."""
     try:
         files = sorted(each for each in folder.iterdir() if each.suffix == ".toml")
     except OSError as error:

@@ -1,4 +1,6 @@
-"""One case of a grade: runs a bot until the class is stable, or until something is wrong."""
+"""One case of a grade: runs a bot until the class is stable, or until something is wrong.
+
+A *bot* is a student's program. A *case* is a lab that the bot plays, with troubles during the run."""
 from __future__ import annotations
 
 import tempfile
@@ -32,15 +34,16 @@ class Result:
 
 
 def try_bot(bot: Bot, case: Case, limits: Limits, own: Path, folder: Path, stop: threading.Event, seen: Seen | None = None) -> Result | None:
-    """Runs a bot in a case, in its own folder `own`, and writes the record into `folder`. Returns the result, or
-    None after an interrupt."""
+    """Runs a bot in a case, and writes the record into `folder`. `own` is the bot's own folder, `seen` has the files
+    that it sees if it is kept apart, and `stop` is set by an interrupt. Returns the result, or None after an
+    interrupt."""
     with tempfile.TemporaryFile() as output:
         return run_attempt(Attempt(bot, case, limits, Room(own, output, seen), stop), folder)
 
 
 def run_attempt(attempt: Attempt, folder: Path) -> Result | None:
-    """Runs an attempt to its end, and writes the record into `folder`. Returns the result, or None after an
-    interrupt."""
+    """Runs a bot's attempt at a case to its end, closes it, and writes the record into `folder`. Returns the result, or
+    None after an interrupt."""
     begun, case = time.monotonic(), attempt.case
     result = Result(attempt.bot.name, case.lab, case.daemon.spelled(), case.seed, False, "")
     try:

@@ -1,5 +1,10 @@
-"""The run of a case: a class that becomes stable, and the troubles during the run. A bot meets each trouble in
-real classes too."""
+"""The run of a case: a class that becomes stable, and the troubles during the run. A bot meets each trouble in real
+classes too.
+
+Each trouble is a function here. Most of them *hurt* a node afterwards, that is, set its registers so that it is
+privileged and the bot has to move it, and then run the class until it is stable again. All raise `Fails` if the bot
+does something wrong or is too late, and `Stopped` after an interrupt. The *number* is that of the present
+configuration, and a move is *stale* if it has an earlier one."""
 from __future__ import annotations
 
 import itertools
@@ -27,7 +32,8 @@ LOOKED = 0.15  # seconds after its look in which a bot asks, if it asks at all
 
 
 def run(attempt: Attempt) -> None:
-    """Runs the whole case. Raises `Fails` with what is wrong."""
+    """Runs the whole case, from the bot's start to its last trouble. Raises `Fails` with what is wrong, and `Stopped`
+    after an interrupt."""
     troubles = attempt.case.troubles
     attempt.playing.relay.busy = BUSY in troubles
     attempt.launch()
@@ -46,8 +52,8 @@ def run(attempt: Attempt) -> None:
 
 
 def check_rest(attempt: Attempt, seconds: float) -> None:
-    """Checks that a bot asks for nothing while there is nothing to ask for. One move for each of its nodes is
-    accepted, because it may follow from an earlier look."""
+    """Runs the stable class for so many seconds, and checks that the bot asks for nothing. Accepts one move for each of
+    its nodes, because it may follow from an earlier look. Raises `Fails` if the bot asks for more."""
     attempt.run_for(LATE)
     before, lines, since = attempt.heard.asked, attempt.heard.lines, time.monotonic()
     attempt.run_for(seconds)
@@ -59,8 +65,8 @@ def check_rest(attempt: Attempt, seconds: float) -> None:
 
 
 def hurt(attempt: Attempt, of: list[int] | None = None) -> int:
-    """Sets the registers of a node so that it is privileged: a node of the bot alone, or one in `of`. Returns the
-    node."""
+    """Sets the registers of a node so that it is privileged, and returns the node. It is one of those in `of`, or
+    without `of` one that the bot owns alone."""
     playing, nodes = attempt.playing, attempt.nodes_owned_alone() if of is None else of
     for node in attempt.chance.sample(nodes, len(nodes)):
         look = playing.program.ask(TEACHER, do="look", node=node)
@@ -73,12 +79,13 @@ def hurt(attempt: Attempt, of: list[int] | None = None) -> int:
 
 
 def privileged(attempt: Attempt) -> dict[int, str]:
-    """Returns the privileged nodes with their rules, as the program reports them."""
+    """Returns the rule of each privileged node, as the proved program reports them."""
     return dict(attempt.playing.report["privileged"])
 
 
 def until_granted(attempt: Attempt, node: int, what: str) -> None:
-    """Runs the class until the bot's move of a node is granted. Raises `Fails` with `what` after the time limit."""
+    """Runs the class until the bot's move of a node is granted. Raises `Fails` after the time limit, with a text that
+    begins with `what`."""
     end = time.monotonic() + attempt.limits.seconds
     while node not in attempt.playing.chosen:
         if time.monotonic() > end:
@@ -95,7 +102,8 @@ def fault(attempt: Attempt) -> None:
 
 
 def cut(attempt: Attempt) -> None:
-    """Closes the bot's connections, in the middle of a reply if replies come in pieces, and hurts a node."""
+    """Closes the bot's connections, and hurts a node. If the case sends replies in pieces, closes them in the middle of
+    a reply."""
     before, port, end = attempt.heard.greeted, attempt.playing.relay, time.monotonic() + attempt.limits.seconds
     while attempt.case.piece and not any(caller.held for caller in port.callers) and time.monotonic() < end:
         attempt.turn()
@@ -109,8 +117,8 @@ def cut(attempt: Attempt) -> None:
 
 
 def rest(attempt: Attempt, seconds: float = RESTING) -> None:
-    """Leaves the class at rest for some seconds, and hurts a node. Raises `Fails` if the bot didn't look at all
-    its nodes meanwhile."""
+    """Lets the class rest for so many seconds, and hurts a node. Raises `Fails` if the bot didn't look at all its nodes
+    meanwhile."""
     attempt.doing = f", after the class was at rest for some seconds{ON}"
     recent = attempt.heard.conduct.recent
     recent.clear()
@@ -124,12 +132,12 @@ def rest(attempt: Attempt, seconds: float = RESTING) -> None:
 
 
 def long_rest(attempt: Attempt) -> None:
-    """Leaves the class at rest for more than a minute, and hurts a node."""
+    """Lets the class rest for more than a minute, and hurts a node."""
     rest(attempt, LONGEST_REST)
 
 
 def open_step(attempt: Attempt) -> None:
-    """Leaves a step open for long after a move was granted."""
+    """Leaves a step open for LONG_OPEN seconds after a move of the bot was granted."""
     attempt.playing.is_held = True
     node = hurt(attempt)
     until_granted(attempt, node, f"it didn't ask for {node}, which a fault made privileged,")
@@ -140,7 +148,8 @@ def open_step(attempt: Attempt) -> None:
 
 
 def release(attempt: Attempt) -> None:
-    """Takes the bot's move back without a close, so that the number of the configuration stays the same."""
+    """Takes the bot's granted move back without a close, so that the number stays the same. The bot has to ask
+    again."""
     playing = attempt.playing
     playing.is_held = True
     node = hurt(attempt)
@@ -166,7 +175,7 @@ def overtake(attempt: Attempt) -> None:
 
 
 def turn(attempt: Attempt) -> None:
-    """Changes a node between the bot's look and its move, so that another rule is enabled there."""
+    """Changes a node's registers between the bot's look and its move, so that another rule is enabled there."""
     attempt.doing = f", after a step was closed between its look and its move (`stale` is no error: look again){ON}"
     for _ in range(TURNS):
         attempt.playing.turns = 1
@@ -177,7 +186,7 @@ def turn(attempt: Attempt) -> None:
 
 def drop(attempt: Attempt) -> None:
     """Drops the bot's granted move by a fault at another node, which sets that node's registers to their present
-    values."""
+    values. The bot has to ask again."""
     playing = attempt.playing
     playing.is_held = True
     node = hurt(attempt)
@@ -193,7 +202,8 @@ def drop(attempt: Attempt) -> None:
 
 
 def link_nodes(attempt: Attempt, node: int, other: int) -> None:
-    """Links a node of the bot with another node, which is then the only one that points at it."""
+    """Links a node of the bot with another node that isn't its neighbour, which is then the only one that points at
+    it."""
     playing = attempt.playing
     playing.is_held = True
     playing.relink("link", node, other)
@@ -207,7 +217,8 @@ def link_nodes(attempt: Attempt, node: int, other: int) -> None:
 
 
 def cut_pair(attempt: Attempt, node: int, other: int) -> None:
-    """Cuts the link between a node of the bot and the node that it is married to, after the bot has looked at it."""
+    """Cuts the link between a node of the bot and the node that it is married to, after the bot has looked at its
+    node."""
     playing = attempt.playing
     playing.is_held = True
     for each in near_of(attempt, node):
@@ -221,7 +232,7 @@ def cut_pair(attempt: Attempt, node: int, other: int) -> None:
 
 
 def relink(attempt: Attempt) -> None:
-    """Adds a link at a node of the bot and cuts it. If the node is linked with all others, cuts a link first and
+    """Adds a link at a node of the bot and cuts it. If the node is linked with all other nodes, cuts a link first and
     adds it again."""
     node = attempt.chance.choice(attempt.nodes_owned_alone())
     near = near_of(attempt, node)
@@ -232,7 +243,7 @@ def relink(attempt: Attempt) -> None:
 
 
 def memory(attempt: Attempt) -> None:
-    """Refuses a few looks and moves with `memory`."""
+    """Refuses a few of the bot's looks and moves with `memory`, as a server that is out of memory."""
     attempt.doing = f", after the refusal `memory`, which means: ask again a little later{ON}"
     attempt.playing.short.update({"look": 2, "move": 1})
     node = hurt(attempt)
@@ -242,7 +253,7 @@ def memory(attempt: Attempt) -> None:
 
 
 def seat(attempt: Attempt) -> None:
-    """Gives the bot's seats to newcomers, and hurts a node."""
+    """Closes the bot's connections with `busy`, as if newcomers needed its seats, and hurts a node."""
     before = attempt.heard.greeted
     attempt.playing.relay.end_all(relay.BUSY)
     attempt.until_greeted_again(before, "its seat went to a newcomer, so that its last line was `busy`")
@@ -251,7 +262,8 @@ def seat(attempt: Attempt) -> None:
 
 
 def taken(attempt: Attempt) -> None:
-    """Lets another owner of a shared node ask first: before the bot looks, and then between its look and its move."""
+    """Lets another owner of a shared node ask for its move first: once before the bot looks, and then between the bot's
+    look and its move."""
     playing, shared = attempt.playing, [node for node in attempt.nodes() if node not in attempt.nodes_owned_alone()]
     attempt.doing = f", after somebody else moved a node that it shares (`chosen` is no error: wait for the next number){ON}"
     playing.is_held = True
@@ -266,7 +278,8 @@ def taken(attempt: Attempt) -> None:
 
 
 def lost(attempt: Attempt) -> None:
-    """Loses the reply to a granted move and stops the server for a moment, like a class that is resumed."""
+    """Loses the reply to a granted move of the bot, and stops listening for a moment, like the server of a class that
+    is resumed."""
     playing = attempt.playing
     playing.is_held = playing.loses = True
     node, before = hurt(attempt), attempt.heard.greeted
@@ -293,7 +306,7 @@ def lost(attempt: Attempt) -> None:
 
 
 def turned_away(attempt: Attempt) -> None:
-    """Answers the bot's connections with `busy` for some seconds."""
+    """Answers the bot's connections with `busy` for TURNED_AWAY seconds."""
     port, end = attempt.playing.relay, time.monotonic() + attempt.limits.seconds
     while not port.calls:
         if time.monotonic() > end:
@@ -340,8 +353,8 @@ def until_looked(attempt: Attempt, node: int) -> None:
 
 
 def draw_registers(attempt: Attempt, node: int, known: set[tuple[str | None, int, bool]]) -> None:
-    """Draws the registers of a node and its neighbours until the program reports a combination of rule and
-    registers that isn't in `known`. Gives up after some tries."""
+    """Draws the registers of a node and its neighbours until the proved program reports a combination of rule and
+    registers that isn't in `known`. Adds it to `known`. Gives up after TRIES draws."""
     near = networks.neighbours([each.id for each in attempt.case.made.nodes], attempt.case.made.links)
     for _ in range(TRIES):
         for each in (*near[node], node):
@@ -354,8 +367,8 @@ def draw_registers(attempt: Attempt, node: int, known: set[tuple[str | None, int
 
 
 def rules(attempt: Attempt) -> None:
-    """Draws configurations around a node of the bot, one after another without a close. The bot has to ask for the
-    rule that the program reports, and for nothing if there is none."""
+    """Draws configurations around a node of the bot, one after another without a close. Checks that in each the bot
+    asks for the rule that the proved program reports, and for nothing if there is none."""
     playing, links = attempt.playing, attempt.case.made.links
     node = max(attempt.nodes_owned_alone(), key=lambda node: (any(node == b for a, b in links) + any(node == a for a, b in links), -node))
     known: set[tuple[str | None, int, bool]] = set()

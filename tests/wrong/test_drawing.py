@@ -4,6 +4,8 @@ from __future__ import annotations
 
 import random
 import tempfile
+import threading
+import time
 import unittest
 from pathlib import Path
 from unittest import mock
@@ -175,6 +177,23 @@ class Drawing(unittest.TestCase):
     def test_no_check_begins_if_a_library_is_not_built(self) -> None:
         with mock.patch.object(Tree, "missing", return_value=["itoa"]), mock.patch.object(drawing, "find_name", side_effect=AssertionError):
             self.assertRaisesRegex(PlantFault, "not built, .*: itoa$", list, ask_all(self.tree, draw(self.tree, ["low"], 3, 1)))
+
+    def test_crates_are_asked_side_by_side_and_answer_in_order(self) -> None:
+        high = self.tree.folder("high") / "src/thing.rt"
+        high.parent.mkdir(parents=True)
+        high.write_text(SOURCE, encoding="utf-8")
+        self.tree.uses["high"] = []
+        drawn, both = draw(self.tree, ["low", "high"], 99, 1), threading.Barrier(2, timeout=60)
+
+        def answers(_: Tree, crate: str, plants: list[list[Plant]], __: str, ___: Running) -> list[tuple[Plant, str]]:
+            both.wait()  # (it breaks if the crates are asked one after another)
+            if crate == "low":
+                time.sleep(0.2)
+            return [(plant[0], crate) for plant in plants]
+
+        with mock.patch.object(drawing, "asked", answers), mock.patch.object(drawing, "find_name", return_value=""), \
+                mock.patch.object(drawing, "lane_count", return_value=2):
+            self.assertEqual([*ask_all(self.tree, drawn)], [(plants[0], plants[0].crate) for plants in drawn])
 
     def test_a_plant_that_does_not_compile_gives_its_place_to_the_next(self) -> None:
         plants = next(plants for plants in draw(self.tree, ["low"], 3, 1) if len(plants) > 1 and all(plant.edit.pairs[0].new for plant in plants))

@@ -7,6 +7,7 @@ import re
 import shutil
 import tempfile
 from collections.abc import Iterator
+from concurrent.futures import ThreadPoolExecutor
 from dataclasses import replace
 from pathlib import Path
 
@@ -14,7 +15,7 @@ from tools.plant.bodies import Body, bodies_of
 from tools.plant.changes import changes_of, variants_of
 from tools.plant.plants import Plant, PlantFault
 from tools.plant.proving import ANY, UNDECIDED, verdict
-from tools.wrong.checks import Running, copy_crate, try_round
+from tools.wrong.checks import Running, copy_crate, lane_count, try_round
 from tools.wrong.edits import Edit, Pair, Refusal, Round, apply_edit
 from tools.wrong.libraries import Tree, check_words
 from tools.wrong.outputs import Told, read_output
@@ -143,11 +144,20 @@ def proved(tree: Tree, crate: str, plants: list[Plant], kept: str, running: Runn
 
 
 def ask_all(tree: Tree, drawn: list[list[Plant]]) -> Iterator[tuple[Plant, str]]:
-    """Yields the verdict on one plant of each function, crate by crate. Raises `PlantFault` at the beginning if a
-    library isn't built."""
+    """Yields the verdict on one plant of each function, crate by crate. The prover works on as many crates at the same
+    time as the variable `RT_JOBS` says. Raises `PlantFault` at the beginning if a library isn't built."""
     crates = list(dict.fromkeys(plants[0].crate for plants in drawn))
     if missing := list(dict.fromkeys(name for crate in crates for name in tree.missing(crate))):
         raise PlantFault(f"not built, which `rt ci` or `rt check` does: {', '.join(missing)}")
     running, kept = Running(), find_name(tree)
-    for crate in crates:
-        yield from asked(tree, crate, [plants for plants in drawn if plants[0].crate == crate], kept, running)
+
+    def verdicts(crate: str) -> list[tuple[Plant, str]]:
+        return [*asked(tree, crate, [plants for plants in drawn if plants[0].crate == crate], kept, running)]
+
+    with ThreadPoolExecutor(lane_count(None)) as pool:
+        try:
+            for answers in pool.map(verdicts, crates):
+                yield from answers
+        finally:
+            running.stop()
+            pool.shutdown(cancel_futures=True)
