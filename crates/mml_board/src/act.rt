@@ -16,7 +16,8 @@ use mml_rules::Rule;
 /// act is granted if all its clauses, the conditions for it, hold.
 #[derive(Clone, Copy, Debug, PartialEq, Eq)]
 pub enum Act {
-    /// Choose a move for a node in the configuration with this number; no rule if its partner is no node.
+    /// Choose a move for a node in the configuration with the number `at`. `rule` is `None` if no node has the
+    /// identifier of a marriage's partner.
     Move {
         node: Option<Rank>,
         rule: Option<Rule>,
@@ -24,7 +25,8 @@ pub enum Act {
     },
     /// Apply all chosen moves at once.
     Close,
-    /// Set the registers of a node.
+    /// Set the registers of a node. `p` is `None` for null, and `Some(None)` if no node has the identifier that was
+    /// named.
     Fault {
         node: Option<Rank>,
         p: Option<Option<Rank>>,

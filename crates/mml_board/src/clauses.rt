@@ -1,4 +1,4 @@
-//! The clauses of each act, in the order in which they are tried. No other place states them.
+//! The clauses of each act, in the order in which they are tried. They are stated only here.
 //!
 //! An act is a request for an event. A clause is a condition for it; a denial says which clause doesn't hold. A grant
 //! chooses a move for a node, a release drops it, and a close applies all chosen moves at once. A fault sets a node's

@@ -5,7 +5,8 @@
 use mml_ids::{NodeSet, Rank};
 use mml_rules::Kind;
 
-/// The effect of an event, beside the number and the place after it.
+/// The effect of an event. The number of the configuration after the event and the event's place, which the reply also
+/// has, aren't part of it.
 #[derive(Clone, Copy, Debug)]
 pub enum Done {
     /// A move of that kind is chosen for the node.

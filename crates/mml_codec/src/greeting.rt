@@ -74,8 +74,9 @@ pub fn greet_into(
     }
 }
 
-// Answers a hello on a connection on which nobody is known, and puts the reply into `reply`. `found` is the participant
-// who has the hello's name and key, if there is one.
+// Answers a hello on a connection on which nobody is known: puts the reply into `reply`, and returns who is known from
+// then on. `found` is the participant who has the hello's name and key, or `None` if nobody has both; then the hello is
+// denied.
 fn admit_into(found: Option<Who>, reply: &mut Reply) -> Greeted
     ensures { greeting_with result reply.new ≡ admitted found }
 {
@@ -88,8 +89,7 @@ fn admit_into(found: Option<Who>, reply: &mut Reply) -> Greeted
     }
 }
 
-// Puts a denial into `reply`. Returns that the request is answered, and that `known` is known on the connection as
-// before.
+// Puts the denial into `reply`. Returns `Known(known)`: the request is answered, and the connection is known as before.
 fn deny_into(denial: Denial, known: Option<Who>, reply: &mut Reply) -> Greeted
     ensures { greeting_with result reply.new ≡ denied denial known }
 {

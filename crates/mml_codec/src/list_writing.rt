@@ -15,12 +15,12 @@ pub(crate) trait Listing {
     // The fields name nodes that have identifiers.
     ghost names: { List ℕ → Self → Type 0 };
 
-    // The text of the fields in a lab with these identifiers, and the end of the object: the second list is what stands
-    // before the first field.
+    // The text of the fields, in a lab with these identifiers, and of the end of the object. The second list is the
+    // text before the first field.
     ghost text: { List ℕ → List ℕ → Self → List ℕ };
 
-    // Appends the text of the fields to `out`, after the text `first`, which is a brace or ends a list. If memory runs
-    // out, returns `Memory`, and only the beginning of the text is appended.
+    // Appends `first`, which is a brace or ends a list, and then the text of the fields to `out`. If memory runs out,
+    // returns `Memory`, and only the beginning of the text is appended.
     fn put_fields(&self, ids: &IdTable, first: &str, out: &mut Vec<u8>) -> Result<(), Memory>
         requires names { names ids.now self.now }
         requires first { length first.now ≤ 2 }
@@ -67,7 +67,8 @@ impl<'a, B: Table, L: Listed, R: Listing> Listing for ListRow<'a, B, L, R> {
     ghost text = { λ ids first r. B.text ids first r.before
         (separated (map (L.text ids) r.items.now) ++ R.text ids (codes "],") r.rest) };
 
-    // Appends the fields before the list, the list in brackets, and the fields after it.
+    // Appends the fields before the list, the list in brackets, and the fields after it. Returns `Memory` if memory
+    // runs out.
     #[inline(always)]
     fn put_fields(&self, ids: &IdTable, first: &str, out: &mut Vec<u8>) -> Result<(), Memory> {
         make_room(out, FRONT_ROOM)?;
@@ -88,7 +89,7 @@ impl<T: Table> Listing for Rest<T> {
 
     ghost text = { λ ids first r. T.text ids first r.fields [] };
 
-    // Appends the fields after the last list, and the end of the object.
+    // Appends the fields after the last list, and the end of the object. Returns `Memory` if memory runs out.
     #[inline(always)]
     fn put_fields(&self, ids: &IdTable, first: &str, out: &mut Vec<u8>) -> Result<(), Memory> {
         make_room(out, FRONT_ROOM)?;

@@ -1,4 +1,4 @@
-//! Lists of nodes and links in replies.
+//! Lists of nodes and links in replies. Each item is written as a value of JSON.
 ghost use Rattle.std.specs.Prelude.{codes, ◌+◌, ◌≡◌, ◌≤◌, ◌<◌, ◌++◌, ℕ, List, All, length, map, OnOk, IfOk, IfSome, MatchResult, vec_capacity};
 ghost use Rattle.mml_policy.specs.About.{IsNear};
 ghost use Rattle.mml_stable.specs.Reports.{IsPairOf, IsOpenLinkOf};
@@ -58,8 +58,8 @@ pub(crate) fn put_list<T: Listed>(
     Ok(())
 }
 
-// Returns the line with room for one more item, or the line as it was as `Err` if memory runs out. The line comes by
-// value, so that its length can stay in a processor's register.
+// Returns the line with room for one more item. Returns the unchanged line as `Err` if memory runs out. The line comes
+// by value, so that its length can stay in a processor's register.
 #[inline(always)]
 fn with_room(line: Vec<u8>) -> Result<Vec<u8>, Vec<u8>>
     ensures same { MatchResult result (λ l. l.items ≡ line.items) (λ l. l.items ≡ line.items) }
@@ -73,7 +73,7 @@ fn with_room(line: Vec<u8>) -> Result<Vec<u8>, Vec<u8>>
     Ok(line)
 }
 
-// Reallocates the line, to have room for one more item. Returns the line as it was as `Err` if memory runs out. It is
+// Reallocates the line, to have room for one more item. Returns the unchanged line as `Err` if memory runs out. It is
 // the rare case of `with_room`, and a function of its own, so that `with_room` is short.
 #[inline(never)]
 fn grown(mut line: Vec<u8>) -> Result<Vec<u8>, Vec<u8>>
@@ -130,8 +130,8 @@ impl Listed for (Rank, Regs) {
     }
 }
 
-// Returns the line with the beginning of an object appended, as one literal: the key `m` with its truth value, and then
-// the key `node` without its value.
+// Returns the line with the text `{"m":`, the truth value `m` and the text `,"node":` appended. They are the beginning
+// of a neighbour's object, which are written as one literal.
 #[inline(always)]
 fn with_first_m_then_node(line: Vec<u8>, m: bool) -> Vec<u8>
     requires { length line.items + 18 ≤ vec_capacity line }
@@ -147,8 +147,8 @@ fn with_first_m_then_node(line: Vec<u8>, m: bool) -> Vec<u8>
     }
 }
 
-// Returns the text with the value of the last key of an object appended, what a register points at (an identifier or
-// null), and the closing brace.
+// Returns the text with a pointer and a closing brace appended. The pointer is the identifier of the node `p`, or
+// `null`; it is the value of the last key of an object.
 #[inline(always)]
 fn with_pointer_at_end(text: Vec<u8>, ids: &IdTable, p: Option<Rank>) -> Vec<u8>
     requires node { IfSome p (λ j. j < length ids.now) }

@@ -45,7 +45,7 @@ impl From<Refusal> for Refused {
 
     ghost from_gives = { λ refusal refused. refused ≡ refusal_for refusal };
 
-    // Turns the reason why an allowed command isn't answered into the refusal with the same name.
+    // Turns the reason why an allowed command isn't answered into the `Refused` of the same name.
     fn from(refusal: Refusal) -> Refused {
         match refusal {
             Refusal::Full => Refused::Full,
@@ -58,7 +58,7 @@ impl From<Refusal> for Refused {
 /// The reply to a line.
 #[derive(Debug, Drop)]
 pub enum Reply {
-    /// The connection is known as this one from now on.
+    /// The connection is known as this participant from now on.
     Hello(Who),
     /// The connection is known as no one from now on.
     Bye,
@@ -66,8 +66,8 @@ pub enum Reply {
     See(See),
     /// What a node shows to its owners and the teacher.
     Look(Look),
-    /// A move is chosen for the node. In each reply to a grant, `number` is that of the configuration after the event,
-    /// and `place` is the event's.
+    /// A move is chosen for the node. In each reply to a granted event, `at` is the number of the configuration after
+    /// the event, and `place` is the event's place.
     Move {
         at: u64,
         place: u64,

@@ -22,8 +22,8 @@ pub(crate) struct Moment {
     place: u64,
 }
 
-/// Returns the moment of an event, which consists of the two numbers that the reply to it has: `at`, of the
-/// configuration, and `place`, of the event. The contract says that both fit 64 bits.
+/// Returns a `Moment` of these two numbers of an event: `at`, the number of the configuration after it, and `place`,
+/// its place. The contract also says that both fit 64 bits.
 pub(crate) fn moment_of(at: &u64, place: &u64) -> Moment
     ensures moment { result ≡ record { at = at.now; place = place.now } }
     ensures at { at.now < 2 ^ 64 }
@@ -293,7 +293,7 @@ pub(crate) fn put_release(
     put_object(ids, &fields, out)
 }
 
-/// Appends the text of the reply for a denial to `out`. That of `stale` begins with the number of the current
+/// Appends the text of the reply for a denial to `out`. The reply for `Stale` begins with the number of the current
 /// configuration. Returns `Memory` if memory runs out.
 pub(crate) fn put_denial(ids: &IdTable, denial: Denial, out: &mut Vec<u8>) -> Result<(), Memory>
     ensures puts { Puts (object_text ids.now (deny_fields denial)) TEXT_ROOM out.old out.new result }
@@ -308,7 +308,7 @@ pub(crate) fn put_denial(ids: &IdTable, denial: Denial, out: &mut Vec<u8>) -> Re
     }
 }
 
-// Appends the text of the reply for any denial but `stale` to `out`: its clause, its name and its sentence. Returns
+// Appends the text of the reply for any denial but `Stale` to `out`: its clause, its name and its sentence. Returns
 // `Memory` if memory runs out.
 #[tactic(auto, unfolding(crate::specs::Facts::object_text))]
 fn put_told(
@@ -339,7 +339,7 @@ fn put_told(
     put_object(ids, &fields, out)
 }
 
-// Appends the text of the reply for the denial `stale` to `out`: the number `at` of the current configuration, and the
+// Appends the text of the reply for the denial `Stale` to `out`: the number `at` of the current configuration, and the
 // denial's clause, name and sentence. Returns `Memory` if memory runs out.
 #[tactic(auto, unfolding(crate::specs::Facts::object_text))]
 fn put_stale(

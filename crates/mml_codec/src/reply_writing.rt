@@ -41,8 +41,8 @@ pub fn write_reply(
     written
 }
 
-/// Replaces the bytes of `out` by the line of a reply, with its newline, or by the line of the refusal `memory` if
-/// memory runs out. Returns the reply whose line it is.
+/// Replaces the bytes of `out` by the line of a reply, with its newline, and returns the reply. If memory runs out,
+/// replaces them by the line of the refusal `memory`, and returns this refusal.
 pub fn tell_reply(
     alloc: Global,
     ids: &IdTable,
@@ -101,7 +101,7 @@ fn tell_want_of_memory(alloc: Global, ids: &IdTable, roster: &Roster, out: &mut 
     told
 }
 
-// Appends the line of a reply, with its newline to `out`. Returns `Memory` if memory runs out.
+// Appends the line of a reply, with its newline, to `out`. Returns `Memory` if memory runs out.
 fn put_line(ids: &IdTable, roster: &Roster, reply: &Reply, out: &mut Vec<u8>) -> Result<(), Memory>
     requires { IsAbout ids.now roster.now reply.now }
     ensures line { OnOk result
@@ -129,7 +129,7 @@ fn put_end(out: &mut Vec<u8>) -> Result<(), Memory>
     Ok(())
 }
 
-// Appends the text of a reply, without its newline to `out`. Returns `Memory` if memory runs out.
+// Appends the text of a reply, without a newline, to `out`. Returns `Memory` if memory runs out.
 fn put_text(ids: &IdTable, roster: &Roster, reply: &Reply, out: &mut Vec<u8>) -> Result<(), Memory>
     requires { IsAbout ids.now roster.now reply.now }
     ensures text { OnOk result

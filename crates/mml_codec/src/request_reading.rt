@@ -41,8 +41,8 @@ pub fn read_request_with(
     }
 }
 
-// Returns the request that the fields of a line ask: the key `do` has its word, and the other keys its values. Returns
-// `Malformed` if they ask none, and `Memory` if memory runs out. Only a hello allocates.
+// Returns the request that a line with these fields asks. The key `do` has the word of the request, and the other keys
+// have its values. Returns `Malformed` if the fields ask none, and `Memory` if memory runs out. Only a hello allocates.
 #[tactic(auto, unfolding(crate::specs::Requests::request, crate::specs::Requests::by_word))]
 fn request(alloc: Global, fields: &Fields<'_>) -> Result<Request, LineFault>
     ensures { Reads request fields.now result }
@@ -64,8 +64,8 @@ fn request(alloc: Global, fields: &Fields<'_>) -> Result<Request, LineFault>
     request.ok_or(LineFault::Malformed)
 }
 
-// Returns the hello with copies of the name and the key in the fields. Returns `Malformed` if one of them is missing,
-// and `Memory` if memory runs out.
+// Returns the hello with copies of the name and the key in the fields. Returns `Malformed` if the name or the key is
+// missing, and `Memory` if memory runs out.
 #[tactic(auto, unfolding(crate::specs::Requests::hello_of))]
 fn hello_of(alloc: Global, fields: &Fields<'_>) -> Result<Request, LineFault>
     ensures { Reads hello_of fields.now result }
@@ -78,7 +78,7 @@ fn hello_of(alloc: Global, fields: &Fields<'_>) -> Result<Request, LineFault>
     })
 }
 
-// Returns the see of the node in the fields, or `None` if the node is missing.
+// Returns the request to see the node in the fields, or `None` if the node is missing.
 fn see_of(fields: &Fields<'_>) -> Option<Request>
     ensures { (d : Data) → Holds fields.now d → result ≡ node_of command.See d }
 {
@@ -86,7 +86,7 @@ fn see_of(fields: &Fields<'_>) -> Option<Request>
     Some(Request::Do(Command::See { node }))
 }
 
-// Returns the look at the node in the fields, or `None` if the node is missing.
+// Returns the request to look at the node in the fields, or `None` if the node is missing.
 fn look_of(fields: &Fields<'_>) -> Option<Request>
     ensures { (d : Data) → Holds fields.now d → result ≡ node_of command.Look d }
 {
@@ -94,7 +94,7 @@ fn look_of(fields: &Fields<'_>) -> Option<Request>
     Some(Request::Do(Command::Look { node }))
 }
 
-// Returns the link of the nodes `a` and `b` in the fields, or `None` if one of them is missing.
+// Returns the request to link the nodes `a` and `b` in the fields, or `None` if one of them is missing.
 fn link_of(fields: &Fields<'_>) -> Option<Request>
     ensures { (d : Data) → Holds fields.now d → result ≡ ends_of command.Link d }
 {
@@ -103,7 +103,7 @@ fn link_of(fields: &Fields<'_>) -> Option<Request>
     Some(Request::Do(Command::Link { a, b }))
 }
 
-// Returns the cut of the nodes `a` and `b` in the fields, or `None` if one of them is missing.
+// Returns the request to cut the link of the nodes `a` and `b` in the fields, or `None` if one of them is missing.
 fn cut_of(fields: &Fields<'_>) -> Option<Request>
     ensures { (d : Data) → Holds fields.now d → result ≡ ends_of command.Cut d }
 {
@@ -112,7 +112,7 @@ fn cut_of(fields: &Fields<'_>) -> Option<Request>
     Some(Request::Do(Command::Cut { a, b }))
 }
 
-// Returns the release of the node in the fields, or `None` if the node is missing.
+// Returns the request to release the node in the fields, or `None` if the node is missing.
 fn release_of(fields: &Fields<'_>) -> Option<Request>
     ensures { (d : Data) → Holds fields.now d → result ≡ node_of command.Release d }
 {
@@ -120,8 +120,8 @@ fn release_of(fields: &Fields<'_>) -> Option<Request>
     Some(Request::Do(Command::Release { node }))
 }
 
-// Returns the move that the fields ask. Returns `None` if the node or the number of a configuration is missing, if the
-// rule isn't one of the four, or if a marriage has no partner.
+// Returns the request for the move in the fields. Returns `None` if the node or the number of a configuration is
+// missing, if the rule isn't one of the four, or if a marriage has no partner.
 #[tactic(auto, unfolding(crate::specs::Requests::move_of, crate::specs::Requests::asked_at))]
 fn move_of(fields: &Fields<'_>) -> Option<Request>
     ensures { (d : Data) → Holds fields.now d → result ≡ move_of d }
@@ -138,7 +138,7 @@ fn move_of(fields: &Fields<'_>) -> Option<Request>
     Some(Request::Do(Command::Move { node, rule, at }))
 }
 
-// Returns the fault that the fields ask, or `None` if the node or one of the two registers is missing.
+// Returns the request for the fault in the fields, or `None` if the node or one of the two registers is missing.
 #[tactic(auto, unfolding(crate::specs::Requests::fault_of))]
 fn fault_of(fields: &Fields<'_>) -> Option<Request>
     ensures { (d : Data) → Holds fields.now d → result ≡ fault_of d }

@@ -1,4 +1,4 @@
-//! Tables of fields: the keys of a reply in byte order, and what each holds.
+//! Tables of fields: the keys of a reply in byte order, each with its value.
 ghost use Rattle.std.specs.Prelude.{codes, ◌≡◌, ◌≤◌, ◌+◌, ◌++◌, ℕ, List, [], length, vec_capacity};
 ghost use Rattle.mml_ids.specs.Pieces.{Puts};
 ghost use Rattle.mml_codec.specs.Facts.{fact_then};
@@ -9,20 +9,20 @@ use mml_ids::{IdTable, Memory, make_room, taken, with_text};
 /// Enough bytes for the text of each reply but a look and a report.
 pub(crate) const TEXT_ROOM: usize = 2000;
 
-/// Fields of a reply, as a type that is built of rows. The text of the fields and the most bytes of it follow from the
-/// type.
+/// Fields of a reply, as a type that is built of rows. The type determines the text of the fields and the most bytes
+/// that the text has.
 pub(crate) trait Table {
     // The fields name nodes that have identifiers.
     ghost names: { List ℕ → Self → Type 0 };
 
-    // The text of the fields in a lab with these identifiers, before what follows: the second list is what stands
-    // before the first field.
+    // The text of the fields in a lab with these identifiers, and of what follows them. The second list is the text
+    // before the first field, and the last list is the text after the fields.
     ghost text: { List ℕ → List ℕ → Self → List ℕ → List ℕ };
 
     // The most bytes of the fields.
     ghost most: { Self → ℕ };
 
-    // Returns the line with the text of the fields appended, after the text `first`. The line must have room for both.
+    // Returns the line with `first` and then the text of the fields appended. The line must have room for both.
     fn with_fields(&self, line: Vec<u8>, ids: &IdTable, first: &str) -> Vec<u8>
         requires names { names ids.now self.now }
         requires room { length line.items + (length first.now + most self.now) ≤ vec_capacity line }

@@ -1,4 +1,4 @@
-//! What a key of a reply holds.
+//! The values of keys in replies, and their text.
 ghost use Rattle.std.specs.Prelude.{decimal, ◌≡◌, ◌≤◌, ◌<◌, ◌+◌, ◌++◌, ℕ, List, length, map, refl, IfSome, vec_capacity};
 ghost use Rattle.mml_ids.specs.Pieces.{truth_text};
 ghost use Rattle.mml_codec.specs.Facts as fact;
@@ -9,7 +9,7 @@ use crate::listed::with_comma;
 use mml_ids::{IdTable, NodeSet, Rank, with_number, with_short_number, with_text};
 use mml_rules::Kind;
 
-/// The value of a key in a reply, if its text has a greatest length.
+/// The value of a key in a reply. Its text has a greatest length.
 pub(crate) trait Told {
     // The value, as the definitions name it.
     ghost fact: { Self → Fact };
@@ -23,7 +23,7 @@ pub(crate) trait Told {
     // The most bytes of the value's text.
     ghost most: { Self → ℕ };
 
-    // Returns the line with the value's text appended. The line must have room for it.
+    // Returns the line with the value's text appended. The line must have room for the longest text of the value.
     fn with_told(&self, line: Vec<u8>, ids: &IdTable) -> Vec<u8>
         requires names { names ids.now self.now }
         requires room { length line.items + most self.now ≤ vec_capacity line }
@@ -31,7 +31,7 @@ pub(crate) trait Told {
         ensures capacity { vec_capacity result ≡ vec_capacity line }
         ensures grows { length result.items ≤ length line.items + most self.now };
 
-    // The text is that which the definitions have for the value.
+    // The text is that which the definitions give for the value.
     ghost tells: { (ids : List ℕ) (told : Self) (rest : List ℕ) →
         fact_then ids (fact told) rest ≡ text ids told ++ rest };
 }

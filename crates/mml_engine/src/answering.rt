@@ -16,10 +16,10 @@ use mml_lab::Who;
 use mml_policy::Command;
 use std::alloc::Global;
 
-/// Answers a request line of a connection, and puts the reply into `reply`, since a reply is large to return. `known`
-/// is the participant who has greeted on the connection, if anybody has; it is set to who is known afterwards. Returns
-/// `Closed`, and puts no reply, if a known participant asks to be shown something and the engine shows nothing any
-/// more.
+/// Answers a request line of a connection, and puts the reply into `reply`, since a reply is large to return. `at` is
+/// the session's part of the engine. `known` is the participant who has greeted on the connection, or `None`;
+/// afterwards it is who is known then. `scratch` is working memory for reading the line. Returns `Closed`, and puts no
+/// reply, if a known participant asks to be shown something and the engine shows nothing any more.
 pub fn answer_line<E: Engine>(
     engine: &mut E,
     at: &mut E::View,
@@ -52,9 +52,10 @@ pub fn answer_line<E: Engine>(
     }
 }
 
-// Puts the reply to any request, and sets `known` to who is known afterwards. Handles what `answer_line` doesn't handle
-// itself: hello, bye, and commands of nobody. They are rare and their code is large, so this function isn't inlined.
-// Returns `Closed` as `answer_line` does.
+// Puts the reply to a request into `reply`, and sets `known` to who is known afterwards. `answer_line` calls it for a
+// hello, a bye, and a command while nobody is known. They are rare and their code is large, so this function isn't
+// inlined. Returns `Closed`, and puts no reply, if the request asks to be shown something and the engine shows nothing
+// any more.
 #[inline(never)]
 fn settle<E: Engine>(
     engine: &mut E,

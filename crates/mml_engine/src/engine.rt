@@ -27,7 +27,7 @@ pub trait Engine {
     /// The part of the engine that belongs to one session.
     type View;
 
-    // The lab whose events it has.
+    // The lab whose events the engine has.
     ghost lab: { Self → LabValue };
 
     // The events that a session has seen.
@@ -39,7 +39,7 @@ pub trait Engine {
     // What holds if the engine shows nothing any more.
     ghost may_close: { Type 0 };
 
-    /// Returns the roster of the engine's lab. `at` is the part of the engine that belongs to the session.
+    /// Returns the roster of the engine's lab. `at` is the part of the engine that belongs to the asking session.
     fn roster<'r>(&'r self, at: &'r Self::View) -> &'r Roster
         ensures { result.now ≡ (lab self.now).roster };
 

@@ -12,14 +12,15 @@ pub struct Account {
     pub key: String,
 }
 
-/// Returns whether a byte may stand in a name: a to z, 0 to 9 or '-'.
+/// Returns whether a byte may occur in a name: whether it is a to z, 0 to 9 or '-'.
 fn is_name_byte(byte: u8) -> bool
     ensures { result ≡ is_name_byte byte }
 {
     byte.is_ascii_lowercase() || byte.is_ascii_digit() || byte == b'-'
 }
 
-/// Returns whether the bytes have a name's form: 1 to 32 of a to z, 0 to 9 and '-', the first a letter.
+/// Returns whether the bytes have the form of a name: 1 to 32 of a to z, 0 to 9 and '-', of which the first is a
+/// letter.
 pub fn is_name(name: &[u8]) -> bool
     ensures { result ≡ is_name name.now }
 {
@@ -30,7 +31,7 @@ pub fn is_name(name: &[u8]) -> bool
     begins && are_name_bytes(&name[1..]) && name.len() as u64 <= MAX_NAME
 }
 
-/// Returns whether each byte may stand in a name.
+/// Returns whether each byte may occur in a name.
 fn are_name_bytes(bytes: &[u8]) -> bool
     ensures { result ≡ list_all is_name_byte bytes.now }
 {

@@ -40,8 +40,9 @@ impl Model for Lab {
 }
 
 impl Lab {
-    /// Returns the lab with these identifiers, this roster, this network at the beginning, and these limits of events
-    /// and of sessions, which must fit one another.
+    /// Returns the lab with these identifiers, this roster, this network at the beginning, at most `events` events, and
+    /// at most `sessions` connections at once. All of them must be valid and fit one another: roster and network have
+    /// as many nodes as there are identifiers.
     pub fn new(ids: IdTable, roster: Roster, network: Network, events: u64, sessions: u8) -> Lab
         requires { IsLab (record {
           ids = ids;
@@ -89,7 +90,7 @@ impl Lab {
         self.network.neighbours(a).has(b)
     }
 
-    /// Returns a node's registers at the beginning.
+    /// Returns the registers at the beginning of a node, which must exist.
     pub fn regs(&self, node: Rank) -> Regs
         requires { node < length self.now.ids }
         ensures { result ≡ registers_at self.now.network.registers node }

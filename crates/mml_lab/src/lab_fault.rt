@@ -32,8 +32,8 @@ pub enum Key {
     Link,
 }
 
-/// Why bytes are no lab: the first error. Indices of nodes and links count from 0 in the file's order; of
-/// those who take part the teacher has 0, and the students count from 1.
+/// Why bytes are no lab: the first error. Indices of nodes and links count from 0 in the file's order. Of the
+/// participants the teacher has the index 0, and the students count from 1.
 #[derive(Clone, Copy, Debug)]
 pub enum LabFault {
     /// The bytes are no TOML document.

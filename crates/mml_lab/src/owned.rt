@@ -12,9 +12,9 @@ use crate::who::Student;
 use mml_ids::{NodeSet, Rank};
 use std::alloc::Global;
 
-/// Returns for each student, in order, the set of the nodes that the student owns, and at the end an empty set, for a
-/// student who isn't in the roster. `students` is their number, and `owners` has by rank the owners of each node.
-/// Returns `Memory` if memory runs out.
+/// Returns the set of the nodes that each student owns, by student. At its end the list has one more set, which is
+/// empty, for a student who isn't in the roster. `students` is the number of students, and `owners` has by rank the
+/// owners of each node. Returns `Memory` if memory runs out.
 pub(crate) fn owned_by_each(
     alloc: Global,
     students: usize,
@@ -33,7 +33,7 @@ pub(crate) fn owned_by_each(
     Ok(rows)
 }
 
-/// Adds a node to the set of each of its owners. `rows` has the sets, by student.
+/// Adds a node to the set of each of its owners. `rows` has the set of each student's nodes.
 fn give(rows: &mut [NodeSet], node: Rank, owners: &[Student])
     requires { All (λ s. s < length rows.old) owners.now }
     ensures { (s i : ℕ) → set.contains (row_at rows.new s) i ≡ (set.contains (row_at rows.old s) i

@@ -110,7 +110,7 @@ impl Roster {
         self.owned(who).has(node)
     }
 
-    /// Returns the name of a participant.
+    /// Returns the name of a participant, who must be in the roster.
     pub fn name_of(&self, who: Who) -> &str
         requires { IsPrincipal self.now who }
         ensures value { result.now ≡ name_of self.now who }
@@ -164,7 +164,7 @@ fn student_with(students: &IndexMap<String, String>, name: &str, key: &str) -> O
     found
 }
 
-/// Returns whether the student at this index has this name and this key.
+/// Returns whether the student at this index, which must exist, has this name and this key.
 fn is_at(students: &IndexMap<String, String>, index: usize, name: &str, key: &str) -> bool
     requires { index < length students.now.entries }
     ensures { result ≡ has_name_and_key name.now key.now

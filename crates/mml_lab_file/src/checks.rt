@@ -158,7 +158,8 @@ fn check_owners(students: &IndexMap<String, String>, nodes: &[RawNode]) -> Resul
     pass_unless(owner_twice_fault(nodes))
 }
 
-/// Returns how many students a file has. The contract counts them as the definitions do, by their accounts.
+/// Returns how many students a file has. `len` returns the same number; this function has the contract that the proofs
+/// of its callers need.
 fn student_count(students: &IndexMap<String, String>) -> usize
     ensures { result ≡ length (map entry_account students.now.entries) }
 {

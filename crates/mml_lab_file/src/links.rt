@@ -63,8 +63,8 @@ fn lacks_end(nodes: &[RawNode], link: (i64, i64)) -> bool
     !(is_node(nodes, a) && is_node(nodes, b))
 }
 
-/// Returns whether one of the file's nodes has the identifier `id`. It is `has_id` with a contract about the nodes as
-/// the definitions have them.
+/// Returns whether one of the file's nodes has the identifier `id`. `has_id` returns the same; this function has the
+/// contract that the proofs of its callers need.
 fn is_node(nodes: &[RawNode], id: i64) -> bool
     ensures { result ≡ is_node (map node_view nodes.now) id }
 {

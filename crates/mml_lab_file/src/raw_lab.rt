@@ -1,3 +1,7 @@
+//! The contents of a lab file, read from its TOML.
+//!
+//! A `Key` names a key of the file in an error. Each function with the parameter `alloc` returns `LabFault::Memory` if
+//! memory runs out.
 ghost use Rattle.std.specs.Prelude.{◌≡◌, map, string_bytes, codes, Some, None, Ok, Err, option_map, ok_or};
 ghost use Rattle.mml_ids.specs.Gives.{Gives};
 ghost use Rattle.toml.specs.Data.{as_str, as_integer, as_bool, as_table, as_array, get_member};
@@ -55,23 +59,23 @@ fn value_at<'a>(table: &'a Table, name: &str, key: Key) -> Result<&'a Value, Lab
     find(table, name).ok_or(LabFault::Missing(key))
 }
 
-/// Returns the integer that a value is. Returns `WrongKind(key)` if the value is of another kind; `key` is the key
-/// under which it was found.
+/// Returns the integer in a value. Returns `WrongKind(key)` if the value is no integer; `key` is the key under which it
+/// was found.
 fn integer(value: &Value, key: Key) -> Result<i64, LabFault>
     ensures { Gives is_lab_memory (λ z. z) result (of_kind key as_integer (view value.now)) }
 {
     value.as_integer().ok_or(LabFault::WrongKind(key))
 }
 
-/// Returns the truth value that a value is. Returns `WrongKind(key)` if the value is of another kind; `key` is the key
-/// under which it was found.
+/// Returns the truth value in a value. Returns `WrongKind(key)` if the value is no truth value; `key` is the key under
+/// which it was found.
 fn boolean(value: &Value, key: Key) -> Result<bool, LabFault>
     ensures { Gives is_lab_memory (λ b. b) result (of_kind key as_bool (view value.now)) }
 {
     value.as_bool().ok_or(LabFault::WrongKind(key))
 }
 
-/// Returns the string that a value is. Returns `WrongKind(key)` if the value is of another kind; `key` is the key under
+/// Returns a copy of the string in a value. Returns `WrongKind(key)` if the value is no string; `key` is the key under
 /// which it was found. Returns `Memory` if memory runs out.
 fn text(alloc: Global, value: &Value, key: Key) -> Result<String, LabFault>
     ensures { Gives is_lab_memory string_bytes result (of_kind key as_str (view value.now)) }
@@ -80,16 +84,16 @@ fn text(alloc: Global, value: &Value, key: Key) -> Result<String, LabFault>
     Ok(String::from_str(alloc, text)?)
 }
 
-/// Returns the table that a value is. Returns `WrongKind(key)` if the value is of another kind; `key` is the key under
-/// which it was found.
+/// Returns the table in a value. Returns `WrongKind(key)` if the value is no table; `key` is the key under which it was
+/// found.
 fn table_of(value: &Value, key: Key) -> Result<&Table, LabFault>
     ensures { Gives is_lab_memory (λ t. table_view t.now) result (of_kind key as_table (view value.now)) }
 {
     value.as_table().ok_or(LabFault::WrongKind(key))
 }
 
-/// Returns the array that a value is. Returns `WrongKind(key)` if the value is of another kind; `key` is the key under
-/// which it was found.
+/// Returns the array in a value. Returns `WrongKind(key)` if the value is no array; `key` is the key under which it was
+/// found.
 fn array_of(value: &Value, key: Key) -> Result<&Array, LabFault>
     ensures { Gives is_lab_memory (λ t. array_view t.now) result (of_kind key as_array (view value.now)) }
 {
@@ -132,8 +136,9 @@ fn array_at<'a>(table: &'a Table, name: &str, key: Key) -> Result<&'a Array, Lab
     array_of(value_at(table, name, key)?, key)
 }
 
-/// Returns the strings under the keys `name` and `key` of a table, which is that of the teacher or of a student. In an
-/// error, `name_key` stands for the first key, and `key_key` for the second. Returns `Memory` if memory runs out.
+/// Returns the account of the teacher or of a student, whose table this is: the strings under the keys `name` and
+/// `key`. Returns the error of the first key that is missing or isn't a string; in this error, `name_key` stands for
+/// `name`, and `key_key` for `key`.
 #[tactic(auto, unfolding(crate::specs::Shape::account_in))]
 fn account_at(
     alloc: Global,
@@ -149,8 +154,8 @@ fn account_at(
     Ok(Account { name, key })
 }
 
-/// Returns the name and the key that an element of the file's array `student` describes, or the first error of the
-/// element.
+/// Returns the account that an element of the file's array `student` describes: the student's name and key. Returns the
+/// first error of the element if it has one.
 #[tactic(auto, unfolding(crate::specs::Shape::student_of))]
 fn student(alloc: Global, value: &Value) -> Result<Account, LabFault>
     ensures { Gives is_lab_memory account_view result (student_of (view value.now)) }
@@ -159,7 +164,8 @@ fn student(alloc: Global, value: &Value) -> Result<Account, LabFault>
     account_at(alloc, table, Key::StudentName, Key::StudentKey)
 }
 
-/// Returns the names and keys of the elements of `student`, in order, or the first error of one.
+/// Returns the accounts of all elements of the array `student`, in order, or the first error of the first element that
+/// has one.
 fn students(alloc: Global, list: &Array) -> Result<Vec<Account>, LabFault>
     ensures { Gives is_lab_memory (λ v. map account_view v.items) result
         (each student_of (array_view list.now)) }
@@ -225,8 +231,8 @@ fn texts(alloc: Global, list: &Array, key: Key) -> Result<Vec<String>, LabFault>
     Ok(found)
 }
 
-/// Returns the names in the value of `owners`, an array of one or two strings, or the error that the key is of another
-/// kind.
+/// Returns the names in the value of the key `owners`. Returns `WrongKind(NodeOwners)` if the value isn't an array of
+/// one or two strings.
 #[tactic(auto, unfolding(crate::specs::Shape::names_of))]
 fn names(alloc: Global, value: &Value) -> Result<Vec<String>, LabFault>
     ensures { Gives is_lab_memory (λ v. map string_bytes v.items) result (names_of (view value.now)) }
@@ -238,8 +244,8 @@ fn names(alloc: Global, value: &Value) -> Result<Vec<String>, LabFault>
     Ok(names)
 }
 
-/// Returns the names under `owners`, or `None` if the key is left out. Returns an error if its value isn't one or two
-/// strings.
+/// Returns the names under the key `owners` of a node's table, or `None` if the table doesn't have the key. Returns
+/// `WrongKind(NodeOwners)` if the value isn't an array of one or two strings.
 fn optional_names(alloc: Global, table: &Table) -> Result<Option<Vec<String>>, LabFault>
     ensures { Gives is_lab_memory (option_map (λ v. map string_bytes v.items)) result
         (optional names_of (get_member (codes "owners") (table_view table.now))) }
@@ -250,8 +256,8 @@ fn optional_names(alloc: Global, table: &Table) -> Result<Option<Vec<String>>, L
     }
 }
 
-/// Returns the names of a node's owners: those under `owners`, or else the one under `owner`. Returns the error that
-/// `owner` is missing if neither key is there.
+/// Returns the names of a node's owners: `owners`, the names under the key `owners`, or else `owner`, the name under
+/// the key `owner`. Returns `Missing(NodeOwner)` if both are `None`.
 fn owner_names(
     alloc: Global,
     owner: Option<String>,
@@ -270,8 +276,8 @@ fn owner_names(
     Ok(names)
 }
 
-/// Returns the node that an element of `node` describes, or the first error of the element. m is false if its key is
-/// left out.
+/// Returns the node that an element of the array `node` describes, or the first error of the element. m is false if its
+/// key is left out.
 #[tactic(auto, unfolding(crate::specs::Shape::node_of))]
 fn node(alloc: Global, value: &Value) -> Result<RawNode, LabFault>
     ensures { Gives is_lab_memory node_view result (node_of (view value.now)) }
@@ -293,7 +299,8 @@ fn node(alloc: Global, value: &Value) -> Result<RawNode, LabFault>
     })
 }
 
-/// Returns the nodes that the elements of `node` describe, in order, or the first error of one.
+/// Returns the nodes that the elements of the array `node` describe, in order, or the first error of the first element
+/// that has one.
 fn nodes(alloc: Global, list: &Array) -> Result<Vec<RawNode>, LabFault>
     ensures { Gives is_lab_memory (λ v. map node_view v.items) result
         (each node_of (array_view list.now)) }
@@ -305,8 +312,8 @@ fn nodes(alloc: Global, list: &Array) -> Result<Vec<RawNode>, LabFault>
     Ok(found)
 }
 
-/// Returns the two values of an array, or the error that a link is of another kind if the array doesn't have exactly
-/// two.
+/// Returns the two values of an array that describes a link. Returns `WrongKind(Link)` if the array doesn't have
+/// exactly two values.
 fn two_of(list: &Array) -> Result<(&Value, &Value), LabFault>
     ensures { Gives is_lab_memory (λ e. (view e.0.now, view e.1.now)) result
         (ok_or (two_of (array_view list.now)) (LabFault.WrongKind Key.Link)) }
@@ -317,7 +324,8 @@ fn two_of(list: &Array) -> Result<(&Value, &Value), LabFault>
     Ok((&list[0], &list[1]))
 }
 
-/// Returns the identifiers of the two ends of a link, or the error that the value isn't an array of two integers.
+/// Returns the identifiers of the two ends of a link. Returns `WrongKind(Link)` if the value isn't an array of two
+/// integers.
 #[tactic(auto, unfolding(crate::specs::Shape::link_of))]
 fn link_ends(value: &Value) -> Result<(i64, i64), LabFault>
     ensures { Gives is_lab_memory (λ e. e) result (link_of (view value.now)) }
@@ -328,8 +336,8 @@ fn link_ends(value: &Value) -> Result<(i64, i64), LabFault>
     Ok((a, b))
 }
 
-/// Returns the links that the elements of `links` describe, in order, or the first error of one. A link is given by the
-/// identifiers of its two ends.
+/// Returns the links that the elements of the array `links` describe, in order, each by the identifiers of its two
+/// ends. Returns `WrongKind(Link)` if an element isn't an array of two integers.
 fn links(alloc: Global, list: &Array) -> Result<Vec<(i64, i64)>, LabFault>
     ensures { Gives is_lab_memory (λ v. v.items) result (each link_of (array_view list.now)) }
 {
@@ -340,8 +348,8 @@ fn links(alloc: Global, list: &Array) -> Result<Vec<(i64, i64)>, LabFault>
     Ok(found)
 }
 
-/// Returns the links under the key `links`, each by the identifiers of its two ends, or the first error of them.
-/// Returns no links if the key is left out.
+/// Returns the links under the key `links` of the file, each by the identifiers of its two ends. Returns no links if
+/// the key is left out. Returns an error if the value isn't an array of pairs of integers.
 fn links_at(alloc: Global, table: &Table) -> Result<Vec<(i64, i64)>, LabFault>
     ensures { Gives is_lab_memory (λ v. v.items) result
         (links_of (get_member (codes "links") (table_view table.now))) }
@@ -352,8 +360,8 @@ fn links_at(alloc: Global, table: &Table) -> Result<Vec<(i64, i64)>, LabFault>
     }
 }
 
-/// Returns the name and the key under `teacher`. Returns the error of the first key, of `teacher` and the two in it,
-/// that is missing or of another kind.
+/// Returns the teacher's name and key, which are in the table `teacher` of the file. Returns the error of the first of
+/// the three keys `teacher`, `name` and `key` that is missing or of another kind.
 #[tactic(auto, unfolding(crate::specs::Shape::teacher_of))]
 fn teacher_at(alloc: Global, table: &Table) -> Result<Account, LabFault>
     ensures { Gives is_lab_memory account_view result (teacher_of (table_view table.now)) }

@@ -1,4 +1,4 @@
-//! A reader whose reads are counted. Lines are read by no other call.
+//! A reader whose reads are counted. `Lines` reads only by means of it.
 ghost use Rattle.std.specs.Prelude.{◌≡◌, [], ◌+◌, ◌<◌, ◌≤◌, ◌⊎◌, take, vec_len, IfErr};
 ghost use Rattle.std.specs.Vec.{vec_capacity};
 ghost use Rattle.std.specs.Io.KnownBytes.{Consumes, IsAtEnd, prepend_known};
@@ -14,7 +14,7 @@ pub(crate) struct Counted<'a, R> {
 }
 
 impl<R> Drop for Counted<'_, R> {
-    // Ends the borrow. The reader's owner finds it as the last read left it.
+    // Ends the borrow of the reader, which stays as the last read left it.
     fn drop(self)
         ensures { self.exit.0.now ≡ self.entry.reader.now }
     {

@@ -156,8 +156,8 @@ impl Outgoing {
     }
 }
 
-// Returns how many bytes of the first incomplete line were written. `lengths` has the lengths of the lines, and `out`
-// is how many of their bytes were written in all.
+// Returns how many bytes of the first line that wasn't wholly written were written. `lengths` has the lengths of the
+// lines, and `out` is how many bytes of all lines together were written.
 fn part_of(lengths: &[usize], out: usize) -> usize
     ensures { result ≡ part_in lengths.now out }
 {

@@ -1,4 +1,4 @@
-//! Whole reads.
+//! Reading a reader to its end.
 
 ghost use Rattle.std.specs.Prelude.{◌≡◌, ◌≤◌, ◌<◌, IfOk, IfSome, length, vec_len};
 
@@ -16,8 +16,8 @@ pub enum WholeFault {
     Memory,
 }
 
-/// Reads a reader to its end, and returns all its bytes. Returns `TooLong` if there are more than `limit`, for which it
-/// asks for one byte more, `Read` if a read fails, and `Memory` if memory runs out.
+/// Reads a reader to its end, and returns all its bytes. Returns `TooLong` if there are more than `limit` bytes, `Read`
+/// if a read fails, and `Memory` if memory runs out. At most `limit` bytes and one more are read.
 pub fn read_whole<R: Read + Drop>(
     alloc: Global,
     reader: R,

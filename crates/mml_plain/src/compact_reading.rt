@@ -1,5 +1,6 @@
-//! Reads objects whose strings have no escapes, from front to back, and a known key four bytes at once. Spaces stand
-//! only after the opening brace, commas and colons, as they do in a line that somebody typed.
+//! Reads JSON objects in the layout that requests usually have. Their strings have no escapes, and spaces come only
+//! after the opening brace, commas and colons, as in a line that somebody typed. Objects are read from front to back,
+//! and the beginning of a known key four bytes at once.
 ghost use Rattle.std.specs.Prelude.{◌≡◌, ◌<◌, ◌^◌, ◌++◌, ◌∷◌, ◌+◌, ℕ, List, [], Some, IfSome, None, true, length, decimal, slice_index, IsUtf8};
 ghost use Rattle.std.specs.Int.{w32, to_be_bytes};
 ghost use Rattle.json.specs.Lex.{tokens};
@@ -12,7 +13,8 @@ ghost use Rattle.mml_plain.specs.declared.member_value.MemberValue.TheVariants.{
 use crate::fields::Fields;
 use crate::member_value::MemberValue;
 
-// The first four bytes after the quotation mark of the keys that most requests have.
+// The first four bytes of each frequent key, after its quotation mark. The quotation mark and the colon after a short
+// key count, too.
 const DO: u32 = 0x646f_223a;
 
 const NODE: u32 = 0x6e6f_6465;
@@ -27,9 +29,9 @@ const KEY: u32 = 0x6b65_7922;
 
 const NAME: u32 = 0x6e61_6d65;
 
-/// Reads a line into `fields`, which must come empty, if the line is an object in the usual layout: strings without
-/// escapes, and spaces only after the opening brace, commas and colons. Returns true if it is; then `fields` has what
-/// the keys name. After false, `fields` may hold anything, and the line may be an object in another layout.
+/// Reads a line into `fields`, which must be empty, if the line is an object in the usual layout: strings without
+/// escapes, and spaces only after the opening brace, commas and colons. Returns true if it is; then `fields` has the
+/// values of its keys. After false, `fields` may hold anything, and the line may be an object in another layout.
 #[inline(always)]
 pub(crate) fn read_compact<'a>(line: &'a [u8], fields: &mut Fields<'a>) -> bool
     requires { Holds fields.old (object no_members) }
@@ -50,8 +52,8 @@ pub(crate) fn read_compact<'a>(line: &'a [u8], fields: &mut Fields<'a>) -> bool
     }
 }
 
-/// Reads the next member of an object, its key and its value, into `fields`. Returns the text after the member, or
-/// `None` if the member isn't in the layout that `read_compact` reads.
+/// Reads the member of an object, a key and its value, at the front of the text into `fields`. Returns the text after
+/// the member, or `None` if the member isn't in the layout that `read_compact` reads.
 #[inline(always)]
 fn member<'a>(text: &'a [u8], fields: &mut Fields<'a>) -> Option<&'a [u8]>
     ensures { IfSome result (λ rest. PutsMember text.now rest.now fields.old fields.new) }
@@ -70,8 +72,9 @@ fn member<'a>(text: &'a [u8], fields: &mut Fields<'a>) -> Option<&'a [u8]>
 }
 
 /// Reads a member whose key is one of the seven most frequent into `fields`, and returns the text after it. `front` has
-/// the four bytes after the quotation mark that opens the key, and `text` is the rest. Returns `None`, and leaves
-/// `fields` as it was, if the key is another one, or if `text_value` or `number_value` doesn't read the key's value.
+/// the first four bytes after the quotation mark that opens the key, and `text` has what comes after them. Returns
+/// `None`, and leaves `fields` as it was, if the key is another one, or if `text_value` or `number_value` doesn't read
+/// the key's value.
 #[inline(always)]
 fn known_value<'a>(front: u32, text: &'a [u8], fields: &mut Fields<'a>) -> Option<&'a [u8]>
     ensures member { IfSome result (λ rest. PutsKnown (to_be_bytes w32 front ++ text.now) rest.now fields.old fields.new) }
@@ -130,8 +133,8 @@ fn any_member<'a>(text: &'a [u8], fields: &mut Fields<'a>) -> Option<&'a [u8]>
     Some(rest)
 }
 
-/// Skips spaces, if any, and a quotation mark, and returns the text after the mark. Returns `None` if no quotation mark
-/// comes.
+/// Skips the spaces at the front, if any, and the quotation mark after them. Returns the text after the mark, or `None`
+/// if there is no quotation mark.
 #[inline(always)]
 fn in_quotes<'a>(text: &'a [u8]) -> Option<&'a [u8]>
     ensures { IfSome result (λ rest. BeginsQuoted text.now rest.now) }
@@ -151,8 +154,8 @@ fn quote_and_colon<'a>(text: &'a [u8]) -> Option<&'a [u8]>
     behind(behind(text, b'"')?, b':')
 }
 
-/// Reads the string that follows a colon, with spaces before it or not. Returns the string, and the text after its
-/// closing quotation mark. Returns `None` if no string comes that `bare_word` reads.
+/// Skips the spaces at the front of the text after a colon, and reads the string there. Returns the string, and the
+/// text after its closing quotation mark. Returns `None` if there is no string that `bare_word` reads.
 #[inline(always)]
 fn text_value<'a>(text: &'a [u8]) -> Option<(&'a str, &'a [u8])>
     ensures { IfSome result (λ r. BeginsAfter text.now (Text r.0) r.1.now) }
@@ -160,8 +163,8 @@ fn text_value<'a>(text: &'a [u8]) -> Option<(&'a str, &'a [u8])>
     bare_word(in_quotes(text)?)
 }
 
-/// Reads the number that follows a colon, with spaces before it or not. Returns the number, and the text after it.
-/// Returns `None` if no number comes that `whole_number` reads.
+/// Skips the spaces at the front of the text after a colon, and reads the number there. Returns the number, and the
+/// text after it. Returns `None` if there is no number that `whole_number` reads.
 #[inline(always)]
 fn number_value<'a>(text: &'a [u8]) -> Option<(u64, &'a [u8])>
     ensures { IfSome result (λ r. BeginsAfter text.now (Number r.0) r.1.now) }
@@ -195,7 +198,7 @@ fn unspaced<'a>(text: &'a [u8]) -> &'a [u8]
     past_spaces(text)
 }
 
-/// Returns the text without the spaces at its front. It is the part of `unspaced` for more than one space, which is
+/// Returns the text without the spaces at its front. `unspaced` calls it if there is more than one space, which is
 /// rare.
 #[inline(never)]
 fn past_spaces<'a>(text: &'a [u8]) -> &'a [u8]
@@ -208,8 +211,8 @@ fn past_spaces<'a>(text: &'a [u8]) -> &'a [u8]
     rest
 }
 
-/// Reads the value at the front: a string without escapes, a whole number, a truth value, null, or an empty array or
-/// object. Returns the value, and the text after it. Returns `None` if another value or none comes.
+/// Reads the value at the front of the text: a string without escapes, a whole number, a truth value, null, or an empty
+/// array or object. Returns the value, and the text after it. Returns `None` if there is no such value.
 #[inline(always)]
 fn member_value<'a>(text: &'a [u8]) -> Option<(MemberValue<'a>, &'a [u8])>
     ensures { IfSome result (λ r. BeginsValue text.now r.0 r.1.now) }
@@ -236,8 +239,8 @@ fn member_value<'a>(text: &'a [u8]) -> Option<(MemberValue<'a>, &'a [u8])>
     empty_value(text)
 }
 
-/// Reads the empty array or the empty object at the front. Returns `Other` for it, and the text after it. Returns
-/// `None` if neither comes.
+/// Reads the empty array or the empty object at the front of the text. Returns `MemberValue::Other`, and the text after
+/// it. Returns `None` if there is neither.
 #[inline(always)]
 fn empty_value<'a>(text: &'a [u8]) -> Option<(MemberValue<'a>, &'a [u8])>
     ensures { IfSome result (λ r. BeginsValue text.now r.0 r.1.now) }
@@ -251,8 +254,9 @@ fn empty_value<'a>(text: &'a [u8]) -> Option<(MemberValue<'a>, &'a [u8])>
     Some((MemberValue::Other, rest))
 }
 
-/// Reads a string, after the quotation mark that opens it. Returns the string, and the text after its closing quotation
-/// mark. Returns `None` if no closing mark comes, or a byte before it is a backslash or isn't from 32 to 127.
+/// Reads a string from the text after the quotation mark that opens it. Returns the string, and the text after its
+/// closing quotation mark. Returns `None` if there is no closing mark, or a byte before it is a backslash or isn't from
+/// 32 to 127.
 #[inline(always)]
 fn bare_word<'a>(text: &'a [u8]) -> Option<(&'a str, &'a [u8])>
     ensures { IfSome result (λ r. (text.now ≡ r.0.now ++ 34 ∷ r.1.now)
@@ -275,8 +279,8 @@ fn bare_word<'a>(text: &'a [u8]) -> Option<(&'a str, &'a [u8])>
     Some((word, &text[end + 1..]))
 }
 
-/// Reads the number at the front, in decimal digits without leading zeros. Returns the number, and the text after it.
-/// Returns `None` if no digit comes first, or the number may need more than 64 bits.
+/// Reads the number at the front of the text, in decimal digits without leading zeros. Returns the number, and the text
+/// after it. Returns `None` if no digit comes first, or the number may need more than 64 bits.
 #[inline(always)]
 fn whole_number<'a>(text: &'a [u8]) -> Option<(u64, &'a [u8])>
     ensures { IfSome result (λ r. (text.now ≡ decimal r.0 ++ r.1.now) × (r.0 < 2 ^ 64)) }
@@ -298,7 +302,7 @@ fn whole_number<'a>(text: &'a [u8]) -> Option<(u64, &'a [u8])>
     Some((number, &text[end..]))
 }
 
-/// Returns the value of the digit at the index `at` of the text, or `None` if no digit stands there.
+/// Returns the value of the digit at the index `at` of the text, or `None` if there is no digit.
 #[inline(always)]
 fn digit(text: &[u8], at: usize) -> Option<u64>
     ensures { IfSome result (λ digit. (digit < 10) × (at < length text.now)

@@ -17,7 +17,8 @@ pub struct Fields<'a> {
     pub rule: Option<&'a str>,
     pub with: Option<u64>,
     pub at: Option<u64>,
-    /// What a register shall point at: `Some(Some(id))` for a node's identifier, `Some(None)` for null.
+    /// What the register p is to be set to: `Some(Some(id))` to point at the node with this identifier, `Some(None)`
+    /// for null.
     pub p: Option<Option<u64>>,
     pub m: Option<bool>,
     pub a: Option<u64>,
@@ -44,8 +45,8 @@ impl<'a> Fields<'a> {
         }
     }
 
-    /// Adds one member of an object. The field of its key, if there is one, becomes the value, or `None` if the value
-    /// is of another kind. Keys of one letter are compared apart, so that fewer comparisons are made.
+    /// Adds one member of an object. If `key` is the key of a field, sets this field to the value, or to `None` if the
+    /// value is of another kind. Keys of one letter are compared apart, so that fewer comparisons are made.
     #[inline(always)]
     pub(crate) fn put(&mut self, key: &str, value: &MemberValue<'a>)
         ensures { self.new ≡ with key.now value.now self.old }

@@ -65,8 +65,8 @@ impl<'a> MemberValue<'a> {
         }
     }
 
-    /// Returns what a register shall point at by this value: `Some(Some(number))` for a number, `Some(None)` for null,
-    /// and `None` if the value is neither a number of 64 bits nor null.
+    /// Returns this value as one of the register p: `Some(Some(number))` for a number, the identifier of a node,
+    /// `Some(None)` for null, and `None` if the value is neither a number of 64 bits nor null.
     #[inline(always)]
     pub(crate) fn register(&self) -> Option<Option<u64>>
         ensures { result ≡ register_in self.now }

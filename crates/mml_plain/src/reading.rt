@@ -15,8 +15,8 @@ use std::alloc::AllocError;
 /// How deep arrays and objects in the members of a line may nest.
 const DEPTH: usize = 126;
 
-/// Reads a line into `fields`, which must come empty. Returns true if the line is an object that `serde_json` would
-/// read; then `fields` has what the keys name. Returns false if it isn't; then `fields` may hold anything. Returns
+/// Reads a line into `fields`, which must be empty. Returns true if the line is an object that `serde_json` would read;
+/// then `fields` has the values of its keys. Returns false if it isn't; then `fields` may hold anything. Returns
 /// `AllocError` if `scratch` has no room for the line and memory runs out.
 pub fn read_fields<'a>(
     line: &'a [u8],
@@ -35,9 +35,9 @@ pub fn read_fields<'a>(
     read_tokens(line, scratch, fields)
 }
 
-/// Reads a line into `fields`, whatever they hold before, token by token. It is the slower way of `read_fields`, for a
-/// line that `read_compact` doesn't read, and returns the same: true if the line is an object, and false if it isn't.
-/// Returns `AllocError` if `scratch` has no room for the line and memory runs out.
+/// Reads a line into `fields`, whatever they hold before, token by token. It returns the same as `read_fields`, which
+/// calls it for lines that `read_compact` doesn't read: true if the line is an object, and false if it isn't. Returns
+/// `AllocError` if `scratch` has no room for the line and memory runs out.
 #[inline(never)]
 fn read_tokens<'a>(
     line: &'a [u8],
@@ -57,8 +57,8 @@ fn read_tokens<'a>(
     Ok(read_object(&mut reader, fields))
 }
 
-/// Reads the tokens to come as one object into `fields`, which must come empty. Returns true if they are an object with
-/// nothing after it; then `fields` has what its keys name.
+/// Reads the remaining tokens as one object into `fields`, which must be empty. Returns true if they are an object with
+/// nothing after it; then `fields` has the values of its keys.
 #[inline(always)]
 fn read_object<'a>(reader: &mut Reader<'a>, fields: &mut Fields<'a>) -> bool
     requires { Holds fields.old (object no_members) }
@@ -71,8 +71,8 @@ fn read_object<'a>(reader: &mut Reader<'a>, fields: &mut Fields<'a>) -> bool
     }
 }
 
-/// Reads the members of an object, after its opening brace, into `fields`, which must come empty. Returns true if the
-/// object ends, and nothing comes after it; then `fields` has what the keys name.
+/// Reads the members of an object, after its opening brace, into `fields`, which must be empty. Returns true if the
+/// object ends, and nothing comes after it; then `fields` has the values of its keys.
 #[inline(always)]
 fn read_members<'a>(reader: &mut Reader<'a>, fields: &mut Fields<'a>) -> bool
     requires { Holds fields.old (object no_members) }
@@ -104,7 +104,7 @@ fn is_over(reader: &mut Reader<'_>) -> bool
     reader.next().is_none()
 }
 
-/// Reads the next value. Arrays and objects are skipped, and returned as `Other`. Returns `None` if `serde_json`
+/// Reads the next value. Returns `Other` for an array or an object, which is skipped. Returns `None` if `serde_json`
 /// wouldn't read the value, or its arrays and objects nest deeper than `depth`.
 #[cycle(nested)]
 #[inline(always)]
@@ -146,8 +146,8 @@ fn read_value<'a>(reader: &mut Reader<'a>, depth: usize) -> Option<MemberValue<'
     }
 }
 
-/// Skips the rest of an array, after its opening bracket. Returns whether it was an array whose values nest no deeper
-/// than `depth`.
+/// Skips an array, of which the opening bracket was read. Returns whether it was a valid array whose values nest no
+/// deeper than `depth`.
 #[cycle(nested)]
 #[inline(never)]
 fn pass_items(reader: &mut Reader<'_>, depth: usize) -> bool
@@ -164,8 +164,8 @@ fn pass_items(reader: &mut Reader<'_>, depth: usize) -> bool
     true
 }
 
-/// Skips the rest of an object, after its opening brace. Returns whether it was an object whose values nest no deeper
-/// than `depth`.
+/// Skips an object, of which the opening brace was read. Returns whether it was a valid object whose values nest no
+/// deeper than `depth`.
 #[cycle(nested)]
 #[inline(never)]
 fn pass_members(reader: &mut Reader<'_>, depth: usize) -> bool

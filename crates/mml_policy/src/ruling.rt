@@ -53,10 +53,11 @@ impl Ruling {
     }
 }
 
-/// Returns the ruling on a command of `who`. If a clause doesn't hold, it is the denial of the first that doesn't. A
-/// see or a look is ruled with what it shows, and a report with `Reported`, for which the caller makes the report. An
-/// act is granted, with its event and the event's effect, unless there are `limit` events already, which is `Full`, or
-/// else the journal is halted, which is `Journal`. Only a look allocates. Returns `Memory` if memory runs out.
+/// Returns the ruling on a command of `who`. If a clause doesn't hold, the ruling is the denial of the first that
+/// doesn't. If all hold, the ruling on a see or a look has what it shows. That on a report is `Reported`, and the
+/// caller makes the report. That on an act is `Full` if there are `limit` events already, or else `Journal` if the
+/// journal is halted (`is_halted`). Otherwise it is the granted event with its effect. Only a look allocates. Returns
+/// `Memory` if memory runs out.
 // It isn't inlined: inlined, it took other steps for a hidden node than for one that doesn't exist.
 #[inline(never)]
 pub fn rule_on(

@@ -35,8 +35,9 @@ pub fn certify(board: &Board, a: Rank, b: Rank) -> (Rank, Kind)
 }
 
 /// Returns the witness of a link between two free nodes (in no pair), `a` and a greater `b`: a privileged node, and the
-/// rule that is enabled there. It is what the walk from `a` finds; if that finds none, what the walk from `b` finds;
-/// and else `a` itself with a seduction. `kinds` has by rank the rule that is enabled at each node.
+/// rule that is enabled there. It is the node that `walk` finds from `a`, or, if it finds none, the one that it finds
+/// from `b`. If it finds none there either, it is `a` with a seduction. `kinds` has by rank the rule that is enabled at
+/// each node.
 #[tactic(auto, unfolding(crate::specs::Walk::certificate))]
 pub(crate) fn witness(board: &Board, kinds: &[Option<Kind>], a: Rank, b: Rank) -> (Rank, Kind)
     requires kinds { AreKinds (configuration board.now) kinds.now }
@@ -50,8 +51,9 @@ pub(crate) fn witness(board: &Board, kinds: &[Option<Kind>], a: Rank, b: Rank) -
     walk(board, kinds, b).unwrap_or((a, Kind::Seduction))
 }
 
-/// Follows the pointers from `node`, as `top` does. Returns the node at which that ends, with the rule that is enabled
-/// there. Returns `None` if no rule is enabled there, or a seduction.
+/// Follows the pointers from `node` to the first node that is privileged or points at no node, as `top` does. Returns
+/// this node with the rule that is enabled there. Returns `None` if no rule is enabled there, or a seduction. `kinds`
+/// has by rank the rule that is enabled at each node.
 fn walk(board: &Board, kinds: &[Option<Kind>], node: Rank) -> Option<(Rank, Kind)>
     requires kinds { AreKinds (configuration board.now) kinds.now }
     requires node { node < length board.now.network.registers }
@@ -64,9 +66,9 @@ fn walk(board: &Board, kinds: &[Option<Kind>], node: Rank) -> Option<(Rank, Kind
     }
 }
 
-/// Follows the pointers from `node` to the first node that is privileged or points at no node. Returns it, with the
-/// rule that is enabled there, if one is. After as many steps as there are nodes, returns the node that is reached
-/// then. `kinds` has by rank the rule that is enabled at each node.
+/// Follows the pointers from `node` to the first node that is privileged or points at no node. Returns this node, with
+/// the rule that is enabled there, if one is. If no such node comes in as many steps as there are nodes, returns the
+/// node that the last step reached. `kinds` has by rank the rule that is enabled at each node.
 fn top(board: &Board, kinds: &[Option<Kind>], node: Rank) -> (Rank, Option<Kind>)
     requires kinds { AreKinds (configuration board.now) kinds.now }
     requires node { node < length board.now.network.registers }

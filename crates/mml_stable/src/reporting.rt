@@ -32,8 +32,8 @@ pub fn report(alloc: Global, board: &Board) -> Result<Report, Memory>
     report_lists(alloc, board)
 }
 
-/// Returns the report on the board's configuration. It is `report` without one clause, that the report names only nodes
-/// of the board, which is proved there. Returns `Memory` if memory runs out.
+/// Returns the report on the board's configuration. Its contract doesn't say that the report names only nodes of the
+/// board, which that of `report` does. Returns `Memory` if memory runs out.
 fn report_lists(alloc: Global, board: &Board) -> Result<Report, Memory>
     ensures { IfOk result (λ report. report ≡ report_of board.now) }
 {
