@@ -10,8 +10,8 @@ use std::io::{Error as IoError, ErrorKind};
 /// Why a file of a run, a journal or a record, couldn't be opened or used.
 #[derive(Clone, Copy, Debug, PartialEq, Eq)]
 pub enum FileFault {
-    /// It can't be opened, made, locked, kept, read or written, another program writes it, or it is another file of the
-    /// run too.
+    /// The file can't be opened, made, locked, kept under another name, read or written; or another program writes it;
+    /// or it is also used as another file of the run.
     Refused,
     /// Memory ran out.
     Memory,

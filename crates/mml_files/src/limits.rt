@@ -22,7 +22,7 @@ pub fn has_small_stacks() -> bool {
     limit_of(STACK) < NEEDED
 }
 
-// Returns the system's limit, in bytes, on the resource with the number `what`, or `u64::MAX` if the system sets or
+// Returns the system's limit on the resource with the number `what`, in bytes, or `u64::MAX` if the system sets or
 // reports none.
 fn limit_of(what: i32) -> u64 {
     let mut limit = rlimit {

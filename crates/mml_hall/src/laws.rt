@@ -22,8 +22,8 @@ use crate::MAX_SCRIPT_LINE;
 
 pub mod audit;
 
-/// The script lines of a transcript are the first lines of the bytes that were read for it. This holds whatever bytes
-/// follow; if these have no newline, there are no other lines.
+/// The script lines of a transcript are the first lines of the bytes that were read for it, whatever bytes follow. If
+/// the bytes that follow have no newline, they are all the lines.
 pub fn lines_of_a_transcript()
     ensures first { (lab : LabValue) (t : Transcript lab) (rest : List ℕ)
         → lab.sessions ≤ MAX_SESSIONS
@@ -76,7 +76,7 @@ pub fn others_stay_known()
         → known_on out.state other ≡ known_on st other }
 {}
 
-/// The most bytes of a script line, as a number.
+/// The number of bytes that a script line may have at most.
 pub fn limit_of_script_lines()
     ensures { MAX_SCRIPT_LINE ≡ 4099 }
 {}

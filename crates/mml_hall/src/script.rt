@@ -1,3 +1,7 @@
+//! The run of a script: its lines are answered one by one, and the replies are written.
+//!
+//! A script is a list of request lines, each after the number of its connection. A hall has the state of all its
+//! connections. The replies that are buffered in `outgoing` and not yet written are held.
 ghost use Rattle.std.specs.Prelude.{◌≡◌, ◌≢◌, ◌+◌, ◌-◌, ◌^◌, ◌<◌, ◌≤◌, ◌++◌, ◌∷◌, [], length, decimal, None, OnOk, IfOk, IfErr, vec_capacity};
 ghost use Rattle.std.specs.Io.KnownBytes.{prepend_known};
 ghost use Rattle.mml_lines.specs.declared.lines.TheConstants.{READ_SIZE};
@@ -59,10 +63,10 @@ impl From<WriteFault> for ScriptFault {
     }
 }
 
-/// Answers the lines of a script, one by one, in a hall of the lab. Returns the hall at the end of the input, or why
-/// the script ended before. Replies are buffered: the writer is flushed only before the next line needs a read, and
-/// before a bad line is reported. The lines of the granted events go to the sink, which is dropped with the hall if an
-/// error ends the script.
+/// Answers the lines of a script, one by one, in a hall of the lab. Returns the hall at the end of the input, or the
+/// reason why the script ended before. Replies are buffered: the writer is flushed only before the next line needs a
+/// read, and before a bad line is reported. The lines of the granted events go to the sink, which is dropped with the
+/// hall if an error ends the script.
 pub fn run_script<R: Read, W: Write, S: Sink + Drop>(
     alloc: Global,
     lab: Lab,
@@ -330,7 +334,7 @@ fn serve_script_line<W: Write, S: Sink>(
     tell_apart(alloc, rest, line.front, out, outgoing, writer)
 }
 
-// A reply as the rest of an output line, which comes after the connection's number.
+// A reply as the part of an output line after the connection's number.
 #[derive(Clone, Copy)]
 struct ReplyRest<'a> {
     lab: &'a Lab,

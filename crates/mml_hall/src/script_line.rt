@@ -1,3 +1,4 @@
+//! The lines of a script.
 ghost use Rattle.std.specs.Prelude.{◌≡◌, ◌≢◌, ℕ, ◌<◌, ◌≤◌, ◌+◌, ◌++◌, ◌∷◌, [], List, length, slice_index, decimal, IfSome, IfNone, MatchOption};
 ghost use Rattle.mml_lab.specs.declared.TheConstants.{MAX_SESSIONS};
 ghost use Rattle.mml_codec.specs.declared.TheConstants.{MAX_REQUEST};
@@ -69,7 +70,7 @@ fn digit_at(line: &[u8], index: usize) -> Option<u8>
 }
 
 // Returns the request of a script line, which comes after the number `connection` and one space. Returns `None` if the
-// line doesn't begin with these, or the request is too long.
+// line doesn't begin with this number and a space, or the request is too long.
 fn short_request_on(connection: u8, line: &[u8]) -> Option<&[u8]>
     requires number { connection < 100 }
     requires line { IsUnbroken line.now }
@@ -88,7 +89,7 @@ fn short_request_on(connection: u8, line: &[u8]) -> Option<&[u8]>
 }
 
 // Returns the bytes of a line after the number `connection` and one space, or `None` if the line doesn't begin with
-// these.
+// this number and a space.
 fn request_on(connection: u8, line: &[u8]) -> Option<&[u8]>
     requires { connection < 100 }
     ensures { MatchOption result

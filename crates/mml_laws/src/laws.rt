@@ -1,4 +1,4 @@
-//! Laws of the chain, by their subjects. Each is the contract of a function that does nothing.
+//! Laws about whole runs, by their subjects. Each is the contract of a function that does nothing.
 
 pub mod choices;
 pub mod classes;

@@ -1,4 +1,4 @@
-//! The laws of the project that a class would cite. Each can be read alone.
+//! The laws of the project that a teacher would cite in a class. Each can be read alone.
 #![tactic(auto)]
 
 pub mod laws;

@@ -7,8 +7,8 @@ use std::alloc::Global;
 use std::io;
 use std::sync::{Arc, Wait};
 
-/// What the parts of a connection (its reader, its writer and its cut-off) share: the host's state, the crowd at its
-/// port, and its socket.
+/// What the parts of a connection (its reader, its writer and its cut-off) share: the host's state, the crowd (the list
+/// of the connections that are served at its port), and its socket.
 #[derive(Drop)]
 pub struct SharedConnection<'a, Rt> {
     pub rt: &'a Rt,
@@ -20,7 +20,7 @@ pub struct SharedConnection<'a, Rt> {
 }
 
 impl<'a, Rt> SharedConnection<'a, Rt> {
-    /// Returns another handle of this connection, over the same socket, for one more of its parts. Returns an error if
+    /// Returns another handle of this connection, with the same socket, for one more of its parts. Returns an error if
     /// memory runs out.
     pub fn share(&self) -> io::Result<SharedConnection<'a, Rt>> {
         let socket = Arc::try_clone(&self.socket)?;

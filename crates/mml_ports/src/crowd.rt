@@ -1,6 +1,7 @@
 //! The connections that are served at a port, and which of them has to leave if a new one needs a seat.
 //!
 //! A seat serves one connection after another, each through the seat's window. A guest is a connection that is served.
+//! A stranger is a guest whose hello wasn't granted and who isn't leaving; at the desk only the teacher's hello counts.
 ghost use Rattle.std.specs.Prelude.{◌<◌, IfSome, vec_len};
 
 use crate::end_reason::EndReason;
@@ -13,7 +14,7 @@ use std::sync::atomic::{AtomicBool, Ordering};
 use std::sync::{Arc, Mutex, Wait};
 use std::time::{Clock, Duration, Instant};
 
-// Strangers may hold one in this many seats.
+// Strangers may hold one seat in this many, and at least one.
 const STRANGERS: usize = 3;
 
 // How many seats connections of one participant may hold while others wait for a seat.
@@ -37,14 +38,14 @@ struct Guest {
 }
 
 impl Guest {
-    // Returns whether the guest is a stranger. A stranger's hello wasn't granted (at the desk, only the teacher's
+    // Returns whether the guest is a stranger: whether its hello wasn't granted (at the desk, only the teacher's
     // counts), and it isn't leaving.
     fn is_stranger(&self) -> bool {
         self.greeting.is_none() && !self.is_leaving
     }
 
-    // Returns whether the guest is a stranger who may be sent away: it was answered or denied, or has been here for
-    // `GRACE` milliseconds. It needs no seat to wait for the delayed reply that denies its hello.
+    // Returns whether the guest is a stranger who may be sent away: one who was answered or denied, or has been here
+    // for `GRACE` milliseconds. A stranger needs no seat to wait for the delayed reply that denies its hello.
     fn may_go(&self, now: Instant) -> bool {
         self.is_stranger()
             && (self.socket.is_answered.load(Ordering::SeqCst)
@@ -90,8 +91,8 @@ impl Crowd {
         }
     }
 
-    /// Adds a connection to the guests, which is served from the instant `since` on. Returns `Memory`, and doesn't add
-    /// it, if memory runs out.
+    /// Adds a connection to the guests. It is served from the instant `since` on. Returns `Memory`, and doesn't add it,
+    /// if memory runs out.
     pub fn note_served<Rt: Wait>(
         &self,
         rt: &Rt,
@@ -139,9 +140,9 @@ impl Crowd {
         self.is_wanted.load(Ordering::SeqCst)
     }
 
-    /// If a new connection waits for a seat, sends away a stranger, if `let_stranger_go` finds one. Is called after a
-    /// connection was answered, or when its hello is denied, since it may be the one that can leave. Does nothing if
-    /// the clock fails.
+    /// If a new connection waits for a seat, sends away a stranger, if `let_stranger_go` finds one. Does nothing if the
+    /// clock fails. It is called after a connection was answered, or when the hello of a connection is denied, since
+    /// this connection may then be sent away.
     pub fn make_room<Rt: Wait + Clock>(&self, rt: &Rt) {
         if self.is_wanted()
             && let Ok(now) = Instant::now(rt)
@@ -157,8 +158,8 @@ impl Crowd {
     }
 
     // Sends away the first stranger that `may_go`, if strangers hold all the seats that they may, or if no seat is free
-    // and nobody is leaving. The second case concerns few strangers who hold the last seats: otherwise they would keep
-    // these until their deadlines.
+    // and nobody is leaving. Without the second condition, few strangers could keep the last seats until their
+    // deadlines.
     fn let_stranger_go<Rt: Wait>(&self, rt: &Rt, guests: &mut Vec<Guest>, now: Instant) {
         let is_full = guests.len() >= self.seats && !is_one_leaving(guests);
         if (is_full || self.is_share_taken(guests))
@@ -178,9 +179,10 @@ impl Crowd {
     }
 
     /// Returns whether there is a seat for a new connection: one is free, and strangers don't hold all that they may.
-    /// If not, tries to free one: sends away a stranger, if `let_stranger_go` finds one. If there aren't too many
-    /// strangers, new connections have waited for `MOMENT` or longer (`wanted`), and nobody is leaving, also sends away
-    /// the last guest whose participant has too many seats.
+    /// If there is none, tries to free one, and returns `false`. First sends away a stranger, if `let_stranger_go`
+    /// finds one. Then sends away the last guest whose participant has too many seats, if three conditions hold:
+    /// strangers don't hold all the seats that they may, new connections have waited for `MOMENT` or longer (`wanted`
+    /// is how long), and nobody is leaving.
     pub fn finds_room<Rt: Wait>(&self, rt: &Rt, now: Instant, wanted: Duration) -> bool {
         let mut guests = self.guests.lock(rt);
         let is_share_taken = self.is_share_taken(&guests);

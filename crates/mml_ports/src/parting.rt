@@ -1,6 +1,7 @@
 //! Connections that have left their seats (or never had one) and aren't closed yet.
 //!
-//! A seat serves one connection after another, each through the seat's window.
+//! A seat serves one connection after another, each through the seat's window. The turn of a denial is the time before
+//! which it isn't sent.
 use crate::end_reason::EndReason;
 use std::alloc::Global;
 use std::collections::VecDeque;
@@ -36,9 +37,9 @@ struct Parting {
 
 impl Parting {
     // Does the next step for the connection if it is due. Before that time, returns the connection unchanged. If
-    // everything was sent, closes it, and returns `None`. Otherwise sends the denial of its hello and the line of
-    // `Busy`, and shuts down its writing side. Then returns it, to be closed later, or `None` if `closing` has closed
-    // it already.
+    // everything was sent, closes the connection, and returns `None`. Otherwise sends the denial of its hello and the
+    // line of `Busy`, and shuts down its writing side. Then returns the connection, to be closed later, or `None` if
+    // `closing` has closed it already.
     fn step(self, now: Instant) -> Option<Parting> {
         if now < self.next {
             return Some(self);
@@ -88,9 +89,9 @@ pub(crate) fn tell(stream: &TcpStream, line: &[u8]) {
     let _ = stream.write(line);
 }
 
-/// Reads and drops up to 4096 bytes of what the other side sent. Without this, closing the socket would discard what it
-/// has still to send. Waits for at most the stream's read timeout. Returns whether the other side may send more:
-/// `false` if it has ended or is gone.
+/// Reads and drops up to 4096 bytes of what the other side sent. Without this, closing the socket would discard the
+/// bytes that the system has still to send. Waits for at most the stream's read timeout. Returns whether the other side
+/// may send more: `false` if it has ended or is gone.
 pub(crate) fn take_unwanted(stream: &TcpStream) -> bool {
     let mut stream = stream;
     let mut unwanted = [0; PARTING_SIZE];
@@ -100,8 +101,9 @@ pub(crate) fn take_unwanted(stream: &TcpStream) -> bool {
     }
 }
 
-/// The connections that have left a port and aren't closed yet. To some, the denial of their hello is still to be sent.
-/// The others were sent everything, and get some milliseconds to read it. Nothing here waits for the other side.
+/// The connections that have left a port and aren't closed yet. Some of them are still to be sent the denial of their
+/// hello. The other ones were sent everything, and get some milliseconds to read it. No function of this type waits for
+/// the other side to read or send.
 #[derive(Drop)]
 pub struct Partings {
     all: Mutex<VecDeque<Parting>>,
@@ -120,8 +122,8 @@ impl Partings {
         self.all.lock(rt).is_empty()
     }
 
-    /// Adds a connection that has left its seat, to send it the denial of its hello at the time `turn`. Closes it
-    /// without that if memory runs out, or the system refuses non-blocking use.
+    /// Adds a connection that has left its seat, to send it the denial of its hello at the time `turn`. If memory runs
+    /// out, or the system can't make the stream non-blocking, closes the connection without sending the denial.
     pub fn add_owed<Rt: Wait>(&self, rt: &Rt, stream: TcpStream, turn: Instant) {
         if stream.set_nonblocking(true).is_err() {
             return;
@@ -134,9 +136,9 @@ impl Partings {
         let _ = self.all.lock(rt).push_back(parting);
     }
 
-    /// Sends a connection the reason why it ends, if one is given and its line fits at once. Shuts down the writing
-    /// side, and adds the connection to the list, so that the other side has time to read. Closes it at once if memory
-    /// runs out, the clock fails, or the system refuses non-blocking use.
+    /// Sends a connection the line of the reason `why` it ends, if there is one and the line fits at once. Shuts down
+    /// the writing side, and adds the connection to the list, so that the other side has time to read. Closes it at
+    /// once if memory runs out, the clock fails, or the system can't make the stream non-blocking.
     pub fn add_ending<Rt: Wait + Clock>(&self, rt: &Rt, stream: TcpStream, why: Option<EndReason>) {
         if stream.set_nonblocking(true).is_err() {
             return;
@@ -151,8 +153,8 @@ impl Partings {
         }
     }
 
-    // Adds a connection to which everything was sent, until it is due to be closed. If there are `MANY_PARTINGS` or
-    // more already, first closes the oldest of those. If memory runs out, closes the new one at once.
+    // Adds a connection to which everything was sent, until it is due to be closed. If the list has `MANY_PARTINGS` or
+    // more such connections already, first closes the oldest of them. If memory runs out, closes the new one at once.
     fn keep<Rt: Wait>(&self, rt: &Rt, parting: Parting) {
         let mut all = self.all.lock(rt);
         if all.len() >= MANY_PARTINGS

@@ -1,7 +1,8 @@
 //! A host's port, which accepts connections and chooses the next to be served. Contracts can't name the bytes of
 //! sockets.
 //!
-//! A seat serves one connection after another, each through the seat's window.
+//! A seat serves one connection after another, each through the seat's window. A newcomer is a connection that waits
+//! for a seat, and a guest is one that has a seat.
 use crate::connection::SharedConnection;
 use crate::crowd::Crowd;
 use crate::end_reason::EndReason;
@@ -32,7 +33,7 @@ const SILENCE: u64 = 5;
 // How often the host tries to connect to its own port, to wake the accept there.
 const CALLS: u32 = 50;
 
-// How many milliseconds it waits for each of these.
+// How many milliseconds it waits for each of these connections.
 const CALL: u64 = 100;
 
 // A newcomer: a connection that was accepted, and waits for a seat.
@@ -57,8 +58,8 @@ impl<'a, Rt: Clock + Wait + Eprint> Newcomer<'a, Rt> {
         newcomer.writer.hang_up();
     }
 
-    // Returns what the newcomer has sent, without reading it. Checks the socket only until a line is found. The first
-    // check sets its reads not to wait.
+    // Returns what the newcomer has sent, without taking it from the socket. Checks the socket only until a line is
+    // found. The first check sets the socket's reads not to wait.
     fn hear(&mut self) -> Heard {
         let SharedConnection {
             rt,
@@ -171,8 +172,9 @@ impl<'a, Rt: Clock + Wait + Eprint> Port<'a, Rt> {
         })
     }
 
-    // Returns the stream of the next connection: the one that was accepted before the port was served, or one that
-    // comes. Doesn't wait for that if the port `is_hurried`.
+    // Returns the stream of the next connection: the one that was accepted before the port was served, or one that is
+    // accepted now. If the port `is_hurried`, doesn't wait for a connection, and returns the error `WouldBlock` if none
+    // has come.
     fn next_stream(&mut self) -> io::Result<TcpStream> {
         match self.first.take() {
             Some(stream) => Ok(stream),
@@ -201,8 +203,7 @@ impl<'a, Rt: Clock + Wait + Eprint> Port<'a, Rt> {
 
     // Returns the next newcomer to serve, if there is a seat. If there is none, has the crowd send a guest away, if one
     // must leave; turns away the first newcomer if it has waited for half a second; and returns `None`. Notes in the
-    // crowd whether a newcomer waits for a seat. Also returns `None` if there are no newcomers, or if the clock fails,
-    // when nothing else is done.
+    // crowd whether a newcomer waits for a seat. If there are no newcomers, or the clock fails, only returns `None`.
     fn let_in(&mut self) -> Option<Brought<'a, Rt>> {
         let Some(first) = self.waiting.front() else {
             self.wanted_since = None;
@@ -312,8 +313,8 @@ impl<'a, Rt: Clock + Wait + Eprint> Port<'a, Rt> {
 
     // Prepares the next accept after one that failed with this kind of error. If memory ran out, notes that. If the
     // system refused the accept, frees descriptors: closes connections that were sent everything, and turns the first
-    // newcomer away. Unless a signal or the other side broke off the accept, waits for at most a tenth of a second
-    // until more than `ended` sessions have ended.
+    // newcomer away. Then waits for at most a tenth of a second until more than `ended` sessions have ended. It doesn't
+    // wait if a signal or the other side broke off the accept.
     fn put_off(&mut self, kind: ErrorKind, ended: u64) {
         match kind {
             ErrorKind::OutOfMemory => self.state.note_memory(self.rt),

@@ -28,14 +28,14 @@ pub(crate) enum Heard {
 /// is taken out, and from then on each read and each write fails.
 #[derive(Drop)]
 pub struct SharedSocket {
-    /// Its number among the connections of its port.
+    /// The number of the connection among those of its port.
     pub number: u64,
     pub(crate) stream: RwLock<Option<TcpStream>>,
-    // Whether its session has begun to read, so that the connection is served.
+    // Whether the connection's session has begun to read, so that the connection is served.
     pub(crate) is_served: AtomicBool,
     // Whether a hello was granted.
     pub(crate) is_greeted: AtomicBool,
-    // Whether the teacher's hello was granted here, and here is the desk.
+    // Whether this is a connection at the desk, and the teacher's hello was granted on it.
     pub(crate) is_teachers: AtomicBool,
     // Whether the connection is no stranger any more: a hello was granted, and at the desk the teacher's.
     pub(crate) may_stay: AtomicBool,
@@ -44,11 +44,11 @@ pub struct SharedSocket {
     pub(crate) is_farewell: AtomicBool,
     // Whether a reply was sent.
     pub(crate) is_answered: AtomicBool,
-    // How many of its hellos were denied.
+    // How many hellos of the connection were denied.
     denied: AtomicU64,
     // Whether the next reply to write is the denial of a hello.
     is_denial_next: AtomicBool,
-    // Whether its thread is writing. If so, a thread that ends the connection breaks off the write.
+    // Whether the connection's own thread is writing. If so, a thread that ends the connection breaks off the write.
     is_writing: AtomicBool,
     // Whether another thread is ending the connection.
     is_ending: AtomicBool,
@@ -101,8 +101,8 @@ impl SharedSocket {
         }
     }
 
-    /// Returns what the other side has sent, judged by the first 512 bytes, which stay unread. Returns `Nothing` if the
-    /// stream was taken out, or can't be checked. Reads must be set not to wait.
+    /// Returns what the other side has sent, judged by its first 512 bytes, which stay in the socket. Returns `Nothing`
+    /// if the stream was taken out, or can't be checked. The socket's reads must be set not to wait.
     pub(crate) fn hear<Rt: Wait>(&self, rt: &Rt, alloc: Global) -> Heard {
         let stream = self.stream.read(rt);
         match &*stream {
@@ -132,8 +132,8 @@ impl SharedSocket {
         }
     }
 
-    // Keeps the reason, unless there is one already, notes that the connection is being ended, and wakes the thread
-    // that waits for that. The lock on the reason is held all the time, so that the woken thread finds the reason.
+    // Keeps the reason, unless there is one already, notes that the connection is being ended, and wakes a thread that
+    // waits in `wait_for_end`. The lock on the reason is held all the time, so that the woken thread finds the reason.
     fn begin_end<Rt: Wait>(&self, rt: &Rt, why: EndReason) {
         let mut reason = self.end_reason.lock(rt);
         if reason.is_none() {
@@ -152,7 +152,7 @@ impl SharedSocket {
             });
     }
 
-    /// Notes that a write begins, and returns whether it may: `false` if another thread is ending the connection.
+    /// Notes that a write begins. Returns whether it may begin: `false` if another thread is ending the connection.
     pub(crate) fn begin_write(&self) -> bool {
         self.is_writing.store(true, Ordering::SeqCst);
         !self.is_ending.load(Ordering::SeqCst)
@@ -169,8 +169,8 @@ impl SharedSocket {
         self.is_denial_next.store(true, Ordering::SeqCst);
     }
 
-    /// Returns whether the next reply to write is the denial of a hello, and clears that note, so that each denial is
-    /// delayed once.
+    /// Returns whether the next reply to write is the denial of a hello. Afterwards it isn't noted any more that this
+    /// is so; so each denial is delayed once.
     pub(crate) fn take_denial(&self) -> bool {
         self.is_denial_next.swap(false, Ordering::SeqCst)
     }
@@ -187,9 +187,9 @@ impl SharedSocket {
     }
 }
 
-// Returns what has come at a socket whose reads don't wait, judged by the first 512 bytes, which stay unread. Returns
-// `Nothing` if they contain no whole line, or the system refuses the check. If memory runs out, a hello counts as any
-// other line.
+// Returns what has come at a socket whose reads don't wait, judged by its first 512 bytes, which stay in the socket.
+// Returns `Nothing` if they contain no whole line, or the system refuses the check. If memory runs out, a hello counts
+// as any other line.
 fn heard_at(stream: &TcpStream, alloc: Global) -> Heard {
     let mut seen = [0; GLANCE];
     let Ok(count) = stream.peek(&mut seen) else {

@@ -31,8 +31,8 @@ enum FirstLine {
 }
 
 /// The reading end of a connection. A read fails if the line takes too long, even if single bytes of it come. Until a
-/// hello is granted (at the desk the teacher's), a read returns at most one line, and fails ten seconds after the
-/// beginning, at the desk five, whatever is sent.
+/// hello is granted (at the desk the teacher's), a read returns at most one line. In this time a read fails ten seconds
+/// after the beginning of the connection, and at the desk five seconds after it, whatever is sent.
 #[derive(Drop)]
 pub struct SocketReader<'a, Rt> {
     pub(crate) connection: SharedConnection<'a, Rt>,
@@ -40,7 +40,8 @@ pub struct SocketReader<'a, Rt> {
     deadline: Option<Instant>,
     // How long each line after the hello may take, or `None` if it may take any time.
     patience: Option<Duration>,
-    // Whether the connection is no stranger any more, as the last read has seen it.
+    // Whether the connection was no stranger any more at the last read: whether a hello was granted (at the desk, the
+    // teacher's).
     may_stay: bool,
     // How the first line begins.
     first: FirstLine,
@@ -142,9 +143,9 @@ impl<'a, Rt: Clock + Wait> SocketReader<'a, Rt> {
         }
     }
 
-    // Notes the bytes that were read. Counts those of the current line; if a request can't have so many, keeps `Long`
-    // as the reason of the end. Notes how the first line begins. If a line ended after the hello was granted, restarts
-    // the deadline. Returns an error if the clock fails.
+    // Notes the bytes that were read. Counts those of the current line; if there are more than a request may have,
+    // keeps `Long` as the reason of the end. Notes how the first line begins. If a line ended after the hello was
+    // granted, restarts the deadline. Returns an error if the clock fails.
     fn note_bytes(&mut self, bytes: &[u8]) -> io::Result<()> {
         let mut has_line = false;
         let mut is_long = false;
@@ -224,7 +225,8 @@ impl<'a, Rt: Clock + Wait> Read for SocketReader<'a, Rt> {
     }
 }
 
-// Returns how many of the first `count` bytes belong to the first line, with its newline: all if no line ends there.
+// Returns how many of the first `count` bytes belong to the first line, with its newline. If no line ends there,
+// returns `count`.
 fn end_of_line(bytes: &[u8], count: usize) -> usize
     ensures { result ≤ length bytes.now }
 {

@@ -43,9 +43,9 @@ impl<'a, Rt: Wait> SocketReplies<'a, Rt> {
 }
 
 impl<'a, Rt: Wait> ReplyObserver for SocketReplies<'a, Rt> {
-    // Notes what a reply means for the connection. The first granted hello is handled by `note_greeting`. A denial of a
-    // hello's name and key before that is counted, and the writer will delay it. The reply to the teacher's bye at the
-    // desk is noted as the one that dismisses the class. Any other reply is ignored.
+    // Notes what a reply means for the connection. The first granted hello is handled by `note_greeting`. Before that,
+    // a denial of a hello's name and key is counted, and the writer will delay it. The reply to the teacher's bye at
+    // the desk is noted as the one that dismisses the class. Any other reply is ignored.
     fn note_reply(&mut self, reply: &Reply) {
         let socket = &self.connection.socket;
         let is_greeted = socket.is_greeted.load(Ordering::SeqCst);

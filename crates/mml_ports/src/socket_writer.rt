@@ -1,4 +1,8 @@
 //! The writing end of a connection. It delays denials of hellos, and sends the reason when the connection ends.
+//!
+//! The turn of a denial is the time before which it isn't sent. A stranger is a connection on which no hello was
+//! granted; at the desk only the teacher's counts. The seat of a connection is the part of the server that serves it,
+//! and then other connections.
 ghost use Rattle.std.specs.Prelude.{◌≡◌};
 ghost use Rattle.std.specs.Io.{WritesAtMost};
 
@@ -42,8 +46,8 @@ pub struct SocketWriter<'a, Rt> {
 
 impl<'a, Rt: Clock + Wait + Eprint> SocketWriter<'a, Rt> {
     // Counts a denial of a name and key before it is sent, and prints the count on standard error if
-    // `HostState::note_denial` returns it. Makes room for a new connection, waits until the denial's turn as
-    // `wait_for_turn` does, and returns that turn. Returns an error if the clock fails.
+    // `HostState::note_denial` returns it. Has the crowd make room for a new connection, waits until the denial's turn
+    // as `wait_for_turn` does, and returns that turn. Returns an error if the clock fails.
     fn delay_denial(&self) -> io::Result<Instant> {
         let SharedConnection {
             rt,
@@ -63,8 +67,8 @@ impl<'a, Rt: Clock + Wait + Eprint> SocketWriter<'a, Rt> {
         Ok(turn)
     }
 
-    // Notes that a reply was sent. If the connection is a stranger, it may now have to leave, if a new one needs its
-    // seat.
+    // Notes that a reply was sent. If the connection is a stranger, it may now be sent away, if a new connection needs
+    // its seat.
     fn note_answered(&self) {
         let SharedConnection {
             rt,
@@ -110,9 +114,9 @@ impl<'a, Rt: Clock + Wait + Eprint> SocketWriter<'a, Rt> {
         }
     }
 
-    // Postpones a denial if the connection is being ended because there is no seat: keeps the denial's turn, so that
-    // the port sends it then, and returns all bytes of `buf` as written. Returns `BrokenPipe` for any other reply, or
-    // if there is another reason for the end.
+    // Leaves a denial to the port if the connection is being ended because there is no seat. Keeps the denial's turn,
+    // at which the port sends it, and returns all bytes of `buf` as written. Returns `BrokenPipe` for any other reply,
+    // or if there is another reason for the end.
     fn leave_owed(&mut self, buf: &[u8]) -> io::Result<usize>
         ensures { WritesAtMost result buf.now }
     {
@@ -125,8 +129,8 @@ impl<'a, Rt: Clock + Wait + Eprint> SocketWriter<'a, Rt> {
     }
 
     // Writes bytes that end with the reply to the teacher's bye, which dismisses the class, and returns how many were
-    // sent. A lock is held meanwhile: a reader that has read something waits for it, to know whether the class is
-    // dismissed.
+    // sent. Holds the lock of `HostState::is_dismissed` meanwhile: a reader that has read something waits for this
+    // lock, to know whether the class is dismissed. Returns an error if the write fails.
     fn write_farewell(&mut self, buf: &[u8]) -> io::Result<usize>
         ensures { WritesAtMost result buf.now }
     {
@@ -138,9 +142,9 @@ impl<'a, Rt: Clock + Wait + Eprint> SocketWriter<'a, Rt> {
     }
 
     // Closes a connection, whose stream this is, or passes it to the port to be closed. If a denial is still to be
-    // sent, the port does that at its turn. If the connection leaves for a new one, or was never served, the port sends
-    // it the reason, if there is one. Otherwise sends the reason here, and lingers, so that the other side can read
-    // what was sent.
+    // sent, the port sends it at its turn. If the connection leaves for a new one, or was never served, the port sends
+    // it the reason, if there is one. Otherwise this function sends the reason, and lingers, so that the other side can
+    // read what was sent.
     fn part_from(&self, stream: TcpStream) {
         let SharedConnection {
             rt,

@@ -73,13 +73,14 @@ impl HostState {
         }
     }
 
-    /// Returns whether the reply to the teacher's bye at the desk was sent. What is read after it isn't answered.
+    /// Returns whether the reply to the teacher's bye at the desk was sent. Lines that are read after that aren't
+    /// answered.
     pub fn is_dismissed<Rt: Wait>(&self, rt: &Rt) -> bool {
         *self.is_dismissed.read(rt)
     }
 
-    /// Counts a session that has ended. If `is_over`, notes that the host is over. Wakes the threads that wait for
-    /// this.
+    /// Counts a session that has ended. If `is_over`, notes that the host is over. Wakes the threads that wait in
+    /// `wait_past`.
     pub fn note_end<Rt: Wait>(&self, rt: &Rt, is_over: bool) {
         let mut news = self.news.lock(rt);
         news.ended = news.ended.wrapping_add(1);
@@ -104,7 +105,7 @@ impl HostState {
         self.news.lock(rt).is_over
     }
 
-    /// Returns whether memory ran out, as a thread has noted.
+    /// Returns whether a thread has noted that memory ran out.
     pub fn lacked_memory<Rt: Wait>(&self, rt: &Rt) -> bool {
         self.news.lock(rt).lacked_memory
     }
@@ -119,8 +120,8 @@ impl HostState {
     }
 
     /// Returns the turn of the next denial of a name and key: the time before which it isn't sent. This is now, or 12
-    /// milliseconds after the turn before, if that is later; the turns of both ports are counted together. Returns an
-    /// error if the clock fails.
+    /// milliseconds after the turn of the last denial, if that is later. The denials of both ports are counted
+    /// together. Returns an error if the clock fails.
     pub fn turn_of_denial<Rt: Wait + Clock>(&self, rt: &Rt) -> io::Result<Instant> {
         let now = Instant::now(rt)?;
         let mut news = self.news.lock(rt);

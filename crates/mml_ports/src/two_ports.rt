@@ -92,7 +92,7 @@ fn first_within<R: Clock>(rt: &R, listener: &TcpListener) -> io::Result<Option<T
     Ok(None)
 }
 
-// Returns whether an accept that failed this way may succeed if it is tried again.
+// Returns whether an accept that failed with this kind of error may succeed if it is tried again.
 fn is_transient(kind: io::ErrorKind) -> bool {
     matches!(
         kind,
@@ -116,8 +116,9 @@ fn on_this_machine(port: u16) -> SocketAddr {
     SocketAddr::from((Ipv4Addr::LOCALHOST, port))
 }
 
-/// Returns the bell that wakes the accepts at both ports when the host is over. It holds a spare descriptor, a copy of
-/// the desk's listener. Returns an error if the system refuses the copy, or memory runs out.
+/// Returns the bell that is rung when a session ends, and that wakes the accepts at both ports when the host is over.
+/// It holds a spare descriptor, a copy of the desk's listener. Returns an error if the system refuses the copy, or
+/// memory runs out.
 pub fn bell_of<'a, R>(
     rt: &'a R,
     state: &'a HostState,
@@ -132,7 +133,7 @@ pub fn bell_of<'a, R>(
     })
 }
 
-/// The connections of the desk, and those of the other port.
+/// The two ports of a class, each as an `A`: the desk's (`at_desk`) and the students' (`elsewhere`).
 #[derive(Drop)]
 pub struct TwoPorts<A: Drop> {
     pub at_desk: A,

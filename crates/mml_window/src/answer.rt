@@ -4,13 +4,13 @@
 use mml_board::Done;
 use mml_policy::{Denial, Refusal};
 
-/// The answer to an act, which is a request for an event.
+/// The answer to an act.
 #[derive(Clone, Copy, Debug)]
 pub enum Answer {
-    /// It happened as the event with this place, after which the configuration has this number.
+    /// The act happened as an event with this place and the effect `done`. After it, the configuration has this number.
     Granted { place: u64, number: u64, done: Done },
     /// A clause doesn't hold.
     Denied(Denial),
-    /// All clauses hold, and it didn't happen.
+    /// All clauses hold, but the act didn't happen.
     Refused(Refusal),
 }

@@ -44,8 +44,8 @@ impl<H: House> Reader<H> {
     }
 }
 
-/// Makes a reader, which has seen nothing yet, if `reader` has none and a slot of `press` is free. `press` is the
-/// writer of what is published.
+/// Puts a new reader, which has seen nothing yet, into `reader`, if there is none in it and a slot of `press` is free.
+/// Otherwise does nothing. `press` is the writer of what is published.
 pub(crate) fn take_slot<H: House>(press: &Press<H>, reader: &mut Option<Reader<H>>)
     ensures { view_by reader.new ≡ view_by reader.old }
 {
@@ -75,7 +75,8 @@ pub(crate) fn enter<H: House>(reader: &mut Option<Reader<H>>) -> Option<Entered<
     }
 }
 
-/// Ends the reading that `enter` began, and returns the reader. It has then seen all events of what it entered.
+/// Ends the reading that `enter` began, and returns the reader, which has then seen all events of the copy that it had
+/// entered.
 pub(crate) fn leave<H: House>(reading: Entered<H>) -> Reader<H>
     requires { view reading.place ≡ viewer reading.part.value.events.items }
     ensures { result ≡ view reading.place }

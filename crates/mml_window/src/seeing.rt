@@ -27,8 +27,8 @@ impl<H: House> Protocol<Published, View> for Publishing<H> {
     ghost first = { nothing_seen };
 }
 
-/// What a publication by the writer, or an entry of a reader, leads to: it sees a list that begins with all events that
-/// it had seen.
+/// The outcome of a publication for the writer, or of an entry for a reader: the writer or the reader sees a list that
+/// begins with all events that it had seen.
 pub struct Seeing<H: House> {
     of: PhantomData<H>,
 }

@@ -72,8 +72,8 @@ pub(crate) struct Seat {
 }
 
 impl<H: House> Window<H> {
-    /// Makes a window of a seat. It has seen nothing yet. It takes a reader's slot of `press`, the writer of what is
-    /// published, if one is free.
+    /// Returns a window that is made of a seat (the lab, and room for places), and has seen nothing yet. It takes a
+    /// reader's slot of `press`, the writer of what is published, if one is free.
     pub(crate) fn over(press: &Press<H>, seat: Seat) -> Window<H>
         requires lawful { IsLab H.lab }
         requires seat { IsSeat H.lab seat }
@@ -109,8 +109,8 @@ impl<H: House> Window<H> {
         self.refused
     }
 
-    /// Keeps what the answer to an act says: the event's place (number) if it was granted, or why it was refused. After
-    /// a grant, first reads until the window has seen the event, the last one that `press` has published.
+    /// Keeps the event's place (number) if the answer to an act is a grant, and the reason if it is a refusal. After a
+    /// grant, first reads until the window has seen the event, the last one that `press` has published.
     #[tactic(auto, using(crate::proofs::ClimbingLemmas::climbs_count))]
     pub(crate) fn keep<R: Wait>(&mut self, rt: &R, press: &Press<H>, answer: &Answer)
         requires { IsNextPlace H.lab self.old.seen press.now.desk.shown.value.events.items answer.now }

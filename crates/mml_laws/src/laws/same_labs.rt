@@ -19,7 +19,7 @@ ghost use Rattle.mml_audit.specs.Audit.{audited};
 ghost use Rattle.mml_journal.specs.EventLines.{said_by, event_line, IsEventOf};
 ghost use Rattle.mml_lab_file.specs.Sameness.{IsSameLab};
 
-/// Labs that are the same read each journal alike. A line means the same event in both, or has the same fault, and an
+/// Labs that are the same read each journal alike. A line means the same event in both, or has the same error, and an
 /// event has the same line. A list of events leads to the same world. The participants have the same names, and own the
 /// same nodes.
 pub fn same_labs_read_alike()
@@ -37,7 +37,7 @@ pub fn same_labs_read_alike()
 {}
 
 /// Labs that are the same, and allow equally many events, audit alike: the same bytes pass in both and lead to the same
-/// world, or have the same fault in the same line. In each world an event is legal in both or in neither.
+/// world, or have the same error in the same line. In each world an event is legal in both or in neither.
 pub fn same_labs_audit_alike()
     ensures audit { (a b : LabValue) (bytes : List ℕ) → IsLab a → IsLab b → IsSameLab a b →
         a.events ≡ b.events → audited a bytes ≡ audited b bytes }
