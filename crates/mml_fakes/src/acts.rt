@@ -1,4 +1,4 @@
-//! Participants, commands and answers over the path of three.
+//! Participants, commands and answers over the path of three: nodes 1, 2 and 3 in a row (`labs::PATH_OF_THREE`).
 ghost use Rattle.std.specs.Prelude.{◌≡◌, true};
 ghost use Rattle.mml_policy.specs.Acts.{is_act};
 

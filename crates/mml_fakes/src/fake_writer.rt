@@ -3,7 +3,7 @@ use std::alloc::Global;
 use std::io;
 use std::io::{ErrorKind, Write};
 
-/// What a `FakeWriter` does when it doesn't write any more.
+/// What a `FakeWriter` does when no more writes are to succeed.
 #[derive(Clone, Copy, Debug, PartialEq, Eq)]
 pub enum Refusal {
     /// It fails with an error of this kind.

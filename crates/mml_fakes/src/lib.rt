@@ -1,6 +1,6 @@
-//! For tests only: readers, writers and sinks that fail on demand, threads that wait for each other, numbers that look
-//! drawn, and the labs, lines and scripts that several tests share; for a house, its seats, visits through them, how it
-//! ends, and the acts of a stored run. Nothing of the program depends on it.
+//! For tests only: readers, writers and sinks that fail on demand, threads that wait for each other, pseudo-random
+//! numbers, and the labs, lines and scripts that several tests share. For a house there are its seats, visits through
+//! them, the ways in which it ends, and the acts of a stored run. Nothing of the program depends on it.
 #![tactic(auto)]
 
 mod acts;

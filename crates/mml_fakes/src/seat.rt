@@ -1,4 +1,7 @@
 //! A window of a house together with its desk.
+//!
+//! A house is one run of a lab that threads share. A window is one session's view of the published events, and at the
+//! desk sessions ask for events.
 ghost use Rattle.std.specs.Prelude.{◌≡◌, true};
 ghost use Rattle.mml_policy.specs.Acts.{is_act};
 
@@ -77,7 +80,7 @@ impl<'a, S: Sink + Drop, H: House, R: Wait> Pair<'a, S, H, R> {
         }
     }
 
-    /// Returns the windows of the first and the second seat, which are needed to end the house.
+    /// Returns the windows of the first and the second seat. They are needed to end the house.
     pub fn into_windows(self) -> (Window<H>, Window<H>) {
         let Pair { one, two } = self;
         let Seat { window: first, .. } = one;

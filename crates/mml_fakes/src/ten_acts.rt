@@ -1,4 +1,6 @@
-//! The ten acts (commands that ask for events) of a stored run over the path of three.
+//! The ten acts (commands that ask for events) of a stored run over the path of three, nodes 1, 2 and 3 in a row.
+//!
+//! The place of an event is its number in the list of events, from 1.
 ghost use Rattle.std.specs.Prelude.{◌≡◌, true};
 ghost use Rattle.mml_policy.specs.Acts.{is_act};
 

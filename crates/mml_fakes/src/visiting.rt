@@ -1,4 +1,7 @@
 //! Opening a house (one run of a lab), using it through two windows, and ending it.
+//!
+//! A window is one session's view of the published events, and a seat is a window together with the house's desk. The
+//! path of three is the lab of nodes 1, 2 and 3 in a row (`labs::PATH_OF_THREE`).
 ghost use Rattle.std.specs.Prelude.{◌≡◌, ◌-◌, ◌^◌, ◌<◌, ◌≤◌, length};
 ghost use Rattle.mml_journal.specs.Taken.{IsFresh};
 ghost use Rattle.mml_window.specs.Houses.{house_of};
@@ -34,10 +37,10 @@ pub trait Visit<S: Sink> {
     fn visit<H: House, R: Wait>(self, seats: &mut Pair<'_, S, H, R>) -> Self::Told;
 }
 
-/// Makes a visit through the last two of these windows: the last one belongs to the first seat, and the one before to
-/// the second. Afterwards puts the first seat's window back, and then the second's, so that they have changed places.
-/// Returns the result of the visit. Returns `None` if there were fewer windows (then none is left), or memory ran out
-/// before both were put back.
+/// Makes a visit through the last two of these windows. The last window belongs to the first seat, and the one before
+/// it to the second. Afterwards puts the first seat's window back, and then the second's, so that the windows have
+/// changed places. Returns the result of the visit. Returns `None` if there were fewer than two windows (then none is
+/// left), or memory ran out before both were put back.
 pub fn visit_windows<V: Visit<S> + Drop, S: Sink + Drop, H: House, R: Wait>(
     rt: &R,
     alloc: Global,
@@ -54,8 +57,9 @@ pub fn visit_windows<V: Visit<S> + Drop, S: Sink + Drop, H: House, R: Wait>(
     (give_back(windows, two) && is_back).then_some(told)
 }
 
-/// The result of a visit, and how the house has ended. The first is `None` if there were no two windows, or memory ran
-/// out before both were put back. The second is the log, or `Astray` if a window with granted events was missing.
+/// The result of a visit, and how the house has ended. The result is `None` if there were fewer than two windows, or
+/// memory ran out before both were put back. The house has ended with its log, or with `Astray` if a window with
+/// granted events was missing.
 pub type Visited<T, S> = (Option<T>, Result<Log<S>, Astray>);
 
 /// Starts the opened house `blank`, makes a visit through two of its windows, and ends it. Returns the result of the

@@ -1,10 +1,10 @@
-//! Taking windows from a list, and putting them back.
+//! Taking windows from a list, and putting them back. A house is ended with the list of its windows.
 ghost use Rattle.std.specs.Prelude.{◌+◌, ◌≤◌, length, IfSome};
 
 use mml_window::{House, Window};
 
-/// Removes the last two windows from the list, and returns the last one and the one before. Returns `None` if there are
-/// fewer; a single one is dropped then.
+/// Removes the last two windows from the list, and returns the last one and the one before it. Returns `None` if there
+/// are fewer than two windows; a single one is dropped then.
 pub fn take_two<H: House>(windows: &mut Vec<Window<H>>) -> Option<(Window<H>, Window<H>)>
     ensures fewer { length windows.new.items ≤ length windows.old.items }
     ensures taken { IfSome result (λ _.
@@ -15,7 +15,7 @@ pub fn take_two<H: House>(windows: &mut Vec<Window<H>>) -> Option<(Window<H>, Wi
     Some((one, two))
 }
 
-/// Puts a window back into the list with which the house will be ended. Returns `false`, and drops the window, if
+/// Puts a window back into the list, so that the house can be ended with it. Returns `false`, and drops the window, if
 /// memory runs out.
 pub fn give_back<H: House>(windows: &mut Vec<Window<H>>, window: Window<H>) -> bool
     ensures { length windows.new.items ≤ length windows.old.items + 1 }

@@ -85,8 +85,7 @@ impl Fault {
     }
 }
 
-/// Returns the error `Memory` if a reader or writer ran out of memory (`lacked`), whatever `fault` says, and otherwise
-/// `fault`.
+/// Returns the error `Memory` if a reader or writer ran out of memory (`lacked`), and otherwise `fault`.
 pub fn memory_if_lacked<F: From<Fault> + Drop>(fault: F, lacked: bool) -> F
     ensures memory { lacked ≡ true → F.from_gives Memory result }
     ensures other { lacked ≡ false → result ≡ fault }
@@ -98,7 +97,7 @@ pub fn memory_if_lacked<F: From<Fault> + Drop>(fault: F, lacked: bool) -> F
     }
 }
 
-/// Returns `Memory` if the error of a read or write says that memory ran out, and otherwise `other`.
+/// Returns the error `Memory` if `error`, that of a read or write, says that memory ran out, and otherwise `other`.
 pub fn memory_or(error: &IoError, other: Fault) -> Fault
     ensures memory { error_kind error.now ≡ ErrorKind.OutOfMemory → result ≡ Fault.Memory }
     ensures either { (result ≡ other) ⊎ (result ≡ Fault.Memory) }
@@ -125,7 +124,7 @@ impl From<FileFault> for Fault {
 
     ghost from_gives = { λ fault e. e ≡ of_journal_file fault };
 
-    // Turns the fault of a journal's file into the program's error: a journal fault, or `Memory`.
+    // Turns the error of a journal's file into the program's error: `Journal`, or `Memory` if memory ran out.
     fn from(fault: FileFault) -> Fault {
         match fault {
             FileFault::Refused => Fault::Journal,
@@ -135,7 +134,8 @@ impl From<FileFault> for Fault {
 }
 
 impl From<LabFault> for Fault {
-    // Turns the fault of a lab file into the program's error: the reason why the file is refused, or `Memory`.
+    // Turns the error of a lab file into the program's error: `Lab` with the reason why the file is refused, or
+    // `Memory`.
     fn from(fault: LabFault) -> Fault {
         match LabRefusal::of(fault) {
             Some(refusal) => Fault::Lab(refusal),
@@ -145,7 +145,8 @@ impl From<LabFault> for Fault {
 }
 
 impl From<AuditFault> for Fault {
-    // Turns the fault of a journal's text into the program's error: the reason why the text is refused, or `Memory`.
+    // Turns the error of a journal's text into the program's error: `Audit` with the reason why the text is refused, or
+    // `Memory`.
     fn from(fault: AuditFault) -> Fault {
         match AuditRefusal::of(fault) {
             Some(refusal) => Fault::Audit(refusal),
@@ -176,7 +177,7 @@ impl From<ServeFault> for Fault {
 
     ghost from_gives = { λ fault e. e ≡ of_serving fault };
 
-    // Turns the reason why a server failed into the program's error. A halted journal becomes a journal fault.
+    // Turns the reason why a server failed into the program's error. If the journal was halted, this is `Journal`.
     fn from(fault: ServeFault) -> Fault {
         match fault {
             ServeFault::Memory => Fault::Memory,

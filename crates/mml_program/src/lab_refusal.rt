@@ -7,20 +7,20 @@ use thiserror::Error;
 /// Why a file doesn't describe a lab, in the words of the error line.
 #[derive(Debug, Drop, PartialEq, Eq, Error)]
 pub enum LabRefusal {
-    /// The fault is of the file as a whole.
+    /// The error is about the file as a whole.
     #[error("{0}")]
     File(&'static str),
-    /// The fault is in the value of the key with this name.
+    /// The error is about the value of the key with this name.
     #[error("{0} {1}")]
     Key(&'static str, &'static str),
-    /// The fault is at a node, a link or a principal (a participant) with this number. Nodes and links are numbered
+    /// The error is about a node, a link or a principal (a participant) with this number. Nodes and links are numbered
     /// from 0, in the order of the file. The teacher is principal 0, and the students are numbered from 1.
     #[error("{0} {1}: {2}")]
     Element(&'static str, usize, &'static str),
 }
 
 impl LabRefusal {
-    /// Returns the reason why a lab file is refused for this fault, or `None` if the fault is that memory ran out.
+    /// Returns the reason why a lab file with this error is refused, or `None` if the error is that memory ran out.
     pub fn of(fault: LabFault) -> Option<LabRefusal> {
         let refusal = match fault {
             LabFault::NotToml => LabRefusal::File("not a TOML document"),
@@ -46,7 +46,7 @@ impl LabRefusal {
         Some(refusal)
     }
 
-    // Returns the reason why a lab file is refused for this fault of its nodes' identifiers, or `None` if the fault is
+    // Returns the reason why a lab file whose nodes' identifiers have this error is refused, or `None` if the error is
     // that memory ran out.
     fn of_identifiers(fault: IdFault) -> Option<LabRefusal> {
         match fault {
@@ -58,7 +58,8 @@ impl LabRefusal {
         }
     }
 
-    // Returns the refusal for a reason that concerns the node with this number.
+    // Returns the refusal of a lab file, for a reason that is about the node with this index, from 0 in the file's
+    // order.
     fn node(index: usize, reason: &'static str) -> LabRefusal {
         LabRefusal::Element("node", index, reason)
     }
@@ -76,7 +77,7 @@ pub enum AuditRefusal {
 }
 
 impl AuditRefusal {
-    /// Returns the reason why the text of a journal is refused for this fault, or `None` if the fault is that memory
+    /// Returns the reason why the text of a journal with this error is refused, or `None` if the error is that memory
     /// ran out.
     pub fn of(fault: AuditFault) -> Option<AuditRefusal> {
         match fault {
@@ -93,7 +94,7 @@ impl AuditRefusal {
     }
 }
 
-// Returns the name of a lab file's key, as the error lines have it.
+// Returns the name of a lab file's key, as it is written in the error lines.
 fn key_name(key: Key) -> &'static str {
     match key {
         Key::Events => "events",

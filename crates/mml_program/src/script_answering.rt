@@ -104,7 +104,7 @@ pub fn write_pieces<W: Write>(alloc: Global, pieces: &[Piece], writer: &mut W) -
 
 /// Answers the lines of a script, and returns the hall (the lab's state) after the last one. Replies are buffered, and
 /// all are written before each read. The journal's lines of granted events are put into the sink. If the script ends
-/// early, returns the reason.
+/// early, returns the reason why.
 pub fn answer_script<R: Read, W: Write, S: Sink + Drop>(
     alloc: Global,
     lab: Lab,

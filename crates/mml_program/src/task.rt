@@ -24,9 +24,10 @@ use std::sync::Wait;
 use std::thread::Threads;
 use std::{env, io};
 
-/// Does what the command line asks for. The order of the steps protects an existing journal: first the lab is read,
-/// then the journal's file is opened, then the script is read or the port taken, and only then a new journal is begun,
-/// and the earlier bytes kept under another name. If a step before that fails, the file stays as it was.
+/// Does what the command line asks for. Returns the error that ended the work, if one did. The order of the steps
+/// protects an existing journal. First the lab is read, then the journal's file is opened, and then the script is read
+/// or the port taken. Only then a new journal is begun, and the earlier bytes are kept under another name. If a step
+/// before that fails, the file stays as it was.
 pub fn run<
     R: Env
         + Files<File = File>
@@ -129,7 +130,8 @@ fn audit_file<R: Files + Print + AllocGlobal>(
 }
 
 // Serves as many connections as the task says over the lab in a file, and writes a journal if the task names one.
-// Returns an error if the lab has fewer sessions, or if something fails.
+// Returns an error if the lab has fewer sessions than that, a file is refused, the port can't be used, or the server
+// fails.
 fn serve_file<
     R: Files<File = File>
         + Net<Listener = TcpListener, Stream = TcpStream>

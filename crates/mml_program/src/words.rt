@@ -120,8 +120,7 @@ pub fn subcommand_of<'a>(
     Ok(command)
 }
 
-/// Returns the command with one more value after the others, which may be left out. Returns an error if memory runs
-/// out.
+/// Returns the command with one more value, which comes last and may be left out. Returns an error if memory runs out.
 pub fn with_optional<'a>(
     alloc: Global,
     command: Command<'a>,

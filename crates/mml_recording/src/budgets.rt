@@ -1,7 +1,8 @@
 //! Limits on how many bytes are recorded of each participant.
 //!
-//! An account is known on a connection from its granted hello to its bye. Each account has a budget, and those who
-//! aren't known share one.
+//! A record has entries: a line with its reply, a session's end, or a note that something is left out. An account is
+//! known on a connection from its granted hello to its bye. Each account has a budget, the number of bytes that its
+//! entries may have. All connections on which nobody is known share one budget.
 ghost use Rattle.std.specs.Prelude.{◌≡◌, is_some};
 
 use mml_codec::Reply;
@@ -22,8 +23,8 @@ pub const STRANGER: u64 = 64 << 10;
 // How many bytes beyond `BUDGET` may be spent on the ends of sessions.
 const ENDS: u64 = 64 << 10;
 
-// How many bytes were recorded of one participant, and whether an entry of them was refused already: then recording has
-// paused, or is about to, in each session in which they are known.
+// How many bytes were recorded of one participant, and whether an entry of this participant was refused already. If one
+// was, recording has paused, or is about to, in each session in which the participant is known.
 #[derive(Drop)]
 struct Spending {
     /// How many bytes were recorded of the participant.
@@ -77,8 +78,8 @@ impl Spending {
     }
 }
 
-// Returns the index of a participant's account in `Budgets`: 0 for the teacher, then the students in the roster's
-// order.
+// Returns the index of a participant's account in `Budgets`: 0 for the teacher, and for the students the numbers from 1
+// in the roster's order.
 fn index_of(who: Who) -> usize {
     match who {
         Who::Teacher => 0,
@@ -86,7 +87,7 @@ fn index_of(who: Who) -> usize {
     }
 }
 
-/// The budgets as one seat uses them: the replies in the seat say who is known there and is charged.
+/// The budgets as one seat uses them. The replies in the seat say who is known there, and this participant is charged.
 #[derive(Drop)]
 pub struct SeatBudget {
     budgets: Arc<Budgets, Global>,
@@ -108,8 +109,8 @@ impl SeatBudget {
         }
     }
 
-    // Charges this many `bytes` to whoever is known, or to the common counter if nobody is, and returns `true`. If the
-    // counter would then exceed `most`, charges nothing, and returns `false`.
+    // Charges this many `bytes` to the participant who is known, or to the common counter if nobody is, and returns
+    // `true`. If the counter would then exceed `most`, charges nothing, and returns `false`.
     fn charge(&self, bytes: u64, most: u64) -> bool {
         let spent = self.budgets.spent_by(self.account);
         spent
@@ -120,8 +121,9 @@ impl SeatBudget {
             .is_ok()
     }
 
-    // Returns whether an entry of this many `bytes` may be written while nobody is known, and charges it if so. It may
-    // if this connection then has at most `STRANGER` such bytes, and all connections together at most `BUDGET`.
+    // Returns whether an entry of this many `bytes` may be written while nobody is known. If so, charges it to the
+    // common counter. It may be written if the entries of this connection then have at most `STRANGER` such bytes, and
+    // those of all connections together at most `BUDGET`.
     fn takes_unknown(&mut self, bytes: u64) -> bool
         ensures known { self.new.account ≡ self.old.account }
         ensures greeted { self.new.is_greeted ≡ self.old.is_greeted }
@@ -134,9 +136,9 @@ impl SeatBudget {
         true
     }
 
-    // Returns what happens to an entry that exceeds the budget of the account `index`, and notes that one of its
-    // entries was refused. The entry of a hello is still written (`Last`) if it is the first that is refused; recording
-    // pauses after it. Any other entry is `Refused`.
+    // Returns what happens to an entry that exceeds the budget of the account with the index `index`, and notes that an
+    // entry of this account was refused. The entry of a hello is still written (`Last`) if it is the first that is
+    // refused; recording pauses after it. Any other entry is `Refused`.
     fn refuse(&self, index: usize) -> Taking {
         match self.budgets.accounts.get(index) {
             Some(account) => {
@@ -157,7 +159,7 @@ impl Budget for SeatBudget {
 
     ghost greeted = { λ b. b.is_greeted };
 
-    // Notes whom to charge from now on, if the reply grants a hello. Any other reply doesn't change that.
+    // Notes whom to charge from now on, if the reply grants a hello. Any other reply doesn't change who is charged.
     fn note_answered(&mut self, reply: &Reply) {
         match reply {
             Reply::Hello(who) => {
@@ -168,14 +170,14 @@ impl Budget for SeatBudget {
         }
     }
 
-    // Returns whether somebody has said hello in the session, so that their account is charged.
+    // Returns whether a hello was granted in the session, so that the participant's account is charged.
     fn is_known(&self) -> bool {
         self.account.is_some()
     }
 
-    // Returns whether an entry of this many `bytes` may be written, and charges it if so. Whoever is known may have at
-    // most `BUDGET` bytes. Beyond this, `refuse` decides. If nobody is known, `takes_unknown` decides, and the answer
-    // is `Taken` or `Refused`.
+    // Returns `Taken` if an entry of this many `bytes` may be written, and charges it. The participant who is known may
+    // have at most `BUDGET` bytes; beyond this, returns what `refuse` decides. If nobody is known, `takes_unknown`
+    // decides, and the answer is `Taken` or `Refused`.
     fn takes_entry(&mut self, bytes: u64) -> Taking {
         match self.account {
             Some(index) => {
@@ -195,14 +197,14 @@ impl Budget for SeatBudget {
         }
     }
 
-    // Returns whether the entry of a session's end may be written, and charges it if so. It may exceed `BUDGET` by up
-    // to `ENDS` bytes, so that ends are still written when other entries no longer are.
+    // Returns whether the entry of a session's end may be written, and charges it if so. The entries may then exceed
+    // `BUDGET` by up to `ENDS` bytes, so that ends are still written when other entries no longer are.
     fn takes_end(&mut self, bytes: u64) -> bool {
         self.charge(bytes, BUDGET + ENDS)
     }
 
-    // Is called at the end of a session: what is recorded from now on is charged to the common counter, until somebody
-    // says hello.
+    // Forgets who is known, at the end of a session. What is recorded from now on is charged to the common counter,
+    // until a hello is granted.
     fn forget(&mut self) {
         self.account = None;
         self.is_greeted = false;

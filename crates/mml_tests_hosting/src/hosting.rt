@@ -1,4 +1,5 @@
-//! Tests of a house (one run of a lab) that serves one connection after another at two ports.
+//! Tests of a house (one run of a lab) that serves one connection after another at two ports: at the desk, where the
+//! teacher's bye ends the house, and at the students' port.
 use crate::texts::{Count, Left, Texts, Timed, cycle_of_six, sent_to};
 use mml_fakes::lines;
 use mml_fakes::scripts::{CLOSED_JOURNAL, NOTHING_CLOSED, ONE_CLOSED, TESS_CLOSES};
@@ -89,7 +90,7 @@ fn texts_of<'a>(
 }
 
 /// Serves the connections of these talks in a house over a cycle of six nodes. `out` gets what the host prints. Returns
-/// the result of the house, or the host's fault. Returns an error (`Fail`) if the test itself fails to work.
+/// the result of the house, or the fault of the host. Returns an error (`Fail`) if memory runs out.
 fn host<R: Threads + Wait + Sync>(
     rt: &R,
     alloc: Global,
@@ -104,7 +105,8 @@ fn host<R: Threads + Wait + Sync>(
 }
 
 /// Serves these connections at the desk and at the port in a house of this lab, with a journal in memory and no record.
-/// Returns the result of the house, or the host's fault.
+/// `count` counts the sessions that have ended, and `out` gets what the host prints. Returns the result of the house,
+/// or the fault of the host.
 fn host_in_memory<R: Threads + Wait + Sync>(
     rt: &R,
     alloc: Global,

@@ -6,5 +6,5 @@ mod library;
 mod replies;
 mod untouched;
 
-/// An upper limit of the requests for memory that one of the tried calls makes.
+/// The most requests for memory that one of the tried calls makes.
 const MOST: usize = 100_000;

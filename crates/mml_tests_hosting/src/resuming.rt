@@ -78,10 +78,9 @@ impl Store<MemorySink> for Shelf {
     }
 }
 
-/// Lets a class go on from the journal `old`, over a cycle of six nodes, with this limit of events. Ana connects to the
-/// port and, when she has left, the teacher connects to the desk. `out` gets what the class prints. Returns the result
-/// of the class, or the fault because of which it didn't go on. Returns an error (`Fail`) if the test itself fails to
-/// work.
+/// Lets a class go on from the journal `old`, over a cycle of six nodes, with this limit of `events`. Ana connects to
+/// the port and, when she has left, the teacher connects to the desk. `out` gets what the class prints. Returns the
+/// result of the class, or the fault because of which it didn't go on. Returns an error (`Fail`) if memory runs out.
 fn resume<R: Threads + Wait + Sync>(
     rt: &R,
     alloc: Global,
@@ -107,7 +106,8 @@ fn resume<R: Threads + Wait + Sync>(
 }
 
 /// Lets a class of this lab go on from the journal `old`, with these connections at the desk and at the port, and no
-/// record. Returns the result of the class, or the fault because of which it didn't go on.
+/// record. `count` counts the sessions that have ended, and `out` gets what the class prints. Returns the result of the
+/// class, or the fault because of which it didn't go on.
 fn resume_in<R: Threads + Wait + Sync>(
     rt: &R,
     alloc: Global,
@@ -137,8 +137,8 @@ fn resume_in<R: Threads + Wait + Sync>(
     )
 }
 
-/// Lets a class go on from the journal `old`, with this limit of events. Returns the fault because of which it didn't
-/// go on, or `None` if it did; and whether nothing was printed.
+/// Lets a class go on from the journal `old`, with this limit of `events`. Returns the fault because of which it didn't
+/// go on, or `None` if it did. Also returns whether nothing was printed.
 fn fault_of_class<R: Threads + Wait + Sync>(
     rt: &R,
     alloc: Global,

@@ -165,7 +165,7 @@ pub fn cycle_of_six(alloc: Global, events: u64) -> Result<Lab, Fail> {
 /// The result of a house over connections in memory, with a journal in memory and no record.
 pub type Left = Hosted<MemorySink, ServedSession<VecDeque<u8>, NumberedWriter>, NoRecorder>;
 
-/// Returns what the connection with this number got, or `None` if it wasn't served.
+/// Returns the bytes that were sent to the connection with this number, or `None` if the connection wasn't served.
 pub fn sent_to(left: &Left, number: u64) -> Option<&[u8]> {
     for record in left.at_desk.iter().chain(left.others.iter()) {
         for session in record.sessions.iter() {

@@ -1,5 +1,8 @@
 //! Tests of a board and its copy at the beginning of a run and after each event, also after illegal events, and of a
 //! look and a journal's line. An error means that memory ran out.
+//!
+//! The first board of a lab is the one at the beginning of a run. The path of three is the lab of nodes 1, 2 and 3 in a
+//! row.
 ghost use Rattle.std.specs.Prelude.{◌<◌, length};
 
 use mml_board::{Board, Event};
@@ -60,7 +63,8 @@ fn push_links(text: &mut String, board: &Board, node: Rank) -> Result<(), AllocE
 }
 
 /// Returns a board as text: the number of the configuration, the number of events, how many nodes are privileged, how
-/// many moves are chosen, and then each node as `push_node` shows it, and with `with_links` also as `push_links` does.
+/// many moves are chosen, and then each node as `push_node` shows it. If `with_links` is set, each node is followed by
+/// its links, as `push_links` shows them.
 fn board_text(alloc: Global, board: &Board, with_links: bool) -> Result<String, AllocError> {
     let (number, place) = (board.number(), board.place());
     let (privileged, chosen) = (board.privileged_count(), board.chosen_set().len());
@@ -124,8 +128,9 @@ fn push_near(text: &mut String, near: &[(Rank, Regs)]) -> Result<(), AllocError>
     Ok(())
 }
 
-/// Returns the journal's line of an abandonment by the second node, as the first event. Returns `what stood there`, the
-/// former contents of the buffer, if the event isn't legal, isn't the first, or lab and board differ in size.
+/// Returns the journal's line of an abandonment by the second node, as the first event. The buffer for it had the text
+/// `what stood there` before. Returns this text if the event isn't legal, isn't the first, or lab and board differ in
+/// size.
 fn first_event_line(alloc: Global, lab: &Lab, board: &Board) -> Result<Vec<u8>, Fail> {
     let mut line = Vec::from_slice(alloc, b"what stood there")?;
     if let Some(event) = &grant(1, Rule::Abandonment) {
@@ -151,8 +156,7 @@ fn are_told_at_first(alloc: Global, lab: &Lab) -> Result<(bool, bool), Fail> {
     Ok((are_opening, is_shown && is_line))
 }
 
-/// Checks the first board of the lab of `HIGHER_POINTS` as `are_told_at_first` does. Returns its two answers, which are
-/// to be `true`.
+/// Returns the two answers of `are_told_at_first` about the lab of `HIGHER_POINTS`.
 fn are_told_where_higher_points(alloc: Global) -> Result<(bool, bool), Fail> {
     let lab = boxed_lab(alloc, HIGHER_POINTS)?;
     are_told_at_first(alloc, &lab)

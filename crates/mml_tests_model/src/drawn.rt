@@ -1,5 +1,5 @@
 //! Tests with pseudo-random events, legal or not, over a cycle of 64 nodes and one of 256: the board must find those
-//! legal that the plain model in Python, `model/`, does. An error means that memory ran out.
+//! events legal that the plain model in Python, `model/`, finds legal. An error means that memory ran out.
 use mml_board::{Board, Event};
 use mml_fakes::Numbers;
 use mml_fakes::cycles::cycle;
@@ -123,8 +123,8 @@ fn drawn(board: &Board, numbers: &mut Numbers, index: u64) -> Event {
     }
 }
 
-/// Draws `DRAWS` events over a board, and applies each legal one to it. Returns one letter for each legal event: how
-/// many illegal ones came since the legal one before, from `a` for none to `z` for 25 or more.
+/// Draws `DRAWS` events over a board, and applies each legal one to it. Returns one letter for each legal event. The
+/// letter says how many illegal events came after the legal one before, from `a` for none to `z` for 25 or more.
 fn letters_on(alloc: Global, lab: &Lab, board: &mut Board) -> Result<Vec<u8>, AllocError> {
     let mut numbers = Numbers {
         state: board.size(),
@@ -144,8 +144,8 @@ fn letters_on(alloc: Global, lab: &Lab, board: &mut Board) -> Result<Vec<u8>, Al
     Ok(letters)
 }
 
-/// Draws events over the first board of a lab, as `letters_on` does. Returns one letter for each legal event: how many
-/// illegal ones came since the legal one before, from `a` for none to `z` for 25 or more.
+/// Draws events over the first board of a lab, as `letters_on` does. Returns one letter for each legal event. The
+/// letter says how many illegal events came after the legal one before, from `a` for none to `z` for 25 or more.
 fn letters_over(alloc: Global, lab: &Lab) -> Result<Vec<u8>, Fail> {
     let mut board = boxed_board(alloc, lab)?;
     Ok(letters_on(alloc, lab, &mut board)?)

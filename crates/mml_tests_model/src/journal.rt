@@ -1,5 +1,7 @@
 //! Tests of reading and writing a journal's lines: those of events that need not be legal, and lines that are no
 //! event's. An error means that memory ran out.
+//!
+//! `TEN_LINES` is the journal of a stored run over the path of three: nodes 1, 2 and 3 in a row.
 mod replaced;
 
 use mml_board::Event;
@@ -103,8 +105,8 @@ fn other_events() -> [Event; 6] {
     ]
 }
 
-/// Reads the event of a line, and writes its line. Returns the event, and whether that is the same line, or `None` if
-/// the line isn't an event's.
+/// Reads the event of a line, and writes the line of this event. Returns the event, and whether the written line is the
+/// same as the line that was read. Returns `None` if the line isn't an event's.
 fn read_and_written(
     alloc: Global,
     lab: &Lab,
@@ -132,8 +134,8 @@ fn are_read_and_written(alloc: Global, lab: &Lab) -> Result<bool, Fail> {
     Ok(true)
 }
 
-/// Returns three answers: whether each line of `SHAPES` is rejected as `Shape`, whether each of `UNKNOWNS` is as
-/// `Unknown`, and whether those of `OTHERS` are read and written rightly.
+/// Returns three answers: whether each line of `SHAPES` is rejected as `Shape`, whether each of `UNKNOWNS` is rejected
+/// as `Unknown`, and whether those of `OTHERS` are read and written rightly.
 fn are_rows_read(alloc: Global, lab: &Lab) -> Result<(bool, bool, bool), Fail> {
     let shapes = have_fault(lab, SHAPES, JournalFault::Shape);
     let unknowns = have_fault(lab, UNKNOWNS, JournalFault::Unknown);

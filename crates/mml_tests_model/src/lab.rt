@@ -9,8 +9,9 @@ use mml_rules::Network;
 use std::alloc::{AllocError, Global};
 use std::test::Fail;
 
-/// Returns how one node relates to another: `-` if the two are linked, `>` if they are and the node points at the
-/// other, `!` if it points there without a link, and `.` if none of this holds.
+/// Returns how one node relates to another: `-` if the two are linked and the node doesn't point at the other, `>` if
+/// they are linked and it does, `!` if it points there without a link, and `.` if they aren't linked and it doesn't
+/// point there.
 fn mark(lab: &Lab, node: Rank, other: Rank) -> &'static str
     requires { node < length lab.now.ids }
 {

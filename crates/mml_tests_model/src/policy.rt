@@ -1,5 +1,7 @@
 //! Tests of the ruling on a command if the limit of events is reached, or the journal is halted. An error means that
 //! memory ran out.
+//!
+//! A ruling is what the policy decides about a command. The first board of a lab is the one at the beginning of a run.
 use mml_board::Board;
 use mml_fakes::labs::{PATH_OF_THREE, boxed_board, boxed_lab};
 use mml_ids::{Memory, Rank};

@@ -83,7 +83,7 @@ fn board_report_text(alloc: Global, board: &Board) -> Result<String, Fail> {
     report_text(alloc, &report)
 }
 
-/// Returns the report at the beginning of a run over a document's lab, as text.
+/// Returns the report at the beginning of a run over the lab of the lab file `document`, as text.
 fn lab_report_text(alloc: Global, document: &str) -> Result<String, Fail> {
     let lab = boxed_lab(alloc, document)?;
     let board = boxed_board(alloc, &lab)?;

@@ -28,8 +28,8 @@ fn has_only(set: NodeSet, ranks: &[u64]) -> bool {
         && gives_in_order(set, ranks)
 }
 
-/// Returns the index of the first of seven sets that doesn't have exactly the ranks beside it, or `None` if all have.
-/// Also returns how many ranks are above 63.
+/// Returns the index of the first of seven sets that doesn't have exactly the ranks that it should have, or `None` if
+/// all have. Also returns how many ranks are above 63.
 fn told_of_sets() -> (Option<usize>, u64) {
     let none = NodeSet::empty();
     let some = none

@@ -1,4 +1,7 @@
 //! Tests of a house over a sink that stores one byte in each put, and fails after each possible number of bytes.
+//!
+//! The ten acts are those of a stored run over the path of three: nodes 1, 2 and 3 in a row. A visit is what a test
+//! does at two seats of a house, and a seat is a window together with the house's desk.
 use mml_fakes::scripts::{TEN_LINES, ended_lines};
 use mml_fakes::ten_acts::{ACTS, act, asker, number_before};
 use mml_fakes::{Drip, Ending, Pair, Seat, Visit, ending_of, visit_path};
@@ -8,8 +11,8 @@ use std::sync::Wait;
 use std::test::Fail;
 
 /// Returns whether an answer to the act at this place is right, if the sink fails at the line of event `last`. Acts
-/// before that must be granted, the act at it must be refused for the journal, and later ones must be denied or refused
-/// likewise.
+/// before this event must be granted, the act for it must be refused for the journal, and later ones must be denied, or
+/// refused for the journal.
 fn is_right_answer(answer: &Answer, place: u64, last: u64) -> bool {
     match answer {
         Answer::Granted { place: granted, .. } => place < last && *granted == place,
@@ -47,8 +50,8 @@ impl Visit<Drip> for Acts {
     }
 }
 
-/// Returns how a house must end that was asked for all ten acts, if its sink failed at the line of event `last`, or
-/// never if that is 11.
+/// Returns how a house must have ended that was asked for all ten acts, if its sink failed at the line of event `last`,
+/// or never if that is 11.
 fn ending_at(last: u64) -> Ending {
     Ending::Log {
         events: last.saturating_sub(1) as usize,

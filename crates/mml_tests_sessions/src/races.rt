@@ -56,9 +56,9 @@ fn lab_of_sixteen(alloc: Global) -> Result<Lab, Fail> {
     Ok(read_lab(alloc, file.as_bytes())?)
 }
 
-/// Serves the first `connections` of these scripts over `lab_of_sixteen`, with this sink for the journal, and writes
-/// the server's last line to `out`. Returns the result of the house, or the fault because of which there is none.
-/// Returns an error (`Fail`) if the test itself fails to work.
+/// Serves the first `connections` of these scripts over `lab_of_sixteen`, with this sink for the journal and this gate,
+/// and writes the server's last line to `out`. Returns the result of the house, or the fault because of which there is
+/// none. Returns an error (`Fail`) if memory runs out, or the lab has fewer sessions.
 fn serve<'a, S: Sink + Send + Drop, R: Threads + Wait + Sync, G: Gate + Sync>(
     rt: &R,
     alloc: Global,

@@ -1,4 +1,7 @@
 //! Tests of one session: how it ends if its reader or its writer fails, and which events have happened then.
+//!
+//! A visit is what a test does at two seats of a house, and a seat is a window together with the house's desk. The path
+//! of three is the lab of nodes 1, 2 and 3 in a row.
 use mml_fakes::scripts::{ANA_GRANTED, ANA_MOVES, ANA_WELCOME};
 use mml_fakes::{
     Ending, FakeReader, FakeWriter, Pair, Visit, ending_of, is_first_close, line, lines, visit_path,
@@ -93,8 +96,8 @@ fn bye(alloc: Global, spaces: usize, end: &str) -> Result<Vec<u8>, AllocError> {
 /// The reply to a bye.
 const LEFT: &str = lines!(left);
 
-/// How many spaces follow a bye, and what comes after them; then how the session must end, what it must write, how many
-/// reads of one byte it must make, and how many bytes it must leave unread.
+/// How many spaces follow a bye, and which text comes after them; then how the session must end, what it must write,
+/// how many reads of one byte it must make, and how many bytes it must leave unread.
 type Row = (usize, &'static str, SessionEnd, &'static str, usize, usize);
 
 /// Byes at the limit of a line's length, one byte over it, without a newline, and with another line after them.

@@ -1,4 +1,7 @@
 //! Tests of the windows of one house (one run of a lab) in one thread, also if some are missing at its end.
+//!
+//! A visit is what a test does at two seats of a house, and a seat is a window together with the house's desk. The
+//! place of an event is its number in the list of events, from 1.
 ghost use Rattle.std.specs.Prelude.{◌≡◌, length};
 ghost use Rattle.mml_window.specs.Houses.{house_of};
 
@@ -137,8 +140,8 @@ fn ended_with<R: Wait>(rt: &R, alloc: Global, with_all: bool) -> Result<Told, Fa
     Ok(in_house::<Brand, _>(rt, alloc, blank, with_all)?)
 }
 
-/// Returns the result of a house in which all went well and that has ended like this. `has_journal` is whether it left
-/// the journal of a move and its close.
+/// Returns the result that a house has in which all went well, and which has ended as `ending`. `has_journal` is
+/// whether it left the journal of a move and its close.
 fn good(ending: Ending, has_journal: bool) -> Told {
     Told {
         is_visited: true,

@@ -62,9 +62,9 @@ pub fn columns_are_sums_in_a_class()
         IsClassRecord lab l true start texts c → AreSums (denials_of c.asks.items s) (named_of c.asks.items s) }
 {}
 
-/// In the record of a class, over all its seats together, a student who is known is one of the lab, and only the clauses
-/// from 1 to 4 deny a student anything. So each line that was denied, and each that was no request, is counted for one
-/// student, or came while the teacher was known, or nobody.
+/// In the record of a class, over all its seats together, a student who is known is one of the lab, and only the
+/// clauses from 1 to 4 deny a student anything. So each line that was denied, and each that was no request, is counted
+/// for one student, or came while the teacher or nobody was known.
 pub fn asks_of_a_class_are_of_the_labs_students()
     ensures asks { (lab : LabValue) (l : List Event) (start : List ℕ) (texts : ℕ → List ℕ) (c : ClassRecord) →
         IsClassRecord lab l true start texts c → AreAsksOf (length lab.roster.students) c.asks.items }

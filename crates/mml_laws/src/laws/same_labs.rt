@@ -45,9 +45,9 @@ pub fn same_labs_audit_alike()
         is_legal a.roster w e ≡ is_legal b.roster w e }
 {}
 
-/// Labs that are the same have the same owners and the same teacher. In each world both rule alike on each command: they
-/// show, deny, refuse or grant it, for the same cause and with the same effect. A hello that is granted has the same
-/// reply line in both.
+/// Labs that are the same have the same owners and the same teacher. In each world both rule alike on each command:
+/// they show, deny, refuse or grant it, for the same cause and with the same effect. A hello that is granted has the
+/// same reply line in both.
 pub fn same_labs_rule_alike()
     ensures rulings { (a b : LabValue) (limit : ℕ) (is_halted : Bool) (w : World) (who : Who)
         (c : Command) → IsLab a → IsLab b → IsSameLab a b →

@@ -1,4 +1,7 @@
 //! Tests that ask for the acts of a stored run through a window, while one request for memory after another is refused.
+//!
+//! The stored run has ten acts, over the path of three: nodes 1, 2 and 3 in a row. A visit is what a test does at two
+//! seats of a house, and a seat is a window together with the house's desk.
 use super::MOST;
 use super::library::{is_there, refuse, was_none_refused};
 use mml_fakes::ten_acts::{ACTS, act, asker, number_before};
@@ -10,7 +13,7 @@ use std::sync::Wait;
 use std::test::Fail;
 
 /// Returns `true` if an answer grants an act at this place. Returns `false` if the answer is that memory ran out and a
-/// request for memory was indeed refused (`was_none` is `false`). Returns `None` for any other answer.
+/// request for memory was indeed refused, that is, if `was_none` is `false`. Returns `None` for any other answer.
 fn granted_or_refused(answer: &Answer, place: u64, was_none: bool) -> Option<bool> {
     match answer {
         Answer::Granted { place: granted, .. } => (*granted == place).then_some(true),

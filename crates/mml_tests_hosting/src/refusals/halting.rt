@@ -54,8 +54,8 @@ enum Grant {
     Halted,
 }
 
-/// Returns the outcome of the first move, as its reply shows it. Returns `None` if it is another reply, or the hall's
-/// events or journal, or whether that is halted, don't fit the outcome.
+/// Returns the outcome of the first move, as its reply shows it. Returns `None` if the reply shows none of the three
+/// outcomes, or the hall's events or journal, or whether that is halted, don't fit the outcome.
 fn grant_of(hall: &Hall<MemorySink>, reply: &[u8]) -> Option<Grant> {
     let (found, events) = if reply == GRANTED.as_bytes() {
         (Grant::Made, 1)

@@ -182,8 +182,8 @@ fn told_of_replies(alloc: Global) -> Result<(bool, bool), Fail> {
     Ok((is_before && is_moved && is_closed && is_after, is_reported))
 }
 
-/// Checks that each reply that fits into its reserved memory is right, and needs no more. A report of all nodes, which
-/// doesn't fit, must fail if the library that refuses requests is loaded, and be written otherwise.
+/// Checks that each reply that fits into its reserved memory is right, and needs no more memory. A report of all nodes,
+/// which doesn't fit, must fail if the library that refuses requests is loaded, and be written otherwise.
 #[test]
 fn refusals_do_not_keep_a_reply_from_its_room(rt: HostRuntime) -> Result<(), Fail> {
     let is_there = is_there(rt.alloc());

@@ -26,8 +26,8 @@ fn is_read(found: Result<Vec<u8>, Fault>, wanted: Result<&[u8], Fault>) -> bool 
     }
 }
 
-/// Opens a journal at a path and begins it; the number 7 stands for what else is needed. Returns whether the number is
-/// returned, and the journal's sink takes a whole line.
+/// Opens a journal at a path and begins it, with the number 7 in place of what else is needed. Returns whether the
+/// number is returned, and the journal's sink takes a whole line.
 fn is_begun(rt: &HostRuntime, path: &str) -> bool {
     let Ok(journal) = OpenJournal::open(rt, path, &[]) else {
         return false;
