@@ -24,8 +24,9 @@ pub fn privileged_set(network: &IndexedNetwork) -> NodeSet
     nodes
 }
 
-/// Returns the privileged nodes after a change of the network. Tests only the nodes in `changed` and their neighbours.
-/// For the other nodes, `privileged` is still right.
+/// Returns the privileged nodes after a change of the network. `privileged` is the set from before the change, and
+/// `changed` has the nodes whose registers or links have changed. Tests only the nodes in `changed` and their
+/// neighbours, and takes all other nodes from `privileged`.
 pub fn refresh(network: &IndexedNetwork, privileged: NodeSet, changed: NodeSet) -> NodeSet
     requires { (j : ℕ) → IsUntouched (configuration_of network.now) changed j →
         set.contains privileged j ≡ is_privileged_node (configuration_of network.now) j }
@@ -42,8 +43,8 @@ pub fn refresh(network: &IndexedNetwork, privileged: NodeSet, changed: NodeSet) 
     privileged
 }
 
-/// Tests each of `nodes` anew. Returns the set `privileged`, to which those of `nodes` are added that are privileged
-/// now, and from which the others of `nodes` are removed.
+/// Returns the set `privileged`, in which each of `nodes` was tested anew: a node that is privileged now is added to
+/// the set, and one that isn't is removed from it.
 fn refresh_each(network: &IndexedNetwork, privileged: NodeSet, nodes: NodeSet) -> NodeSet
     ensures { (j : ℕ) → set.contains result j ≡
         (if set.contains nodes j then is_privileged_node (configuration_of network.now) j

@@ -117,8 +117,8 @@ pub enum Reply {
     Refuse(Refused),
 }
 
-/// Replaces a reply by another. This function is inlined: replies are large, and each is written straight to its final
-/// place.
+/// Replaces the reply in `out` by another. This function is inlined: replies are large, and each is written straight
+/// into `out`.
 #[inline(always)]
 pub fn put_in(out: &mut Reply, reply: Reply)
     ensures { out.new ≡ reply }

@@ -1,3 +1,6 @@
+//! The requests, and the errors of reading them.
+//!
+//! An account is known on a connection from its granted hello to its bye.
 ghost use Rattle.std.specs.Prelude.{◌≡◌};
 ghost use Rattle.mml_codec.specs.declared.request.LineFault.TheVariants.{Memory};
 ghost use Rattle.mml_codec.specs.Greetings.{refusal_of};

@@ -1,3 +1,6 @@
+//! Reading a line of JSON as a request.
+//!
+//! The fields of a line are the values of the keys that requests use.
 ghost use Rattle.std.specs.Prelude.{◌≡◌, ◌<◌, ◌⊎◌, length, true, Err, ok_or};
 ghost use Rattle.mml_ids.specs.Gives.{Gives};
 ghost use Rattle.serde_json.specs.Data.{Data};

@@ -1,7 +1,7 @@
 //! A window of a house together with its desk.
 //!
 //! A house is one run of a lab that threads share. A window is one session's view of the published events, and at the
-//! desk sessions ask for events.
+//! desk sessions ask for events. A gate is a point at which tests can stop a session.
 ghost use Rattle.std.specs.Prelude.{◌≡◌, true};
 ghost use Rattle.mml_policy.specs.Acts.{is_act};
 

@@ -1,3 +1,4 @@
+//! The part of an output line after its front, for example after the number of a connection.
 ghost use Rattle.std.specs.Prelude.{◌≡◌, ◌+◌, ◌≤◌, ◌++◌, Bool, List, ℕ, length, vec_capacity, if◌then◌else◌};
 
 /// The greatest length, in bytes, of a rest of a line that counts as short.

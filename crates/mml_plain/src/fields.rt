@@ -1,3 +1,6 @@
+//! The fields of a request: the values of the keys that requests use.
+//!
+//! A member of an object is a key with its value.
 ghost use Rattle.std.specs.Prelude.{◌≡◌};
 ghost use Rattle.serde_json.specs.Data.{object, no_members};
 ghost use Rattle.mml_plain.specs.Holds.{Holds};

@@ -1,3 +1,4 @@
+//! Working memory for reading lines.
 ghost use Rattle.std.specs.Prelude.{◌≡◌, ◌≤◌, IfOk};
 ghost use Rattle.json.specs.Scratch.{room};
 

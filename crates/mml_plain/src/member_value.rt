@@ -1,3 +1,6 @@
+//! The values of keys in a line of JSON, as far as requests use them.
+//!
+//! A member of an object is a key with its value.
 ghost use Rattle.std.specs.Prelude.{◌≡◌, None, Some, false, true, option_map, slice_index, ◌==◌};
 ghost use Rattle.serde_json.specs.Data.{Num, number};
 ghost use Rattle.serde_json.specs.Find.{as_u64};

@@ -1,3 +1,6 @@
+//! Reading a line of JSON into the fields of a request, which are the values of the keys that requests use.
+//!
+//! A member of an object is a key with its value. A token is a part of the line, such as a brace or a number.
 ghost use Rattle.std.specs.Prelude.{◌≡◌, ◌<◌, None, Some, Ok, OnErr, IfSome, MatchOption, true, false, length};
 ghost use Rattle.std.specs.Bool.{MatchBool};
 ghost use Rattle.serde_json.specs.Data.{Data, Items, Members, object, no_members};

@@ -147,8 +147,8 @@ pub fn granted_events_are_legal()
         length ids ≡ size w → verdict ids r w x c ≡ verdicts.Grant e → is_legal r w e ≡ true }
 {}
 
-/// An event is legal exactly if its asker, who asks for it at the current number, is granted it. So a list of events
-/// can be checked by asking for verdicts.
+/// An event is legal exactly if its asker is granted it. The asker is the student of a move, or the teacher, and asks
+/// with the number of the current configuration. So a list of events can be checked by asking for verdicts.
 pub fn legal_events_are_granted()
     ensures { (ids : List ℕ) (r : RosterValue) (w : World) (e : Event) →
         IsTable ids → IsWorldOf ids w → (is_legal r w e ≡ true) ↔
@@ -156,7 +156,7 @@ pub fn legal_events_are_granted()
 {}
 
 /// For a privileged node without a chosen move, some rule of the kind that a look shows is granted to each owner who
-/// asks for it at the current number.
+/// asks for it with the number of the current configuration.
 pub fn privileged_nodes_are_granted()
     ensures { (ids : List ℕ) (r : RosterValue) (w : World) (i : ℕ) → IsTable ids →
         IsWorldOf ids w → i < size w → is_privileged (configuration w) i ≡ true →

@@ -107,7 +107,8 @@ pub struct Port<'a, Rt> {
 type Brought<'a, Rt> = Accepted<Incoming<'a, Rt>, ReplyWriter<'a, Rt>, SocketCutOff<'a, Rt>>;
 
 impl<'a, Rt: Clock + Wait + Eprint> Port<'a, Rt> {
-    /// Returns a port to which nobody has come yet, except the connection `first`, if there is one.
+    /// Returns a port to which nobody has come yet, except the connection `first`, if there is one. `is_desk` says
+    /// whether it is the desk's port or the students', and `listener` is where it accepts connections.
     pub fn new(
         rt: &'a Rt,
         alloc: Global,

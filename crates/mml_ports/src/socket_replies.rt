@@ -1,4 +1,6 @@
 //! What the replies to a connection say about it: whether a hello was granted or denied, and the teacher's bye.
+//!
+//! A stranger is a connection on which no hello was granted; at the desk only the teacher's counts.
 use crate::connection::SharedConnection;
 use mml_board::Denial;
 use mml_codec::Reply;

@@ -64,8 +64,8 @@ fn write_world<W: Write>(alloc: Global, board: &Board, writer: &mut W) -> Result
     }
 }
 
-// Writes a line with the number of events that led to the board and the number of its configuration. `end` is the rest
-// of the line, with its newline. Returns `Write` if the write fails, and `Memory` if memory runs out.
+// Writes a line with the number of events that led to the board and the number of its configuration. The line ends with
+// `end`, which has its newline. Returns `Write` if the write fails, and `Memory` if memory runs out.
 fn write_ended<W: Write>(
     alloc: Global,
     board: &Board,

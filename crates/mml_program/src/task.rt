@@ -177,8 +177,9 @@ struct Service {
     connections: u8,
 }
 
-// Prints the line with the port, serves the connections of the service, and prints the last line. The journal's lines
-// go to the sink. If a write ran out of memory, returns `Memory` instead of any other error.
+// Prints the line with the port, serves the connections of the service, and prints the last line, which has the numbers
+// of events and of the configuration. The journal's lines go to the sink. If a write ran out of memory, returns
+// `Memory` instead of any other error.
 fn serve_listener<
     R: Net<Listener = TcpListener, Stream = TcpStream>
         + Threads
@@ -200,8 +201,8 @@ fn serve_listener<
     }
 }
 
-// Writes the line with the port to `writer`, serves the connections, and writes the last line. Returns the reason if
-// the server failed.
+// Writes the line with the port to `writer`, serves the connections, and writes the last line, which has the numbers of
+// events and of the configuration. The journal's lines go to the sink. Returns the reason if the server failed.
 fn serve_lines<R: Threads + Wait + Sync + AllocGlobal, S: Sink + Send + Drop, W: Write>(
     rt: &R,
     lab: Lab,

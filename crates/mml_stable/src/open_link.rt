@@ -1,3 +1,6 @@
+//! Open links, as a report lists them.
+//!
+//! A node is privileged if some rule is enabled there. A free node is in no pair of nodes that point at each other.
 use mml_ids::Rank;
 use mml_rules::Kind;
 

@@ -249,7 +249,7 @@ impl<H: House> Window<H> {
     }
 
     /// Returns whether the window's place (event number) at the index `cursor` is `place`. Returns `false` if there is
-    /// none at this index. The places before the cursor are counted off.
+    /// none at this index. At the end of a house, places are counted off, and those before the cursor are.
     pub(crate) fn is_next(&self, cursor: usize, place: u64) -> bool
         ensures next { IsTrue result → (drop cursor self.now.places
             ≡ place ∷ drop (cursor + 1) self.now.places) × (cursor < MAX_EVENTS) }
@@ -261,8 +261,8 @@ impl<H: House> Window<H> {
         }
     }
 
-    /// Returns whether all places (event numbers) of the window are counted off: the index `cursor` is past the last
-    /// one.
+    /// Returns whether the index `cursor` is past the last of the window's places (event numbers). At the end of a
+    /// house, places are counted off; then all places of the window are.
     pub(crate) fn is_counted_off(&self, cursor: usize) -> bool
         ensures { MatchBool result (drop cursor self.now.places ≡ [])
             ((p : ℕ) × (0 < times p (drop cursor self.now.places))) }

@@ -1,5 +1,8 @@
 //! Tests of a grant over a sink in memory, while one request for memory after another is refused. If the sink itself
 //! runs out of memory, the journal is halted; otherwise the hall stays as it was.
+//!
+//! A hall is the server of one thread. The parameter `is_there` of a function says whether the library that refuses
+//! requests is loaded.
 use super::MOST;
 use super::library::{is_there, refuse, was_none_refused};
 use mml_codec::{JOURNAL_LINE, MEMORY_LINE, write_reply};
