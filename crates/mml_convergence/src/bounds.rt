@@ -48,9 +48,9 @@ pub fn courtships_in_numbers()
     ensures odd { (k : ℕ) → most_courtships (2 * k + 1) ≡ k * k + k }
 {}
 
-/// The potential that counts courtships, pointers of unmarried nodes at higher ones that may still marry them, falls in
-/// a step of moves whose guards hold. It falls by at least the number of nodes that move. It is at most 3 for each of n
-/// nodes, and 2 for each of n²/4, rounded down.
+/// A courting pointer is one of an unmarried node at a higher node that may still marry it. The potential that counts
+/// these pointers falls in a step of moves whose guards hold, by at least the number of nodes that move. For n nodes it
+/// is at most 3n + 2k, if k is n²/4, rounded down.
 pub fn step_lowers_courting_potential()
     ensures lower { (c : Configuration) (chosen : ℕ → Option Rule) → IsLawful c → AllHold c chosen →
         courting_potential (step c chosen) + count_below c.size (moves chosen) ≤ courting_potential c }

@@ -95,8 +95,8 @@ pub fn turns_that_keep_worlds_alike_grant_alike()
 /// Suppose that one script (lines on numbered connections) is run in two twin labs, which differ at most in the links
 /// and registers at the beginning. No mishap happens, the states at first are alike for a student, and each line of
 /// somebody else keeps the worlds alike for her. Then the same is written to connections while they are known as hers,
-/// or as nobody's yet. On a connection of which this is so throughout, all output is the same. The states at the end
-/// are alike.
+/// or as nobody's yet. If that holds for a connection during the whole run, all of its output is the same. The states
+/// at the end are alike.
 pub fn hidden_values_change_no_script()
     ensures written { (lab other : LabValue) (s : ℕ) (st su : State) (lines : List RequestLine) →
         AreTwins lab other → StatesAlike lab s st su → StayAlike lab other s st su lines →
@@ -197,9 +197,10 @@ pub fn one_event_keeps_worlds_alike()
         ShowsTheSame r s w v event.Close }
 {}
 
-/// If an event happens in each of two worlds that are alike for a student, they stay alike if both events make a
-/// configuration or neither does, and each leaves untouched what she may see. The number, the place, and the chosen
-/// moves that a new configuration drops are left out of this. An event out of her sight leaves all of it untouched.
+/// If an event happens in each of two worlds that are alike for a student, they stay alike if two conditions hold. Both
+/// events make a configuration, or neither does; and each leaves untouched what she may see. Here the numbers of events
+/// and configurations, and the chosen moves that a new configuration drops, don't count as what she may see. An event
+/// out of her sight leaves everything that counts untouched.
 pub fn events_out_of_sight_keep_worlds_alike()
     ensures untouched { (r : RosterValue) (s : ℕ) (w v : World) (e f : Event) → Alike r s w v →
         IsUntouched r s w e → IsUntouched r s v f →

@@ -246,7 +246,7 @@ fn is_one_leaving(guests: &Vec<Guest>) -> bool {
 }
 
 // Returns the index of the last guest whose participant has more than `SEATS_OF_A_NAME` seats, or `None` if no
-// participant has so many. Seats of guests who are leaving aren't counted.
+// participant has more. Seats of guests who are leaving aren't counted.
 fn one_too_many(guests: &Vec<Guest>) -> Option<usize> {
     let mut found = None;
     for index in 0..guests.len() {

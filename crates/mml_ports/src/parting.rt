@@ -21,8 +21,8 @@ pub(crate) const PARTING: u64 = 20;
 // The most bytes of what the other side sent that are read before its connection is closed.
 const PARTING_SIZE: usize = 4096;
 
-// If so many connections are waiting to be closed, the oldest that was sent everything is closed early, so that a flood
-// of connections doesn't use up the descriptors.
+// If as many connections as this are waiting to be closed, the oldest that was sent everything is closed early, so that
+// a flood of connections doesn't use up the descriptors.
 const MANY_PARTINGS: usize = 64;
 
 // A connection that has left its seat, or never had one, and is to be closed.

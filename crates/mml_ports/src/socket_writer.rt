@@ -285,7 +285,7 @@ impl<'a, Rt: Clock + Wait + Eprint> HangUp for ReplyWriter<'a, Rt> {
 }
 
 // Sends the reason why the connection is ended, and waits for at most `PARTING` milliseconds until the other side takes
-// it. Sends nothing if the system refuses that timeout.
+// it. Sends nothing if the system refuses to set this timeout.
 fn say(stream: &TcpStream, why: EndReason) {
     if stream
         .set_write_timeout(Some(Duration::from_millis(PARTING)))

@@ -1,5 +1,5 @@
-//! Tests of a house (one run of a lab) that serves one connection after another at two ports: at the desk, where the
-//! teacher's bye ends the house, and at the students' port.
+//! Tests of a house (one run of a lab) that serves one connection after another at two ports: the desk's and the
+//! students'. The teacher's bye at the desk ends the house.
 use crate::texts::{Count, Left, Texts, Timed, cycle_of_six, sent_to};
 use mml_fakes::lines;
 use mml_fakes::scripts::{CLOSED_JOURNAL, NOTHING_CLOSED, ONE_CLOSED, TESS_CLOSES};

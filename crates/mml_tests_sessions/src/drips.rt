@@ -72,8 +72,8 @@ fn has_dripped(end: &Result<Log<Drip>, Astray>, wanted: &[u8]) -> bool {
 }
 
 /// Asks for the ten acts in a house whose sink stores `puts` bytes and then fails. Returns whether they are answered
-/// rightly, the sink has exactly the first `puts` bytes of their journal, and the house has the events of the whole
-/// lines in these.
+/// rightly, the sink has exactly the first `puts` bytes of their journal, and the house has one event for each whole
+/// line in these bytes.
 fn drips<R: Wait>(rt: &R, alloc: Global, puts: usize) -> Result<bool, Fail> {
     let (wanted, _) = TEN_LINES.as_bytes().split_at(puts.min(TEN_LINES.len()));
     let last = (ended_lines(wanted) as u64).saturating_add(1);

@@ -249,7 +249,8 @@ impl<H: House> Window<H> {
     }
 
     /// Returns whether the window's place (event number) at the index `cursor` is `place`. Returns `false` if there is
-    /// none at this index. At the end of a house, places are counted off, and those before the cursor are.
+    /// none at this index. At the end of a house, the places of a window are counted off in order, and those before the
+    /// cursor are counted off already.
     pub(crate) fn is_next(&self, cursor: usize, place: u64) -> bool
         ensures next { IsTrue result → (drop cursor self.now.places
             ≡ place ∷ drop (cursor + 1) self.now.places) × (cursor < MAX_EVENTS) }

@@ -19,9 +19,9 @@ ghost use Rattle.mml_hall.specs.Turns as hall;
 ghost use Rattle.mml_session.specs.Turns as session;
 ghost use Rattle.mml_laws.specs.Greeted.{IsTold, IsDenied};
 
-/// The rules of greeting. On a connection that is known as a participant, each hello is denied as `greeted`, and the
-/// connection stays known as it was; commands are judged as those of this participant. On a connection that isn't known
-/// yet, each command is denied as `not-greeted`, and a hello with nobody's name and key as `unknown`.
+/// The rules of greeting. On a connection on which a participant is known, each hello is denied as `greeted`, and the
+/// participant stays known; commands are judged as those of this participant. On a connection on which nobody is known,
+/// each command is denied as `not-greeted`, and a hello with nobody's name and key as `unknown`.
 pub fn a_connection_is_known_as_one()
     ensures again { (r : RosterValue) (x : Who) (name key : List ℕ) →
         greeting r (Some x) (requests.Hello name key)
@@ -35,10 +35,10 @@ pub fn a_connection_is_known_as_one()
         greeting r None (requests.Hello name key) ≡ Answered (reply.Deny denial.Unknown) None }
 {}
 
-/// In a hall (the engine that answers the lines of numbered connections), a hello on a connection that is known is
-/// denied as `greeted`, and a command on one that isn't as `not-greeted`; either may be refused as `memory` instead.
-/// Neither changes anything. If nothing goes wrong, a command on a connection that is known is ruled on as one of the
-/// known participant.
+/// In a hall (the engine that answers the lines of numbered connections), a hello is denied as `greeted` on a
+/// connection on which somebody is known. A command is denied as `not-greeted` on one on which nobody is. Either may be
+/// refused as `memory` instead, and neither changes anything. If nothing goes wrong, a command on a connection on which
+/// a participant is known is ruled on as a command of this participant.
 pub fn a_hall_answers_by_who_is_known()
     ensures again { (lab : LabValue) (st : hall.State) (k : ℕ) (line : List ℕ) (out : hall.Outcome)
         (x : Who) (name key : List ℕ) → hall.known_on st k ≡ Some x →
@@ -54,9 +54,10 @@ pub fn a_hall_answers_by_who_is_known()
         IsTold st (reply.Deny denial.NotGreeted) out }
 {}
 
-/// In a session, a hello on a connection that is known is denied as `greeted`, and a command on one that isn't as
-/// `not-greeted`; either may be refused as `memory` instead. Neither changes anything. A command on a connection that
-/// is known is answered as one of the known participant, who stays known, or is refused as `memory`.
+/// In a session, a hello is denied as `greeted` on a connection on which somebody is known. A command is denied as
+/// `not-greeted` on one on which nobody is. Either may be refused as `memory` instead, and neither changes anything. A
+/// command on a connection on which a participant is known is answered as a command of this participant, who stays
+/// known, or is refused as `memory`.
 pub fn a_session_answers_by_who_is_known()
     ensures again { (lab : LabValue) (st next : session.Standing) (line : List ℕ) (r : Reply)
         (x : Who) (name key : List ℕ) → st.known ≡ Some x →

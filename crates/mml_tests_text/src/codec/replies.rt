@@ -34,7 +34,8 @@ fn sight(alloc: Global, lab: &Lab) -> Result<String, Fail> {
     line_of(alloc, lab, &Reply::See(See { at, node, regs }))
 }
 
-/// Returns whether the reply to an allowed report on a board is a report with the number and the stability of `told`.
+/// Returns whether the reply to an allowed report on a board is a report with the same number and stability as the
+/// given one.
 fn is_reported(alloc: Global, board: &Board, told: &Report) -> Result<bool, Fail> {
     match reply_of(alloc, board, Ruling::Reported)? {
         Reply::Report(other) => Ok(other.at == told.at && other.stable == told.stable),
