@@ -212,7 +212,8 @@ fn fault_of_ids(fault: IdFault) -> LabFault
     }
 }
 
-/// Returns the nodes' identifiers, in the file's order. A negative one counts as 0.
+/// Returns the nodes' identifiers, in the file's order, with 0 in place of a negative one. Returns an error if memory
+/// runs out.
 fn file_ids(alloc: Global, nodes: &[RawNode]) -> Result<Vec<u64>, AllocError>
     ensures { IfOk result (λ ids. ids.items ≡ map (λ node. number_of node.id) nodes.now) }
 {

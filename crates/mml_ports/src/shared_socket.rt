@@ -169,8 +169,8 @@ impl SharedSocket {
         self.is_denial_next.store(true, Ordering::SeqCst);
     }
 
-    /// Returns whether the next reply to write is the denial of a hello. Afterwards it isn't noted any more that this
-    /// is so; so each denial is delayed once.
+    /// Returns whether it is noted that the next reply to write is the denial of a hello. Deletes the note, so that
+    /// each denial is delayed once.
     pub(crate) fn take_denial(&self) -> bool {
         self.is_denial_next.swap(false, Ordering::SeqCst)
     }
