@@ -1,7 +1,8 @@
 //! Requests for events, and who may ask for them.
 //!
 //! A grant chooses a move for a node, a release drops it, and a close applies all chosen moves at once. A fault sets a
-//! node's registers, a link joins two nodes, and a cut removes a link.
+//! node's registers, a link joins two nodes, and a cut removes a link. A clause is a condition under which a request is
+//! granted.
 ghost use Rattle.std.specs.Prelude.{◌≡◌, ℕ, Bool, Option, Some, true};
 ghost use Rattle.mml_lab.specs.declared.who.Who.{Who};
 ghost use Rattle.mml_lab.specs.Rosters.{owns};

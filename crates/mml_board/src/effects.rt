@@ -1,7 +1,7 @@
 //! A close: the chosen moves are applied at once, so each effect is computed before one is written.
 //!
 //! The registers of a node are its pointer p and m, which is true or false. An effect is the registers of a node after
-//! its chosen move.
+//! its chosen move. The rank of a node is its index in the rising order of identifiers.
 ghost use Rattle.std.specs.Prelude.{◌≡◌, ℕ, ◌<◌, true, Some, length, if◌then◌else◌};
 ghost use Rattle.std.specs.FinSet as set;
 ghost use Rattle.mml_rules.specs.declared.rule.Rule.{Rule};
@@ -67,7 +67,7 @@ fn moved(network: &IndexedNetwork, node: Rank, rule: Option<Rule>) -> Regs
     }
 }
 
-/// Writes the new registers of each of `nodes`, which `effects` has by rank, into the network.
+/// Writes the new registers of each of `nodes`, which are in `effects` by rank, into the network.
 fn write_effects(network: &mut IndexedNetwork, effects: &[Regs], nodes: NodeSet)
     requires room { length effects.now ≡ length network.old.registers }
     requires within { (i : ℕ) → set.contains nodes i ≡ true → i < length network.old.registers }

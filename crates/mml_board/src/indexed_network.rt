@@ -1,4 +1,7 @@
 //! A network with rows of bits beside it, so that a question about a node takes a few operations on words.
+//!
+//! The rank of a node is its index in the rising order of identifiers. The registers of a node are its pointer p and m,
+//! which is true or false.
 ghost use Rattle.std.specs.Prelude.{◌≡◌, ◌≢◌, ℕ, ◌<◌, length, true, Some, IfOk, if◌then◌else◌};
 ghost use Rattle.std.specs.FinSet as set;
 ghost use Rattle.mml_rules.specs.Rules.{is_candidate};
@@ -177,7 +180,7 @@ impl IndexedNetwork {
 }
 
 /// Moves a node from the suitors of `from`, at which it pointed, to the suitors of `to`, at which it points now. `None`
-/// stands for a null pointer. `suitors` has by rank the nodes that point at each node.
+/// stands for a null pointer. `suitors` has the nodes that point at each node, by rank.
 fn move_suitor(suitors: &mut [NodeSet], node: Rank, from: Option<Rank>, to: Option<Rank>)
     requires from { (i : ℕ) → from ≡ Some i → i < length suitors.old }
     requires to { (i : ℕ) → to ≡ Some i → i < length suitors.old }
@@ -188,7 +191,7 @@ fn move_suitor(suitors: &mut [NodeSet], node: Rank, from: Option<Rank>, to: Opti
 }
 
 /// Adds a node to the suitors of the node `p` if `is_in` is true, and else removes it from them. Does nothing if `p` is
-/// `None`. `suitors` has by rank the nodes that point at each node.
+/// `None`. `suitors` has the nodes that point at each node, by rank.
 fn put_suitor(suitors: &mut [NodeSet], p: Option<Rank>, node: Rank, is_in: bool)
     requires { (i : ℕ) → p ≡ Some i → i < length suitors.old }
     ensures { suitors.new ≡

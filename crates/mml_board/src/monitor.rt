@@ -1,6 +1,7 @@
 //! The privilege monitor: the set of privileged nodes, updated only near what changed.
 //!
-//! A node is privileged if some rule is enabled there.
+//! A node is privileged if some rule is enabled there. The rank of a node is its index in the rising order of
+//! identifiers.
 ghost use Rattle.std.specs.Prelude.{◌≡◌, ℕ, ◌<◌, true, length, if◌then◌else◌};
 ghost use Rattle.std.specs.FinSet as set;
 ghost use Rattle.mml_rules.specs.Network.{configuration_of};

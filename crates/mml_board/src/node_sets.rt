@@ -1,4 +1,6 @@
 //! Operations on sets of nodes whose contracts say more than those of a set.
+//!
+//! The rank of a node is its index in the rising order of identifiers.
 ghost use Rattle.std.specs.Prelude.{◌≡◌, ◌↔◌, ℕ, ◌==◌, IsTrue, if◌then◌else◌};
 ghost use Rattle.std.specs.FinSet as set;
 

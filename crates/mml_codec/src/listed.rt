@@ -1,4 +1,6 @@
 //! Lists of nodes and links in replies. Each item is written as a value of JSON.
+//!
+//! A node is privileged if some rule is enabled there.
 ghost use Rattle.std.specs.Prelude.{codes, ◌+◌, ◌≡◌, ◌≤◌, ◌<◌, ◌++◌, ℕ, List, All, length, map, OnOk, IfOk, IfSome, MatchResult, vec_capacity};
 ghost use Rattle.mml_policy.specs.About.{IsNear};
 ghost use Rattle.mml_stable.specs.Reports.{IsPairOf, IsOpenLinkOf};

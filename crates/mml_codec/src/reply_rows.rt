@@ -1,4 +1,7 @@
 //! The table of fields of each reply but a look and a report. The error `Memory` means that memory ran out.
+//!
+//! The place of an event is its number in the list of events, from 1. A clause is a condition under which a request is
+//! granted.
 ghost use Rattle.std.specs.Prelude.{◌≡◌, ◌≤◌, ◌<◌, ◌^◌, ◌∷◌, length};
 ghost use Rattle.mml_ids.specs.Pieces.{Puts};
 ghost use Rattle.mml_lab.specs.Rosters.{name_of, IsPrincipal};

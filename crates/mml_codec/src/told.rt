@@ -1,4 +1,6 @@
 //! The values of keys in replies, and their text.
+//!
+//! A clause is a condition under which a request is granted.
 ghost use Rattle.std.specs.Prelude.{decimal, ◌≡◌, ◌≤◌, ◌<◌, ◌+◌, ◌++◌, ℕ, List, length, map, refl, IfSome, vec_capacity};
 ghost use Rattle.mml_ids.specs.Pieces.{truth_text};
 ghost use Rattle.mml_codec.specs.Facts as fact;

@@ -1,6 +1,6 @@
 //! Engines, which answer commands.
 //!
-//! An act is a request for an event.
+//! An act is a request for an event. A view is what a see, a look or a report shows.
 use mml_codec::Reply;
 use mml_lab::{Roster, Who};
 use mml_policy::Command;

@@ -1,7 +1,8 @@
 //! Opening a house (one run of a lab), using it through two windows, and ending it.
 //!
 //! A window is one session's view of the published events, and a seat is a window together with the house's desk. The
-//! path of three is the lab of nodes 1, 2 and 3 in a row (`labs::PATH_OF_THREE`).
+//! path of three is the lab of nodes 1, 2 and 3 in a row (`labs::PATH_OF_THREE`). A sink is the destination of the
+//! journal's bytes. A put is a write to the sink.
 ghost use Rattle.std.specs.Prelude.{◌≡◌, ◌-◌, ◌^◌, ◌<◌, ◌≤◌, length};
 ghost use Rattle.mml_journal.specs.Taken.{IsFresh};
 ghost use Rattle.mml_window.specs.Houses.{house_of};

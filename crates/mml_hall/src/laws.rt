@@ -4,7 +4,8 @@
 //! turn is the reply to one line and the state after it. A script is one list with the lines of all connections, and a
 //! transcript has its lines with their replies. A world is a network with its registers, its chosen moves, the number
 //! of its configuration, and the number of events so far. An account is known on a connection from its granted hello to
-//! its bye.
+//! its bye. A sink is the destination of the journal's bytes. The place of an event is its number in the list of
+//! events, from 1.
 
 ghost use Rattle.std.specs.Prelude.{◌≡◌, ◌≢◌, ◌<◌, ◌≤◌, ◌⊎◌, ◌++◌, ℕ, List, true, length, map};
 ghost use Rattle.mml_lab.specs.declared.TheConstants.{MAX_SESSIONS};

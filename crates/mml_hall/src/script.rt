@@ -1,7 +1,8 @@
 //! The run of a script: its lines are answered one by one, and the replies are written.
 //!
 //! A script is a list of request lines, each after the number of its connection. A hall has the state of all its
-//! connections. The replies that are buffered in `outgoing` and not yet written are held.
+//! connections. The replies that are buffered in `outgoing` and not yet written are held. A sink is the destination of
+//! the journal's bytes.
 ghost use Rattle.std.specs.Prelude.{◌≡◌, ◌≢◌, ◌+◌, ◌-◌, ◌^◌, ◌<◌, ◌≤◌, ◌++◌, ◌∷◌, [], length, decimal, None, OnOk, IfOk, IfErr, vec_capacity};
 ghost use Rattle.std.specs.Io.KnownBytes.{prepend_known};
 ghost use Rattle.mml_lines.specs.declared.lines.TheConstants.{READ_SIZE};

@@ -5,7 +5,7 @@ ghost use Rattle.mml_lab.specs.Rosters.{is_name_byte, is_name};
 
 use crate::MAX_NAME;
 
-/// A name and a key.
+/// A participant's name, and the secret key that belongs to it.
 #[derive(Debug, Drop)]
 pub struct Account {
     pub name: String,

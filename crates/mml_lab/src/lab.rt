@@ -1,7 +1,7 @@
 //! The lab: what a run begins from.
 //!
 //! The rank of a node is its index in the rising order of identifiers. The registers of a node are its pointer p and m,
-//! which is true or false.
+//! which is true or false. The roster has the teacher, the students, and the owners of each node.
 ghost use Rattle.std.specs.Prelude.{◌≡◌, ◌<◌, ◌≤◌, length};
 ghost use Rattle.std.specs.FinSet as set;
 ghost use Rattle.mml_rules.specs.Network.{neighbours_at, registers_at, configuration_of};

@@ -1,4 +1,4 @@
-//! Laws of the lab. Each is the clause of a function that does nothing.
+//! Laws of the lab. Each is the contract of a function that does nothing.
 //!
 //! The rank of a node is its index in the rising order of identifiers. The roster has the teacher, the students, and
 //! the owners of each node.

@@ -1,4 +1,6 @@
 //! The nodes that each student owns, as rows of bits.
+//!
+//! The rank of a node is its index in the rising order of identifiers.
 ghost use Rattle.std.specs.Prelude.{◌≡◌, ℕ, ◌<◌, ◌≤◌, ◌==◌, ◌&&◌, ◌||◌, All, length, map, IfOk, IfErr};
 ghost use Rattle.std.specs.List.{list_any};
 ghost use Rattle.std.specs.FinSet as set;
@@ -13,8 +15,8 @@ use mml_ids::{NodeSet, Rank};
 use std::alloc::Global;
 
 /// Returns the set of the nodes that each student owns, by student. At its end the list has one more set, which is
-/// empty, for a student who isn't in the roster. `students` is the number of students, and `owners` has by rank the
-/// owners of each node. Returns `Memory` if memory runs out.
+/// empty, for a student who isn't in the roster. `students` is the number of students, and `owners` has the owners of
+/// each node, by rank. Returns `Memory` if memory runs out.
 pub(crate) fn owned_by_each(
     alloc: Global,
     students: usize,

@@ -1,4 +1,7 @@
 //! The lab of a file without an error.
+//!
+//! The rank of a node is its index in the rising order of identifiers. The registers of a node are its pointer p and m,
+//! which is true or false.
 ghost use Rattle.std.specs.Prelude.{◌≡◌, ◌≤◌, ◌==◌, map, length, IfOk, IfErr, option_copied, string_bytes, Ok};
 ghost use Rattle.std.specs.List.{find};
 ghost use Rattle.mml_ids.specs.Gives.{Gives};
@@ -41,8 +44,8 @@ pub(crate) fn build(alloc: Global, checked: Checked) -> Result<Lab, LabFault>
     Ok(Lab::new(ids, roster, network, events, sessions))
 }
 
-/// Returns by rank the registers of each node (first) and the owners of each node (second), as a checked file says.
-/// Returns `Memory` if memory runs out.
+/// Returns the registers of each node (first) and the owners of each node (second), both by rank, as a checked file
+/// says. Returns `Memory` if memory runs out.
 fn parts(alloc: Global, checked: &Checked) -> Result<(Vec<Regs>, Vec<Vec<Student>>), LabFault>
     requires { length checked.now.students.entries ≤ MAX_STUDENTS }
     ensures registers { IfOk result (λ parts. parts.0.items ≡ map (registers_with

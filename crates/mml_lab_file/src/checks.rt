@@ -1,4 +1,6 @@
 //! The checks between what a file spells and a lab.
+//!
+//! The rank of a node is its index in the rising order of identifiers.
 ghost use Rattle.std.specs.Prelude.{◌≡◌, ◌≤◌, ◌&&◌, ◌∷◌, not, position, map, length, string_bytes, IfOk};
 ghost use Rattle.std.specs.List.{list_any};
 ghost use Rattle.std.specs.Ordering.{int_eq};
@@ -74,7 +76,7 @@ pub(crate) fn check(alloc: Global, raw: RawLab) -> Result<Checked, LabFault>
     })
 }
 
-/// What the checks of a file found, beside its teacher and its nodes.
+/// The results of the checks of a file. With the file's teacher and its nodes, they make a `Checked`.
 #[derive(Drop)]
 struct Found {
     ids: IdTable,

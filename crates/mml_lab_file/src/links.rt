@@ -1,4 +1,6 @@
 //! The checks of links, and the rows of neighbours by the ranks of the nodes.
+//!
+//! The rank of a node is its index in the rising order of identifiers.
 ghost use Rattle.std.specs.Prelude.{◌≡◌, ◌<◌, ◌==◌, ◌&&◌, ◌||◌, ℕ, None, position, map, length, IfSome, IfOk};
 ghost use Rattle.std.specs.List.{list_any};
 ghost use Rattle.std.specs.Option.{ForSome};
@@ -120,7 +122,7 @@ fn rows(alloc: Global, ids: &IdTable, links: &[(i64, i64)]) -> Result<Vec<NodeSe
     Ok(rows)
 }
 
-/// Returns whether `a` and `b` are neighbours in `rows`, which has by rank the neighbours of each node. `None` stands
+/// Returns whether `a` and `b` are neighbours in `rows`, which has the neighbours of each node, by rank. `None` stands
 /// for no node, which has no neighbours.
 #[tactic(auto, unfolding(crate::specs::inside::Checks::are_near))]
 fn are_near(rows: &[NodeSet], a: Option<Rank>, b: Option<Rank>) -> bool
@@ -142,8 +144,8 @@ pub(crate) fn rank_at(ids: &IdTable, id: i64) -> Option<Rank>
     ids.rank_of(number_of(id))
 }
 
-/// Makes `a` and `b` neighbours of each other in `rows`, which has by rank the neighbours of each node. Does nothing if
-/// one of them is `None`, which stands for no node.
+/// Makes `a` and `b` neighbours of each other in `rows`, which has the neighbours of each node, by rank. Does nothing
+/// if one of them is `None`, which stands for no node.
 fn join(rows: &mut [NodeSet], a: Option<Rank>, b: Option<Rank>)
     requires a { ForSome a (λ rank. rank < length rows.old) }
     requires b { ForSome b (λ rank. rank < length rows.old) }
@@ -159,7 +161,7 @@ fn join(rows: &mut [NodeSet], a: Option<Rank>, b: Option<Rank>)
     }
 }
 
-/// Adds `neighbour` to the neighbours of `node`. `rows` has by rank the neighbours of each node.
+/// Adds `neighbour` to the neighbours of `node`. `rows` has the neighbours of each node, by rank.
 fn insert(rows: &mut [NodeSet], node: Rank, neighbour: Rank)
     requires { node < length rows.old }
     ensures { (i q : ℕ) → set.contains (neighbours_at rows.new i) q

@@ -1,4 +1,7 @@
 //! A comparison of two labs, part by part.
+//!
+//! The rank of a node is its index in the rising order of identifiers. The roster has the teacher, the students, and
+//! the owners of each node.
 ghost use Rattle.std.specs.Prelude.{◌≡◌, ◌↔◌, ◌<◌, IsTrue, IfOk, length};
 ghost use Rattle.mml_lab_file.specs.Sameness.{HasSameLinks, HasSameOwners, HasSameNames, IsSameNode, IsSameLab, SpellsSame};
 

@@ -1,7 +1,7 @@
 //! The data by which a command is judged.
 //!
 //! A world is a network with its registers, its chosen moves, the number of its configuration, and the number of events
-//! so far.
+//! so far. The roster has the teacher, the students, and the owners of each node.
 use mml_board::Board;
 use mml_ids::IdTable;
 use mml_lab::Roster;

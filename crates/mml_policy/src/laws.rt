@@ -4,7 +4,8 @@
 //! the conditions for it, hold; otherwise it is denied by the first that doesn't. The verdict says which; the ruling is
 //! the verdict, or a refusal in place of a grant. A grant chooses a move for a node, a release drops it, and a close
 //! applies all chosen moves at once. A fault sets a node's registers, a link joins two nodes, and a cut removes a link.
-//! The registers of a node are its pointer p and m, which is true or false.
+//! The registers of a node are its pointer p and m, which is true or false. An event is legal if all clauses of its
+//! request hold. A node is privileged if some rule is enabled there.
 ghost use Rattle.std.specs.Prelude.{◌≡◌, ◌≢◌, ◌<◌, ◌↔◌, ◌⊎◌, ℕ, Bool, List, Option, None, Some, true, false, length, slice_index};
 ghost use Rattle.mml_rules.specs.declared.rule.Rule.{Rule};
 ghost use Rattle.mml_rules.specs.Configuration.{Configuration, IsLawful};

@@ -1,7 +1,7 @@
 //! Why an act is refused, which is not the same as a denial.
 //!
 //! A clause is a condition under which a request is granted; a denial names the first that doesn't hold. An act is a
-//! request for an event.
+//! request for an event. The journal is halted once a line couldn't be written to it.
 use mml_ids::Memory;
 
 /// Why an act that all clauses allow doesn't happen, or the reply to a ruling can't be made.

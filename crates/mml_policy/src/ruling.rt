@@ -2,7 +2,7 @@
 //!
 //! A clause is a condition under which a request is granted; a denial names the first that doesn't hold. An act is a
 //! request for an event. The verdict is what the clauses decide; the ruling is the verdict, or a refusal in place of a
-//! grant.
+//! grant. The journal is halted once a line couldn't be written to it.
 ghost use Rattle.std.specs.Prelude.{◌≡◌, OnErr, IfOk, true};
 ghost use Rattle.mml_policy.specs.Courses.{NamesEachNode, ruling_in};
 ghost use Rattle.mml_policy.specs.Rulings.{event_of, is_look};

@@ -2,7 +2,8 @@
 //! sockets.
 //!
 //! A seat serves one connection after another, each through the seat's window. A newcomer is a connection that waits
-//! for a seat, and a guest is one that has a seat.
+//! for a seat, and a guest is one that has a seat. The host has two ports: the desk, which is the teacher's, and the
+//! students' port.
 use crate::connection::SharedConnection;
 use crate::crowd::Crowd;
 use crate::end_reason::EndReason;

@@ -1,4 +1,7 @@
 //! A connection's socket: one descriptor, which the connection's reader, its writer and its cut-off share.
+//!
+//! The host has two ports: the desk, which is the teacher's, and the students' port. A seat serves one connection after
+//! another.
 use crate::end_reason::EndReason;
 use mml_codec::{Request, read_request};
 use std::alloc::Global;

@@ -1,4 +1,6 @@
 //! The reading end of a connection, which has a deadline for each line.
+//!
+//! The host has two ports: the desk, which is the teacher's, and the students' port.
 ghost use Rattle.std.specs.Prelude.{◌≤◌, length};
 ghost use Rattle.std.specs.Io.{ReadsAtMost};
 

@@ -1,4 +1,6 @@
 //! The state of a host that its threads share.
+//!
+//! The host has two ports: the desk, which is the teacher's, and the students' port.
 use crate::crowd::Crowd;
 use mml_lab::Lab;
 use std::alloc::Global;

@@ -1,4 +1,6 @@
 //! The two ports of a class, on which the host listens before the journal is begun.
+//!
+//! The host has two ports: the desk, which is the teacher's, and the students' port.
 use crate::port::{EndBell, Port};
 use crate::state::HostState;
 use libc::net::listen;

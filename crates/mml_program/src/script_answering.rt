@@ -1,4 +1,6 @@
 //! The work of the subcommands, over any readers and writers.
+//!
+//! A sink is the destination of the journal's bytes.
 ghost use Rattle.std.specs.Prelude.{◌<◌, ◌-◌, ◌^◌, ◌∷◌, [], codes, decimal, OnOk};
 ghost use Rattle.std.specs.List.{concat};
 ghost use Rattle.std.specs.Io.KnownBytes.{Appends};

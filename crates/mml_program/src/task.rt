@@ -1,4 +1,6 @@
 //! From the command line to the work that it asks for.
+//!
+//! A sink is the destination of the journal's bytes. The journal is halted once a line couldn't be written to it.
 ghost use Rattle.std.specs.Prelude.{◌<◌, ◌≤◌, ◌-◌, ◌^◌};
 ghost use Rattle.mml_journal.specs.Taken.{IsFresh};
 

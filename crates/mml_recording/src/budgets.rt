@@ -2,7 +2,8 @@
 //!
 //! A record has entries: a line with its reply, a session's end, or a note that something is left out. An account is
 //! known on a connection from its granted hello to its bye. Each account has a budget, the number of bytes that its
-//! entries may have. All connections on which nobody is known share one budget.
+//! entries may have. All connections on which nobody is known share one budget. A seat serves one connection after
+//! another.
 ghost use Rattle.std.specs.Prelude.{◌≡◌, is_some};
 
 use mml_codec::Reply;

@@ -1,7 +1,7 @@
 //! The witnesses of open links.
 //!
 //! A node is privileged if some rule is enabled there. A link is open if neither of its ends is in a pair of nodes that
-//! point at each other.
+//! point at each other. The rank of a node is its index in the rising order of identifiers.
 ghost use Rattle.std.specs.Prelude.{◌≡◌, ◌<◌, true, false, length};
 ghost use Rattle.mml_rules.specs.declared.rule.Rule.{Rule};
 ghost use Rattle.mml_rules.specs.Rules.{is_married, guard, kind_of, enabled_kind};
@@ -36,8 +36,8 @@ pub fn certify(board: &Board, a: Rank, b: Rank) -> (Rank, Kind)
 
 /// Returns the witness of a link between two free nodes (in no pair), `a` and a greater `b`: a privileged node, and the
 /// rule that is enabled there. It is the node that `walk` finds from `a`, or, if it finds none, the one that it finds
-/// from `b`. If it finds none there either, it is `a` with a seduction. `kinds` has by rank the rule that is enabled at
-/// each node.
+/// from `b`. If it finds none there either, it is `a` with a seduction. `kinds` has the rule that is enabled at each
+/// node, by rank.
 #[tactic(auto, unfolding(crate::specs::Walk::certificate))]
 pub(crate) fn witness(board: &Board, kinds: &[Option<Kind>], a: Rank, b: Rank) -> (Rank, Kind)
     requires kinds { AreKinds (configuration board.now) kinds.now }
@@ -53,7 +53,7 @@ pub(crate) fn witness(board: &Board, kinds: &[Option<Kind>], a: Rank, b: Rank) -
 
 /// Follows the pointers from `node` to the first node that is privileged or points at no node, as `top` does. Returns
 /// this node with the rule that is enabled there. Returns `None` if no rule is enabled there, or a seduction. `kinds`
-/// has by rank the rule that is enabled at each node.
+/// has the rule that is enabled at each node, by rank.
 fn walk(board: &Board, kinds: &[Option<Kind>], node: Rank) -> Option<(Rank, Kind)>
     requires kinds { AreKinds (configuration board.now) kinds.now }
     requires node { node < length board.now.network.registers }
@@ -68,7 +68,7 @@ fn walk(board: &Board, kinds: &[Option<Kind>], node: Rank) -> Option<(Rank, Kind
 
 /// Follows the pointers from `node` to the first node that is privileged or points at no node. Returns this node, with
 /// the rule that is enabled there, if one is. If no such node comes in as many steps as there are nodes, returns the
-/// node that the last step reached. `kinds` has by rank the rule that is enabled at each node.
+/// node that the last step reached. `kinds` has the rule that is enabled at each node, by rank.
 fn top(board: &Board, kinds: &[Option<Kind>], node: Rank) -> (Rank, Option<Kind>)
     requires kinds { AreKinds (configuration board.now) kinds.now }
     requires node { node < length board.now.network.registers }

@@ -1,4 +1,6 @@
 //! The rule that is enabled at each node, found once for the whole report.
+//!
+//! The rank of a node is its index in the rising order of identifiers.
 ghost use Rattle.std.specs.Prelude.{◌≡◌, ◌<◌, ◌≤◌, length};
 ghost use Rattle.mml_rules.specs.Rules.{enabled_kind};
 ghost use Rattle.mml_board.specs.World.{configuration};

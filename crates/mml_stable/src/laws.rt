@@ -3,7 +3,7 @@
 //! The registers of a node are its pointer p and m, which is true or false. A node is privileged if some rule is
 //! enabled there. A configuration is stable if no node is privileged. A pair is two nodes that point at each other, and
 //! a free node is in no pair. A link is open if both its ends are free. Its witness is a privileged node that the
-//! report names for it.
+//! report names for it. The rank of a node is its index in the rising order of identifiers.
 ghost use Rattle.std.specs.Prelude.{◌≡◌, ◌↔◌, ◌⊎◌, ℕ, ◌<◌, true, false, Some, Contains};
 ghost use Rattle.mml_rules.specs.declared.rule.Kind.{Kind};
 ghost use Rattle.mml_rules.specs.Configuration.{Configuration, IsLawful};

@@ -1,7 +1,8 @@
 //! The making of a report.
 //!
 //! A node is privileged if some rule is enabled there. A free node is in no pair of nodes that point at each other. A
-//! link is open if both its ends are free.
+//! link is open if both its ends are free. The witness of an open link is a privileged node that the report names for
+//! it. The rank of a node is its index in the rising order of identifiers.
 ghost use Rattle.std.specs.Prelude.{◌≡◌, ℕ, ◌<◌, ◌++◌, length, true, IfOk, OnOk};
 ghost use Rattle.std.specs.FinSet as set;
 ghost use Rattle.mml_ids.specs.Sets.{those_below};
@@ -93,7 +94,7 @@ fn free_nodes(alloc: Global, board: &Board) -> Result<(Vec<Rank>, NodeSet), Memo
 }
 
 /// Returns the privileged nodes in rising order, each with the rule that is enabled there, and whether there are none.
-/// `kinds` has by rank the rule that is enabled at each node. Returns `Memory` if memory runs out.
+/// `kinds` has the rule that is enabled at each node, by rank. Returns `Memory` if memory runs out.
 fn privileged_nodes(
     alloc: Global,
     board: &Board,
@@ -131,8 +132,8 @@ fn open_ends(board: &Board, rest: NodeSet, a: Rank) -> NodeSet
     }
 }
 
-/// Returns the open link between `a` and `b`, with its witness. `kinds` has by rank the rule that is enabled at each
-/// node.
+/// Returns the open link between `a` and `b`, with its witness. `kinds` has the rule that is enabled at each node, by
+/// rank.
 fn open_link(board: &Board, kinds: &[Option<Kind>], a: Rank, b: Rank) -> OpenLink
     requires kinds { AreKinds (configuration board.now) kinds.now }
     requires a { a < length board.now.network.registers }
@@ -144,7 +145,7 @@ fn open_link(board: &Board, kinds: &[Option<Kind>], a: Rank, b: Rank) -> OpenLin
 }
 
 /// Appends the open links whose lower end is `a` to `all`, each with its witness. `ends` has their greater ends, and
-/// `kinds` has by rank the rule that is enabled at each node. Returns `Memory` if memory runs out.
+/// `kinds` has the rule that is enabled at each node, by rank. Returns `Memory` if memory runs out.
 fn put_open_links(
     all: &mut Vec<OpenLink>,
     board: &Board,
@@ -168,7 +169,7 @@ fn put_open_links(
 }
 
 /// Returns the open links, which join two free nodes, in rising order, each with its witness. `free` has the free
-/// nodes, and `kinds` has by rank the rule that is enabled at each node. Returns `Memory` if memory runs out.
+/// nodes, and `kinds` has the rule that is enabled at each node, by rank. Returns `Memory` if memory runs out.
 fn open_links(
     alloc: Global,
     board: &Board,

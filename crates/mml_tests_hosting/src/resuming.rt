@@ -1,4 +1,6 @@
 //! Tests of classes that go on from a journal, or are refused.
+//!
+//! The host has two ports: the desk, which is the teacher's, and the students' port.
 ghost use Rattle.std.specs.Prelude.{◌≡◌, ◌<◌, ◌-◌, ◌^◌, IfSome};
 
 use crate::texts::{Count, Left, Texts, Timed, cycle_of_six, sent_to};

@@ -2,7 +2,7 @@
 //! look and a journal's line. An error means that memory ran out.
 //!
 //! The first board of a lab is the one at the beginning of a run. The path of three is the lab of nodes 1, 2 and 3 in a
-//! row.
+//! row. The rank of a node is its index in the rising order of identifiers.
 ghost use Rattle.std.specs.Prelude.{◌<◌, length};
 
 use mml_board::{Board, Event};

@@ -1,4 +1,7 @@
 //! A test of the report. An error means that memory ran out, or is that of a lab file.
+//!
+//! The rank of a node is its index in the rising order of identifiers. A node is privileged if some rule is enabled
+//! there. The witness of an open link is a privileged node that the report names for it.
 use mml_board::Board;
 use mml_fakes::labs::{boxed_board, boxed_lab};
 use mml_ids::Rank;

@@ -1,7 +1,8 @@
 //! Tests of a house over a sink that stores one byte in each put, and fails after each possible number of bytes.
 //!
 //! The ten acts are those of a stored run over the path of three: nodes 1, 2 and 3 in a row. A visit is what a test
-//! does at two seats of a house, and a seat is a window together with the house's desk.
+//! does at two seats of a house, and a seat is a window together with the house's desk. An act is a request for an
+//! event. A put is a write to the sink.
 use mml_fakes::scripts::{TEN_LINES, ended_lines};
 use mml_fakes::ten_acts::{ACTS, act, asker, number_before};
 use mml_fakes::{Drip, Ending, Pair, Seat, Visit, ending_of, visit_path};

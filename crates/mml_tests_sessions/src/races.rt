@@ -1,5 +1,7 @@
 //! Tests of sessions in threads of their own, which wait for each other at lines and replies. They read byte by byte,
 //! so that each reply is written before the next line is read.
+//!
+//! A house is one run of a lab that threads share.
 mod bytewise;
 mod locked;
 mod steps;

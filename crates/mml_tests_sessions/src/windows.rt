@@ -1,7 +1,7 @@
 //! Tests of the windows of one house (one run of a lab) in one thread, also if some are missing at its end.
 //!
 //! A visit is what a test does at two seats of a house, and a seat is a window together with the house's desk. The
-//! place of an event is its number in the list of events, from 1.
+//! place of an event is its number in the list of events, from 1. A sink is the destination of the journal's bytes.
 ghost use Rattle.std.specs.Prelude.{◌≡◌, length};
 ghost use Rattle.mml_window.specs.Houses.{house_of};
 

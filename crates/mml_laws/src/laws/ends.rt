@@ -3,7 +3,7 @@
 //! A house is one run of a lab that threads share: its list of granted events, the board after them, and their journal.
 //! A node is privileged if some rule is enabled there. A grant chooses a move for a node, a release drops it, and a
 //! close applies all chosen moves at once. A fault sets a node's registers, a link joins two nodes, and a cut removes a
-//! link.
+//! link. The place of an event is its number in the list of events, from 1.
 ghost use Rattle.std.specs.Prelude.{◌≡◌, ◌+◌, ◌*◌, ◌<◌, ◌≤◌, ℕ, true, false, List, ◌++◌, length, Option, Ok};
 ghost use Rattle.std.specs.List.{list_all};
 ghost use Rattle.mml_rules.specs.Matching.{IsStable};

@@ -1,4 +1,4 @@
-//! The words of the journal. Each law is the clause of a function that does nothing.
+//! The words of the journal. Each law is the contract of a function that does nothing.
 //!
 //! A grant chooses a move for a node, a release drops it, and a close applies all chosen moves at once. A fault sets a
 //! node's registers, a link joins two nodes, and a cut removes a link.

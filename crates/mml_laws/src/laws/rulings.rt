@@ -1,7 +1,8 @@
 //! How a ruling on a command follows from its verdict. Each law is the contract of a function that does nothing.
 //!
 //! The verdict is what the clauses of a command, the conditions for it, decide. The ruling is the verdict, or a refusal
-//! in place of a grant.
+//! in place of a grant. A world is a network with its registers, its chosen moves, the number of its configuration, and
+//! the number of events so far. The journal is halted once a line couldn't be written to it.
 ghost use Rattle.std.specs.Prelude.{◌≡◌, ◌↔◌, ◌<◌, ◌≤◌, ℕ, Bool, true, false, List};
 ghost use Rattle.mml_lab.specs.declared.who.Who.{Who};
 ghost use Rattle.mml_lab.specs.Rosters.{RosterValue};

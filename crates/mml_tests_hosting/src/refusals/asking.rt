@@ -2,7 +2,7 @@
 //!
 //! The stored run has ten acts, over the path of three: nodes 1, 2 and 3 in a row. A visit is what a test does at two
 //! seats of a house, and a seat is a window together with the house's desk. The parameter `is_there` of a function says
-//! whether the library that refuses requests is loaded.
+//! whether the library that refuses requests is loaded. An act is a request for an event.
 use super::MOST;
 use super::library::{is_there, refuse, was_none_refused};
 use mml_fakes::ten_acts::{ACTS, act, asker, number_before};

@@ -1,5 +1,7 @@
 //! Tests that replies are written into memory that was reserved before, while each request for memory is refused. The
 //! lab has 256 nodes in a row.
+//!
+//! A hall is the server of one thread, which answers scripts.
 use super::library::{is_there, refuse, refuse_all};
 use mml_codec::{REPLY_ROOM, write_reply};
 use mml_fakes::line;

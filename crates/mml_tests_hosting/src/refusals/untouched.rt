@@ -2,7 +2,8 @@
 //! journal is halted.
 //!
 //! The stored run has ten acts, over the path of three: nodes 1, 2 and 3 in a row. A visit is what a test does at two
-//! seats of a house, and a seat is a window together with the house's desk.
+//! seats of a house, and a seat is a window together with the house's desk. An act is a request for an event. A view is
+//! what a see, a look or a report shows.
 use super::library::{is_there, refuse, was_none_made};
 use mml_fakes::labs::PATH_OF_THREE;
 use mml_fakes::ten_acts::{act, asker};

@@ -1,4 +1,6 @@
 //! A test of a slow put: it holds the lock until another session wants the lock and a third was answered.
+//!
+//! An act is a request for an event. A view is what a see, a look or a report shows. A put is a write to the sink.
 use super::steps::{Hold, Holds, Steps};
 use super::{ANA_GRANTED, ANA_MOVES, are_answered, serve};
 use mml_fakes::lines;
