@@ -133,7 +133,7 @@ impl Listed for (Rank, Regs) {
 }
 
 // Returns the line with the text `{"m":`, the truth value `m` and the text `,"node":` appended. They are the beginning
-// of a neighbour's object, which are written as one literal.
+// of a neighbour's object, and are written as one literal.
 #[inline(always)]
 fn with_first_m_then_node(line: Vec<u8>, m: bool) -> Vec<u8>
     requires { length line.items + 18 ≤ vec_capacity line }

@@ -31,7 +31,7 @@ ghost use Rattle.mml_convergence.specs.Rest.{EachHasOwner, IsOver, LeadsToRest};
 ghost use Rattle.mml_convergence.specs.Rounds.{Rounds, rounds_for, ClosesFull};
 ghost use Rattle.mml_convergence.specs.Examples.{two_nodes, triangle_world, sole_owner, twenty_moves};
 
-/// Two nodes that point at each other still do after any step of moves whose guards hold.
+/// Two nodes that point at each other also point at each other after any step of moves whose guards hold.
 pub fn step_keeps_pairs()
     ensures { (c : Configuration) (chosen : ℕ → Option Rule) (i j : ℕ) → AllHold c chosen →
         IsPair c i j → IsPair (step c chosen) i j }

@@ -1,6 +1,7 @@
 //! Answering a line: its reply, who is known afterwards, and what its session has seen then.
 //!
-//! An account is known on a connection from its granted hello to its bye.
+//! An account is known on a connection from its granted hello to its bye. The parameter `at` of a function is the part
+//! of the engine that belongs to the session.
 ghost use Rattle.std.specs.Prelude.{◌≡◌, false, IfErr, IfSome, OnOk};
 ghost use Rattle.mml_lab.specs.Rosters.{IsPrincipal};
 ghost use Rattle.mml_policy.specs.Acts.{is_act};

@@ -90,8 +90,8 @@ impl Roster {
         index.map(|index| Who::Student(Student::new(index as u16)))
     }
 
-    /// Returns the nodes that `who` owns: none for the teacher, and none for a student past the last. The steps are the
-    /// same for all students, whatever they own.
+    /// Returns the nodes that `who` owns: none for the teacher, and none for a student who isn't in the roster. The
+    /// steps are the same for all students, whatever they own.
     pub fn owned(&self, who: Who) -> NodeSet
         ensures { (i : ℕ) → set.contains result i ≡ owns self.now who i }
     {

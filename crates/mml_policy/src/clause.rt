@@ -54,8 +54,8 @@ pub(crate) fn rule_of(ids: &IdTable, asked: Asked) -> Option<Rule>
     }
 }
 
-/// Looks up what a register is to point at: `None` stays null, and an identifier becomes the node that has it, or
-/// `Some(None)` if no node has it.
+/// Looks up the node at which the register p is to point. Returns `None` if `p` is `None`, which stands for null.
+/// Otherwise returns `Some` with the node that has the identifier, or with `None` if no node has it.
 pub(crate) fn pointer(ids: &IdTable, p: Option<u64>) -> Option<Option<Rank>>
     ensures { result ≡ option_map (rank_in ids.now) p }
 {

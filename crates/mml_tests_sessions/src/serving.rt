@@ -51,7 +51,7 @@ fn client<R: Net<Listener = TcpListener, Stream = TcpStream>>(
 }
 
 /// Serves two connections of a listener over the path of three. The second one waits until the first has had two
-/// replies. Returns whether that went well, and the server wrote exactly `last`.
+/// replies. Returns whether the server ended without an error, and wrote exactly `last`.
 fn is_served<R: Threads + Wait + Sync>(
     rt: &R,
     alloc: Global,

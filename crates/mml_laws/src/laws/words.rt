@@ -19,7 +19,7 @@ ghost use Rattle.mml_codec.specs.Requests.{request};
 ghost use Rattle.mml_laws.specs.Lists.{HasLists, listed};
 ghost use Rattle.mml_laws.specs.Words.{IsDenial, asked_fields, found_fields, tells_registers, is_view};
 
-/// Each denial has the clause number, the name and the text that this list has beside it.
+/// Each denial has the clause number, the name and the text that the contract lists for it.
 pub fn denials_have_these_words()
     ensures { (at : ℕ) → AllByRecursion IsDenial (
         (denial.NotGreeted, 0, codes "not-greeted", codes "say hello first")

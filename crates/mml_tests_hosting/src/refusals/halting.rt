@@ -76,8 +76,8 @@ fn grant_of(hall: &Hall<MemorySink>, reply: &[u8]) -> Option<Grant> {
     is_so.then_some(found)
 }
 
-/// Asks for the move again, while no request for memory is refused. Returns whether the reply says that the journal is
-/// halted.
+/// Asks for ana's move once more, while no request for memory is refused. Returns whether the reply says that the
+/// journal is halted.
 fn stays_halted(alloc: Global, hall: &mut Hall<MemorySink>, is_there: bool) -> bool {
     match answer_with_refusal(alloc, hall, MOVE, 0, is_there) {
         Some((reply, _)) => reply.as_slice() == JOURNAL_LINE.as_bytes(),
