@@ -79,9 +79,9 @@ pub fn rounds_are_reached()
         (¬ IsStable (configuration (world_of (halves_world n) es))) }
 {}
 
-/// The bound on moves is 3 for each of n nodes and 2 for each of n²/4, rounded down. It is reached for each even n from
-/// 4 on that a lab may have, and missed by one for each odd n from 5 on. In the dense network (`crowd_world`), a
-/// student who owns each node has a legal list of grants and closes that applies that many moves.
+/// The bound on moves is 3n + 2k for n nodes, if k is n²/4, rounded down. It is reached for each even n from 4 on that
+/// a lab may have, and missed by one for each odd n from 5 on. In the dense network (`crowd_world`), a student who owns
+/// each node has a legal list of grants and closes that applies that many moves.
 pub fn moves_are_reached()
     ensures world { (n : ℕ) → 4 ≤ n → n ≤ MAX_NODES →
         IsWorld (crowd_world n) × (size (crowd_world n) ≡ n) }

@@ -44,8 +44,8 @@ impl Model for Roster {
 }
 
 impl Roster {
-    /// Returns the roster with this teacher, the students' names and keys in the file's order, and by rank the owners
-    /// of each node. Returns `Memory` if memory runs out.
+    /// Returns the roster with this teacher, the students' names and keys in the file's order, and the owners of each
+    /// node, by rank. Returns `Memory` if memory runs out.
     pub fn new(
         alloc: Global,
         teacher: Account,

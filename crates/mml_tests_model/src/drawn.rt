@@ -89,8 +89,8 @@ fn grant(board: &Board, numbers: &mut Numbers, node: Rank, partner: Rank) -> Eve
     }
 }
 
-/// Returns the event of a fault at a node, with drawn registers: p points at `other`, or in one of four cases nowhere,
-/// and m is either.
+/// Returns the event of a fault at a node, with drawn registers. p points at `other`, or in one of four cases nowhere,
+/// and m is true or false.
 fn fault(numbers: &mut Numbers, node: Rank, other: Rank) -> Event {
     let p = if numbers.below(4) == 0 {
         None
