@@ -98,9 +98,9 @@ pub fn moves_are_reached()
 {}
 
 /// The comb (`comb_world`) of 4 nodes or more is a tree. It has one link less than nodes, and each node but the last is
-/// linked to a higher one. No run has more than 3 moves for each node and 2 for each link. A student who owns each node
-/// has a legal list of grants and closes that applies one move less than that, or two less if the number of nodes is
-/// odd. The law doesn't say that no tree takes more.
+/// linked to a higher one. No legal list of grants, releases and closes applies more than 3 moves for each node and 2
+/// for each link. A student who owns each node has a legal list of grants and closes that applies one move less than
+/// that, or two less if the number of nodes is odd. The law doesn't say that no tree takes more.
 pub fn a_comb_takes_nearly_the_most_moves()
     ensures world { (n : ℕ) → 4 ≤ n → n ≤ MAX_NODES →
         IsWorld (comb_world n) × (size (comb_world n) ≡ n) }

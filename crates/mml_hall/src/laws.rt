@@ -24,7 +24,7 @@ use crate::MAX_SCRIPT_LINE;
 pub mod audit;
 
 /// The script lines of a transcript are the first lines of the bytes that were read for it, whatever bytes follow. If
-/// the bytes that follow have no newline, they are all the lines.
+/// the bytes that follow have no newline, there are no further lines.
 pub fn lines_of_a_transcript()
     ensures first { (lab : LabValue) (t : Transcript lab) (rest : List ℕ)
         → lab.sessions ≤ MAX_SESSIONS

@@ -136,9 +136,9 @@ impl Partings {
         let _ = self.all.lock(rt).push_back(parting);
     }
 
-    /// Sends a connection the line of the reason `why` it ends, if there is one and the line fits at once. Shuts down
-    /// the writing side, and adds the connection to the list, so that the other side has time to read. Closes it at
-    /// once if memory runs out, the clock fails, or the system can't make the stream non-blocking.
+    /// Sends a connection the line of `why`, the reason why it ends, if there is a reason and the line fits at once.
+    /// Shuts down the writing side, and adds the connection to the list, so that the other side has time to read.
+    /// Closes it at once if memory runs out, the clock fails, or the system can't make the stream non-blocking.
     pub fn add_ending<Rt: Wait + Clock>(&self, rt: &Rt, stream: TcpStream, why: Option<EndReason>) {
         if stream.set_nonblocking(true).is_err() {
             return;

@@ -315,8 +315,8 @@ impl<'a, Rt: Clock + Wait + Eprint> Port<'a, Rt> {
 
     // Prepares the next accept after one that failed with this kind of error. If memory ran out, notes that. If the
     // system refused the accept, frees descriptors: closes connections that were sent everything, and turns the first
-    // newcomer away. Then waits for at most a tenth of a second until more than `ended` sessions have ended. It doesn't
-    // wait if a signal or the other side broke off the accept.
+    // newcomer away. Afterwards, unless a signal or the other side broke off the accept, waits for at most a tenth of a
+    // second until more than `ended` sessions have ended.
     fn put_off(&mut self, kind: ErrorKind, ended: u64) {
         match kind {
             ErrorKind::OutOfMemory => self.state.note_memory(self.rt),
