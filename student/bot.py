@@ -1,7 +1,7 @@
 #!/usr/bin/env python3
 """My bot: python3 bot.py SLIP
 
-It connects, looks at each of its nodes again and again, and asks for what `rule_of` returns. Fill that in.
+It connects, looks at each of its nodes again and again, and asks for the rule that `rule_of` returns. Write `rule_of` first.
 """
 from __future__ import annotations
 
@@ -28,10 +28,12 @@ def play(me: Client, nodes: tuple[int, ...]) -> None:
             try:
                 look = me.look(node)
                 rule = rule_of(look)
-                if rule is not None and look.chosen is None:  # Else nothing is to ask, or a move of this node waits for the step to close.
+                # Asks only if there is a rule, and no granted move of this node waits for the end of the step.
+                if rule is not None and look.chosen is None:
                     print(me.move(look, rule), flush=True)
-            except (Denied, Refused) as no:  # These three happen to a right bot too: look again. Others are mistakes.
+            except (Denied, Refused) as no:
                 print(no, flush=True)
+                # These three also happen to a right bot, which then looks again. All others show a mistake.
                 if no.word not in ("stale", "chosen", "memory"):
                     raise
         time.sleep(0.1)

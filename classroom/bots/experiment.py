@@ -58,8 +58,8 @@ def add_words(words: argparse.ArgumentParser) -> None:
                        help=f"{networks.NAMED}; random without numbers has 1.5 links for each node (path,cycle,random)")
     words.add_argument("--nodes", type=sizes, default=range(4, 17), metavar="A..B", help="the numbers of nodes; with A..B/STEP each STEP-th number (4..16)")
     words.add_argument("--daemon", type=daemons, default=[Daemon("central"), Daemon("synchronous")], metavar="D,..",
-                       help="central, synchronous, random:P, schedule and adversary, which make runs long, and every:S and when-idle:S, where a node "
-                       "asks after a second on average (central,synchronous)")
+                       help="central, synchronous and random:P; schedule and adversary, which make runs long; every:S and when-idle:S, under which "
+                       "a node asks after one second on average (central,synchronous)")
     words.add_argument("--start", choices=networks.STARTS, default="random", help="registers at the beginning (random)")
     words.add_argument("--runs", type=positive, default=20, metavar="K",
                        help="the number of runs for each family, size and daemon (20)")

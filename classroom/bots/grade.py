@@ -51,7 +51,7 @@ def add_words(words: argparse.ArgumentParser) -> None:
     words.add_argument("--memory", type=positive, default=512, metavar="MB",
                        help="the most memory for a bot and all processes that it starts (512)")
     words.add_argument("--at-once", type=positive, help="the number of cases that run at the same time")
-    words.add_argument("--own-rule", action="store_true", help="don't show the enabled rule in looks, so that a bot has to decide by itself")
+    words.add_argument("--own-rule", action="store_true", help="hide the rule in the replies to looks, so that a bot has to find it by itself")
     words.add_argument("--show", action="append", default=[], metavar="FOLDER",
                        help="a folder that bots may read, in addition to their own folders and programs")
     words.add_argument("--not-apart", action="store_true", help="run bots one after another, as your user, so that they can read your files")

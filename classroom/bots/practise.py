@@ -56,7 +56,7 @@ def add_words(words: argparse.ArgumentParser) -> None:
     words.add_argument("--seed", type=int, default=SEED, help=f"the seed of network, start and daemon ({SEED})")
     words.add_argument("--timeout", type=seconds, default=60.0, metavar="SECONDS",
                        help="if you name a BOT, end after this time without an event (60)")
-    words.add_argument("--own-rule", action="store_true", help="don't show the enabled rule in looks, so that your program has to decide by itself")
+    words.add_argument("--own-rule", action="store_true", help="hide the rule in the replies to looks, so that your program has to find it by itself")
     words.add_argument("--port", type=positive, help="use this port or the next free one (4711; with a BOT any free port)")
     words.add_argument("--page", action="store_true", help="play by hand on a page in your browser, without a BOT")
     words.add_argument("--into", default="runs", help="the folder in which the run's folder is made (runs)")

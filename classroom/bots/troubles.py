@@ -265,7 +265,7 @@ def taken(attempt: Attempt) -> None:
     """Lets another owner of a shared node ask for its move first: once before the bot looks, and then between the bot's
     look and its move."""
     playing, shared = attempt.playing, [node for node in attempt.nodes() if node not in attempt.nodes_owned_alone()]
-    attempt.doing = f", after somebody else moved a node that it shares (`chosen` is no error: wait for the next number){ON}"
+    attempt.doing = f", after somebody else moved a node that it shares (`chosen` is no error: look again a little later){ON}"
     playing.is_held = True
     playing.house_move(hurt(attempt, shared))
     attempt.run_for(3 * LATE)

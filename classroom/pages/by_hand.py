@@ -131,7 +131,7 @@ class PlayRequest(Asked):
         with client:
             seat = Seat(client, name, self.server.lab.nodes_of(name))
             if not seat.nodes:
-                return self.answer_json(403, told=f"no node is {name}'s: there is nothing to play")
+                return self.answer_json(403, told=f"{name} owns no node: there is nothing to play")
             self.send_head(200, LINES, None)
             with self.server.keeping_seat(seat) as token:
                 self.send_row({"who": name, "token": token})

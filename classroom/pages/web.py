@@ -120,8 +120,8 @@ class Asked(BaseHTTPRequestHandler):
         port = self.connection.getsockname()[1]
         if self.headers.get("Host") in (f"127.0.0.1:{port}", f"localhost:{port}"):
             return False
-        text = (f"This page is served as http://127.0.0.1:{port}/.. only: open the address that the run printed. From another "
-                f"machine, open it there after: ssh -N -L {port}:127.0.0.1:{port} NAME@HOST\n").encode()
+        text = (f"This page is served as http://127.0.0.1:{port}/.. only: open the address that the run printed. On another "
+                f"machine, first leave this command running there: ssh -N -L {port}:127.0.0.1:{port} NAME@HOST\n").encode()
         self.answer(421, "text/plain; charset=utf-8", text)
         return True
 

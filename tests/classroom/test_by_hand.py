@@ -43,7 +43,7 @@ return [document.documentElement.scrollWidth, ...[...document.querySelectorAll('
 """
 RULES = ["update", "marriage", "seduction", "abandonment"]
 VERBS = {"update": "update m", "marriage": "marry", "seduction": "seduce", "abandonment": "abandon"}
-NOTHING = "nothing to do now: waiting for the step"
+NOTHING = "nothing to do now: wait until the step closes"
 
 
 class Playing(InRoom):
@@ -141,7 +141,7 @@ class Playing(InRoom):
             self.assertEqual(card["near"], [word for near in look.near for word in
                                             (str(near.node), "null" if near.p is None else str(near.p), str(near.m).lower())])
             self.assertEqual(card["holding"], [look.rule] if look.rule else [])
-            self.assertEqual(card["guards"], ["can be done now" if rule == look.rule else "" for rule in RULES])
+            self.assertEqual(card["guards"], ["can be applied now" if rule == look.rule else "" for rule in RULES])
             partners = [f" {near.node}" for near in look.near if near.p == node] if look.rule == "marriage" else [""]
             acts = [f"Node {node}: {VERBS[look.rule]}{partner}" for partner in partners] if look.rule and not look.chosen else []
             self.assertEqual(card["acts"], acts)

@@ -167,7 +167,7 @@ class Right(InRoom):
         (labs / "path.toml").write_bytes((TOP / "examples/path.toml").read_bytes())
         done = words("grade", own, asks, "--labs", labs, "--daemon", "synchronous", "--timeout", "15", "--own-rule", "--into", self.room / "grades")
         self.assertEqual(done.returncode, 5, done.stdout + done.stderr)
-        self.assertIn("class: with --own-rule no look shows the enabled rule: ", done.stdout)
+        self.assertIn("class: with --own-rule no look shows the rule whose guard holds: ", done.stdout)
         self.assertIn("own_rule.py: 1 of 1 cases passed\nsnapshot.py: 0 of 1 cases passed\n", done.stdout)
         self.assertRegex(done.stdout, "isn't stable after 15 seconds: .*; with --own-rule no look shows the rule: ")
         said = next((self.room / "grades").rglob("snapshot.py/*/conversation.txt")).read_text(encoding="utf-8")

@@ -72,7 +72,7 @@ def classes() -> Iterator[tuple[str, str]]:
     """Yields the promises about labs, suites, defaults and statuses."""
     yield README, f"`examples/` has {WORDS[len(list((TOP / 'examples').glob('*.toml')))]} labs, "
     small, families = WORDS[len(suites.SMALL)], WORDS[len(suites.FAMILIES)]
-    yield STUDENT, f"`grade` tries {small} cases, each in an empty folder"
+    yield STUDENT, f"`grade` tries {small} cases, each in a new folder"
     yield COURSE, f"The suite `small` has {small} cases, and the suite `full` has {len(suites.FULL)}, on networks of {families} families, "
     yield TEACHER, f"starts the server at the port of the slips ({FIRST_PORT} for the first network) or the next free one"
     yield TEACHER, f"when nothing further was granted for {WORDS[int(CLOSING.value)]} seconds."
