@@ -47,7 +47,9 @@ def add_words(words: argparse.ArgumentParser) -> None:
     cases.add_argument("--labs", metavar="FOLDER", help="a folder of your own labs, in place of a suite")
     words.add_argument("--daemon", type=daemons, metavar="D,..", help="use these daemons in place of the suite's: central, synchronous, random:P, ..")
     words.add_argument("--seeds", type=positive, default=1, metavar="K", help="try each case with the seeds 1 to K (1)")
-    words.add_argument("--timeout", type=seconds, default=20.0, metavar="SECONDS", help="the longest time for a case (20)")
+    words.add_argument("--timeout", type=seconds, default=20.0, metavar="SECONDS",
+                       help="the time in which the class has to become stable, at the start and after each fault; also the processor time of "
+                            "a bot (20)")
     words.add_argument("--memory", type=positive, default=512, metavar="MB",
                        help="the most memory for a bot and all processes that it starts (512)")
     words.add_argument("--at-once", type=positive, help="the number of cases that run at the same time")

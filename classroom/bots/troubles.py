@@ -41,7 +41,7 @@ def run(attempt: Attempt) -> None:
         turned_away(attempt)
     attempt.until_greeted()
     attempt.doing = ON
-    attempt.until_stable("it isn't stable")
+    attempt.until_stable("the class isn't stable")
     check_rest(attempt, QUIET)
     for trouble in troubles:
         if trouble in EACH:

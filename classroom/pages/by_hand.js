@@ -66,7 +66,7 @@ class Card {
     const texts = isOpen && !isQuiz ? partners.map((partner) => [partner, `Node ${this.node}: ${VERBS[look.rule]}${partner === null ? "" : " " + partner}`]) : [];
     const before = [...this.root.querySelectorAll(".act")].map((button) => button.textContent);
     if (before.join() !== texts.map(([, text]) => text).join()) this.root.querySelector(".doing").replaceChildren(...texts.map(([partner, text]) => this.button(look.rule, partner, text)));
-    const idle = look.chosen !== null ? `${look.chosen} is chosen: it is applied when the step closes` : look.rule === null ? "nothing to do now: wait until the step closes" : "";
+    const idle = look.chosen !== null ? `${look.chosen} is chosen: it is applied when the step closes` : look.rule === null ? "nothing to do now: wait for the next step" : "";
     this.say(".idle", isQuiz && look.chosen === null ? "which rule can be applied now? maybe none" : idle);
   }
 
@@ -167,7 +167,7 @@ class Hand {
   // Says in a line whether there is anything to do.
   showState(looks, isQuiz) {
     const open = looks.filter((look) => look.rule !== null && look.chosen === null).length;
-    const text = isQuiz ? "Which rule can be applied?" : open > 0 ? `${open} of your ${looks.length === 1 ? "node" : "nodes"} can move` : "Nothing to do now: wait until the step closes";
+    const text = isQuiz ? "Which rule can be applied?" : open > 0 ? `${open} of your ${looks.length === 1 ? "node" : "nodes"} can move` : "Nothing to do now: wait for the next step";
     if (this.find("told").textContent !== text) this.say("told", text);
     this.find("state").classList.toggle("wait", open === 0 || isQuiz);
   }

@@ -43,7 +43,7 @@ return [document.documentElement.scrollWidth, ...[...document.querySelectorAll('
 """
 RULES = ["update", "marriage", "seduction", "abandonment"]
 VERBS = {"update": "update m", "marriage": "marry", "seduction": "seduce", "abandonment": "abandon"}
-NOTHING = "nothing to do now: wait until the step closes"
+NOTHING = "nothing to do now: wait for the next step"
 
 
 class Playing(InRoom):
