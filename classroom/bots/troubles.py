@@ -61,7 +61,7 @@ def check_rest(attempt: Attempt, seconds: float) -> None:
         raise Fails(wrong)
     asked = attempt.heard.asked - before
     if asked > len(attempt.nodes()):
-        raise Fails(f"it asked for {asked} moves though there was nothing to ask for: if `rule` is null, there is nothing to do now")
+        raise Fails(f"it asked for {asked} moves though no guard held at any node: ask only if a guard holds")
 
 
 def hurt(attempt: Attempt, of: list[int] | None = None) -> int:
