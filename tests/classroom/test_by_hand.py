@@ -228,7 +228,7 @@ class Playing(InRoom):
         self.is_told("denied by clause 2, unknown: name and key do not match")
         self.seats("0 of 7 seats: nobody")
         self.come("tess", read(CYCLE).teacher[1])
-        self.is_told("no node is tess's")
+        self.is_told("tess owns no node")
         self.come("gus")
         self.is_in()
         self.open("#name=hana&key=swift-86")
