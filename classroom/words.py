@@ -40,12 +40,12 @@ def add_new(words: argparse.ArgumentParser) -> None:
     words.add_argument("--students", required=True, help="a file with one name per line, or a table (CSV) that a platform exported")
     lists.add_words(words)
     network = words.add_mutually_exclusive_group()
-    network.add_argument("--family", default="cycle", help=f"{networks.NAMED} (cycle)")
-    network.add_argument("--links", help="a file with one link per line, as 1 2")
+    network.add_argument("--family", default="cycle", help=f"the network: {networks.NAMED} (cycle)")
+    network.add_argument("--links", help="a file with your own network: one link per line, such as 1 2")
     words.add_argument("--nodes", type=positive, help="the number of nodes (as many as students)")
     words.add_argument("--pairs", action="store_true", help="two owners for each node")
     words.add_argument("--stand-in", action="store_true", help="give each node a second owner, the house, which can play for absent students")
-    words.add_argument("--start", choices=networks.STARTS, default="clean", help="registers at the beginning (clean)")
+    words.add_argument("--start", choices=networks.STARTS, default="clean", help=f"{networks.STARTED} (clean)")
     words.add_argument("--seed", type=int, default=1, help="the seed of random networks and starts (1); keys don't depend on it")
     words.add_argument("--events", type=positive, help="the limit of events (as many as a lab may have)")
     words.add_argument("--sessions", type=positive, help="the number of seats, one of them the teacher's (as many as a lab may have)")
@@ -86,12 +86,12 @@ def add_mark(words: argparse.ArgumentParser) -> None:
 
     words.add_argument("runs", nargs="*", metavar="FOLDER.. or LAB JOURNAL..", help="folders of runs or of classes; or a lab and its journals")
     form = words.add_mutually_exclusive_group()
-    form.add_argument("--csv", action="store_true")
-    form.add_argument("--json", action="store_true")
+    form.add_argument("--csv", action="store_true", help="print the table as CSV, for a spreadsheet")
+    form.add_argument("--json", action="store_true", help="print the table as JSON, for programs")
     form.add_argument("--total", action="store_true", help="one row for each person, with sums over all runs (CSV)")
     words.add_argument("--roster", metavar="FILE",
                        help="the class list: print its rows with the totals, for import into the platform")
-    words.add_argument("--rule", metavar="FILE", help="a file of lines NAME = EXPRESSION, as pass = applied_per_node >= 1: each adds a column")
+    words.add_argument("--rule", metavar="FILE", help="a file of lines NAME = EXPRESSION, such as pass = applied_per_node >= 1: each adds a column")
     words.add_argument("--columns", action="store_true", help="explain each column in one line")
     words.add_argument("--second", action="store_true", help="count with the plain model too (docs/TRUST.md), and say whether both agree")
     lists.add_words(words)
@@ -102,7 +102,7 @@ def add_check(words: argparse.ArgumentParser) -> None:
     """Adds the options of `check`."""
     from classroom.setup import check
 
-    words.add_argument("lab")
+    words.add_argument("lab", help="the file of the lab")
     words.set_defaults(work=check.check)
 
 
@@ -118,7 +118,7 @@ def add_play(words: argparse.ArgumentParser) -> None:
     """Adds the options of `play`."""
     from classroom.pages import play
 
-    words.add_argument("run", nargs="+", metavar="FOLDER or LAB JOURNAL")
+    words.add_argument("run", nargs="+", metavar="FOLDER or LAB JOURNAL", help="the folder of a run; or a lab and its journal")
     words.add_argument("-o", "--output", help="the file to write (run.html, or PLACE.svg)")
     words.add_argument("--svg", type=play.places, metavar="PLACE,..", help="draw the configuration after this place as SVG, or several in one picture")
     words.add_argument("--dark", action="store_true", help="draw the picture in the colours of a dark page")

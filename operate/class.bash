@@ -1,4 +1,4 @@
-# Completion for bash: the words of ./class and their options, as --help tells them, daemons, students' names, and files.
+# Completion for Bash: the commands of ./class and their options, as --help prints them, daemons, students' names and files.
 # Read by: source operate/class.bash
 _class_words() {
     local program="$1" current="$2" found

@@ -1,4 +1,4 @@
-# Completion for bash: the words of ./mml, as --help tells them, labs where one is wanted, and files.
+# Completion for Bash: the commands of ./mml, as --help prints them, a lab as the first argument, and files.
 # Read by: source operate/mml.bash
 _mml_words() {
     local program="$1" current="$2"

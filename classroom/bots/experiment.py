@@ -55,12 +55,12 @@ def sizes(word: str) -> range:
 def add_words(words: argparse.ArgumentParser) -> None:
     """Adds the arguments of `experiment`."""
     words.add_argument("--family", default="path,cycle,random", metavar="F,..",
-                       help=f"{networks.NAMED}; random without numbers has 1.5 links for each node (path,cycle,random)")
+                       help=f"the networks: {networks.NAMED}; random without numbers has 1.5 links for each node (path,cycle,random)")
     words.add_argument("--nodes", type=sizes, default=range(4, 17), metavar="A..B", help="the numbers of nodes; with A..B/STEP each STEP-th number (4..16)")
     words.add_argument("--daemon", type=daemons, default=[Daemon("central"), Daemon("synchronous")], metavar="D,..",
                        help="central, synchronous and random:P; schedule and adversary, which make runs long; every:S and when-idle:S, under which "
                        "a node asks after one second on average (central,synchronous)")
-    words.add_argument("--start", choices=networks.STARTS, default="random", help="registers at the beginning (random)")
+    words.add_argument("--start", choices=networks.STARTS, default="random", help=f"{networks.STARTED} (random)")
     words.add_argument("--runs", type=positive, default=20, metavar="K",
                        help="the number of runs for each family, size and daemon (20)")
     words.add_argument("--seed", type=int, default=1, help="the seed of the first run; each further run has the next one (1)")
@@ -274,7 +274,7 @@ def print_results(own: list[Row], asked: int, words: argparse.Namespace, broken:
     bound."""
     if own:
         print(table(own))
-    print(f"NEWS: {len(broken)} runs exceed a proved bound; their folders are: {', '.join(map(str, broken))}" if broken else
+    print(f"WARNING: {len(broken)} runs exceed a proved bound, which is an error of the program: please report it. Their folders are: {', '.join(map(str, broken))}" if broken else
           f"{len(own)} of {asked} runs, all within the proved bounds; table: {words.csv}")
     if own and words.plot:
         with naming_file(words.plot, "name another file by --plot: the same command draws the table"):

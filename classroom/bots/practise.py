@@ -48,11 +48,12 @@ def add_words(words: argparse.ArgumentParser) -> None:
     """Adds the arguments of `practise`."""
     words.add_argument("bots", nargs="*", metavar="BOT",
                        help="a command, such as 'python3 bot.py'; the path of a slip is added to it. Without a BOT, it waits for your program at a port")
-    words.add_argument("--family", default="cycle", help=f"{networks.NAMED} (cycle)")
+    words.add_argument("--family", default="cycle", help=f"the network: {networks.NAMED} (cycle)")
     words.add_argument("--nodes", type=positive, help="the number of nodes (7)")
     words.add_argument("--node", metavar="I,..", help="your nodes; the BOTs get them in turn (two random nodes for each BOT)")
-    words.add_argument("--start", choices=networks.STARTS, default="hurt", help="registers at the beginning (hurt)")
-    words.add_argument("--daemon", type=daemon, default=Daemon("when-idle", 0.5), metavar="D", help=f"{FORMS} (when-idle:0.5)")
+    words.add_argument("--start", choices=networks.STARTS, default="hurt", help=f"{networks.STARTED} (hurt)")
+    words.add_argument("--daemon", type=daemon, default=Daemon("when-idle", 0.5), metavar="D",
+                       help=f"how steps are closed: {FORMS} (when-idle:0.5)")
     words.add_argument("--seed", type=int, default=SEED, help=f"the seed of network, start and daemon ({SEED})")
     words.add_argument("--timeout", type=seconds, default=60.0, metavar="SECONDS",
                        help="if you name a BOT, end after this time without an event (60)")

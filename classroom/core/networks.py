@@ -13,6 +13,7 @@ from classroom.core.program import Fault
 
 Links = list[tuple[int, int]]
 STARTS = ("clean", "random", "hurt", "worst")
+STARTED = "registers at the beginning: clean is null and false, hurt is random at one node in three, worst makes runs long"
 NAMED = "path, cycle, star, complete, tree, crowd, halves, grid:WxH, random:N:LINKS"
 
 
@@ -42,7 +43,7 @@ def random_links(count: int, links: int, chance: random.Random) -> Links:
     """Returns the links of a connected network: a random tree, and more links up to the count."""
     every = count * (count - 1) // 2
     if not count - 1 <= links <= every:
-        raise Fault(f"random:{count}: between {count - 1} and {every} links")
+        raise Fault(f"random:{count}: write a number of links from {count - 1} to {every}")
     tree = [(chance.randint(1, node - 1), node) for node in range(2, count + 1)]
     rest = sorted(set(itertools.combinations(range(1, count + 1), 2)) - set(tree))
     return sorted(tree + chance.sample(rest, links - len(tree)))
@@ -96,7 +97,7 @@ def plain(word: str, nodes: int) -> Links:
         return [(a, b) for a, b in itertools.combinations(range(1, nodes + 1), 2) if a + b > nodes]
     if word == "halves":
         return [(a, b) for a, b in plain("crowd", nodes) if 2 * a <= nodes + 1 < 2 * b]
-    raise Fault(f"no family {word}: {NAMED}")
+    raise Fault(f"no family {word}; the families are {NAMED}")
 
 
 def from_file(path: Path, count: int | None) -> tuple[list[int], Links]:

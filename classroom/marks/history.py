@@ -64,7 +64,7 @@ def add_words(words: argparse.ArgumentParser) -> None:
     words.add_argument("folder", metavar="FOLDER", help="the folder of a run or of a class, which may be going on")
     words.add_argument("name", metavar="NAME", help="a student's name in the lab, or the teacher's")
     form = words.add_mutually_exclusive_group()
-    form.add_argument("--csv", action="store_true")
+    form.add_argument("--csv", action="store_true", help="print the lines as CSV, for a spreadsheet")
     form.add_argument("-o", "--output", metavar="FILE.html",
                       help="make a page with the entries; each opens the player at its moment")
     words.set_defaults(work=history)

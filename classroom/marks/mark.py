@@ -137,7 +137,7 @@ def marked(lab_file: Path, journal: Path) -> Run:
         raise Fault(f"{journal}: its run is still going on: end it first", 4)
     report = replay.report(lab, found)
     if report["stable"] != told.stable:
-        raise Fault(f"{journal}: tally and report disagree", 4)
+        raise Fault(f"{journal}: tally and report disagree, which is an error of the program: don't use these marks, and report it", 4)
     return Run(lab_file, journal, lab, report["pairs"], told, recorded(journal))
 
 

@@ -63,7 +63,7 @@ class Announcer:
         try:
             Recount(self.lab, past, self.comeback).counts()
         except Fault as fault:
-            self.tell(f"the events from before aren't counted: {fault}")
+            self.tell(f"the earlier events of this run aren't counted: {fault}")
             for event in past:
                 if event.is_edit:
                     self.comeback.edit(event)

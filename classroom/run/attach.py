@@ -52,7 +52,7 @@ def attach(words: argparse.Namespace) -> int:
     lab_file, _ = of_folder(folder)
     record = Record.read(folder)
     if record is None or not record.server.lives():
-        raise Fault(f"{folder}: its server has ended: {CLASS} run --resume {folder}")
+        raise Fault(f"{folder}: its server has ended: {CLASS} run --resume {folder} continues the run")
     lab = labs.read(lab_file)
     check_stand_in(words, lab, lab_file)
     wait_for_desk(folder, record)

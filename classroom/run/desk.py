@@ -87,7 +87,7 @@ class Desk:
         server runs."""
         self.lost = str(error)
         self.client.hang_up()
-        self.tell(f"the desk: {error}; greeting it again")
+        self.tell(f"the desk: {error}; saying hello again")
 
     def catch_up(self) -> None:
         """Counts the events that the journal has already. Prints none of them, only the configuration from which the

@@ -100,7 +100,7 @@ class Running:
         """Notes that the terminal is closed, and continues the run without it."""
         self.update_record(left=True)
         self.tell.around = str
-        self.tell(f"the terminal went away, and the run goes on: {CLASS} attach {self.folder} takes it")
+        self.tell(f"the terminal was closed, and the run goes on: {CLASS} attach {self.folder} controls it again")
 
 
 def open_desk(it: server.Server, run: Running) -> Desk:

@@ -12,13 +12,13 @@ from classroom.core.program import Fault
 LIMIT = 5.0  # seconds that an answer may take
 AGAIN = 2.0  # seconds after which it comes again if it wasn't let in
 WAITS = "the house waits for a first student"
-HOW = "`./class new NAME --stand-in` makes a lab in which each node has a stand-in"
+HOW = "`./class new` with --stand-in makes a lab in which the house is the second owner of each node"
 
 
 def want_house(lab: Lab, file: object) -> None:
     """Raises `Fault`, which names the file, if a lab has no house."""
     if not lab.held():
-        raise Fault(f"{file}: no node has the second owner `{HOUSE}`, who could stand in: {HOW}")
+        raise Fault(f"{file}: the house can't stand in, since no node has `{HOUSE}` as its second owner: {HOW}")
 
 
 class House:

@@ -29,7 +29,7 @@ def renew(folder: Path, lab: labs.Lab, it: server.Server, desk: Desk, name: str)
         raise ValueError(f"no student {name}; there are {', '.join(lab.without_house().students)}")
     kept = Record.read(folder)
     if kept is None:
-        raise Fault(f"{folder}: the run has no run.json, so no other server could continue it")
+        raise Fault(f"{folder}: there is no run.json, so the server can't be restarted with a new key")
     changed = rekey.change(str(folder), name)
     lab.students[name] = changed.key
     desk.tell(f"{name} has a new key, slip: {changed.slip}; the server restarts")

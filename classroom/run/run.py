@@ -39,13 +39,14 @@ def seconds_with_unit(word: str) -> float:
 
 def add_desk_words(words: argparse.ArgumentParser) -> None:
     """Adds the options of every command that runs a desk."""
-    words.add_argument("--daemon", "--close", dest="close", type=closing.mode, metavar="D", help=f"{FORMS} (when-idle:2)")
+    words.add_argument("--daemon", "--close", dest="close", type=closing.mode, metavar="D",
+                       help=f"how steps are closed (docs/COURSE.md): {FORMS} (when-idle:2)")
     words.add_argument("--stand-in", type=seconds_with_unit, metavar="20s",
-                       help="let the house ask for a move if a node has been privileged for this time without a move of its student; it begins when a first "
-                            "student has greeted")
+                       help="let the house ask for a move if a rule could be applied at a node for this time and nobody asked for it; the house begins "
+                            "when a first student has said hello")
     words.add_argument("--ends", type=hour, metavar="HH:MM", help="end the run at this time of the day, and warn before it")
     words.add_argument("--anonymous", action="store_true", help="show numbers in place of names on the pages for the projector")
-    words.add_argument("--until", choices=["stable"], help="end the run when no node is privileged")
+    words.add_argument("--until", choices=["stable"], help="end the run when no rule can be applied at any node")
     words.add_argument("--page", type=port, nargs="?", const=4780, metavar="PORT",
                        help="serve a page of the run, for the projector, at this port or the next free one (4780)")
     words.add_argument("--play", type=port, nargs="?", const=PLAY, metavar="PORT",
@@ -64,7 +65,7 @@ def add_words(words: argparse.ArgumentParser) -> None:
     words.add_argument("--port", type=port, help="use this port for students, or the next free one (the port on the slips, or 4711)")
     words.add_argument("--into", default="runs", help="the folder in which the run's folder is made (runs)")
     words.add_argument("--serve", action="store_true",
-                       help="use the server `mml serve`, for as many connections in all as the lab has sessions")
+                       help="use the server `mml serve`, which accepts only as many connections in all as the lab has sessions")
     words.add_argument("--beside", action="store_true", help="start the class even if another run of this lab is going on")
     letting.add_words(words)
     add_desk_words(words)
@@ -135,7 +136,7 @@ def refuse_second_run(into: Path, lab_file: Path) -> None:
         how = f"{CLASS} run --resume {folder} goes on with it; --beside starts another class"
         raise Fault(f"the last run of {lab_file} didn't end: {how}")
     where = f"a run of {lab_file} goes on at port {record.port}, folder {folder}"
-    how = "" if record.run.lives() and not record.left else f"{CLASS} attach {folder} takes it; "
+    how = "" if record.run.lives() and not record.left else f"{CLASS} attach {folder} controls it; "
     raise Fault(f"{where}; {how}--beside starts another class")
 
 

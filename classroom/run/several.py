@@ -325,7 +325,7 @@ def room_of(lab: str) -> str:
 def require_ports(words: argparse.Namespace, count: int) -> None:
     """Raises `Fault` if there aren't enough ports for the networks and their pages."""
     if max(*words.ports, *words.plays, (words.page or 0) + count) > LAST_PORT:
-        raise Fault(f"{count} labs need a port each, up to {LAST_PORT}")
+        raise Fault(f"{count} labs need a port each, and none is above {LAST_PORT}: name a lower --port, --page or --play")
 
 
 def hold_class(folder: Path, members: list[Member], news: News, words: argparse.Namespace, first: Callable[[Several], None]) -> int:

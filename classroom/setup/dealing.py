@@ -27,7 +27,7 @@ class Part:
 def in_groups(people: list[str], count: int) -> list[list[str]]:
     """Returns the people in this number of groups, whose sizes differ by at most one."""
     if not 1 <= count <= len(people):
-        raise Fault(f"--groups {count}: 1 to {len(people)}")
+        raise Fault(f"--groups {count}: write a number from 1 to {len(people)}")
     return [people[index::count] for index in range(count)]
 
 

@@ -64,14 +64,14 @@ def ways(words: argparse.Namespace, files: list[Path], rooms: list[str], before:
     """Returns the way into each lab, from the arguments or else from earlier slips."""
     found, names = [], [network(file) for file in files]
     if len(set(names)) < len(names):
-        raise Fault(f"two labs have one network's name: {', '.join(names)}")
+        raise Fault(f"two labs have the same network name: {', '.join(names)}")
     known = certificate.make_if_missing(words.certificate or certificate.beside(files[0]), door_of(words.door)[0]) if words.door else ""
     for index, (name, room) in enumerate(zip(names, rooms, strict=True)):
         old = before[index] if before else None
         at = words.port + index if words.port else old.port if old else FIRST_PORT + index
         page = words.page_port + index if words.page_port else old.page if old else FIRST_PAGE + index
         if max(at, page) > LAST_PORT:
-            raise Fault(f"{len(files)} labs need a port each, up to {LAST_PORT}")
+            raise Fault(f"{len(files)} labs need a port each, and none is above {LAST_PORT}: name a lower --port or --page-port")
         is_kept = old is not None and not words.door and not words.ssh
         ssh = "" if words.door else words.ssh or f"NAME@{own_host_name()}"
         lead = (old.door, old.fingerprint, old.ssh) if old and is_kept else (words.door or "", known, ssh)

@@ -202,7 +202,7 @@ def tell_few(made: labs.Lab) -> None:
         return
     least = bounds.of_lab(made).events
     if made.events < least:
-        print(f"note: {made.events} events may be too few: with {least}, grants and closes alone always reach rest")
+        print(f"note: {made.events} events may be too few: {least} are always enough for moves and closes until the network is stable")
 
 
 def without_node(made: labs.Lab, words: argparse.Namespace) -> str:

@@ -24,7 +24,7 @@ def shaken(nodes: list[int], links: Iterable[Collection[int]], word: str, seed: 
     """Returns random registers for `word` nodes, or for `all`, drawn with the seed."""
     count = len(nodes) if word == "all" else int(word)
     if not 1 <= count <= len(nodes):
-        raise Fault(f"shake {word}: 1 to {len(nodes)} nodes, or all")
+        raise Fault(f"shake {word}: write a number of nodes from 1 to {len(nodes)}, or all")
     chance = random.Random(seed)
     near = neighbours(nodes, pairs_of(links))
     drawn = sorted(chance.sample(sorted(nodes), count))

@@ -74,14 +74,14 @@ class Attach(Cycle):
         done = words("run", CYCLE, "--into", self.room / "runs")
         self.assertEqual(done.returncode, 1)
         self.assertEqual(done.stderr, f"class: a run of {CYCLE} goes on at port {going.port}, folder {going.folder}; "
-                                      f"{CLASS} attach {going.folder} takes it; --beside starts another class\n")
+                                      f"{CLASS} attach {going.folder} controls it; --beside starts another class\n")
 
     def test_a_terminal_that_goes_away(self) -> None:
         terminal = InTerminal(self)
         terminal.type(b"fault 1 2 true\n", b" 0 of at most 35 moves")
         os.close(terminal.ours)
         folder = next((self.room / "runs").iterdir())
-        self.until_told(folder, f"the terminal went away, and the run goes on: {CLASS} attach {folder} takes it\n")
+        self.until_told(folder, f"the terminal was closed, and the run goes on: {CLASS} attach {folder} controls it again\n")
         self.assertIsNone(terminal.process.poll())
         again = Going(self, None, "attach", folder)
         terminal.process.wait(LIMIT)
@@ -124,7 +124,7 @@ class Attach(Cycle):
         self.assertEqual((done.returncode, done.stderr), (1, f"class: {going.folder}: process {going.process.pid} controls this run already\n"))
         self.assertEqual(going.ended(), 0, going.lines)
         done = words("attach", going.folder)
-        self.assertEqual((done.returncode, done.stderr), (1, f"class: {going.folder}: its server has ended: {CLASS} run --resume {going.folder}\n"))
+        self.assertEqual((done.returncode, done.stderr), (1, f"class: {going.folder}: its server has ended: {CLASS} run --resume {going.folder} continues the run\n"))
         self.assertEqual(words("attach", self.room / "none").returncode, 1)
 
 

@@ -71,8 +71,8 @@ class Check(InRoom):
         self.warns("line 20: colour isn't a key of a lab, so it is ignored", change=('owner = "ana"', 'owner = "ana"\ncolour = "red"'))
 
     def test_keys(self) -> None:
-        self.warns("ana's key is one of the examples'", change=("1f3b5a7c9d1e2f48a6b8c0d2e4f61357", "a-key"))
-        self.warns("ana's key has 43 bits at most: guessed in", change=("1f3b5a7c9d1e2f48a6b8c0d2e4f61357", "abcdefghij"))
+        self.warns("ana's key is that of an example lab", change=("1f3b5a7c9d1e2f48a6b8c0d2e4f61357", "a-key"))
+        self.warns("ana's key has 43 bits at most, and can be guessed in", change=("1f3b5a7c9d1e2f48a6b8c0d2e4f61357", "abcdefghij"))
         self.assertLess(bits("a" * 60), 64)
         self.assertGreater(bits("0f3b5a7c9d1e2f48a6b8c0d2e4f61357"), 100)
 
@@ -80,9 +80,9 @@ class Check(InRoom):
         drawn = "amber-lilac-tonic-42"
         self.assertAlmostEqual(bits(drawn), 36 + math.log2(100))
         cases = ((drawn, ""), ("ant-ant-ant-11", ""), ("amber-lilac-tonic-gravel", ""),
-                 ("amber-lilac-tonic-4", "39 bits at most: guessed in 261 years"), ("amber-lilac-42", "31 bits at most: guessed in 233 days"),
-                 ("amber", "12 bits at most: guessed in 49 seconds"), ("1111-1111-1111-1111", "38 bits at most: guessed in 105 years"),
-                 ("Amber-lilac", "48 bits at most: guessed in 77930 years"))
+                 ("amber-lilac-tonic-4", "39 bits at most, and can be guessed in 261 years"), ("amber-lilac-42", "31 bits at most, and can be guessed in 233 days"),
+                 ("amber", "12 bits at most, and can be guessed in 49 seconds"), ("1111-1111-1111-1111", "38 bits at most, and can be guessed in 105 years"),
+                 ("Amber-lilac", "48 bits at most, and can be guessed in 77930 years"))
         for key, warning in cases:
             lab = labs.Lab(1000, 4, ("tess", "0f3b5a7c9d1e2f48a6b8c0d2e4f61357"), {"ana": key}, [], [])
             warned = [line.partition(" or sooner")[0] for line in key_warnings(lab)]
@@ -97,7 +97,7 @@ class Check(InRoom):
         self.assertLess(bits("äö" * 8), 64)
         self.assertAlmostEqual(bits("abcdefghijklmnopqrstuvwxyz ABCDEFGHIJKLMNOPQRSTUVWXYZ"), 53 * math.log2(106))
         self.assertAlmostEqual(bits("".join(map(chr, range(0x410, 0x510)))), 256 * 7)
-        for key, told in (("äöüßéèêàâçñøåæœłżźčš", []), ("äöüßéè", ["ana's key has 22 bits at most: guessed in 10 hours"])):
+        for key, told in (("äöüßéèêàâçñøåæœłżźčš", []), ("äöüßéè", ["ana's key has 22 bits at most, and can be guessed in 10 hours"])):
             lab = labs.Lab(1000, 4, ("tess", "0f3b5a7c9d1e2f48a6b8c0d2e4f61357"), {"ana": key}, [], [])
             self.assertEqual([line.partition(" or sooner")[0] for line in key_warnings(lab)], told)
         self.assertGreater(bits("abcdefghijklmnopqrstuvwxyzä"), bits("abcdefghijklmnopqrstuvwxyza"))

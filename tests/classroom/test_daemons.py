@@ -64,7 +64,7 @@ class Alone(unittest.TestCase):
         for seed in range(50):
             for node, p, _ in shaken(nodes, links, "2", seed):
                 self.assertIn(p, near[node])
-        with self.assertRaisesRegex(Fault, "shake 5: 1 to 4 nodes, or all"):
+        with self.assertRaisesRegex(Fault, "shake 5: write a number of nodes from 1 to 4, or all"):
             shaken(nodes, links, "5", 1)
         self.assertEqual(longest_start(nodes, links), [(1, 2, True), (2, 3, True), (3, 4, True), (4, None, True)])
         self.assertEqual(longest_start([1, 2, 3], [(1, 3), (2, 3), (1, 2)]), [(1, 3, True), (2, 3, True), (3, None, True)])
@@ -168,7 +168,7 @@ class Desk(Cycle):
         going.type("daemon fair")
         going.until("^fair isn't one of central, synchronous, ")
         going.type("shake 9")
-        going.until("^shake 9: 1 to 7 nodes, or all$")
+        going.until("^shake 9: write a number of nodes from 1 to 7, or all$")
         going.type("shake 0")
         going.until(r"^not understood; write shake K\|all \[SEED\]$")
         going.type("shake 2 5")

@@ -149,7 +149,7 @@ class Anew(Slips):
         (self.room / "sub").mkdir()
         shutil.copy(self.room / "maths-1.toml", self.room / "sub/maths-1.toml")
         none = self.room / "none.toml"
-        for files, status, error in (((self.room / "maths-1.toml", self.room / "sub/maths-1.toml"), 1, "two labs have one network's name: maths-1, maths-1"),
+        for files, status, error in (((self.room / "maths-1.toml", self.room / "sub/maths-1.toml"), 1, "two labs have the same network name: maths-1, maths-1"),
                                      ((none,), 4, f"{none}: No such file or directory")):
             done = words("slips", *files)
             self.assertEqual((done.returncode, done.stderr), (status, f"class: {error}\n"))

@@ -126,7 +126,7 @@ class Standing(InRoom):
         printed = (self.room / "maths-slips.html").read_text(encoding="utf-8")
         self.assertNotIn(self.lab.students[HOUSE], printed)
         self.assertNotIn("shared", printed)
-        self.assertEqual(printed.count("The house may play a node that waits for you."), 4)
+        self.assertEqual(printed.count("If a node waits long for you, the house may play it. The house is a program of the teacher."), 4)
         checked = words("check", self.made)
         self.assertEqual((checked.returncode, checked.stdout.count("warning")), (0, 0), checked.stdout)
         self.assertEqual(checked.stdout.splitlines()[0], "ok: 8 nodes, 8 links, 4 students and the house")
@@ -270,13 +270,13 @@ class Refused(InRoom):
     def test_labs_without_a_house_say_how_to_get_one(self) -> None:
         done = words("run", CYCLE, "--stand-in", "20s", "--into", self.room / "runs")
         self.assertEqual((done.returncode, done.stdout), (1, ""))
-        self.assertEqual(done.stderr, f"class: {CYCLE}: no node has the second owner `house`, who could stand in: "
-                                      "`./class new NAME --stand-in` makes a lab in which each node has a stand-in\n")
+        self.assertEqual(done.stderr, f"class: {CYCLE}: the house can't stand in, since no node has `house` as its second owner: "
+                                      "`./class new` with --stand-in makes a lab in which the house is the second owner of each node\n")
         self.assertFalse((self.room / "runs").exists())
         going = Going(self, CYCLE, "--close", "by-hand")
         for word in ("play", "stop"):
             going.type(f"{word} gus")
-            going.until("^no node has a second owner who could play for gus: `./class new NAME --stand-in` makes a lab in which each node has a stand-in$")
+            going.until("^no node has a second owner who could play for gus: `./class new` with --stand-in makes a lab in which the house is the second owner of each node$")
 
     def test_no_third_owner(self) -> None:
         students = self.file("students", "Ana\nBen\n")

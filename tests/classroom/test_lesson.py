@@ -131,7 +131,7 @@ class Lesson(InRoom):
         terminal.type(b"fault 3 null true\n", b": fault at node 3: p null, m true; ")
         bots = self.bots(list(self.lab.students))
         os.close(terminal.ours)
-        self.told(folder, f"the terminal went away, and the run goes on: {CLASS} attach {folder} takes it")
+        self.told(folder, f"the terminal was closed, and the run goes on: {CLASS} attach {folder} controls it again")
         self.assertIsNone(terminal.process.poll())
         record = Record.read(folder)
         assert record is not None

@@ -182,7 +182,7 @@ class New(InRoom):
 
     def test_few_events_are_told(self) -> None:
         asked = ("--family", "path", "--events")
-        self.assertIn("note: 45 events may be too few: with 46, grants and closes alone always reach rest", self.new(*asked, "45"))
+        self.assertIn("note: 45 events may be too few: 46 are always enough for moves and closes until the network is stable", self.new(*asked, "45"))
         self.clean()
         self.assertNotIn("note", self.new(*asked, "46"))
 

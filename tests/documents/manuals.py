@@ -85,7 +85,7 @@ def word(name: str) -> Iterator[str]:
     """Yields the lines of a word of `class`: what it does, its options, an example."""
     yield from (f'.SS "class {plain(name)}"', plain(EACH[name][0][0].upper() + EACH[name][0][1:]) + ".")
     for action in choices(parser(name))[name]._actions:
-        if ", ".join(action.option_strings) != OF_ITSELF:
+        if ", ".join(action.option_strings) != OF_ITSELF and action.help != argparse.SUPPRESS:
             yield from (".TP", term(action), plain((action.help or "").replace("%%", "%")) or r"\&")
     yield from (".PP", plain(EXAMPLES[name]))
 

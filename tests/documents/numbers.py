@@ -57,8 +57,8 @@ def releases() -> Iterator[tuple[str, str]]:
     yield README, f"tar -xzf {name}.tar.gz && cd {name}\n"
     yield OPERATE, f"\nrelease={name}\n"
     python = only(r"^if sys\.version_info < \((\d+, \d+)\):", "class").replace(", ", ".")
-    yield README, f"Python {python} for `class`)"
-    yield OPERATE, f"Python {python} for `class`"
+    yield README, f"Python {python} or later for `class`)"
+    yield OPERATE, f"Python {python} or later for `class`"
     examples = only(r'^EXAMPLES_PYTHON = "([\d.]+)"', "tools/check/python.py")
     yield STUDENT, f"`client.py` and `bot.py` need Python {examples} or later, and `./class` needs {python}."
     unit = "operate/cenduwa@.service"
@@ -74,7 +74,7 @@ def classes() -> Iterator[tuple[str, str]]:
     small, families = WORDS[len(suites.SMALL)], WORDS[len(suites.FAMILIES)]
     yield STUDENT, f"`grade` tries {small} cases, each in a new folder"
     yield COURSE, f"The suite `small` has {small} cases, and the suite `full` has {len(suites.FULL)}, on networks of {families} families, "
-    yield TEACHER, f"starts the server at the port of the slips ({FIRST_PORT} for the first network) or the next free one"
+    yield TEACHER, f"starts the server at the port on the slips ({FIRST_PORT}, unless you chose another) or the next free one"
     yield TEACHER, f"when nothing further was granted for {WORDS[int(CLOSING.value)]} seconds."
     yield TEACHER, (f"\n| 0 | done |\n| {statuses.USAGE} | the command line is wrong |\n| {statuses.LAB} | the lab is refused |\n"
                     f"| {statuses.JOURNAL} | the journal is refused |\n| {statuses.FAILED} | any other error |\n| {statuses.WARNED} | done, with warnings |\n")
