@@ -74,7 +74,7 @@ class Asked:
         """Raises `BadRequest` unless the head names one of this door's hosts, and its port."""
         host = self.heads.get("host", "").lower()
         if host not in {f"{each.lower()}:{port}" for each in hosts}:
-            raise BadRequest("421 Misdirected Request", f"this is the door of another name than {host!r}: open the address of your slip")
+            raise BadRequest("421 Misdirected Request", f"{host!r} isn't an address of this door: open the address of your slip")
 
     def network(self) -> tuple[str, str]:
         """Returns the network's name at the beginning of the path, and the path below it."""

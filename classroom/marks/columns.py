@@ -22,7 +22,7 @@ COLUMNS = {
     "first": "the place in the journal of the first granted move",
     "last": "the place of the last granted move",
     "shared": "applied moves at nodes that have several owners",
-    "clause1": "lines that clause 1 denied: the node isn't the student's own or isn't visible, or the word is the teacher's",
+    "clause1": "lines that clause 1 denied: the node isn't the student's own or isn't visible, or only the teacher may ask for this",
     "clause2": "lines that clause 2 denied: the move was asked for in an older configuration, or a key was wrong",
     "clause3": "lines that clause 3 denied: the node had a chosen move already",
     "clause4": "lines that clause 4 denied: the guard of the rule didn't hold",

@@ -18,7 +18,7 @@ const HOLDS = "can be applied now";
 // Why a move was denied, in a sentence; a denial that isn't here is told by the server's own text.
 const WHY = {
   guard: (rule) => `the guard of ${rule} doesn't hold at this node now`,
-  stale: () => "the network has gone on to another step meanwhile: look again",
+  stale: () => "the step was closed meanwhile: choose again",
   chosen: () => "a move of this node is chosen already, and is applied when the step closes",
   "not-owner": () => "this node isn't yours",
 };
@@ -134,7 +134,7 @@ class Hand {
       ended = this.leaves.signal.aborted ? "you left" : "";
     }
     this.play(false);
-    this.say("connection", `The connection has ended: ${ended || "the page's server went away"}. Come in again when you like.`);
+    this.say("connection", `The connection has ended: ${ended || "the page's server went away"}. You can come in again.`);
   }
 
   // Takes a line; gives why it is the last, where it is.

@@ -194,10 +194,10 @@ def limit_warnings(lab: labs.Lab) -> Iterator[str]:
     people, most = len(lab.without_house().students) + 1, limits.allowed().sessions
     if lab.sessions < people:
         yield (f"{lab.sessions} sessions are fewer than {people - 1} students and a teacher"
-               + (f"; no lab has more than {most}: ./class new --groups" if people > most else ""))
+               + (f"; no lab has more than {most}: ./class new --groups makes several labs" if people > most else ""))
     need = bounds.of_lab(lab)
     if lab.events < need.events:
-        yield f"{lab.events} events are fewer than the class may need: {need.moves} moves and as many closes"
+        yield f"{lab.events} events are fewer than the class may need: {need.moves} moves and as many closes; raise `events`"
 
 
 def pair_warnings(lab: labs.Lab) -> Iterator[str]:

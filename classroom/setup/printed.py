@@ -85,7 +85,7 @@ def slip(made: Lab, shown: Lab, name: str, way: Way) -> str:
     person, link = made.people.get(name, Person(name)), address(way, name, made.students[name])
     room = f" · {escape(way.room)}" if way.room else ""
     listed = "".join(f"<dt>{head}</dt><dd>{value}</dd>" for head, value in rows(shown, name, way))
-    house = "<p>If a node waits long for you, the house may play it. The house is a program of the teacher.</p>" if made.held() else ""
+    house = "<p>A program, the house, may play a node that waits for you.</p>" if made.held() else ""
     anchor = f'<a href="{escape(link)}">{escape(link.partition("#")[0])}</a>'
     if way.door:
         how = (f"<p>By hand: {anchor}; the browser warns of a certificate that it doesn't know.</p>"

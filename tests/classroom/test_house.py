@@ -126,7 +126,7 @@ class Standing(InRoom):
         printed = (self.room / "maths-slips.html").read_text(encoding="utf-8")
         self.assertNotIn(self.lab.students[HOUSE], printed)
         self.assertNotIn("shared", printed)
-        self.assertEqual(printed.count("If a node waits long for you, the house may play it. The house is a program of the teacher."), 4)
+        self.assertEqual(printed.count("A program, the house, may play a node that waits for you."), 4)
         checked = words("check", self.made)
         self.assertEqual((checked.returncode, checked.stdout.count("warning")), (0, 0), checked.stdout)
         self.assertEqual(checked.stdout.splitlines()[0], "ok: 8 nodes, 8 links, 4 students and the house")
