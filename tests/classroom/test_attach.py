@@ -102,7 +102,7 @@ class Attach(Cycle):
         going.until(f"^waiting until the server ends, process {server}; type `end` to stop waiting$")
         going.type("end")
         self.assertEqual(going.ends(), 4, going.lines)
-        self.assertTrue(going.lines[-1].startswith(f"the server keeps running without a desk, process {server}: "), going.lines)
+        self.assertTrue(going.lines[-1].startswith(f"the server, process {server}, keeps running, and nobody controls it: "), going.lines)
         self.assertTrue(Process.of(server).lives())
         os.kill(server, signal.SIGCONT)
         end = time.monotonic() + LIMIT

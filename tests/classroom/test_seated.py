@@ -162,7 +162,7 @@ class Seated(Cycle):
         self.assertEqual(again.ends(), 4, again.lines)
         self.assertEqual(again.lines[-2:], [
             "the server: busy: all seats are taken; come again later",
-            f"the server keeps running without a desk, process {record.server.number}: while it runs, {CLASS} attach {going.folder} connects to its "
+            f"the server, process {record.server.number}, keeps running, and nobody controls it: while it runs, {CLASS} attach {going.folder} connects to its "
             f"desk; after that, {CLASS} mark prints the marks",
         ])
         self.assertTrue(record.server.lives())
