@@ -139,7 +139,7 @@ class Builds(InClone):
         done = self.call("./mml", "build", RT_JOBS="3")
         self.assertEqual(done.returncode, 0, done.stderr)
         self.assertRegex(done.stderr, r"^mml: building mml_server and mml_host, after proving 5 crates; .*\n"
-                                      r"mml: from nothing that takes (some \d+ minutes|about a minute) on 3 processors, .*\n")
+                                      r"mml: if nothing is proved yet, that takes (some \d+ minutes|about a minute) on 3 processors, .*\n")
         self.assertRegex(done.stderr, r"\nmml: \d of 5 crates proved; (some \d+ minutes|about a minute) left\n")
         self.assertTrue(done.stderr.endswith("\nmml: 5 of 5 crates proved\n"), done.stderr)
 
@@ -208,7 +208,7 @@ class Builds(InClone):
                 (os.killpg if is_group else os.kill)(going.pid, number)
                 error = self.ended(going)
                 self.assertEqual(going.returncode, -number)
-                self.assertIn("mml: stopped; what is proved is kept, and the next build goes on there\n", error)
+                self.assertIn("mml: stopped; what is proved is kept, and the next build continues from there\n", error)
                 self.waits(lambda: not [*self.temporary.iterdir()])
                 self.assertEqual([*self.clone.glob("crates/mml_*/out")] + [*self.clone.glob("crates/*/build.log")], [])
         self.set("waits", "")
@@ -240,7 +240,7 @@ class Builds(InClone):
         self.assertEqual(done.returncode, 1)
         log = self.clone / "crates/mml_host/build.log"
         self.assertIn("src/lib.rt:1:1: error: a goal is open\nrt: left NOT PROVED\n", done.stderr)
-        self.assertTrue(done.stderr.endswith(f"mml: the build failed, see {log}; an older program is kept\n"), done.stderr)
+        self.assertTrue(done.stderr.endswith(f"mml: the build failed, see {log}; if there was an older program, it is kept\n"), done.stderr)
         self.assertIn("0 passed, 1 failed", log.read_text(encoding="utf-8"))
         self.assertEqual(self.program("mml_server").read_text(encoding="utf-8"), "#!/bin/sh\necho new\n")
         self.assertEqual([*self.temporary.iterdir()], [])

@@ -43,7 +43,7 @@ class SetsUp(InClone):
         done = self.new()
         self.assertEqual(done.returncode, 0, done.stderr)
         self.assertTrue(done.stdout.startswith("maths.toml: 4 nodes, 4 students; slips: "), done.stdout)
-        self.assertRegex(done.stderr, r"^mml: building mml_server and mml_host, after proving 5 crates; .*\nmml: from nothing that takes ")
+        self.assertRegex(done.stderr, r"^mml: building mml_server and mml_host, after proving 5 crates; .*\nmml: if nothing is proved yet, that takes ")
         self.assertIn("\nmml: 5 of 5 crates proved\n", done.stderr)
         self.assertEqual(self.made(), sorted(FIRST))
         for name in set(FIRST) - {"maths-slips"}:

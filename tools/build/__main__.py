@@ -40,9 +40,9 @@ def progress_of(crates: Uses, number: int) -> Progress:
 def tell_beginning(programs: list[str], progress: Progress) -> None:
     """Prints what the build does, how long it takes, and what the user can do instead."""
     side = processors()
-    say(f"building {' and '.join(programs)}, after proving {len(progress.crates)} crates; what this machine has proved before is taken")
-    say(f"from nothing that takes {duration_text(progress.left(0.0))} on {side} processor{'s' if side > 1 else ''}, by the times of another "
-        "machine; stop it when you like, and the next build goes on there; ./try answers without a proof")
+    say(f"building {' and '.join(programs)}, after proving {len(progress.crates)} crates; proofs that this machine has already are reused")
+    say(f"if nothing is proved yet, that takes {duration_text(progress.left(0.0))} on {side} processor{'s' if side > 1 else ''}, as measured on "
+        "another machine; you can stop the build, and the next one continues it; ./try runs the program without proofs")
 
 
 def tell_failure(log: Path, programs: list[str]) -> None:
@@ -52,7 +52,7 @@ def tell_failure(log: Path, programs: list[str]) -> None:
         print(line, file=sys.stderr)
     kept = TOP / "crates" / programs[-1] / "build.log"
     shutil.copyfile(log, kept)
-    say(f"the build failed, see {kept}; an older program is kept")
+    say(f"the build failed, see {kept}; if there was an older program, it is kept")
 
 
 def build(programs: list[str]) -> int:
@@ -85,7 +85,7 @@ def main(programs: list[str]) -> int:
     try:
         return build(programs)
     except Stopped as stopped:
-        say("stopped; what is proved is kept, and the next build goes on there")
+        say("stopped; what is proved is kept, and the next build continues from there")
         signal.signal(stopped.number, signal.SIG_DFL)
         os.kill(os.getpid(), stopped.number)
         return 1
