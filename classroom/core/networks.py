@@ -85,7 +85,7 @@ def plain(word: str, nodes: int) -> Links:
         return row
     if word == "cycle":
         if nodes < 3:
-            raise Fault("a cycle has three nodes at least: --nodes N")
+            raise Fault("a cycle has at least three nodes: name their number by --nodes N")
         return [*row, (nodes, 1)]
     if word == "star":
         return [(1, node) for node in range(2, nodes + 1)]
