@@ -56,7 +56,7 @@ INSTEAD = {"none": "null", "nil": "null", "null": "null", "undefined": "null", "
 
 
 class Denied(Exception):
-    """A clause doesn't hold: its number, its name for programs (also as `word`), its text for people."""
+    """A denied line: its clause's number, name for programs (also as `word`) and text for people; for `stale` also the present number."""
 
     def __init__(self, clause: int, name: str, text: str, at: int | None = None) -> None:
         super().__init__(f"{name}: {text}")
@@ -84,19 +84,19 @@ class Closed(Exception):
 
 
 class Over(Closed):
-    """The connection has ended with the class: the server said so."""
+    """The server has closed the connection because the class is over."""
 
 
 class Silent(Closed):
-    """The connection has ended without a word, or an answer didn't come in time."""
+    """The server has closed the connection without giving a reason, or a reply didn't come in time."""
 
 
 class NoServer(Closed):
-    """Nobody listens at the port, or another program does."""
+    """No program listens at the port, or one that isn't a server of a class."""
 
 
 class NoDoor(NoServer):
-    """The door's certificate isn't the slip's."""
+    """The certificate of the door at an address isn't the one that the slip names."""
 
 
 class NoSlip(Exception):
@@ -113,7 +113,7 @@ class Moving(Exception):
 
 @dataclass(frozen=True)
 class Near:
-    """A node's registers."""
+    """A node and its registers."""
     node: int
     p: int | None
     m: bool
@@ -121,13 +121,13 @@ class Near:
 
 @dataclass(frozen=True)
 class See(Near):
-    """A node's registers, and the configuration's number."""
+    """A node and its registers, and the number of the present configuration."""
     at: int
 
 
 @dataclass(frozen=True)
 class Look(See):
-    """The values that a node may read, its enabled rule, and its chosen move."""
+    """The values that a node may read, its enabled rule, and the rule of its chosen move, one that was granted and waits for the close."""
     rule: Rule | None
     chosen: Rule | None
     near: tuple[Near, ...]
@@ -186,7 +186,7 @@ class Slip:
 
     @staticmethod
     def read(path: str | Path) -> Slip:
-        """Returns the slip in a file. For `-` returns the slip in the environment."""
+        """Returns the slip in a file, or for `-` the slip in the environment. Raises NoSlip if it can't be read or isn't a slip."""
         lines = [line.split(None, 1) for line in text_of(path, SLIP).splitlines() if not line.startswith("#")]
         it = {words[0]: words[1].strip() for words in lines if len(words) == 2}
         if missing := [word for word in ("port", "name", "key") if word not in it]:
@@ -198,7 +198,7 @@ class Slip:
 
     @staticmethod
     def of(words: list[str]) -> tuple[Slip, list[str]]:
-        """Returns the slip that the arguments name, SLIP or PORT NAME KEYFILE NODE,.., and the arguments after it."""
+        """Returns the slip that the arguments name, SLIP or PORT NAME KEYFILE NODE,.., and the arguments after it. Raises NoSlip if they name none."""
         if words and not words[0].isdecimal():
             return Slip.read(words[0]), words[1:]
         if len(words) < 3:
@@ -208,7 +208,7 @@ class Slip:
 
 
 def text_of(path: str | Path, variable: str = "") -> str:
-    """Returns the text of a file. If a variable is given, `-` stands for its value in the environment."""
+    """Returns the text of a file. If a variable is given, `-` stands for its value in the environment. Raises NoSlip if the text can't be read."""
     if variable and str(path) == "-":
         if variable not in os.environ:
             raise NoSlip(f"the environment has no {variable}")
@@ -220,7 +220,7 @@ def text_of(path: str | Path, variable: str = "") -> str:
 
 
 def key_of(word: str) -> str:
-    """Returns the key in a file, which has only the key or is a slip. For `-` returns the key in the environment."""
+    """Returns the key in a file, which contains only the key or is a slip. For `-` returns the key in the environment. Raises NoSlip if there is none."""
     text = text_of(word, KEY)
     found = word != "-" and re.search(r"^key\s+(.+)$", text, re.MULTILINE)
     return found[1] if found else text if word == "-" else text.strip()
@@ -265,7 +265,7 @@ def tls() -> Any:
 
 
 def connected(port: int, limit: float, slip: Slip | None = None, host: str = "127.0.0.1") -> socket.socket:
-    """Returns a connection to a server's port, or through a slip's door if it has one. Raises Refused (`busy`) if the door has no room."""
+    """Returns a connection to a port, or through a slip's door if it has one. Raises NoServer, NoDoor, or Refused (`busy`) if the door has no room."""
     it: Any = None
     try:
         if slip is None or not slip.door:
@@ -287,7 +287,7 @@ class Client:
     """A connection after its hello. Not for several threads at once."""
 
     def __init__(self, port: int, name: str, key: str, host: str = "127.0.0.1", limit: float = 30.0, connection: socket.socket | None = None) -> None:
-        """Connects and says hello. A reply may take `limit` seconds. `connection` is an open connection to use, if there is one."""
+        """Connects and says hello. A reply may take `limit` seconds. If `connection` is given, uses this open one. Raises like `ask`, and NoServer."""
         self.name, self.port, self.limit, self._rest, self._ended = name, port, limit, b"", False
         self._socket = connection or connected(port, limit, host=host)
         try:
@@ -298,12 +298,12 @@ class Client:
 
     @staticmethod
     def from_slip(path: str | Path, limit: float = 30.0) -> Client:
-        """Returns a connection by the slip in a file."""
+        """Returns a connection to the server that the slip in a file names, after its hello. A reply may take `limit` seconds."""
         return Client.of(Slip.read(path), limit)
 
     @staticmethod
     def of(slip: Slip, limit: float = 30.0) -> Client:
-        """Returns a connection by a slip."""
+        """Returns a connection to the server that a slip names, after its hello. A reply may take `limit` seconds."""
         return Client(slip.port, slip.name, slip.key, limit=limit, connection=connected(slip.port, limit, slip))
 
     def own_port(self) -> int:
@@ -328,7 +328,7 @@ class Client:
             self.hang_up()
 
     def _line(self) -> bytes:
-        """Returns the next line, within the time limit."""
+        """Returns the next line from the server. Raises Silent if the connection has ended or the line doesn't come in time."""
         end = time.monotonic() + self.limit
         while b"\n" not in self._rest:
             try:
@@ -344,8 +344,7 @@ class Client:
         return line
 
     def ask(self, **request: object) -> dict[str, Any]:
-        """Sends a request, and returns its reply if that is `ok`. Raises Malformed before sending, and Denied, Refused or Closed after the
-        reply."""
+        """Sends a request, and returns its reply if that is `ok`. Raises Malformed before sending, and Denied, Refused or Closed after the reply."""
         if self._ended:
             raise Closed("this connection has ended: make another Client, and say hello again")
         line = line_of(request)
@@ -364,12 +363,12 @@ class Client:
         return reply
 
     def see(self, node: int) -> See:
-        """Returns the registers of a node that is shown to you."""
+        """Returns the registers of one of your nodes or a neighbour, or for a teacher of any node. Raises Denied for other nodes."""
         it = self.ask(do="see", node=node)
         return See(it["node"], it["p"], it["m"], it["at"])
 
     def look(self, node: int) -> Look:
-        """Returns the values that your node may read."""
+        """Returns the values that one of your nodes, or for a teacher any node, may read. Raises Denied for other nodes."""
         it = self.ask(do="look", node=node)
         near = tuple(Near(each["node"], each["p"], each["m"]) for each in it["near"])
         return Look(it["node"], it["p"], it["m"], it["at"], it["rule"], it["chosen"], near)
@@ -384,7 +383,7 @@ class Client:
         raise Moving(f"{tries} times a step was closed between two looks")
 
     def move(self, look: Look, rule: Rule | None = None, partner: int | None = None) -> Move:
-        """Asks for the enabled rule of a look, or for `rule`. A marriage is with `partner`, or else with the highest node that points here."""
+        """Asks for a move by the enabled rule of a look, or by `rule`. A marriage is with `partner`, or else with the highest suitor in the look."""
         if rule is None and look.rule is None:
             raise Malformed(f"by this look no rule is enabled at node {look.node}: there is nothing to ask for")
         request: dict[str, object] = {"do": "move", "node": look.node, "at": look.at, "rule": rule or look.rule}
@@ -423,7 +422,7 @@ class Client:
         return self._edit(do="release", node=node)
 
     def _edit(self, **request: object) -> Edit:
-        """Asks for a fault, a link, a cut or a release. The reply to a release doesn't say how many moves it dropped: one."""
+        """Asks for a fault, a link, a cut or a release, and returns what it did. The reply to a release doesn't say how many moves it dropped: one."""
         it = self.ask(**request)
         return Edit(it["at"], it["place"], it.get("dropped", 1))
 
@@ -435,7 +434,7 @@ class Client:
 
 
 def no_server(port: int, error: BaseException) -> NoServer | None:
-    """Returns the error to raise if a hello failed because no server of a class is at the port, or None for any other error."""
+    """Returns the error to raise if a hello failed by this error because no server of a class is at the port, or None for any other error."""
     if isinstance(error, NotReply):
         return NoServer(f"at port {port} is another program: it answers {error}")
     return NoServer(f"no server at port {port} answers a hello: {error}") if isinstance(error, Silent) else None
@@ -478,12 +477,12 @@ def stop(error: Exception) -> tuple[int, str]:
 
 
 def goes_on(error: Denied | Refused) -> bool:
-    """Returns whether a bot looks again after this error, because correct bots meet it too or memory was short. Otherwise the bot stops."""
+    """Returns whether a bot looks again after this error, because correct bots meet it too or memory was short. If not, the bot stops."""
     return error.word not in STOPS
 
 
 def enter(slip: Slip, patience: float = 60.0) -> Client:
-    """Connects and says hello. If no seat is free or the server is out of memory, tries again each second for `patience` seconds."""
+    """Returns a connection by a slip. If no seat is free or the server is out of memory, tries again each second for `patience` seconds."""
     end = time.monotonic() + patience
     while True:
         try:
@@ -509,7 +508,7 @@ def again(slip: Slip, lost: Closed | Refused, patience: float = 60.0) -> Client:
 
 
 def run(program: Callable[[list[str]], None], usage: str) -> None:
-    """Runs a program with the arguments of the command line, or prints its usage. After an error, prints one line and exits with a status."""
+    """Runs a program with the command line's arguments, or prints its usage. After an error of this module, prints a line and exits with a status."""
     words = sys.argv[1:]
     if not words or words[0] in ("-h", "--help"):
         sys.exit(usage)
@@ -527,14 +526,14 @@ def run(program: Callable[[list[str]], None], usage: str) -> None:
 
 
 def is_a(kind: str, value: object) -> bool:
-    """Returns whether a value has that kind."""
+    """Returns whether a value in a request has that kind, which is one of the texts in KEYS."""
     number = type(value) is int and 0 <= value < 2**64
     return {"a number": number, "a number or null": number or value is None, "a string": isinstance(value, str),
             "true or false": isinstance(value, bool), "a rule": value in RULES}[kind]
 
 
 def said(value: object) -> str:
-    """Returns the kind of a value in words, for a message about a wrong kind. A number out of range is named as such."""
+    """Returns a text with the kind of a value, for a message about a wrong kind. A number out of range is named as such."""
     kinds = {bool: "true or false", str: "a string", type(None): "null", dict: "an object", list: "a list", float: "no whole number"}
     return NODE if is_a(NODE, value) else kinds.get(type(value), "out of range")
 
@@ -620,7 +619,7 @@ def mend_value(kind: str, value: object) -> str:
 
 
 def mend_key(key: str, asked: dict[str, Any]) -> str:
-    """Returns what was probably written in place of a missing key, in parentheses, or an empty text."""
+    """Returns a guess, in parentheses, which of the keys of `asked` was written in place of the missing key, or an empty text."""
     if key == "do" and (word := next((each for each in asked if each in KEYS), None)):
         return f' (write {{"do":"{word}"}} for {word})'
     near = next((each for each in asked if each not in ("do", key) and (each.lower() == key or meant(each, [key]))), None)
@@ -628,7 +627,7 @@ def mend_key(key: str, asked: dict[str, Any]) -> str:
 
 
 def sent(line: str) -> bytes:
-    """Returns the bytes of a line. Bytes that weren't UTF-8 when it was read are restored."""
+    """Returns the bytes to send for a line. Bytes that weren't UTF-8 when the line was read are restored."""
     return line.encode(errors="surrogateescape")
 
 
@@ -638,7 +637,7 @@ def whole(text: str) -> int | float:
 
 
 def wrong_value(value: object, deep: int = 1) -> str | None:
-    """Returns what is wrong with a value, whatever its key is, or None if nothing is."""
+    """Returns what is wrong with a value under any key, at most DEEPEST levels deep, or None if nothing is."""
     if isinstance(value, str) and any("\ud800" <= char <= "\udfff" for char in value):
         return "half of a surrogate pair"
     if isinstance(value, float) and abs(value) == float("inf"):
@@ -671,7 +670,7 @@ def wrong_keys(asked: object) -> str | None:
 
 
 class ByHand:
-    """A conversation of which each line is typed."""
+    """A conversation with a server in which each line is typed."""
 
     def __init__(self, slip: Slip | None, port: int, log: Path | None, limit: float = 30.0) -> None:
         self.log, self.port, self.since, self.greeted, self.ended = log, port, time.monotonic(), False, False
@@ -696,7 +695,7 @@ class ByHand:
         print(f"client: {text}", file=sys.stderr, flush=True)
 
     def send(self, line: str, typed: bool = True) -> None:
-        """Sends a line and prints the reply. If the line was typed and is wrong, prints that first. No key is written to the log."""
+        """Sends a line and prints the reply. If a typed line is wrong, prints why before that. No key is written to the log."""
         if typed and (note := wrong(line)):
             self.note(note)
             self.keep(f"! {note}")
@@ -715,8 +714,8 @@ class ByHand:
         self.greeted = self.greeted or '"ok":"hello"' in answer
 
     def why(self, line: str, answer: str, waited: float) -> str | None:
-        """Returns why the connection ended, or None if it continues. `answer` is the reply to `line`, or empty, and `waited` are the seconds
-        since the line before. Raises NotReply or NoServer if another program seems to be at the port."""
+        """Returns why the connection ended, or None if it continues. `answer` is the reply to `line`, or empty, and `waited` are the seconds since the line
+        before. Raises NotReply or NoServer if another program seems to be at the port."""
         try:
             if answer:
                 return LAST.get(reply_of(answer.encode()).get("refuse", ""))
@@ -732,7 +731,7 @@ class ByHand:
 
 
 async def carry(reader: Any, writer: Any) -> None:
-    """Copies bytes from a reader to a writer until they end."""
+    """Copies bytes from a stream reader to a stream writer until the reader is at its end."""
     while more := await reader.read(65536):
         writer.write(more)
         await writer.drain()
@@ -743,7 +742,7 @@ async def tunnel(slip: Slip, port: int) -> None:
     import asyncio
 
     async def lead(reader: Any, writer: Any) -> None:
-        """Forwards one connection. After the program ends its side, waits up to five seconds for the last replies."""
+        """Forwards one connection of a program. After the program ends its side, waits up to five seconds for the last replies."""
         try:
             far, near = await asyncio.open_connection(*door_of(slip.door), ssl=tls(), server_hostname=slip.network)
             require_certificate(near.get_extra_info("ssl_object").getpeercert(True), slip)
@@ -766,7 +765,7 @@ async def tunnel(slip: Slip, port: int) -> None:
 
 
 def by_hand(words: list[str]) -> None:
-    """Sends each line of standard input, and prints its reply."""
+    """Sends each line of standard input to a server, and prints its reply. The arguments are those of this file's usage."""
     if strange := [word for word in words if word.startswith("--") and word not in OPTIONS]:
         raise NoSlip(f"{strange[0]}: there is no such option{meant(strange[0], OPTIONS)}{TOLD}")
     if words[0] == "--tunnel":

@@ -109,7 +109,8 @@ def row_of(words: dict[str, str]) -> Row:
 
 
 def read_rows(path: Path) -> list[Row]:
-    """Returns the rows of a table, or none if the file doesn't exist. Removes an incomplete last line from the file."""
+    """Returns the rows of a table, or none if the file doesn't exist. Removes an incomplete last line from the file.
+    Raises `Fault` if the file isn't the table of an experiment."""
     if not path.exists():
         return []
     text = path.read_text(encoding="utf-8")

@@ -218,8 +218,8 @@ def write_run(playing: Playing, folder: Path, tell: Callable[[str], None]) -> No
 
 
 def practise(words: argparse.Namespace) -> int:
-    """Runs a class of one student to its end. Returns the exit status. Raises `Fault` if the arguments can't be used or
-    a file can't be written."""
+    """Runs a class in which the student's bots, or the student's own program or page, play some nodes. Returns the exit
+    status. Raises `Fault` if the arguments can't be used or a file can't be written."""
     program(), answerer()
     if words.page and words.bots:
         raise Fault("--page is for playing by hand: leave the BOT out")

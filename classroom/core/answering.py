@@ -1,4 +1,9 @@
-"""Many short runs without a server: `mml answer` answers each line of a script as it comes."""
+"""Many short runs without a server: `mml answer` answers each line of a script as it comes.
+
+A *lab* is a network with its students. A *script* is a list of request lines, each after the number of its connection,
+and replies have the same numbers. *The program* is the host's program, whose command `answer` replies to a script over
+a lab.
+"""
 from __future__ import annotations
 
 import json
@@ -19,7 +24,8 @@ SOME = 24  # lines, at most, that are sent before their replies are read
 
 
 def answerer() -> Path:
-    """Returns the path of the host's program, which has the command `answer`. Raises `Fault` if it isn't built."""
+    """Returns the path of the host's program, which has the command `answer`. Raises `Fault` if the program isn't
+    built."""
     found = host()
     if found is None:
         how = "`./mml build` builds it (with the toolchain's rt on the path)" if is_clone() else "this release has none"
@@ -28,8 +34,8 @@ def answerer() -> Path:
 
 
 def started(lab: labs.Lab) -> subprocess.Popen[bytes]:
-    """Starts the program over a lab, and returns its process. The lab's file is unlinked, so a program under test can't
-    find it."""
+    """Starts the program over a lab, and returns its process. The lab's file has no name, so that a student's program
+    can't find it. Raises `Fault` if the program isn't built."""
     program = answerer()
     file = os.memfd_create("lab")
     try:
@@ -44,7 +50,8 @@ def started(lab: labs.Lab) -> subprocess.Popen[bytes]:
 
 
 def all_of(lab: labs.Lab, script: list[str]) -> str:
-    """Returns the replies to all lines of a script, one reply per line, each after its connection number."""
+    """Runs a whole script over a lab. Returns the replies, one per line, each after its connection number. Raises
+    `Fault` if the program fails."""
     with started(lab) as process:
         out, error = process.communicate("\n".join([*script, ""]).encode("ascii"))
     replies, said = out.decode("ascii"), error.decode(errors="replace").strip()
@@ -55,9 +62,10 @@ def all_of(lab: labs.Lab, script: list[str]) -> str:
 
 
 class Answering:
-    """A lab, and a process that answers lines over it."""
+    """A process of the program over a lab, which answers lines one after another."""
 
     def __init__(self, lab: labs.Lab) -> None:
+        """Starts the program over a lab. Raises `Fault` if the program isn't built."""
         self.lab = lab
         self.process = started(lab)
         self.size = self.place = 0  # the last event's place
@@ -65,7 +73,8 @@ class Answering:
         self.names: dict[int, str] = {}
 
     def answers(self, lines: list[tuple[int, bytes]]) -> list[bytes]:
-        """Returns the replies to lines of connections, in their order."""
+        """Sends lines, each with the number of its connection. Returns the replies in the same order, without
+        connection numbers. Raises `Fault` if the program has ended."""
         assert self.process.stdin is not None and self.process.stdout is not None
         replies: list[bytes] = []
         while len(replies) < len(lines):
@@ -98,7 +107,8 @@ class Answering:
         return Fault(f"the program has ended, status {status}: {said}", 4)
 
     def answer(self, connection: int, line: bytes) -> dict[str, Any]:
-        """Sends a line, and returns the reply. A line that was granted is kept."""
+        """Sends a line on a connection, and returns the values of the reply. Keeps the line for the script if it was
+        granted."""
         reply = reply_of(self.answers([(connection, line)])[0])
         self.keep(connection, line, reply)
         return reply
@@ -112,7 +122,8 @@ class Answering:
             self.size += len(self.granted[-1])
 
     def ask(self, connection: int, **request: object) -> dict[str, Any]:
-        """Sends a request, and returns its reply. Raises the denial or the refusal if the reply isn't `ok`."""
+        """Sends a request with these values on a connection, and returns the values of the reply. Raises `Denied` or
+        `Refused` if the reply isn't `ok`."""
         reply = self.answer(connection, json.dumps(request, separators=(",", ":")).encode())
         if "deny" in reply:
             raise Denied(reply["clause"], reply["deny"], reply["text"], reply.get("at"))
@@ -121,7 +132,8 @@ class Answering:
         return reply
 
     def greet(self, connection: int, name: str) -> None:
-        """Sends a hello, so that the connection speaks for the student or the teacher from then on."""
+        """Sends a hello with the key of the student or teacher `name`, and a bye before it if another name has greeted
+        on that connection."""
         if self.names.get(connection) == name:
             return
         if connection in self.names:
@@ -131,11 +143,11 @@ class Answering:
         self.names[connection] = name
 
     def script(self) -> bytes:
-        """Returns the script that repeats all that was granted."""
+        """Returns the script that repeats all lines that were kept."""
         return b"".join(self.granted)
 
     def close(self) -> None:
-        """Ends the program."""
+        """Ends the process of the program."""
         for pipe in (self.process.stdin, self.process.stdout, self.process.stderr):
             assert pipe is not None
             try:

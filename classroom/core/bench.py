@@ -1,5 +1,9 @@
 """A program over a network, on which runs follow each other: each begins by setting all registers, and nodes move at
-once."""
+once.
+
+A *lab* is a network with its students. A node's enabled *rule* is the move that it can make, and the *report* lists the
+nodes with such a rule. One program serves many short runs, because starting one takes much longer than a run.
+"""
 from __future__ import annotations
 
 import json
@@ -16,7 +20,7 @@ ROOM = 4  # moves and closes for each move that there can be, with room to spare
 
 
 def network(nodes: list[labs.Node], links: list[tuple[int, int]]) -> labs.Lab:
-    """Returns a lab with one student, who owns all nodes."""
+    """Returns a lab in which one student owns all these nodes."""
     own = [labs.Node(node.id, ["student"], node.p, node.m) for node in nodes]
     return labs.Lab(limits.allowed().events, 2, ("teacher", "teacher"), {"student": "student"}, own, links)
 
@@ -25,6 +29,7 @@ class Bench:
     """A program over a network. New runs begin on it until its events are used up."""
 
     def __init__(self, made: labs.Lab) -> None:
+        """Starts a program over a lab that `network` has made."""
         self.made, self.events = made, 0
         self.program = Answering(made)
         self.program.greet(TEACHER, made.teacher[0])
@@ -33,8 +38,8 @@ class Bench:
         self.before = 0  # the number at which it begins
 
     def has_room(self, made: labs.Lab) -> bool:
-        """Returns whether a run over that network can follow: it has the links of the program's network, and enough
-        events are left."""
+        """Returns whether a run over the network of `made` can follow on this program: the links are the same, and
+        enough events are left."""
         most = ROOM * bounds.of_lab(made).moves + 2 * len(made.nodes)
         return made.links == self.made.links and self.events + most < self.made.events
 
@@ -43,8 +48,8 @@ class Bench:
         return self.all_asked([(connection, request) for request in requests])
 
     def all_asked(self, requests: list[tuple[int, dict[str, Any]]]) -> list[dict[str, Any]]:
-        """Sends requests on several connections, and returns their replies. Raises `Fault` if one isn't answered by
-        `ok`."""
+        """Sends requests, each on the connection with its number, and returns their replies. Raises `Fault` if one
+        isn't answered by `ok`."""
         lines = [(connection, json.dumps(request, separators=(",", ":")).encode()) for connection, request in requests]
         replies: list[dict[str, Any]] = [json.loads(reply) for reply in self.program.answers(lines)]
         for (_, request), reply in zip(requests, replies):
@@ -55,7 +60,7 @@ class Bench:
         return replies
 
     def begin(self, made: labs.Lab) -> dict[str, Any]:
-        """Sets all registers, and returns the report."""
+        """Begins a run: sets the registers to those of `made`. Returns the report."""
         self.requests = []
         faults = [{"do": "fault", "node": node.id, "p": node.p, "m": node.m} for node in made.nodes]
         report = self.asked(TEACHER, [*faults, {"do": "report"}])[-1]
@@ -63,20 +68,20 @@ class Bench:
         return report
 
     def present(self) -> labs.Lab:
-        """Returns the network with its present registers."""
+        """Returns the network with its present registers, as a lab."""
         seen = self.asked(TEACHER, [{"do": "see", "node": node.id} for node in self.made.nodes])
         del self.requests[-len(seen):]  # They do nothing.
         return network([labs.Node(it["node"], [], it["p"], it["m"]) for it in seen], self.made.links)
 
     def script(self) -> bytes:
-        """Returns the present run as a script over its lab."""
+        """Returns the script that repeats the present run over its own lab."""
         hello = [(TEACHER, {"do": "hello", "name": "teacher", "key": "teacher"}), (STUDENT, {"do": "hello", "name": "student", "key": "student"})]
         own = [(who, request | {"at": request["at"] - self.before} if "at" in request else request) for who, request in self.requests]
         return "".join(f"{who} {json.dumps(request)}\n" for who, request in [*hello, *own]).encode()
 
     def step(self, report: dict[str, Any], nodes: list[int], partner_of: Callable[[Sequence[int]], int]) -> dict[str, Any]:
-        """Moves these nodes in one step, each by its enabled rule. A node that marries takes the one that `partner_of`
-        chooses among those that point at it. Returns the report after the step."""
+        """Moves these nodes in one step, each by its enabled rule in `report`. A node that marries takes the one that
+        `partner_of` chooses among those that point at it. Returns the report after the step."""
         rules = dict(report["privileged"])
         suited = [node for node in nodes if rules[node] == "marriage"]
         looks = self.asked(STUDENT, [{"do": "look", "node": node} for node in suited])
@@ -88,5 +93,5 @@ class Bench:
         return self.all_asked([*moves, (TEACHER, {"do": "close"}), (TEACHER, {"do": "report"})])[-1]
 
     def close(self) -> None:
-        """Ends the program."""
+        """Ends the process of the program."""
         self.program.close()

@@ -1,5 +1,5 @@
-"""The most moves, rounds and events of a run, as the host's program prints them (docs/JOURNAL.md: the line
-`bounds`)."""
+"""The most moves, rounds and events of a run, which are proved bounds, as the host's program prints them
+(docs/JOURNAL.md: the line `bounds`)."""
 from __future__ import annotations
 
 import functools
@@ -16,8 +16,8 @@ NAME = "teacher", "teacher"
 
 @functools.cache
 def of(nodes: int, links: int) -> Bounds:
-    """Returns the bounds for a network with this number of nodes and links. The bounds don't depend on which links they
-    are."""
+    """Returns the bounds for a network with this number of nodes and links, which are the same for all such networks.
+    Raises `Fault` if the host's program isn't built or prints no bounds."""
     found = tally.of_texts(labs.text(some(nodes, links)), "").bounds
     if not found.moves:
         raise Fault("mml_host is of an older version, which prints no bounds: build it again", 4)
@@ -25,15 +25,15 @@ def of(nodes: int, links: int) -> Bounds:
 
 
 def some(nodes: int, links: int) -> labs.Lab:
-    """Returns a lab with this number of nodes and links."""
+    """Returns any lab with this number of nodes and links."""
     every = range(1, nodes + 1)
     joined = list(itertools.islice(itertools.combinations(every, 2), links))
     return labs.Lab(1, 1, NAME, {"student": "student"}, [labs.Node(node, ["student"]) for node in every], joined)
 
 
 def told(nodes: int, links: int) -> Bounds | None:
-    """Returns the bounds, or None if the host's program isn't built or doesn't print them. A run continues without
-    them."""
+    """Returns the bounds for a network with this number of nodes and links, or None if the host's program isn't built
+    or doesn't print them. A run continues without the bounds."""
     try:
         return of(nodes, links) if host() else None
     except (Fault, OSError):
@@ -41,5 +41,5 @@ def told(nodes: int, links: int) -> Bounds | None:
 
 
 def of_lab(lab: labs.Lab) -> Bounds:
-    """Returns the bounds for a lab's network as it is at the beginning."""
+    """Returns the bounds for a lab's network as it is at the beginning of a run. Raises `Fault` like `of`."""
     return of(len(lab.nodes), len(lab.links))

@@ -18,15 +18,18 @@ STDERR = 2  # results go to standard output, and nothing else may stand there
 
 
 def lacks_programs() -> bool:
-    """Returns whether this is a clone in which a program has never been built."""
+    """Returns whether this is a clone in which one of the two programs hasn't been built yet, and no environment
+    variable names another one."""
     wanted = [crate for crate, variable in NAMED_BY.items() if not os.environ.get(variable)]
     return is_clone() and not all(os.access(built(crate), os.X_OK) for crate in wanted if (TOP / "crates" / crate).is_dir())
 
 
 class Signals:
-    """Records the signals that end a process. Replaces their handlers until it is closed."""
+    """Notes the last signal that would have ended this process, in `came`, and when it came. Replaces the handlers of
+    such signals until it is closed."""
 
     def __init__(self) -> None:
+        """Replaces the handlers, except those of ignored signals."""
         self.came, self.at = 0, 0.0
         self.before = {number: signal.getsignal(number) for number in SIGNALS}
         for number, handler in self.before.items():
@@ -43,7 +46,7 @@ class Signals:
 
 
 def build() -> int:
-    """Runs `./mml build` to its end, and returns its status. A signal ends both processes."""
+    """Runs `./mml build` to its end, and returns its status. After a signal, ends the build and raises `SystemExit`."""
     signals = Signals()
     try:
         process = subprocess.Popen([TOP / "mml", "build"], stdin=subprocess.DEVNULL, stdout=STDERR)
@@ -59,6 +62,6 @@ def build() -> int:
 
 
 def set_up() -> None:
-    """Builds the programs if this is a clone that lacks one. Raises a fault if that fails."""
+    """Builds the programs if this is a clone that lacks one. Raises `Fault` if the build fails."""
     if lacks_programs() and build() != 0:
         raise Fault("a program isn't built, so nothing was done")

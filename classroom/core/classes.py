@@ -1,4 +1,7 @@
-"""The folder of a class of several networks: `class.json` names them, and each network has the folder of its run in it."""
+"""The folder of a class of several networks: `class.json` names them, and each network has the folder of its run in it.
+
+A *run* is one network's journal and other files, and a *lab* is the file that defines the network and its students.
+"""
 from __future__ import annotations
 
 import json
@@ -47,7 +50,7 @@ class Class:
 
     @staticmethod
     def read(folder: Path) -> Class | None:
-        """Returns the class that a folder's file describes, or None if it isn't the folder of a class."""
+        """Returns the class that the file in a folder describes, or None if the folder isn't that of a class."""
         if not os.path.lexists(folder / FILE):
             return None
         try:
@@ -72,7 +75,8 @@ class Class:
         )
 
     def write(self, folder: Path) -> None:
-        """Writes the file. If the disk is full, the old file stays, and no error is raised."""
+        """Writes the file into the folder of the class. If the disk is full, the old file stays, and no error is
+        raised."""
         new = folder / f"{FILE}.new"
         try:
             new.write_text(json.dumps(asdict(self)) + "\n", encoding="utf-8")
@@ -82,7 +86,7 @@ class Class:
 
 
 def title(folder: Path) -> str:
-    """Returns the title of a class and its day, from the name of its folder."""
+    """Returns the title of a class: its name and its day, from the name of its folder."""
     found = re.fullmatch(r"(\d{4}-\d\d-\d\d)T\d{4}-(.+)", folder.absolute().name)
     return f"{found[2]}, {found[1]}" if found else folder.absolute().name
 
@@ -99,14 +103,16 @@ def name_of(files: Sequence[Path]) -> str:
 
 
 def begun(into: Path, networks: list[Network]) -> Path:
-    """Makes the folder of a class, and returns it. Its name has the minute and the name of the class."""
+    """Makes the folder of a class of these networks below `into`, with its `class.json`, and returns it. The folder's name
+    has the minute and the name of the class."""
     folder = new_folder(into, Path(f"{name_of([Path(network.lab) for network in networks])}.toml"))
     Class(networks, Process.of(os.getpid())).write(folder)
     return folder
 
 
 def runs_of(folder: Path) -> list[Path]:
-    """Returns the folders of the runs of a class, in the order of its networks. Returns any other folder itself."""
+    """Returns the folders of the runs of a class, in the order of its networks, or the folder itself if it isn't that of a
+    class. Raises `Fault` if no network of the class was started."""
     found = Class.read(folder)
     if found is None:
         return [folder]
@@ -117,8 +123,8 @@ def runs_of(folder: Path) -> list[Path]:
 
 
 def run_of(folder: Path, name: str) -> Path:
-    """Returns the folder of the only run of a class whose lab has a person of that name. Returns any other folder
-    itself."""
+    """Returns the folder of the only run of a class whose lab has a person of that name, or the folder itself if it isn't
+    that of a class. Raises `Fault` if no run or several have such a person."""
     if not is_class(folder):
         return folder
     runs = [(run, labs.read(of_folder(run)[0])) for run in runs_of(folder)]
@@ -131,8 +137,8 @@ def run_of(folder: Path, name: str) -> Path:
 
 
 def given(words: list[str]) -> list[tuple[Path, Path]]:
-    """Returns the lab and the journal of each run that the arguments name: folders of runs, folders of classes, or a
-    lab and its journals."""
+    """Returns the lab and the journal of each run that the arguments name: folders of runs, folders of classes, or a lab
+    and its journals. Raises `Fault` if there is no such run."""
     first = Path(words[0])
     if first.is_dir():
         return [of_folder(run) for word in words for run in runs_of(Path(word))]

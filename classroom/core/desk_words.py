@@ -1,4 +1,5 @@
-"""The commands of a teacher's desk: one table for all code that takes, runs, shows, counts or replays one of them."""
+"""The commands of a teacher's desk, which are typed or come from buttons: one table for all code that takes, runs, shows, counts or
+replays a command."""
 from __future__ import annotations
 
 from collections.abc import Callable, Sequence
@@ -20,7 +21,7 @@ READ: dict[str, Callable[[str], object]] = {
 
 
 class Action(Enum):
-    """The action of the desk for a command."""
+    """What the desk does for a command."""
 
     ASK = auto()  # sends the request that `client.KEYS` has under the word
     REPORT = auto()
@@ -68,7 +69,7 @@ class Word:
 
     @property
     def nodes(self) -> int:
-        """Returns the number of nodes that the command names."""
+        """Returns the number of nodes that the command has as arguments."""
         return self.form.split().count("NODE")
 
 
@@ -108,11 +109,11 @@ BY_LINKS = {it.links: word for word, it in WORDS.items() if it.links}  # the com
 
 
 def request(word: str, values: Sequence[str]) -> dict[str, Any]:
-    """Returns the request that a command sends. The values are as they are typed, or as a line of the journal has
-    them."""
+    """Returns the values of the request that a command sends to the server. `values` are the command's arguments, as they are typed
+    or as a line of the journal has them. Raises `ValueError` if an argument can't be read."""
     return {"do": word} | {key: READ[kind](value) for (key, kind), value in zip(KEYS[word].items(), values)}
 
 
 def links_after(word: str) -> int:
-    """Returns the change of the number of links by an event of that command: 1, 0 or -1."""
+    """Returns by how much an event of that command changes the number of links: 1, 0 or -1."""
     return WORDS[word].links if word in WORDS else 0

@@ -1,4 +1,7 @@
-"""The folders of runs: making a new one, the record of a run that continues, and the lab and journal of given runs."""
+"""The folders of runs: making a new one, the record of a run that continues, and the lab and journal of given runs.
+
+A *run* is a class over one network. Its *lab* defines the network and its students, and its *journal* has its events.
+"""
 from __future__ import annotations
 
 import json
@@ -22,8 +25,8 @@ FILES = (RECORD, f"{RECORD}.new", STATE, f"{STATE}.new", LAYOUT, f"{LAYOUT}.new"
 
 
 def new_folder(into: Path, lab: Path) -> Path:
-    """Makes a new folder that no other user can read. Its name has the minute and the lab; in the folder of a class it
-    is the lab's name alone."""
+    """Makes a new folder below `into` that no other user can read, and returns it. Its name has the minute and the name
+    of the lab, but in the folder of a class only the lab's name. Raises `Fault` if the folder can't be made."""
     stamp = lab.stem if (into / CLASS).is_file() else f"{datetime.now():%Y-%m-%dT%H%M}-{lab.stem}"
     for number in range(1, 1000):
         folder = into / (stamp if number == 1 else f"{stamp}-{number}")
@@ -38,8 +41,8 @@ def new_folder(into: Path, lab: Path) -> Path:
 
 
 def of_folder(folder: Path) -> Run:
-    """Returns the lab and the journal in the folder of a run. Raises `Fault` if a file that a run reads or writes isn't
-    a plain file."""
+    """Returns the lab and the journal in the folder of a run. Raises `Fault` if one of them is missing, or if a file
+    that a run reads or writes isn't a plain file."""
     for name in FILES:
         plain.want(folder / name)
     if not (folder / "lab.toml").is_file() or not (folder / "journal").is_file():
@@ -48,8 +51,8 @@ def of_folder(folder: Path) -> Run:
 
 
 def title(lab: Path, journal: Path, name: str = "") -> str:
-    """Returns the lab's name and the day of a run. Takes them from the name of the run's folder, or else the day from
-    the journal's last change."""
+    """Returns the lab's name, or `name` if it is given, and the day of the run. Takes them from the name of the run's
+    folder, or else from the lab's file and the journal's last change."""
     own = lab.resolve().parent
     in_class = (own.parent / CLASS).is_file()
     found = re.fullmatch(r"(\d{4}-\d\d-\d\d)T\d{4}-(.+)", (own.parent if in_class else own).name)
@@ -68,7 +71,8 @@ class Process:
 
     @staticmethod
     def of(number: int) -> Process:
-        """Returns the process that has the number now. Its start is empty if there is none or it has ended."""
+        """Returns the process that has the number now. Its start time is empty if there is no such process or it has
+        ended."""
         try:
             stat = Path(f"/proc/{number}/stat").read_text(encoding="utf-8", errors="replace")
         except OSError:
@@ -83,7 +87,8 @@ class Process:
 
 @dataclass(frozen=True)
 class Record:
-    """The record that a folder has of its run while the run continues."""
+    """The file `run.json`, by which a run's folder tells other programs how to reach the run, and how to continue
+    it."""
 
     lab: str
     port: int
@@ -105,7 +110,7 @@ class Record:
 
     @staticmethod
     def read(folder: Path) -> Record | None:
-        """Returns the record in a folder, or None if there is none."""
+        """Returns the record in a folder, or None if there is none or it isn't valid."""
         try:
             it = json.loads(plain.read(folder / RECORD, plain.MOST_KEPT))
             made = Record(**it | {"run": Process(**it["run"]), "server": Process(**it["server"])})
@@ -127,8 +132,8 @@ class Record:
 
     @staticmethod
     def lacking(folder: Path, port: int) -> Record:
-        """Returns a record for a folder that has none, as version 0.9.0 made them at first. Its ports and its daemon
-        are those of a new run."""
+        """Returns a record for the folder of a run that has none, as the first version 0.9.0 left them. Its ports and
+        its daemon are those of a new run."""
         return Record(str(folder / "lab.toml"), port, 0, None, "when-idle:2", None, Process(0, ""), Process(0, ""))
 
     def write(self, folder: Path) -> None:
@@ -146,8 +151,8 @@ class Record:
 
 
 def going(into: Path, lab: Path) -> tuple[Path, Record] | None:
-    """Returns the folder and the record of a run of that lab that continues. If there is none, returns those of its
-    last run if that wasn't ended."""
+    """Returns the folder and the record of a run of that lab that is still going on. If there is none, returns those of
+    the lab's last run if it wasn't ended, and otherwise None. `into` is the folder with all runs."""
     files = sorted([*into.glob(f"*/{RECORD}"), *into.glob(f"*/*/{RECORD}")], key=lambda file: file.parent.stat().st_mtime)
     records = [(file.parent, Record.read(file.parent)) for file in files]
     same = [(folder, record) for folder, record in records if record is not None and record.lab == str(lab.resolve())]

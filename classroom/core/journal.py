@@ -13,7 +13,8 @@ NODES_AT = {"grant": (2, 1)} | {word: (1, it.nodes) for word, it in WORDS.items(
 
 @dataclass(frozen=True)
 class Event:
-    """A line: its place, the configuration before it, and its words."""
+    """A line of a journal: its place (the number of the event), the number of the configuration before the event, and
+    the words of the event."""
 
     place: int
     at: int
@@ -26,12 +27,13 @@ class Event:
 
     @property
     def student(self) -> str | None:
-        """Returns the student who made the request, or None if it wasn't a student."""
+        """Returns the name in a move's event: the student who asked for the move. Returns None for an event of the
+        teacher."""
         return self.words[1] if self.kind == "grant" else None
 
     @property
     def is_edit(self) -> bool:
-        """Returns whether it changes registers or links: a fault, a link or a cut."""
+        """Returns whether the event changes registers or links: a fault, a link or a cut."""
         return self.kind in EDITS
 
     @property
@@ -41,19 +43,19 @@ class Event:
 
     @property
     def links(self) -> int:
-        """Returns the change of the number of links by the event: 1, 0 or -1."""
+        """Returns by how much the event changes the number of links: 1, 0 or -1."""
         return links_after(self.kind)
 
     @cached_property
     def nodes(self) -> tuple[int, ...]:
-        """Returns the nodes that the event's line names."""
+        """Returns the nodes that the event's line names, in its order."""
         first, count = NODES_AT.get(self.kind, (0, 0))
         return tuple(int(word) for word in self.words[first : first + count])
 
 
 def split(text: str) -> list[list[str]]:
-    """Returns the words of each complete line of a journal: its place, the configuration before it, and the words of
-    the event."""
+    """Returns the words of each complete line of a journal: the event's place, the number of the configuration before
+    it, and the words of the event."""
     return [line.split(" ") for line in text.split("\n")[:-1]]
 
 

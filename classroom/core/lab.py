@@ -1,4 +1,6 @@
-"""A lab's file: reading and writing it."""
+"""A lab's file: reading and writing it. A lab defines a network with its first registers, the students who own the
+nodes, the teacher, and the limits of a run. The *house* is a student without a person, who may play for absent
+students."""
 from __future__ import annotations
 
 import json
@@ -45,14 +47,14 @@ class Lab:
         return [node.id for node in self.nodes if name in node.owners]
 
     def held(self) -> list[int]:
-        """Returns the nodes at which the house may play: those of the student `house`. Returns none if the house is the
-        only owner of a node."""
+        """Returns the nodes at which the house may play: those that it owns together with a student. Returns none if
+        the house is the only owner of a node, since such a house is an ordinary student."""
         nodes = [node for node in self.nodes if HOUSE in node.owners]
         return [node.id for node in nodes] if all(len(node.owners) == 2 for node in nodes) else []
 
     def without_house(self) -> Lab:
-        """Returns the lab without the house as a student and as an owner. Returns it unchanged if the house may play
-        nowhere."""
+        """Returns the lab without the house as a student and as an owner. Returns the lab unchanged if the house may
+        play nowhere."""
         if not self.held():
             return self
         students = {name: key for name, key in self.students.items() if name != HOUSE}
@@ -61,24 +63,25 @@ class Lab:
 
 
 def is_same(one: Lab, other: Lab) -> bool:
-    """Returns whether two labs agree in all that a journal names. Keys and limits may differ."""
+    """Returns whether two labs agree in all that a journal refers to. Keys and limits may differ."""
     return named(one) == named(other)
 
 
 def named(lab: Lab) -> object:
-    """Returns the parts of a lab that a journal names: names in their order, nodes with owners and registers, and
-    links."""
+    """Returns the parts of a lab that a journal refers to, for a comparison: names in their order, nodes with owners
+    and registers, and links."""
     nodes = {node.id: (frozenset(node.owners), node.p, node.m) for node in lab.nodes}
     return lab.teacher[0], list(lab.students), nodes, {frozenset(link) for link in lab.links}
 
 
 def ordered(link: tuple[int, int]) -> tuple[int, int]:
-    """Returns a link with its lower end first."""
+    """Returns the two ends of a link, the lower one first."""
     return min(link), max(link)
 
 
 def parsed(text: str) -> dict[str, Any]:
-    """Returns the document in a text, or an empty one if it isn't TOML. Python's reader supports TOML 1.0 only."""
+    """Returns the document in a TOML text, or an empty one if the text isn't TOML. Python's reader supports TOML 1.0
+    only."""
     try:
         return tomllib.loads(text)
     except tomllib.TOMLDecodeError:
@@ -86,7 +89,7 @@ def parsed(text: str) -> dict[str, Any]:
 
 
 def document(path: Path) -> dict[str, Any]:
-    """Returns the file's document."""
+    """Returns the TOML document in a file. Raises `Fault` if the file can't be read or isn't TOML 1.0."""
     try:
         return tomllib.loads(path.read_text(encoding="utf-8-sig"))
     except OSError as error:
@@ -98,7 +101,8 @@ def document(path: Path) -> dict[str, Any]:
 
 
 def unread(path: Path, error: str) -> str:
-    """Returns why the system can't open or read a file that the program couldn't read."""
+    """Returns an error line about a file that the program couldn't read: the system's reason, or else `error`, the
+    program's own."""
     try:
         with path.open("rb"):
             return f"{path}: {error}"
@@ -107,7 +111,7 @@ def unread(path: Path, error: str) -> str:
 
 
 def read(path: Path) -> Lab:
-    """Returns a lab, after the program has checked it."""
+    """Returns the lab in a file, after the program has checked the file. Raises `Fault` if the program refuses it."""
     answer = call("check", path)
     if answer.status == 4:
         raise Fault(unread(path, answer.error), 4)
@@ -125,14 +129,14 @@ def read(path: Path) -> Lab:
 
 
 def with_house_apart(told: str, lab: Lab) -> str:
-    """Returns the program's line about a lab's size, with the house counted separately. The program counts it among the
-    students."""
+    """Returns `told`, the program's line about a lab's size, with the house counted separately. The program counts the
+    house as a student."""
     students = len(lab.without_house().students)
     return told.replace(f"{students + 1} students", f"{students} students and the house") if lab.held() else told
 
 
 def quoted(word: str) -> str:
-    """Returns a string in the syntax of TOML. It is JSON too if the string is printable. Characters that aren't
+    """Returns a string in the syntax of TOML. The result is JSON too if the string is printable. Characters that aren't
     printable are escaped."""
     return "".join(char if char.isprintable() else escaped(char) for char in json.dumps(word, ensure_ascii=False))
 
@@ -143,7 +147,7 @@ def escaped(char: str) -> str:
 
 
 def text(lab: Lab) -> str:
-    """Returns the text of the lab's file."""
+    """Returns the text of a lab's file for a lab."""
     quote = quoted
     lines = [f"events = {lab.events}", f"sessions = {lab.sessions}"]
     lines += ["links = [", *(f"  [{a}, {b}]," for a, b in lab.links), "]"] if lab.links else ["links = []"]
@@ -163,8 +167,8 @@ def text(lab: Lab) -> str:
 
 
 def write_new(path: Path, content: str) -> None:
-    """Writes a new file that no other user can read. Never replaces a file. Leaves no file if it can't be written
-    completely."""
+    """Writes a new file that no other user can read. Raises `Fault` if the file exists already, or can't be written
+    completely. In this case no file is left."""
     try:
         file = os.open(path, os.O_WRONLY | os.O_CREAT | os.O_EXCL, 0o600)
         try:

@@ -21,7 +21,7 @@ UNIT_OF = {name: unit for unit, names in UNITS.items() for name in names}
 
 @dataclass(frozen=True)
 class Limits:
-    """The greatest number that is allowed of each. The units are those of UNITS."""
+    """The limits, each under the name that the host's program prints, with `_` for `-`. The units are those of UNITS."""
 
     nodes: int
     identifier: int
@@ -44,14 +44,14 @@ class Limits:
 
     @property
     def seats(self) -> int:
-        """Returns how many students can play at once: one session is the teacher's."""
+        """Returns how many students can play at once: all sessions but the teacher's."""
         return self.sessions - 1
 
 
 def parsed(text: str) -> Limits:
-    """Returns the limits in these lines, `NAME NUMBER UNIT`. Lines with other names are ignored, since later versions may
-    have them. Raises `Fault` if a line has another form, if a name is repeated, or if a limit or its line's end is
-    missing."""
+    """Returns the limits in the program's output, lines of the form `NAME NUMBER UNIT`. Ignores lines with other names,
+    since later versions may have them. Raises `Fault` if a line has another form, if a name is repeated, or if a limit or
+    its line's end is missing."""
     found: dict[str, int] = {}
     for line in text.split("\n")[:-1]:
         it = LINE.fullmatch(line)
@@ -65,13 +65,14 @@ def parsed(text: str) -> Limits:
 
 
 def another(what: str) -> Fault:
-    """Returns the fault for a program that prints other limits than those that are read here."""
+    """Returns the fault to raise if the host's program is of another version. `what` is what that version prints."""
     return Fault(f"mml_host is of another version, which prints {what}: build it again", FAILED)
 
 
 @cache
 def allowed() -> Limits:
-    """Returns the limits. Calls the host's program once. Raises `Fault` if it isn't built or prints something else."""
+    """Returns the limits. Calls the host's program at the first call only. Raises `Fault` if the program isn't built or
+    prints something else."""
     answer = host_call("limits")
     if answer.status != 0:
         raise another("no limits")
@@ -79,8 +80,8 @@ def allowed() -> Limits:
 
 
 def known() -> Limits | None:
-    """Returns the limits, or None if the host's program isn't built or doesn't print them. A run continues without
-    them."""
+    """Returns the limits, or None if the host's program isn't built or doesn't print them. A run continues without the
+    limits."""
     try:
         return allowed() if host() else None
     except (Fault, OSError):

@@ -1,4 +1,5 @@
-"""Lists of people: one name per line, or tables exported from spreadsheets and platforms."""
+"""Lists of people: one name per line, or tables that spreadsheets and learning platforms export. *Heads* are the names
+of a table's columns, in its first row."""
 from __future__ import annotations
 
 import argparse
@@ -24,7 +25,7 @@ NOBODY = ("points possible", "student, test")
 
 @dataclass(frozen=True)
 class Person:
-    """A name as it is written, and other data that distinguish the person, or empty texts."""
+    """A name as the list has it, and other values that distinguish the person, or empty texts."""
 
     written: str
     id: str = ""
@@ -34,7 +35,8 @@ class Person:
 
 @dataclass
 class People:
-    """A list in its order. A table also has its heads, its rows and its format. A row without a person has None."""
+    """The people of a list, in its order. A table also has its heads, its rows and its delimiter. A row without a
+    person has None."""
 
     rows: list[tuple[list[str], Person | None]]
     heads: list[str] = field(default_factory=list)
@@ -42,12 +44,12 @@ class People:
 
     @property
     def people(self) -> list[Person]:
-        """Returns the persons."""
+        """Returns all persons of the list."""
         return [person for _, person in self.rows if person is not None]
 
 
 def add_words(words: argparse.ArgumentParser) -> None:
-    """Adds the options that name columns."""
+    """Adds the options that name columns to a parser."""
     words.add_argument("--column", metavar="COL", help="the column of the table with the names")
     words.add_argument("--first-name", metavar="COL", help="the column of first names, if they are in a column of their own")
     words.add_argument("--last-name", metavar="COL", help="the column of last names")
@@ -55,8 +57,8 @@ def add_words(words: argparse.ArgumentParser) -> None:
 
 
 def decoded(content: bytes) -> str:
-    """Returns the text of a file: UTF-8 or UTF-16, with or without a byte order mark, else Latin-1 as Windows uses
-    it."""
+    """Returns the text in a file's bytes. The encoding is UTF-8 or UTF-16, with or without a byte order mark, or else
+    Latin-1 as Windows uses it."""
     for mark, encoding in MARKS:
         if content.startswith(mark):
             return content.decode(encoding)
@@ -71,7 +73,8 @@ def decoded(content: bytes) -> str:
 
 
 def read(path: Path, words: argparse.Namespace) -> People:
-    """Returns the people in a file. The options name its columns."""
+    """Returns the people in a file. The options may name its columns. Raises `Fault` if the file can't be read or has
+    no names."""
     try:
         content = path.read_bytes()
         if path.suffix.lower() in SHEETS or content.startswith(b"PK\x03\x04"):
@@ -95,7 +98,8 @@ def read(path: Path, words: argparse.Namespace) -> People:
 
 
 def table(path: Path, text: str, words: argparse.Namespace) -> People:
-    """Returns the people of a table."""
+    """Returns the people of a table, whose text is that of the file at `path`. Raises `Fault` if the table has no
+    column with names, or lacks one that the options name."""
     delimiter = max(",;\t", key=text.partition("\n")[0].count)
     reader = csv.reader(io.StringIO(text, newline=""), delimiter=delimiter)
     try:
@@ -110,7 +114,8 @@ def table(path: Path, text: str, words: argparse.Namespace) -> People:
     groups = column(path, heads, getattr(words, "groups_by", None), ())
 
     def cell(row: list[str], index: int | None) -> str:
-        """Returns a cell of a row without surrounding spaces. Returns an empty text if there is no column."""
+        """Returns the cell of a row at an index, without surrounding spaces. Returns an empty text if the index is
+        None."""
         return row[index].strip() if index is not None else ""
 
     parts = [whole] if whole is not None else [index for index in (first, last) if index is not None]
@@ -127,7 +132,8 @@ def table(path: Path, text: str, words: argparse.Namespace) -> People:
 
 
 def column(path: Path, heads: list[str], asked: str | None, known: Iterable[str]) -> int | None:
-    """Returns the index of a column: the one that is asked for, or the first with a known head."""
+    """Returns the index of the column whose head is `asked`, or if that is None of the first column with one of the
+    known heads. Returns None if there is no such column. Raises `Fault` if `asked` names a missing column."""
     lower = [head.lower() for head in heads]
     if asked is not None and asked.lower() not in lower:
         raise Fault(f"{path}: no column {asked}; there are: {', '.join(heads)}. Name one by --column NAME")

@@ -1,4 +1,5 @@
-"""Families of networks, and networks from a file, as lists of links."""
+"""Families of networks, and networks from a file, as lists of links. A *family*, such as `cycle` or `grid:3x2`, has
+networks of one form and different sizes."""
 from __future__ import annotations
 
 import itertools
@@ -18,7 +19,7 @@ NAMED = "path, cycle, star, complete, tree, crowd, halves, grid:WxH, random:N:LI
 
 
 def neighbours(nodes: Iterable[int], links: Iterable[tuple[int, int]]) -> dict[int, list[int]]:
-    """Returns the neighbours of each node. Links to other nodes are ignored."""
+    """Returns the neighbours of each of these nodes. Ignores links to other nodes."""
     near: dict[int, list[int]] = {node: [] for node in nodes}
     for a, b in links:
         if a in near and b in near:
@@ -40,7 +41,8 @@ def steps_from(start: int, near: dict[int, list[int]]) -> dict[int, int]:
 
 
 def random_links(count: int, links: int, chance: random.Random) -> Links:
-    """Returns the links of a connected network: a random tree, and more links up to the count."""
+    """Returns the links of a random connected network with `count` nodes: a tree, and more links until there are
+    `links`. Raises `Fault` if no connected network has so many."""
     every = count * (count - 1) // 2
     if not count - 1 <= links <= every:
         raise Fault(f"random:{count}: write a number of links from {count - 1} to {every}")
@@ -50,8 +52,9 @@ def random_links(count: int, links: int, chance: random.Random) -> Links:
 
 
 def family(word: str, count: int | None, students: int, chance: random.Random) -> tuple[int, Links]:
-    """Returns the number of nodes of a family's network, which are numbered from 1, and its links. If the argument has
-    no size, there are `count` nodes, or as many as students."""
+    """Returns the number of nodes and the links of the network that an argument names. Its nodes are numbered from 1.
+    If the argument has no size, there are `count` nodes, or as many as students if `count` is None. Raises `Fault` if
+    there is no such network."""
     sized = re.fullmatch(r"grid:(\d{1,3})x(\d{1,3})|random:(\d{1,3}):(\d{1,5})", word)
     if sized and sized[1]:
         width, height = int(sized[1]), int(sized[2])
@@ -71,7 +74,7 @@ def family(word: str, count: int | None, students: int, chance: random.Random) -
 
 
 def within(nodes: int) -> int:
-    """Returns the number of nodes. Raises `Fault` if a lab may not have so many."""
+    """Returns the same number of nodes. Raises `Fault` if a lab may not have so many."""
     most = limits.allowed().nodes
     if not 1 <= nodes <= most:
         raise Fault(f"a lab has 1 to {most} nodes, not {nodes}")
@@ -79,7 +82,8 @@ def within(nodes: int) -> int:
 
 
 def plain(word: str, nodes: int) -> Links:
-    """Returns the links of a family's network with this number of nodes, if the argument has no size."""
+    """Returns the links of the network of a family without a size in its name, such as `path`, with this number of
+    nodes. Raises `Fault` for any other family."""
     row = [(node, node + 1) for node in range(1, nodes)]
     if word == "path":
         return row
@@ -101,8 +105,8 @@ def plain(word: str, nodes: int) -> Links:
 
 
 def from_file(path: Path, count: int | None) -> tuple[list[int], Links]:
-    """Returns the identifiers and links in a file with one link per line, as `1 2`. If a count is given, the
-    identifiers from 1 to it are included."""
+    """Returns the identifiers of nodes and the links in a file with one link per line, such as `1 2`. If `count` is
+    given, the identifiers from 1 to it are included. Raises `Fault` if the file can't be read or has a wrong line."""
     links: Links = []
     seen: dict[frozenset[int], int] = {}
     try:
@@ -128,7 +132,8 @@ def from_file(path: Path, count: int | None) -> tuple[list[int], Links]:
 
 
 def wrong_link(words: list[str], seen: dict[frozenset[int], int]) -> str | None:
-    """Returns what is wrong with the words of a link, or None if nothing is. `seen` has the links of earlier lines."""
+    """Returns what is wrong with the words of a line with a link, or None if nothing is. `seen` has the links of
+    earlier lines, with the numbers of these lines."""
     if len(words) != 2 or not all(word.isascii() and word.isdecimal() for word in words):
         return "not two numbers"
     (a, b), most = map(int, words), limits.allowed().identifier
@@ -140,7 +145,7 @@ def wrong_link(words: list[str], seen: dict[frozenset[int], int]) -> str | None:
 
 
 def enough(word: str, nodes: int) -> str:
-    """Returns the argument for the next network of a family that has at least this number of nodes."""
+    """Returns the option of `new` for a network of the family `word` that has at least this number of nodes."""
     sized = re.fullmatch(r"grid:(\d+)x(\d+)|random:(\d+):(\d+)", word)
     if sized and sized[1]:
         width = int(sized[1])

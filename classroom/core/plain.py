@@ -1,5 +1,5 @@
-"""Plain files in a folder that other users may fill. A plain file is read up to its limit; a pipe or device is never
-waited for."""
+"""Plain files in a folder that other users may fill. A plain file is a regular one, neither a pipe nor a device, so
+that reading it never waits. It is read up to a limit only."""
 from __future__ import annotations
 
 import os
@@ -15,7 +15,7 @@ DIGITS = 19  # of a number in a record
 
 
 def opened(path: Path) -> BinaryIO:
-    """Opens a plain file for reading, and returns it. Raises `Fault` if it is a pipe or a device, or can't be
+    """Opens a plain file for reading, and returns it. Raises `Fault` if the file is a pipe or a device, or can't be
     opened."""
     try:
         file = os.open(path, os.O_RDONLY | os.O_NONBLOCK | os.O_NOCTTY | os.O_CLOEXEC)
@@ -28,12 +28,12 @@ def opened(path: Path) -> BinaryIO:
 
 
 def not_plain(path: Path) -> Fault:
-    """Returns the fault for something that isn't a regular file."""
+    """Returns the fault to raise if a path isn't that of a plain file."""
     return Fault(f"{path}: this isn't a regular file", FAILED)
 
 
 def read(path: Path, most: int) -> bytes:
-    """Returns the bytes of a plain file. Raises `Fault` if it has more than `most`."""
+    """Returns the bytes of a plain file. Raises `Fault` if the file can't be read or has more than `most` bytes."""
     with opened(path) as it:
         is_large = os.fstat(it.fileno()).st_size > most
         content = b"" if is_large else it.read(most + 1) or b""
@@ -43,14 +43,16 @@ def read(path: Path, most: int) -> bytes:
 
 
 def tail(path: Path, most: int) -> bytes:
-    """Returns the last `most` bytes of a plain file, or all if it has fewer."""
+    """Returns the last `most` bytes of a plain file, or all bytes if there are fewer. Raises `Fault` if the file can't
+    be opened."""
     with opened(path) as it:
         it.seek(max(0, os.fstat(it.fileno()).st_size - most))
         return it.read(most) or b""
 
 
 def want(path: Path) -> None:
-    """Raises `Fault` if something other than a plain file has that name, including a link whose target is missing."""
+    """Raises `Fault` if the path is that of something other than a plain file, or of a link whose target is missing. A
+    path at which nothing is raises no error."""
     if os.path.lexists(path) and not path.is_file():
         raise not_plain(path)
 

@@ -1,4 +1,5 @@
-"""The state of a continuing run at its desk: the chosen moves, and the moves that steps applied. Marks are counted by
+"""The state of a continuing run at its desk: the chosen moves, and the moves that steps applied. A granted move is
+*chosen* until a close applies it, and a *close* ends a step. Marks aren't counted here but by
 `classroom.core.tally`."""
 from __future__ import annotations
 
@@ -7,9 +8,10 @@ from classroom.core.journal import Event
 
 
 class Book:
-    """The chosen moves, updated event by event. A move is chosen until a step, and a close applies the chosen moves."""
+    """The chosen moves and the counts of a run, updated event by event."""
 
     def __init__(self, students: list[str]) -> None:
+        """Begins at the first configuration, in which no student has a granted move."""
         self.idle = dict.fromkeys(students)  # Who had no move granted.
         self.chosen: dict[int, tuple[str, str]] = {}
         self.links = 0  # How many more there are than at the beginning.
@@ -17,8 +19,8 @@ class Book:
         self.since = 0  # Moves since the last fault, link or cut.
 
     def add(self, event: Event) -> list[tuple[int, str, str]]:
-        """Takes an event. For a close, returns the nodes that moved, each with the student whose grant it was and the
-        rule."""
+        """Updates the book by the next event. If the event is a close, returns the moves that it applied: for each the
+        node, the student to whom it was granted, and the rule."""
         word = event.kind
         if word == "grant":
             _, name, node, rule = event.words[:4]
@@ -31,7 +33,8 @@ class Book:
         return self.step(word)
 
     def step(self, word: str) -> list[tuple[int, str, str]]:
-        """Takes an event that makes a configuration. Returns the moves of a close, and no moves for any other event."""
+        """Updates the book by an event of this kind, which makes a configuration. Returns the moves that a close
+        applied, and no moves for any other event."""
         moved = [(node, name, rule) for node, (name, rule) in sorted(self.chosen.items())] if word == "close" else []
         self.links += links_after(word)
         self.moves += len(moved)

@@ -1,4 +1,5 @@
-"""Processes: those that this process started, their descendants, and those that programs under test leave running."""
+"""Processes: those that this process started, their descendants, and those that students' programs leave running.
+Processes are named by their numbers. The list OWN has those that this process started."""
 from __future__ import annotations
 
 import ctypes
@@ -21,7 +22,8 @@ reaps = threading.Event()  # whether orphans below this process become its child
 
 
 def begin(words: Sequence[str | Path], **how: Any) -> subprocess.Popen[bytes]:
-    """Starts a process, and lists it in OWN until it has ended."""
+    """Starts a process with these arguments, and lists it in OWN until it has ended. `how` has more arguments of
+    `Popen`."""
     with STARTING:
         OWN[:] = [each for each in OWN if each.returncode is None]
         OWN.append(subprocess.Popen(words, **how))
@@ -29,8 +31,8 @@ def begin(words: Sequence[str | Path], **how: Any) -> subprocess.Popen[bytes]:
 
 
 def run(words: Sequence[str | Path], given: bytes = b"", seconds: float | None = None, **how: Any) -> subprocess.CompletedProcess[bytes]:
-    """Runs a process in OWN to its end, with `given` as its input. If it takes longer than `seconds`, kills it and
-    raises `TimeoutExpired`."""
+    """Starts a process as `begin` does, with `given` as its input, waits for its end and returns its status and output.
+    If it takes longer than `seconds`, kills it and raises `TimeoutExpired`."""
     source = subprocess.PIPE if given else subprocess.DEVNULL
     with begin(words, stdin=source, stdout=subprocess.PIPE, stderr=subprocess.PIPE, **how) as process:
         try:
@@ -42,7 +44,7 @@ def run(words: Sequence[str | Path], given: bytes = b"", seconds: float | None =
 
 
 def parents() -> dict[int, int]:
-    """Returns the parent of each process."""
+    """Returns the number of each process on this machine with that of its parent."""
     found = {}
     for name in os.listdir("/proc"):
         if name.isdecimal():
@@ -55,7 +57,7 @@ def parents() -> dict[int, int]:
 
 
 def below(*tops: int) -> set[int]:
-    """Returns the numbers of all descendants of these processes."""
+    """Returns the numbers of all descendants of these processes, without the processes themselves."""
     found, known = parents(), set(tops)
     while more := {child for child, parent in found.items() if parent in known} - known:
         known |= more
@@ -63,7 +65,7 @@ def below(*tops: int) -> set[int]:
 
 
 def state(process: int) -> bytes:
-    """Returns the letter of a process's state, or an empty text if it has ended."""
+    """Returns the letter of a process's state, as Linux shows it in /proc, or no bytes if the process has ended."""
     try:
         with open(f"/proc/{process}/stat", "rb") as it:
             return it.read().rpartition(b") ")[2][:1]
@@ -84,13 +86,14 @@ def end_below(process: int) -> None:
 
 
 def reap_orphans() -> None:
-    """Makes orphaned descendants children of this process, whatever session they are in."""
+    """Makes all later orphans among the descendants of this process its children, whatever session they are in."""
     ctypes.CDLL(None, use_errno=True).prctl(SUBREAPER, 1, 0, 0, 0)
     reaps.set()
 
 
 def kill(processes: set[int]) -> None:
-    """Kills processes. Stops all of them first, so that none can start another in the meantime."""
+    """Kills the processes with these numbers. Stops all of them first, so that none can start another in the
+    meantime."""
     for number in (signal.SIGSTOP, signal.SIGKILL):
         for process in processes:
             try:
@@ -100,8 +103,9 @@ def kill(processes: set[int]) -> None:
 
 
 def end_strays() -> None:
-    """Kills the children that this process didn't start, with all their descendants, until none is left. They are left
-    over if a program kills its keeper. Does nothing in a process that doesn't reap orphans."""
+    """Kills the children that this process didn't start, with all their descendants, until none is left. A student's
+    program leaves such children if it kills its keeper, the process that watches it. Does nothing unless `reap_orphans`
+    was called."""
     while reaps.is_set():
         with STARTING:
             own = {each.pid for each in OWN if each.returncode is None}
@@ -118,7 +122,8 @@ def end_strays() -> None:
 
 
 def end_at_once(status: int, folders: Iterable[Path]) -> None:
-    """Kills all descendants of this process, removes folders, and exits without waiting for threads."""
+    """Kills all descendants of this process, removes these folders, and exits with the status without waiting for
+    threads."""
     try:
         STARTING.acquire(timeout=LAST)  # From now on nothing is started.
         end = time.monotonic() + LAST

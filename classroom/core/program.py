@@ -1,4 +1,4 @@
-"""The proved program: its path, and its answers."""
+"""The proved program (`mml`) and the host's program (`mml_host`): their paths, and their answers to calls."""
 from __future__ import annotations
 
 import os
@@ -29,6 +29,7 @@ class Fault(Exception):
     """An error that ends a subcommand: a line for people, and the exit status."""
 
     def __init__(self, text: str, status: int = 1) -> None:
+        """`text` is the line that the subcommand prints, and `status` the one with which it exits."""
         super().__init__(text)
         self.status = status
 
@@ -43,13 +44,13 @@ class Answer:
 
 
 def is_clone() -> bool:
-    """Returns whether the programs are built here in a clone, rather than part of a release."""
+    """Returns whether this is a clone of the repository, in which programs are built, rather than a release."""
     return (TOP / "crates").is_dir()
 
 
 def built(crate: str) -> Path:
-    """Returns the path of a crate's program, in a clone or in a release. Raises `Fault` if the release needs a newer C
-    library."""
+    """Returns the path at which a crate's program is when it is built, in a clone or in a release. Raises `Fault` if
+    the release needs a newer C library."""
     here = TOP / "crates" / crate
     if here.is_dir():
         return here / "out" / crate
@@ -60,8 +61,8 @@ def built(crate: str) -> Path:
 
 @cache
 def old_library() -> str:
-    """Returns the error line, as `mml` prints it, if a release needs a newer C library than the system has. The message
-    of the loader doesn't help users. Returns an empty text otherwise."""
+    """Returns the error line that `mml` prints if a release needs a newer C library than the system has, or an empty
+    text if it doesn't. The message of the system's loader doesn't help users."""
     proved = TOP / "PROVED"
     wanted = re.search(r"(?m)^# wants glibc ([0-9.]+)$", proved.read_text(encoding="utf-8")) if proved.exists() else None
     here = library() if wanted else ""
@@ -80,12 +81,12 @@ def library() -> str:
 
 
 def numbers(version: str) -> list[int]:
-    """Returns the numbers in a version, in their order."""
+    """Returns the numbers in the text of a version, in their order."""
     return [int(number) for number in re.findall("[0-9]+", version)]
 
 
 def program() -> Path:
-    """Returns the path of the built program, or of the one that MML_PROGRAM names."""
+    """Returns the path of the built program, or of the one that MML_PROGRAM names. Raises `Fault` if it isn't built."""
     path = Path(os.environ.get("MML_PROGRAM") or built("mml_server"))
     if not os.access(path, os.X_OK) or path.is_dir():
         raise Fault("mml isn't built: `./mml build` builds it (with the toolchain's rt on the path)")
@@ -93,14 +94,15 @@ def program() -> Path:
 
 
 def host() -> Path | None:
-    """Returns the path of the built host, or of the one that MML_HOST names. Returns None if it isn't built."""
+    """Returns the path of the host's program, or of the one that MML_HOST names. Returns None if it isn't built."""
     path = Path(os.environ.get("MML_HOST") or built("mml_host"))
     return path if os.access(path, os.X_OK) and not path.is_dir() else None
 
 
 def first_free(port: int, opened: Callable[[int], Opened | None], what: str = "") -> Opened:
-    """Returns the result of `opened` at the first free port from this one on. `opened` returns None if a port is taken.
-    Raises `Fault` after PORTS attempts."""
+    """Calls `opened` with this port and the following ones until its result isn't None, as it is if a port is taken.
+    Returns that result. Raises `Fault` after PORTS attempts. `what` begins the part of the error after `no port is
+    free`."""
     last = min(port + PORTS - 1, LAST_PORT)
     for number in range(port, last + 1):
         it = opened(number)
@@ -110,12 +112,14 @@ def first_free(port: int, opened: Callable[[int], Opened | None], what: str = ""
 
 
 def call(*words: str | Path) -> Answer:
-    """Runs the program to its end."""
+    """Runs the proved program with these arguments to its end. Returns its output and exit status. Raises `Fault` if it
+    isn't built."""
     return answer_of(program(), *words)
 
 
 def host_call(*words: str | Path, files: tuple[int, ...] = ()) -> Answer:
-    """Runs the host's program to its end. It inherits these open files."""
+    """Runs the host's program with these arguments to its end. Returns its output and exit status. The program inherits
+    the open files with these descriptors. Raises `Fault` if it isn't built."""
     path = host()
     if path is None:
         raise Fault("mml_host isn't built: `./mml build` builds it (with the toolchain's rt on the path)")
@@ -123,11 +127,12 @@ def host_call(*words: str | Path, files: tuple[int, ...] = ()) -> Answer:
 
 
 def answer_of(path: Path, *words: str | Path, files: tuple[int, ...] = ()) -> Answer:
-    """Runs a program with arguments, and returns its output and status."""
+    """Runs the program at a path with these arguments to its end. Returns its output and exit status. The program
+    inherits the open files with these descriptors."""
     done = run([path, *map(plain, words)], restore_signals=False, pass_fds=files)
     return Answer(done.returncode, done.stdout.decode(errors="replace"), done.stderr.decode(errors="replace").strip())
 
 
 def plain(word: str | Path) -> str:
-    """Returns a file's name as an argument that doesn't begin with `-`."""
+    """Returns a file's name as an argument, with `./` before a name that begins with `-`."""
     return f"./{word}" if str(word).startswith("-") else str(word)

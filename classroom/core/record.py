@@ -1,4 +1,5 @@
-"""The record of a run: the requests and replies of each seat (docs/RECORD.md), as the host wrote it."""
+"""The record of a run: the requests and replies of each seat (docs/RECORD.md), as the host wrote them. A *seat* serves
+one connection after another, and an *entry* is one line with its reply, or a mark."""
 from __future__ import annotations
 
 import json
@@ -29,17 +30,17 @@ class Entry:
     missed: int = 0  # The number of lines that weren't recorded, at a `+`.
 
     def told(self) -> dict[str, str]:
-        """Returns the values of the reply that are texts."""
+        """Returns those values of the reply that are texts, by their keys."""
         return {key: value for key, value in json_object(self.reply).items() if isinstance(value, str)}
 
     def asked_name(self) -> str | None:
-        """Returns the name in a line, if the line is an object with one."""
+        """Returns the value of `name` in the line, or None if the line isn't an object or has no such text."""
         name = json_object(self.line).get("name")
         return name if isinstance(name, str) else None
 
 
 def json_object(text: bytes) -> dict[str, Any]:
-    """Returns the values of a JSON object, or none for any other text."""
+    """Returns the values of the JSON object in a text, or no values for any other text."""
     try:
         it = json.loads(text)
     except (ValueError, RecursionError):
@@ -48,14 +49,15 @@ def json_object(text: bytes) -> dict[str, Any]:
 
 
 class Reader:
-    """Reads the bytes of a seat's file as it grows. Skips what isn't an entry, since `verify` reports it."""
+    """Splits the bytes of a seat's file, which may still grow, into entries. Skips lines that belong to no entry, since
+    `verify` reports them."""
 
     def __init__(self) -> None:
         self.rest = b""
         self.line: bytes | None = None
 
     def take(self, more: bytes) -> Iterator[Entry]:
-        """Yields the entries that are complete after these bytes."""
+        """Reads the next bytes of the file. Yields the entries that are complete now."""
         *lines, self.rest = (self.rest + more).split(b"\n")
         for line in lines:
             entry = self.entry(line)
@@ -63,8 +65,8 @@ class Reader:
                 yield entry
 
     def entry(self, line: bytes) -> Entry | None:
-        """Returns the entry that ends with a line, or None if none does. The first of an entry's two lines is kept for
-        the second."""
+        """Returns the entry of which this line is the last, or None if it completes none. An entry has one or two
+        lines, and the first of two is kept for the next call."""
         words = line.split(b" ", 3)
         seat, place = (plain.number(word) for word in (words + [b"", b""])[:2])
         if len(words) < 3 or seat is None or place is None:
@@ -83,14 +85,15 @@ class Reader:
 
 
 def seats(folder: Path) -> list[Path]:
-    """Returns the files of the seats, in their order."""
+    """Returns the files of the seats in a record's folder, in the order of the seats' numbers."""
     found = [(int(named[1]), file) for file in folder.glob("*.record")
              if (named := re.fullmatch(r"(\d+)\.record", file.name))]
     return [file for _, file in sorted(found)]
 
 
 def begun(folder: Path) -> int:
-    """Returns the number of events that the journal had before the record began."""
+    """Returns the number of events that the journal had before the record in a folder began. Raises `Fault` if the
+    folder doesn't have it."""
     number = plain.number(plain.read(folder / "begun", plain.MOST_KEPT).rstrip(b"\n"))
     if number is None:
         raise Fault(f"{folder / 'begun'}: it has no number of events", 4)
@@ -98,7 +101,8 @@ def begun(folder: Path) -> int:
 
 
 def kept(run: Path) -> list[Path]:
-    """Returns the records in a run's folder, the oldest first. There are several if the lab was changed in between."""
+    """Returns the folders of the records in a run's folder, the oldest first. There are several if the lab was changed
+    in between."""
     older = [(int(named[1]), path) for path in run.glob(f"{FOLDER}.~*~")
              if (named := re.fullmatch(rf"{FOLDER}\.~(\d+)~", path.name)) and os.path.lexists(path / "begun")]
     return [*(path for _, path in sorted(older)), *([run / FOLDER] if os.path.lexists(run / FOLDER / "begun") else [])]

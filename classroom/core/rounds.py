@@ -1,4 +1,6 @@
-"""The recovery of a class: its moves, closes and rounds, beside the proved bounds."""
+"""The recovery of a class: its moves, closes and rounds, beside the proved bounds. A *close* applies the chosen moves.
+A *round* ends when each node has had its turn: at some point in the round the node wasn't privileged, or a close
+applied its move (docs/SELF-STABILISATION.md)."""
 from __future__ import annotations
 
 from collections.abc import Collection, Iterable
@@ -9,18 +11,17 @@ from classroom.core.tally import Bounds
 
 
 def counts_told(moves: int, closes: int, rounds: int, most: Bounds | None) -> str:
-    """Returns the counts as a text, with the bounds if they are known."""
+    """Returns the counts of a recovery as a text, with the bounds if they are known."""
     proved = f"; proved: at most {most.moves} moves, {most.rounds} rounds" if most else ""
     return f"{plural(moves, 'move')}, {plural(closes, 'close')}, {plural(rounds, 'round')}{proved}"
 
 
 class Recovery:
-    """Counts along a run that goes on, for lines that are printed meanwhile. The rounds of a journal are counted by the
-    program (`classroom.core.tally`). A round ends when each node has had its turn in it: at some point it wasn't
-    privileged, or a close applied its move (docs/SELF-STABILISATION.md)."""
+    """Counts moves, closes and rounds close by close while a run goes on. The program counts those of a whole journal
+    (`classroom.core.tally`)."""
 
     def __init__(self, privileged: Iterable[int]) -> None:
-        """Begins to count. `privileged` are the nodes that the report names at the beginning."""
+        """Begins to count. `privileged` are the nodes that can move at the beginning."""
         self.moves = self.closes = self.rounds = 0
         self.left = set(privileged)  # the nodes that haven't had their turn in this round
 
@@ -34,5 +35,5 @@ class Recovery:
             self.left = set(privileged)
 
     def told(self, nodes: int, links: int) -> str:
-        """Returns the counts as a text, with the bounds for the present network."""
+        """Returns the counts as a text, with the bounds for a network of so many nodes and links if they are known."""
         return counts_told(self.moves, self.closes, self.rounds, bounds.told(nodes, links))

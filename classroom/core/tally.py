@@ -1,4 +1,5 @@
-"""The host's tally of a journal: the lines that its command `tally` prints (docs/JOURNAL.md)."""
+"""The tally of a journal, the numbers from which marks are made: the lines that the command `tally` of the host's
+program prints (docs/JOURNAL.md)."""
 from __future__ import annotations
 
 import os
@@ -38,7 +39,7 @@ DENIED = ("clause1", "clause2", "clause3", "clause4", "malformed")
 
 @dataclass
 class Asked:
-    """The numbers that the record of a run shows. The comments document the fields."""
+    """The numbers that the record of a run adds to its tally."""
 
     # How many lines of each student each clause denied, and how many were malformed.
     denied: dict[str, Counter[str]] = field(default_factory=dict)
@@ -50,7 +51,7 @@ class Asked:
     all_of: frozenset[str] | None = None
 
     def add(self, other: Asked) -> None:
-        """Adds the result of the run's next record."""
+        """Adds the numbers of a further record of the same run."""
         for name, counts in other.denied.items():
             self.denied.setdefault(name, Counter()).update(counts)
         for node, owners in other.moves.items():
@@ -62,7 +63,7 @@ class Asked:
 
 @dataclass
 class Tally:
-    """The tally of a journal's run."""
+    """The numbers of a run by its journal, and by its record if one is given."""
 
     events: int = 0
     configuration: int = 0
@@ -82,8 +83,8 @@ class Tally:
 
 
 def of(lab: Path, journal: Path, files: tuple[int, ...] = (), record: Path | None = None) -> Tally:
-    """Returns the tally of a journal that passes the audit, and of its record if one is given. The program inherits the
-    open files `files`."""
+    """Returns the tally of a journal over a lab, and of its record if one is given. The program inherits the open files
+    with the descriptors `files`. Raises `Fault` if the journal doesn't pass the audit."""
     answer = host_call("tally", lab, journal, *([] if record is None else [record]), files=files)
     if answer.status != 0:
         raise Fault(answer.error, answer.status)
@@ -92,7 +93,8 @@ def of(lab: Path, journal: Path, files: tuple[int, ...] = (), record: Path | Non
 
 @contextmanager
 def in_memory(text: str) -> Iterator[int]:
-    """Opens a file with this text. It has no name, so a full disk is no obstacle."""
+    """Yields the descriptor of an open file with this text. The file has no name and is kept in memory, so that a full
+    disk is no obstacle."""
     file = os.memfd_create("text")
     try:
         with open(file, "wb", closefd=False) as it:
@@ -109,7 +111,7 @@ def of_texts(lab: str, journal: str) -> Tally:
 
 
 def read(text: str) -> Tally:
-    """Returns the tally in these lines."""
+    """Returns the tally in the program's output."""
     tally, asked = Tally(), Asked()
     for line in text.splitlines():
         word, *rest = line.split(" ")
@@ -135,12 +137,13 @@ def read(text: str) -> Tally:
 
 
 def by_owner(words: list[str]) -> dict[str, Counter[str]]:
-    """Returns the number of moves of each rule, by owner. The words are a name and four numbers for each owner."""
+    """Returns the number of moves of each rule, by owner, from the words of a line. They are a name and four numbers
+    for each owner."""
     return {words[at]: by_rule(words[at + 1 : at + 5]) for at in range(0, len(words), 5)}
 
 
 def marks(words: list[str]) -> Marks:
-    """Returns the marks in a student's line."""
+    """Returns the marks in a student's line, from its words after the name."""
     steps, first, last, shared = words[8:]
     return Marks(by_rule(words[:4]), by_rule(words[4:8]), int(steps), place(first), place(last), int(shared))
 
@@ -151,12 +154,12 @@ def by_rule(words: list[str]) -> Counter[str]:
 
 
 def place(word: str) -> int | None:
-    """Returns the place that a word spells, or None."""
+    """Returns the number of an event that a word spells, or None if the word is `-`."""
     return None if word == "-" else int(word)
 
 
 def take_run(tally: Tally, words: list[str]) -> None:
-    """Copies the values of the run's line into the tally."""
+    """Copies the values in the line `run`, whose words are given, into the tally."""
     tally.stable = words.pop(2) == "stable"
     (tally.events, tally.configuration, tally.closes, tally.faults, tally.links, tally.cuts, tally.moves, *since) = map(int, words)
     tally.since = (since[0], since[1])
